@@ -1,0 +1,41 @@
+//! A byte string that contracts see as the list of its bytes.
+
+ghost use Rattle.std.specs.Prelude.{◌≡◌, ℕ, List};
+
+use std::marker::Model;
+
+/// A byte string. Contracts see the list of its bytes, so that a struct with a `Bytes` field is plain data to them.
+#[derive(Debug, Drop)]
+pub struct Bytes {
+    inner: Vec<u8>,
+}
+
+impl Model for Bytes {
+    ghost Value = { List ℕ };
+
+    ghost view = { λ b. b.inner.items };
+}
+
+impl Bytes {
+    /// Makes a byte string of a vector, without taking memory.
+    pub fn from_vec(inner: Vec<u8>) -> Bytes
+        ensures { result ≡ inner.items }
+    {
+        Bytes { inner }
+    }
+
+    /// The bytes.
+    pub fn as_slice(&self) -> &[u8]
+        ensures { result.now ≡ self.now }
+    {
+        self.inner.as_slice()
+    }
+
+    /// Gives the vector back, without taking memory.
+    pub fn into_vec(self) -> Vec<u8>
+        ensures { result.items ≡ self }
+    {
+        let Bytes { inner } = self;
+        inner
+    }
+}

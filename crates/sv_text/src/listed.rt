@@ -1,0 +1,41 @@
+//! A list that contracts see as the list of its items.
+
+ghost use Rattle.std.specs.Prelude.{◌≡◌, List};
+
+use std::marker::Model;
+
+/// A list. Contracts see the list of its items, so that a struct with a `Listed` field is plain data to them.
+#[derive(Debug, Drop)]
+pub struct Listed<T> {
+    inner: Vec<T>,
+}
+
+impl<T> Model for Listed<T> {
+    ghost Value = { List T };
+
+    ghost view = { λ l. l.inner.items };
+}
+
+impl<T> Listed<T> {
+    /// Makes a list of a vector, without taking memory.
+    pub fn from_vec(inner: Vec<T>) -> Listed<T>
+        ensures { result ≡ inner.items }
+    {
+        Listed { inner }
+    }
+
+    /// The items in order.
+    pub fn as_slice(&self) -> &[T]
+        ensures { result.now ≡ self.now }
+    {
+        self.inner.as_slice()
+    }
+
+    /// Gives the vector back, without taking memory.
+    pub fn into_vec(self) -> Vec<T>
+        ensures { result.items ≡ self }
+    {
+        let Listed { inner } = self;
+        inner
+    }
+}
