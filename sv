@@ -5,7 +5,7 @@ set -eu
 top=$(dirname "$(readlink -f "$0")")
 program=$top/crates/sv/out/sv
 
-# The crates below $1 in crates.txt and $1 itself, lowest first, each once.
+# The crates of the repository below crate $1, and it itself, lowest first; one may stand more than once.
 crates_below() {
     local dep
     for dep in $(sed -n "s/^$1\( [^:]*\)\{0,1\}://p" "$top/crates.txt"); do
@@ -16,39 +16,43 @@ crates_below() {
     echo "$1"
 }
 
+# Whether the program is missing or older than a source of the crates $@.
 is_stale() {
-    [ ! -x "$program" ] || [ -n "$(find "$top/crates.txt" $(printf "$top/crates/%s " "$@") \
-        -name out -prune -o -type f \( -name '*.rt' -o -name '*.antt' -o -name crates.txt \) -newer "$program" -print -quit)" ]
+    local folders=("${@/#/$top/crates/}")
+    [ ! -x "$program" ] || [ -n "$(find "$top/crates.txt" "${folders[@]}" -name out -prune -o \
+        -type f \( -name '*.rt' -o -name '*.antt' -o -name crates.txt \) -newer "$program" -print -quit)" ]
+}
+
+# Proves and builds crate $1: a library for the crates above it, the program by a run on an empty stream.
+build_crate() {
+    cd "$top/crates/$1"
+    if [ "$1" = sv ]; then
+        rt run -- first < /dev/null && touch "$program"
+    else
+        rt lib
+    fi
 }
 
 build() {
-    local crate log done=0 all=$#
+    local crate log done=0
     log=$(mktemp)
-    trap 'rm -f "$log"' RETURN
-    echo "sv: proving and building $all crates; later runs start at once" >&2
+    echo "sv: proving and building $# crates; later runs start at once" >&2
     for crate in "$@"; do
-        echo "sv: $crate ($done of $all done, $SECONDS s)" >&2
-        # A library is built for the crates above it; the program is built by running it, here with no command.
-        if [ "$crate" = sv ]; then
-            (cd "$top/crates/sv" && rt run < /dev/null > "$log" 2>&1) || true
-        elif ! (cd "$top/crates/$crate" && rt lib > "$log" 2>&1); then
+        echo "sv: $crate ($done of $# done, $SECONDS s)" >&2
+        if ! (build_crate "$crate") > "$log" 2>&1; then
             cat "$log" >&2
-            echo "sv: $crate is not proved" >&2
+            rm "$log"
+            echo "sv: $crate was not built" >&2
             exit 1
         fi
         done=$((done + 1))
     done
-    if is_stale "$@"; then
-        cat "$log" >&2
-        echo "sv: the program is not built" >&2
-        exit 1
-    fi
-    echo "sv: $all of $all done, $SECONDS s" >&2
+    rm "$log"
+    echo "sv: $done of $# done, $SECONDS s" >&2
 }
 
-crates=$(crates_below sv | awk '!seen[$0]++')
-# shellcheck disable=SC2086
-if is_stale $crates; then
-    build $crates
+mapfile -t crates < <(crates_below sv | awk '!seen[$0]++')
+if is_stale "${crates[@]}"; then
+    build "${crates[@]}"
 fi
 exec "$program" "$@"
