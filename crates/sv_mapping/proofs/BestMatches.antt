@@ -1,10 +1,11 @@
 -- The best match of a list of patterns.
-use Rattle.std.proofs.Common.{◌≡◌, ℕ, ◌<◌, Bool, true, false, cond, ◌&&◌, ◌||◌, List, [], ◌∷◌, ◌++◌, length, eqb, ltb, arith, Option, Some, None, IsTrue, inl, inr}
+use Rattle.std.proofs.Common.{◌≡◌, ℕ, ◌+◌, ◌<◌, take, get_or, sym, ◌∙◌, ap, append_assoc, Bool, true, false, cond, ◌&&◌, ◌||◌, List, [], ◌∷◌, ◌++◌, length, eqb, ltb, arith, Option, Some, None, IsTrue, inl, inr}
 use Rattle.std.specs.Cmp.{IsStrictWeakOrder}
 use Rattle.std.specs.List.{Contains, fold}
 use Rattle.std.specs.Option.{option_map_or}
 use Rattle.std.proofs.lemmas.Bool.{and_from, and_parts, both_ways, cases_Bool, not-true}
 use Rattle.std.proofs.lemmas.List.Folds.{list_any-from_Any}
+use Rattle.std.proofs.lemmas.List.{length-take, take_more}
 use Rattle.std.proofs.lemmas.Bool.Decides.{nat_tests}
 use Rattle.sv_mapping.specs.BestMatch.{is_above, is_best, rank, outranks, best, best_pattern}
 use Rattle.sv_mapping.specs.Pattern.{matches}
@@ -46,3 +47,19 @@ unbeaten_by_member patterns path pattern other tops member matching =
     | inl e ↦
         let beaten = list_any-from_Any (λ p. matches p path && outranks p pattern) patterns (member.0, other, member.1, member.2, and_from (matches other path) _ matching e) in
         absurd (both_ways _ (not-true _ (and_parts (matches pattern path) _ tops).1) beaten) ]
+
+-- ---- one more pattern
+take_next : (patterns : List (List ℕ)) (pattern : List ℕ) (i : ℕ) → i < length patterns → pattern ≡ get_or patterns i pattern → take (i + 1) patterns ≡ take i patterns ++ pattern ∷ []
+take_next patterns pattern i within at = take_more patterns i pattern within ∙ ap (λ p. take i patterns ++ p ∷ []) (sym at)
+
+pub best_pattern-next : (before patterns : List (List ℕ)) (path pattern : List ℕ) (i : ℕ) (held : Option (List ℕ)) (taken : Bool) → i < length patterns → pattern ≡ get_or patterns i pattern → held ≡ best_pattern (before ++ take i patterns) path → taken ≡ takes_over path held pattern
+    → cond taken (Some pattern) held ≡ best_pattern (before ++ take (i + 1) patterns) path
+best_pattern-next before patterns path pattern i held taken within at was takes =
+    let longer : before ++ take (i + 1) patterns ≡ (before ++ take i patterns) ++ pattern ∷ [] = ap (λ ps. before ++ ps) (take_next patterns pattern i within at) ∙ sym (append_assoc before (take i patterns) (pattern ∷ [])) in
+    rw (longer, takes, was) (sym (best_pattern-push (before ++ take i patterns) path pattern))
+
+pub best-next : (patterns : List (List ℕ)) (path pattern : List ℕ) (i : ℕ) (held : Option (List ℕ)) (place : Option ℕ) (taken : Bool) → i < length patterns → pattern ≡ get_or patterns i pattern → held ≡ best_pattern (take i patterns) path → place ≡ best (take i patterns) path → taken ≡ takes_over path held pattern
+    → cond taken (Some i) place ≡ best (take (i + 1) patterns) path
+best-next patterns path pattern i held place taken within at was was_at takes =
+    let len : length (take i patterns) ≡ i = omega (arith, length-take i patterns) in
+    rw (take_next patterns pattern i within at, takes, was, was_at) (ap (λ n. cond (takes_over path (best_pattern (take i patterns) path) pattern) (Some n) (best (take i patterns) path)) (sym len) ∙ sym (best-push (take i patterns) path pattern))

@@ -8,6 +8,7 @@ use Rattle.std.proofs.lemmas.Bool.Decides.{nat_tests, Decides-eqb}
 use Rattle.std.proofs.Math.Seq.{take-append_seam, take-length}
 use Rattle.std.proofs.lemmas.Slice.Eq.{bytes_eq-Decides, starts_is, ends_is}
 use Rattle.sv_mapping.specs.BestMatch.{form_rank, is_above, rank, outranks}
+use Rattle.sv_mapping.proofs.Texts.{same_bytes, within_front}
 use Rattle.sv_mapping.specs.Pattern.{Form, Root, Default, Extension, Prefix, Exact, extension, form, form_matches, is_within, matches}
 
 -- the text of a form
@@ -17,9 +18,6 @@ text_of Default = 47 ∷ []
 text_of (Extension wanted) = 42 ∷ 46 ∷ wanted
 text_of (Prefix prefix) = prefix ++ 47 ∷ 42 ∷ []
 text_of (Exact text) = text
-
-same_bytes : (xs ys : List ℕ) → bytes_eq xs ys ≡ true → xs ≡ ys
-same_bytes xs ys h = (bytes_eq-Decides xs ys).0 h
 
 pub text_of-form : (text : List ℕ) → text_of (form text) ≡ text
 unfolding form
@@ -42,15 +40,6 @@ exact_is_no_slash text e =
     let default : Default ≡ form (47 ∷ []) = refl in
     let same : form (47 ∷ []) ≡ Exact (47 ∷ []) = ap form (sym slash) ∙ e in
     cc
-
-within_front : (prefix path : List ℕ) → is_within prefix path ≡ true → take (length prefix) path ≡ prefix
-within_front prefix path h =
-    elim (or_cases _ _ h) [
-      inl whole ↦ rw (same_bytes path prefix whole) (take-length prefix)
-    | inr below ↦
-        let front : path ≡ (prefix ++ 47 ∷ []) ++ drop (length (prefix ++ 47 ∷ [])) path = (starts_is Decides-eqb path (prefix ++ 47 ∷ []) _ refl).0 below in
-        let cut : take (length prefix) ((prefix ++ 47 ∷ []) ++ drop (length (prefix ++ 47 ∷ [])) path) ≡ prefix = rw append_assoc (take-append_seam prefix _) in
-        ap (take (length prefix)) front ∙ cut ]
 
 same_extension : (wanted other : List ℕ) (found : Option (List ℕ)) → option_map_or (λ e. bytes_eq e wanted) found false ≡ true → option_map_or (λ e. bytes_eq e other) found false ≡ true → wanted ≡ other
 same_extension wanted other None h k = cc
