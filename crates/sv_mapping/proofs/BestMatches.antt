@@ -1,11 +1,11 @@
 -- The best match of a list of patterns.
-use Rattle.std.proofs.Common.{◌≡◌, ℕ, ◌+◌, ◌<◌, take, get_or, sym, ◌∙◌, ap, append_assoc, Bool, true, false, cond, ◌&&◌, ◌||◌, List, [], ◌∷◌, ◌++◌, length, eqb, ltb, arith, Option, Some, None, IsTrue, inl, inr}
+use Rattle.std.proofs.Common.{◌≡◌, ℕ, ◌+◌, ◌<◌, ◌≤◌, take, get_or, sym, ◌∙◌, ap, append_assoc, Bool, true, false, cond, ◌&&◌, ◌||◌, List, [], ◌∷◌, ◌++◌, length, eqb, ltb, arith, Option, Some, None, IsTrue, inl, inr}
 use Rattle.std.specs.Cmp.{IsStrictWeakOrder}
 use Rattle.std.specs.List.{Contains, fold}
 use Rattle.std.specs.Option.{option_map_or}
 use Rattle.std.proofs.lemmas.Bool.{and_from, and_parts, both_ways, cases_Bool, not-true}
 use Rattle.std.proofs.lemmas.List.Folds.{list_any-from_Any}
-use Rattle.std.proofs.lemmas.List.{length-take, take_more}
+use Rattle.std.proofs.lemmas.List.{length-take, take_all, take_more}
 use Rattle.std.proofs.lemmas.Bool.Decides.{nat_tests}
 use Rattle.sv_mapping.specs.BestMatch.{is_above, is_best, rank, outranks, best, best_pattern}
 use Rattle.sv_mapping.specs.Pattern.{matches}
@@ -63,3 +63,6 @@ pub best-next : (patterns : List (List ℕ)) (path pattern : List ℕ) (i : ℕ)
 best-next patterns path pattern i held place taken within at was was_at takes =
     let len : length (take i patterns) ≡ i = omega (arith, length-take i patterns) in
     rw (take_next patterns pattern i within at, takes, was, was_at) (ap (λ n. cond (takes_over path (best_pattern (take i patterns) path) pattern) (Some n) (best (take i patterns) path)) (sym len) ∙ sym (best-push (take i patterns) path pattern))
+
+pub best-whole : (patterns : List (List ℕ)) (path : List ℕ) (i : ℕ) (place : Option ℕ) → place ≡ best (take i patterns) path → length patterns ≤ i → place ≡ best patterns path
+best-whole patterns path i place was past = rw take_all at was

@@ -51,30 +51,13 @@ not_above a b c d h k = grind (arith, nat_tests)
 -- two forms of one rank that match one path are one, unless one of them is the exact `/`
 same_form : (f g : Form) (path : List ℕ) → ¬ (f ≡ Exact (47 ∷ [])) → ¬ (g ≡ Exact (47 ∷ [])) → form_matches f path ≡ true → form_matches g path ≡ true → (form_rank f).0 ≡ (form_rank g).0 → (form_rank f).1 ≡ (form_rank g).1 → f ≡ g
 same_form Root Root path p q m n c l = refl
-same_form Root Default path p q m n c l = absurd (omega arith)
-same_form Root (Extension y) path p q m n c l = absurd (omega arith)
-same_form Root (Prefix y) path p q m n c l = absurd (omega arith)
-same_form Root (Exact y) path p q m n c l = absurd (q (ap Exact (sym (same_bytes path y n) ∙ same_bytes path (47 ∷ []) m)))
-same_form Default Root path p q m n c l = absurd (omega arith)
 same_form Default Default path p q m n c l = refl
-same_form Default (Extension y) path p q m n c l = absurd (omega arith)
-same_form Default (Prefix y) path p q m n c l = absurd (omega arith)
-same_form Default (Exact y) path p q m n c l = absurd (omega arith)
-same_form (Extension x) Root path p q m n c l = absurd (omega arith)
-same_form (Extension x) Default path p q m n c l = absurd (omega arith)
 same_form (Extension x) (Extension y) path p q m n c l = ap Extension (same_extension x y (extension path) m n)
-same_form (Extension x) (Prefix y) path p q m n c l = absurd (omega arith)
-same_form (Extension x) (Exact y) path p q m n c l = absurd (omega arith)
-same_form (Prefix x) Root path p q m n c l = absurd (omega arith)
-same_form (Prefix x) Default path p q m n c l = absurd (omega arith)
-same_form (Prefix x) (Extension y) path p q m n c l = absurd (omega arith)
 same_form (Prefix x) (Prefix y) path p q m n c l = ap Prefix (sym (within_front x path m) ∙ (ap (λ k. take k path) l ∙ within_front y path n))
-same_form (Prefix x) (Exact y) path p q m n c l = absurd (omega arith)
-same_form (Exact x) Root path p q m n c l = absurd (p (ap Exact (sym (same_bytes path x m) ∙ same_bytes path (47 ∷ []) n)))
-same_form (Exact x) Default path p q m n c l = absurd (omega arith)
-same_form (Exact x) (Extension y) path p q m n c l = absurd (omega arith)
-same_form (Exact x) (Prefix y) path p q m n c l = absurd (omega arith)
 same_form (Exact x) (Exact y) path p q m n c l = ap Exact (sym (same_bytes path x m) ∙ same_bytes path y n)
+same_form Root (Exact y) path p q m n c l = absurd (q (ap Exact (sym (same_bytes path y n) ∙ same_bytes path (47 ∷ []) m)))
+same_form (Exact x) Root path p q m n c l = absurd (p (ap Exact (sym (same_bytes path x m) ∙ same_bytes path (47 ∷ []) n)))
+same_form f g path p q m n c l = absurd (omega arith)
 
 pub same_text : (a b path : List ℕ) → matches a path ≡ true → matches b path ≡ true → outranks a b ≡ false → outranks b a ≡ false → a ≡ b
 same_text a b path m n over under =
