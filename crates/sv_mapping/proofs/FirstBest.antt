@@ -79,13 +79,13 @@ module _ {X : Type 0} (P : X → Bool) (beats : X → X → Bool) where
   top-push : (xs : List X) (x y : X) → top (xs ++ x ∷ []) y ≡ (not (P x && beats x y) && top xs y)
   top-push xs x y = rw (list_any-append (λ z. P z && beats z y) xs (x ∷ [])) (regroup (P y) (list_any (λ z. P z && beats z y) xs) (P x && beats x y))
     where
-    regroup : (a b c : Bool) → (a && not (b || (c || false))) ≡ (not c && (a && not b))
-    regroup true true true = refl
-    regroup true true false = refl
-    regroup true false true = refl
-    regroup true false false = refl
-    regroup false b true = refl
-    regroup false b false = refl
+      regroup : (a b c : Bool) → (a && not (b || (c || false))) ≡ (not c && (a && not b))
+      regroup true true true = refl
+      regroup true true false = refl
+      regroup true false true = refl
+      regroup true false false = refl
+      regroup false b true = refl
+      regroup false b false = refl
 
   failing_is_no_top : (xs : List X) (y : X) → P y ≡ false → top xs y ≡ false
   failing_is_no_top xs y fails = rw fails refl
@@ -94,8 +94,8 @@ module _ {X : Type 0} (P : X → Bool) (beats : X → X → Bool) where
   same_where_failing : (xs : List X) (x : X) → P x ≡ false → top (xs ++ x ∷ []) ≡ top xs
   same_where_failing xs x fails = λ i y. unchanged y i
     where
-    unchanged : (y : X) → top (xs ++ x ∷ []) y ≡ top xs y
-    unchanged y = rw (top-push xs x y, fails) refl
+      unchanged : (y : X) → top (xs ++ x ∷ []) y ≡ top xs y
+      unchanged y = rw (top-push xs x y, fails) refl
 
   module _ (order : IsStrictWeakOrder beats) where
     unbeaten_by_itself : (x : X) → beats x x ≡ false
@@ -113,19 +113,20 @@ module _ {X : Type 0} (P : X → Bool) (beats : X → X → Bool) where
     same_where_under : (xs : List X) (x h : X) → find (top xs) xs ≡ Some h → P x ≡ true → beats x h ≡ false → top (xs ++ x ∷ []) ≡ top xs
     same_where_under xs x h e passes under = λ i y. unchanged y i
       where
-      beats_no_top : (y : X) → top xs y ≡ true → beats x y ≡ false
-      beats_no_top y tops =
-          let held = (and_parts (P h) (not (list_any (λ z. P z && beats z h) xs)) (found_passes (top xs) xs h e)).0 in
-          let unbeaten = found_fails (top xs) (λ z. P z && beats z y) xs h e (not-true _ (and_parts (P y) (not (list_any (λ z. P z && beats z y) xs)) tops).1) in
-          order.chain x h y under (rw held at unbeaten)
+        beats_no_top : (y : X) → top xs y ≡ true → beats x y ≡ false
+        beats_no_top y tops =
+            let held = (and_parts (P h) (not (list_any (λ z. P z && beats z h) xs)) (found_passes (top xs) xs h e)).0 in
+            let unbeaten = found_fails (top xs) (λ z. P z && beats z y) xs h e (not-true _ (and_parts (P y) (not (list_any (λ z. P z && beats z y) xs)) tops).1) in
+            order.chain x h y under (rw held at unbeaten)
 
-      unchanged : (y : X) → top (xs ++ x ∷ []) y ≡ top xs y
-      unchanged y =
-          elim (cases_Bool (beats x y)) [
-            inr low ↦ rw (top-push xs x y, passes, low) refl
-          | inl high ↦
-              let lost : top xs y ≡ false = false_from_ne_true _ (λ tops. both_ways _ (beats_no_top y tops) high) in
-              rw (top-push xs x y, passes, high, lost) refl ]
+        unchanged : (y : X) → top (xs ++ x ∷ []) y ≡ top xs y
+        unchanged y =
+            elim (cases_Bool (beats x y)) [
+              | inr low ↦ rw (top-push xs x y, passes, low) refl
+              | inl high ↦
+                  let lost : top xs y ≡ false = false_from_ne_true _ (λ tops. both_ways _ (beats_no_top y tops) high) in
+                  rw (top-push xs x y, passes, high, lost) refl
+            ]
 
     module _ {Y : Type 0} (g : ℕ → X → Y) (xs : List X) (x : X) where
       abbrev grown : List X
@@ -141,26 +142,31 @@ module _ {X : Type 0} (P : X → Bool) (beats : X → X → Bool) where
       grows : (held : Option X) → find (top xs) xs ≡ held → (held ≡ None → list_any P xs ≡ false) → first g (top grown) 0 grown ≡ cond (takes held x) (Some (g (length xs) x)) (first g (top xs) 0 xs)
       grows None e none_passes =
           elim (cases_Bool (P x)) [
-            inl passes ↦ rw passes (taken passes
-              (list_any_weaker (λ y. P y && beats y x) P xs (λ y fails. rw fails refl) (none_passes refl))
-              (list_any_weaker (top grown) P xs (failing_is_no_top grown) (none_passes refl)))
-          | inr fails ↦
-              let lost = first_none g (top xs) 0 xs (list_any_weaker (top xs) P xs (failing_is_no_top xs) (none_passes refl)) in
-              rw (fails, same_where_failing xs x fails) (first-push g (top xs) 0 xs x ∙ rw (lost, fails) refl) ]
+            | inl passes ↦ rw passes (taken passes
+                (list_any_weaker (λ y. P y && beats y x) P xs (λ y fails. rw fails refl) (none_passes refl))
+                (list_any_weaker (top grown) P xs (failing_is_no_top grown) (none_passes refl)))
+            | inr fails ↦
+                let lost = first_none g (top xs) 0 xs (list_any_weaker (top xs) P xs (failing_is_no_top xs) (none_passes refl)) in
+                rw (fails, same_where_failing xs x fails) (first-push g (top xs) 0 xs x ∙ rw (lost, fails) refl)
+          ]
       grows (Some h) e none_passes =
           elim (cases_Bool (P x)) [
-            inr fails ↦ rw fails (kept h e (same_where_failing xs x fails))
-          | inl passes ↦ elim (cases_Bool (beats x h)) [
-              inr under ↦ rw (passes, under) (kept h e (same_where_under xs x h e passes under))
-            | inl over ↦
-                let unbeaten = not-true _ (and_parts (P h) (not (list_any (λ y. P y && beats y h) xs)) (found_passes (top xs) xs h e)).1 in
-                rw (passes, over) (taken passes
-                (list_any_weaker (λ y. P y && beats y x) (λ y. P y && beats y h) xs (λ y low. elim (and_cases (P y) (beats y h) low) [
-                  inl fails ↦ rw fails refl
-                | inr under ↦ and_right (P y) (beats y x) (order.one_way x y (beats_rest x y h over under)) ]) unbeaten)
-                (list_any_weaker (top grown) (λ y. P y && beats y h) xs (λ y low. elim (and_cases (P y) (beats y h) low) [
-                  inl fails ↦ failing_is_no_top grown y fails
-                | inr under ↦ rw (top-push xs x y, passes, beats_rest x y h over under) refl ]) unbeaten)) ] ]
+            | inr fails ↦ rw fails (kept h e (same_where_failing xs x fails))
+            | inl passes ↦ elim (cases_Bool (beats x h)) [
+              | inr under ↦ rw (passes, under) (kept h e (same_where_under xs x h e passes under))
+              | inl over ↦
+                  let unbeaten = not-true _ (and_parts (P h) (not (list_any (λ y. P y && beats y h) xs)) (found_passes (top xs) xs h e)).1 in
+                  rw (passes, over) (taken passes
+                  (list_any_weaker (λ y. P y && beats y x) (λ y. P y && beats y h) xs (λ y low. elim (and_cases (P y) (beats y h) low) [
+                    | inl fails ↦ rw fails refl
+                    | inr under ↦ and_right (P y) (beats y x) (order.one_way x y (beats_rest x y h over under))
+                  ]) unbeaten)
+                  (list_any_weaker (top grown) (λ y. P y && beats y h) xs (λ y low. elim (and_cases (P y) (beats y h) low) [
+                    | inl fails ↦ failing_is_no_top grown y fails
+                    | inr under ↦ rw (top-push xs x y, passes, beats_rest x y h over under) refl
+                  ]) unbeaten))
+            ]
+          ]
 
     find_grows : (xs : List X) (x : X) → (find (top xs) xs ≡ None → list_any P xs ≡ false) → find (top (xs ++ x ∷ [])) (xs ++ x ∷ []) ≡ cond (takes (find (top xs) xs) x) (Some x) (find (top xs) xs)
     find_grows xs x none_passes =
@@ -177,13 +183,13 @@ module _ {X : Type 0} (P : X → Bool) (beats : X → X → Bool) where
     none_passes_along before (x ∷ rest) known none =
         rw (← append_assoc before (x ∷ []) rest) (none_passes_along (before ++ x ∷ []) rest longer (rw (← append_assoc before (x ∷ []) rest) at none))
       where
-      still_none : (held : Option X) → find (top before) before ≡ held → cond (takes held x) (Some x) held ≡ None → list_any P (before ++ x ∷ []) ≡ false
-      still_none (Some h) e lost = absurd (never (takes (Some h) x) x h lost)
-      still_none None e lost =
-          elim (cases_Bool (P x)) [ inl passes ↦ absurd (never true x x (rw passes at lost)) | inr fails ↦ rw (list_any-append P before (x ∷ []), known e, fails) refl ]
+        still_none : (held : Option X) → find (top before) before ≡ held → cond (takes held x) (Some x) held ≡ None → list_any P (before ++ x ∷ []) ≡ false
+        still_none (Some h) e lost = absurd (never (takes (Some h) x) x h lost)
+        still_none None e lost =
+            elim (cases_Bool (P x)) [ inl passes ↦ absurd (never true x x (rw passes at lost)) | inr fails ↦ rw (list_any-append P before (x ∷ []), known e, fails) refl ]
 
-      longer : find (top (before ++ x ∷ [])) (before ++ x ∷ []) ≡ None → list_any P (before ++ x ∷ []) ≡ false
-      longer lost = still_none (find (top before) before) refl (sym (find_grows before x known) ∙ lost)
+        longer : find (top (before ++ x ∷ [])) (before ++ x ∷ []) ≡ None → list_any P (before ++ x ∷ []) ≡ false
+        longer lost = still_none (find (top before) before) refl (sym (find_grows before x known) ∙ lost)
 
     none_passes : (xs : List X) → find (top xs) xs ≡ None → list_any P xs ≡ false
     none_passes xs = none_passes_along [] xs (λ _. refl)
@@ -191,12 +197,13 @@ module _ {X : Type 0} (P : X → Bool) (beats : X → X → Bool) where
     pub top_exists : (xs : List X) → is_some (find (top xs) xs) ≡ list_any P xs
     top_exists xs = go (find (top xs) xs) refl
       where
-      go : (held : Option X) → find (top xs) xs ≡ held → is_some held ≡ list_any P xs
-      go None e = sym (none_passes xs e)
-      go (Some h) e =
-          elim (cases_Bool (list_any P xs)) [
-            inl some ↦ sym some
-          | inr none ↦ absurd (both_ways _ (found_fails (top xs) P xs h e none) (and_parts (P h) (not (list_any (λ y. P y && beats y h) xs)) (found_passes (top xs) xs h e)).0) ]
+        go : (held : Option X) → find (top xs) xs ≡ held → is_some held ≡ list_any P xs
+        go None e = sym (none_passes xs e)
+        go (Some h) e =
+            elim (cases_Bool (list_any P xs)) [
+              | inl some ↦ sym some
+              | inr none ↦ absurd (both_ways _ (found_fails (top xs) P xs h e none) (and_parts (P h) (not (list_any (λ y. P y && beats y h) xs)) (found_passes (top xs) xs h e)).0)
+            ]
 
     -- the first top of a list that grows at its end, and its place
     pub found-push : (xs : List X) (x : X) → find (top (xs ++ x ∷ [])) (xs ++ x ∷ []) ≡ cond (takes (find (top xs) xs) x) (Some x) (find (top xs) xs)
@@ -207,5 +214,5 @@ module _ {X : Type 0} (P : X → Bool) (beats : X → X → Bool) where
         place (top (xs ++ x ∷ [])) (xs ++ x ∷ [])
         ∙ (grows (λ i _. i) xs x (find (top xs) xs) refl (none_passes xs) ∙ ap (cond (takes (find (top xs) xs) x) (Some (length xs))) (sym (place (top xs) xs)))
       where
-      place : (t : X → Bool) (ys : List X) → position t ys ≡ first (λ i _. i) t 0 ys
-      place t ys = position_from-zero t ys ∙ sym (first-position_from t 0 ys)
+        place : (t : X → Bool) (ys : List X) → position t ys ≡ first (λ i _. i) t 0 ys
+        place t ys = position_from-zero t ys ∙ sym (first-position_from t 0 ys)

@@ -1,15 +1,14 @@
 -- Two patterns that match a path and of which neither outranks the other have one text.
-use Rattle.std.proofs.Common.{◌≡◌, ℕ, ◌+◌, ◌-◌, Bool, true, false, cond, ◌&&◌, ◌||◌, not, List, [], ◌∷◌, ◌++◌, length, take, drop, eqb, ltb, refl, sym, ◌∙◌, ap, append_assoc, arith, Option, Some, None, ◌⊎◌, inl, inr}
+use Rattle.std.proofs.Common.{◌≡◌, ℕ, true, false, ◌&&◌, ◌||◌, List, [], ◌∷◌, ◌++◌, take, eqb, ltb, refl, sym, ◌∙◌, ap, arith, Option, Some, None, inl, inr}
 use Rattle.std.specs.List.{starts_with, ends_with}
 use Rattle.std.specs.Option.{option_map_or}
 use Rattle.std.specs.Str.{bytes_eq}
-use Rattle.std.proofs.lemmas.Bool.{cases_Bool, or_cases}
+use Rattle.std.proofs.lemmas.Bool.{cases_Bool}
 use Rattle.std.proofs.lemmas.Bool.Decides.{nat_tests, Decides-eqb}
-use Rattle.std.proofs.Math.Seq.{take-append_seam, take-length}
-use Rattle.std.proofs.lemmas.Slice.Eq.{bytes_eq-Decides, starts_is, ends_is}
-use Rattle.sv_mapping.specs.BestMatch.{form_rank, is_above, rank, outranks}
+use Rattle.std.proofs.lemmas.Slice.Eq.{starts_is, ends_is}
+use Rattle.sv_mapping.specs.BestMatch.{form_rank, rank, outranks}
 use Rattle.sv_mapping.proofs.Texts.{same_bytes, within_front}
-use Rattle.sv_mapping.specs.Pattern.{Form, Root, Default, Extension, Prefix, Exact, extension, form, form_matches, is_within, matches}
+use Rattle.sv_mapping.specs.Pattern.{Form, Root, Default, Extension, Prefix, Exact, extension, form, form_matches, matches}
 
 -- the text of a form
 abbrev pub text_of : Form → List ℕ
@@ -23,14 +22,18 @@ pub text_of-form : (text : List ℕ) → text_of (form text) ≡ text
 unfolding form
 text_of-form text =
     elim (cases_Bool (bytes_eq text [])) [
-      inl e ↦ rw e (sym (same_bytes text [] e))
-    | inr e ↦ elim (cases_Bool (bytes_eq text (47 ∷ []))) [
-        inl f ↦ rw (e, f) (sym (same_bytes text (47 ∷ []) f))
-      | inr f ↦ elim (cases_Bool (starts_with eqb text (42 ∷ 46 ∷ []))) [
-          inl g ↦ rw (e, f, g) (sym ((starts_is Decides-eqb text (42 ∷ 46 ∷ []) _ refl).0 g))
-        | inr g ↦ elim (cases_Bool (ends_with eqb text (47 ∷ 42 ∷ []))) [
-            inl h ↦ rw (e, f, g, h) (sym ((ends_is Decides-eqb text (47 ∷ 42 ∷ []) _ refl).0 h))
-          | inr h ↦ rw (e, f, g, h) refl ] ] ] ]
+      | inl e ↦ rw e (sym (same_bytes text [] e))
+      | inr e ↦ elim (cases_Bool (bytes_eq text (47 ∷ []))) [
+        | inl f ↦ rw (e, f) (sym (same_bytes text (47 ∷ []) f))
+        | inr f ↦ elim (cases_Bool (starts_with eqb text (42 ∷ 46 ∷ []))) [
+          | inl g ↦ rw (e, f, g) (sym ((starts_is Decides-eqb text (42 ∷ 46 ∷ []) _ refl).0 g))
+          | inr g ↦ elim (cases_Bool (ends_with eqb text (47 ∷ 42 ∷ []))) [
+            | inl h ↦ rw (e, f, g, h) (sym ((ends_is Decides-eqb text (47 ∷ 42 ∷ []) _ refl).0 h))
+            | inr h ↦ rw (e, f, g, h) refl
+          ]
+        ]
+      ]
+    ]
 
 -- the text `/` is the default pattern and never exact
 exact_is_no_slash : (text : List ℕ) → form text ≡ Exact (47 ∷ []) → ⊥

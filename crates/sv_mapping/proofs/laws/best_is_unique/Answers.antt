@@ -1,5 +1,4 @@
-use Rattle.std.proofs.Common.{Bool, true, false, ◌≡◌, ◌&&◌}
-use Rattle.std.proofs.lemmas.Bool.{and_parts, not-true}
+use Rattle.std.proofs.lemmas.Bool.{and_parts}
 use Rattle.sv_mapping.proofs.Uniqueness.{same_text}
 use Rattle.sv_mapping.proofs.BestMatches.{unbeaten_by_member}
 use Rattle.sv_mapping.proofs.laws.best_is_unique.Goals as goal
