@@ -58,23 +58,26 @@ abbrev pub first_case : List (Bool × Verdict) → Verdict → Verdict
 first_case [] last = last
 first_case (row ∷ rows) last = cond row.0 row.1 (first_case rows last)
 
+-- why, at a best pattern
+abbrev pub because : Option (List ℕ) → Option ℕ → Cause → Grounds
+because pattern number cause = record { pattern = pattern; number = number; cause = cause }
+
+-- an uncovered request passes, unless such requests are denied
+abbrev pub uncovered : Rules → Grounds → Verdict
+uncovered rules grounds = if rules.deny_uncovered then Denied grounds else Open grounds
+
 -- the table, at the text of the best pattern and the constraints that cover the method there
 abbrev pub verdict_at : Rules → Option Caller → Option (List ℕ) → List Constraint → Verdict
 verdict_at rules caller pattern members = first_case
-    ((is_none pattern, Open (because None cause.NoPattern))
-    ∷ (length members == 0, uncovered (because None cause.Uncovered))
-    ∷ (list_any precludes members, Denied (because (least_where precludes members) cause.Precluded))
-    ∷ (not (list_any travels_plain members), Denied (because (least_number members) cause.Transport))
-    ∷ (list_any is_open members, Open (because (least_where is_open members) cause.Unauthenticated))
-    ∷ (is_none caller, Login (because (least_number members) cause.NeedsCaller))
-    ∷ (list_any (lets_in rules caller) members, Open (because (least_where (lets_in rules caller) members) cause.Role))
+    ((is_none pattern, Open (because pattern None cause.NoPattern))
+    ∷ (length members == 0, uncovered rules (because pattern None cause.Uncovered))
+    ∷ (list_any precludes members, Denied (because pattern (least_where precludes members) cause.Precluded))
+    ∷ (not (list_any travels_plain members), Denied (because pattern (least_number members) cause.Transport))
+    ∷ (list_any is_open members, Open (because pattern (least_where is_open members) cause.Unauthenticated))
+    ∷ (is_none caller, Login (because pattern (least_number members) cause.NeedsCaller))
+    ∷ (list_any (lets_in rules caller) members, Open (because pattern (least_where (lets_in rules caller) members) cause.Role))
     ∷ [])
-    (Denied (because (least_number members) cause.NoRole))
-  where
-  because : Option ℕ → Cause → Grounds
-  because number why = record { pattern = pattern; number = number; cause = why }
-  uncovered : Grounds → Verdict
-  uncovered grounds = if rules.deny_uncovered then Denied grounds else Open grounds
+    (Denied (because pattern (least_number members) cause.NoRole))
 
 -- the verdict on a request
 abbrev pub verdict : List Constraint → Rules → List ℕ → List ℕ → Option Caller → Verdict

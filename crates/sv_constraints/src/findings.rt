@@ -1,10 +1,10 @@
 //! What one pass over the constraints finds of those that cover a request.
 
-ghost use Rattle.std.specs.Prelude.{◌≡◌, ◌==◌, ◌++◌, ◌∷◌, [], List, Some};
+ghost use Rattle.std.specs.Prelude.{◌≡◌, [], Option, Some};
 ghost use Rattle.std.specs.Option.{option_copied};
 ghost use Rattle.sv_constraints.specs.Covering.{covering};
 ghost use Rattle.sv_constraints.specs.Findings.{lesser};
-ghost use Rattle.sv_constraints.specs.Verdict.{names_nobody, is_absent, allows_plain, verdict_at};
+ghost use Rattle.sv_constraints.specs.Verdict.{names_nobody, is_absent, allows_plain};
 ghost use Rattle.sv_constraints.specs.Decision.{seen};
 
 use sv_mapping::Pattern;
@@ -67,7 +67,7 @@ fn lesser(number: Option<u64>, other: Option<u64>) -> Option<u64>
 }
 
 impl Findings {
-    ghost use Rattle.sv_constraints.specs.Findings.{findings_of};
+    ghost use Rattle.sv_constraints.specs.Findings.{findings_of, with_one, decided};
 
     /// What there is to find in no constraint.
     fn none() -> Findings
@@ -84,7 +84,7 @@ impl Findings {
 
     /// What there is to find with one more constraint.
     fn with(self, constraint: &Constraint, rules: &Rules, caller: Option<&Caller>) -> Findings
-        ensures { (members : List Constraint) → self ≡ findings_of rules.now (option_copied caller.entry) members → result ≡ findings_of rules.now (option_copied caller.entry) (members ++ constraint.now ∷ []) }
+        ensures { result ≡ with_one rules.now (option_copied caller.entry) constraint.now self }
     {
         let number = constraint.number;
         let auth = &constraint.auth;
@@ -124,7 +124,7 @@ impl Findings {
         rules: &Rules,
         caller: Option<&Caller>,
     ) -> Decision<'a>
-        ensures { (members : List Constraint) → self.now ≡ findings_of rules.now (option_copied caller.entry) members → seen result ≡ verdict_at rules.now (option_copied caller.entry) (Some pattern.now) members }
+        ensures { seen result ≡ decided rules.now (option_copied caller.entry) (Some pattern.now) self.now }
     {
         let because = |number: Option<u64>, cause: Cause| Why {
             pattern: Some(pattern),
