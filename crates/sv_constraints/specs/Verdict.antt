@@ -67,17 +67,20 @@ abbrev pub uncovered : Rules → Grounds → Verdict
 uncovered rules grounds = if rules.deny_uncovered then Denied grounds else Open grounds
 
 -- the table, at the text of the best pattern and the constraints that cover the method there
-abbrev pub verdict_at : Rules → Option Caller → Option (List ℕ) → List Constraint → Verdict
-verdict_at rules caller pattern members = first_case
-    ((is_none pattern, Open (because pattern None cause.NoPattern))
+abbrev pub cases : Rules → Option Caller → Option (List ℕ) → List Constraint → List (Bool × Verdict)
+cases rules caller pattern members =
+    (is_none pattern, Open (because pattern None cause.NoPattern))
     ∷ (length members == 0, uncovered rules (because pattern None cause.Uncovered))
     ∷ (list_any precludes members, Denied (because pattern (least_where precludes members) cause.Precluded))
     ∷ (not (list_any travels_plain members), Denied (because pattern (least_number members) cause.Transport))
     ∷ (list_any is_open members, Open (because pattern (least_where is_open members) cause.Unauthenticated))
     ∷ (is_none caller, Login (because pattern (least_number members) cause.NeedsCaller))
     ∷ (list_any (lets_in rules caller) members, Open (because pattern (least_where (lets_in rules caller) members) cause.Role))
-    ∷ [])
-    (Denied (because pattern (least_number members) cause.NoRole))
+    ∷ []
+
+abbrev pub verdict_at : Rules → Option Caller → Option (List ℕ) → List Constraint → Verdict
+verdict_at rules caller pattern members =
+    first_case (cases rules caller pattern members) (Denied (because pattern (least_number members) cause.NoRole))
 
 -- the verdict on a request
 abbrev pub verdict : List Constraint → Rules → List ℕ → List ℕ → Option Caller → Verdict
