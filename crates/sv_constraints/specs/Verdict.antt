@@ -1,5 +1,5 @@
--- Jakarta Servlet 6.0 sections 13.8.1, 13.8.3 and 13.8.4: the verdict on a request, as a table of eight cases.
-use Rattle.std.specs.Prelude.{ℕ, Bool, true, false, not, cond, ◌==◌, List, [], ◌∷◌, length, filter, map, min, Option, None, Some, is_none, if◌then◌else◌}
+-- Jakarta Servlet 6.0, sections 13.8.1, 13.8.3 and 13.8.4: the verdict on a request, as a table of eight cases.
+use Rattle.std.specs.Prelude.{ℕ, Bool, true, false, not, cond, ◌==◌, List, [], ◌∷◌, length, filter, map, min, Option, None, is_none, if◌then◌else◌}
 use Rattle.std.specs.List.{list_any, reduce}
 use Rattle.sv_mapping.specs.BestMatch.{best_pattern}
 use Rattle.sv_realm.specs.declared.caller.Caller.{Caller}
@@ -50,8 +50,8 @@ travels_plain constraint = allows_plain constraint.transport
 abbrev pub is_open : Constraint → Bool
 is_open constraint = is_absent constraint.auth
 
-abbrev pub lets_in : Rules → Option Caller → Constraint → Bool
-lets_in rules caller constraint = admits rules.declared caller constraint.auth
+abbrev pub admits_caller : Rules → Option Caller → Constraint → Bool
+admits_caller rules caller constraint = admits rules.declared caller constraint.auth
 
 -- the verdict of the first row whose test holds, or else the last verdict
 abbrev pub first_case : List (Bool × Verdict) → Verdict → Verdict
@@ -75,7 +75,7 @@ cases rules caller pattern members =
     ∷ (not (list_any travels_plain members), Denied (because pattern (least_number members) cause.Transport))
     ∷ (list_any is_open members, Open (because pattern (least_where is_open members) cause.Unauthenticated))
     ∷ (is_none caller, Login (because pattern (least_number members) cause.NeedsCaller))
-    ∷ (list_any (lets_in rules caller) members, Open (because pattern (least_where (lets_in rules caller) members) cause.Role))
+    ∷ (list_any (admits_caller rules caller) members, Open (because pattern (least_where (admits_caller rules caller) members) cause.Role))
     ∷ []
 
 abbrev pub verdict_at : Rules → Option Caller → Option (List ℕ) → List Constraint → Verdict

@@ -1,4 +1,4 @@
-use Rattle.std.proofs.Common.{rules, ap, sym, ◌∙◌, Some}
+use Rattle.std.proofs.Common.{ap, ◌∙◌, Some}
 use Rattle.std.specs.Option.{option_copied}
 use Rattle.sv_constraints.proofs.Found.{decided_is_verdict}
 use Rattle.sv_constraints.specs.Covering.{covering}

@@ -1,4 +1,4 @@
-use Rattle.std.proofs.Common.{◌≡◌, ap, sym, ◌∙◌}
+use Rattle.std.proofs.Common.{ap, sym, ◌∙◌}
 use Rattle.sv_constraints.specs.Covering.{covering}
 use Rattle.sv_constraints.specs.Verdict.{verdict_at}
 use Rattle.sv_constraints.proofs.laws.only_the_best_pattern_decides.Goals as goal
