@@ -12,5 +12,3 @@ pub use command_fault::CommandFault;
 pub use first::{first, first_line};
 pub use limits::MAX_INPUT_BYTES;
 
-#[cfg(test)]
-mod tests;
