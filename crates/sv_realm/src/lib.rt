@@ -1,0 +1,8 @@
+//! Users of a realm, and the caller whom a login found among them (Jakarta Servlet 6.0 section 13.3).
+#![tactic(auto)]
+
+mod caller;
+mod user;
+
+pub use caller::Caller;
+pub use user::User;
