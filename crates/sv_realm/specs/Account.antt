@@ -12,7 +12,11 @@ account_of member = record { caller = caller_of member; salt = member.1.salt; di
 -- the user whose account it is
 abbrev pub user_of : Account → User
 user_of account = record {
-    name = account.caller.name; salt = account.salt; digest = account.digest; roles = account.caller.roles }
+  name = account.caller.name;
+  salt = account.salt;
+  digest = account.digest;
+  roles = account.caller.roles;
+}
 
 -- the accounts are those of the users, with their places as numbers
 abbrev pub AreNumbered : List Account → Type 0

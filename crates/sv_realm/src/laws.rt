@@ -7,11 +7,9 @@ ghost use Rattle.sv_realm.specs.Laws.{ChecksTheNamed, FindsTheFirst, MissesNone}
 pub fn the_first_user_of_a_name_counts()
     ensures found { FindsTheFirst }
     ensures missed { MissesNone }
-{
-}
+{}
 
 /// Whoever passes the check is the caller of the name, and the password fits the user at their number.
 pub fn a_checked_caller_is_the_named_one()
     ensures { ChecksTheNamed }
-{
-}
+{}

@@ -5,7 +5,7 @@ ghost use Rattle.std.specs.Option.{option_copied};
 ghost use Rattle.sv_realm.specs.Realm.{caller_at, caller_checked, caller_named};
 ghost use Rattle.sv_text.specs.Gives.{GivesAnswer};
 
-use crate::account::{Account, account_named};
+use crate::account::{Account, account_named, accounts_of};
 use crate::caller::Caller;
 use crate::limits::MAX_USERS;
 use crate::password::fits;
@@ -42,12 +42,9 @@ impl Realm {
         requires { vec_len users ≤ MAX_USERS }
         ensures { GivesAnswer result users.items }
     {
-        let mut accounts = Vec::with_capacity(alloc, users.len())?;
-        for user in users {
-            let number = accounts.len() as u32;
-            accounts.push(Account::new(number, user))?;
-        }
-        Ok(Realm { accounts })
+        Ok(Realm {
+            accounts: accounts_of(alloc, users)?,
+        })
     }
 
     /// The caller whom a login with this name and this password makes: the first user of the name, where SHA-256 of the
@@ -59,7 +56,11 @@ impl Realm {
         ensures { option_copied result ≡ caller_checked self.now name.now password.now }
     {
         let account = account_named(self.accounts.as_slice(), name)?;
-        if fits(account, password) { Some(&account.caller) } else { None }
+        if fits(account, password) {
+            Some(&account.caller)
+        } else {
+            None
+        }
     }
 
     /// The caller of the first user of a name. `None` where no user has the name. It takes no memory.
