@@ -1,6 +1,7 @@
 //! Whether a password is the one whose digest an account keeps.
 
-ghost use Rattle.std.specs.Prelude.{◌≡◌};
+ghost use Rattle.std.specs.Prelude.{◌≡◌, bit_or, bit_xor, fold};
+ghost use Rattle.std.specs.List.{zip};
 ghost use Rattle.std.specs.Str.{bytes_eq};
 ghost use Rattle.sv_realm.specs.Account.{user_of};
 ghost use Rattle.sv_realm.specs.User.{fits as digest_fits};
@@ -24,12 +25,14 @@ pub fn fits(account: &Account, password: &[u8]) -> bool
 fn same_bytes(left: &[u8], right: &[u8]) -> bool
     ensures { result ≡ bytes_eq left.now right.now }
 {
-    if left.len() != right.len() {
-        return false;
-    }
-    let mut difference = 0;
-    for (x, y) in left.iter().zip(right) {
-        difference |= x ^ y;
-    }
-    difference == 0
+    left.len() == right.len() && difference(left, right) == 0
+}
+
+/// The bits at which two byte strings differ anywhere, as far as both go.
+fn difference(left: &[u8], right: &[u8]) -> u8
+    ensures { result ≡ fold (λ bits pair. bit_or bits (bit_xor pair.0 pair.1)) 0 (zip left.now right.now) }
+{
+    left.iter()
+        .zip(right)
+        .fold(0, |bits, (x, y)| bits | (x ^ y))
 }
