@@ -1,3 +1,4 @@
 pub mod Numbered
 pub mod Difference
 pub mod Found
+pub mod First
