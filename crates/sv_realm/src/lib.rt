@@ -10,7 +10,9 @@ mod realm;
 mod user;
 
 pub use caller::Caller;
-pub use laws::{a_checked_caller_is_the_named_one, the_first_user_of_a_name_counts};
+pub use laws::{
+    a_checked_caller_is_the_named_one, a_digest_that_fits_is_whole, the_first_user_of_a_name_counts,
+};
 pub use limits::MAX_USERS;
 pub use realm::Realm;
 pub use user::User;
