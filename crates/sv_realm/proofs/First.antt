@@ -1,5 +1,5 @@
 use Rattle.std.proofs.Common.{◌≡◌, ◌≢◌, ℕ, ◌+◌, ◌<◌, Bool, true, false, List, length, take, get_or, Option, Some, None, refl, sym, ap, subst, inl, inr, ◌∙◌, arith}
-use Rattle.std.specs.Prelude.{All, slice_get}
+use Rattle.std.specs.Prelude.{All, IsTrue, option_and_then, slice_get}
 use Rattle.std.specs.Bool.{then_some}
 use Rattle.std.specs.List.{enumerate_from, position_or_len}
 use Rattle.std.specs.Option.{option_map}
@@ -14,7 +14,7 @@ use Rattle.std.proofs.lemmas.Slice.Eq.{bytes_eq-Decides}
 use Rattle.sv_realm.specs.declared.caller.Caller.{Caller}
 use Rattle.sv_realm.specs.declared.user.User.{User}
 use Rattle.sv_realm.specs.Laws.{ChecksTheNamed, FindsTheFirst, MissesNone}
-use Rattle.sv_realm.specs.Realm.{caller_at, caller_of, user_named}
+use Rattle.sv_realm.specs.Realm.{caller_at, caller_checked, caller_named, caller_of, user_named}
 use Rattle.sv_realm.specs.User.{fits}
 use Rattle.sv_realm.proofs.Numbered.{slice_get-enumerate_from}
 
@@ -90,8 +90,11 @@ misses_none users name e k d inside same =
       | inr h ↦ earlier_differs users name k d inside (omega arith) same
     ]
 
-pub checks_the_named : ChecksTheNamed
-checks_the_named users name password caller e =
+passes_as_named : (users : List User) (name password : List ℕ) (caller : Caller)
+    → caller_checked users name password ≡ Some caller
+    → (caller_named users name ≡ Some caller)
+    × ((user : User) × (slice_get users caller.number ≡ Some user) × IsTrue (fits user password))
+passes_as_named users name password caller e =
     option_and_then_some (λ member. then_some (fits member.1 password) (caller_of member)) (user_named users name) caller e
     (λ member found passed.
     let parts = then_some_some _ _ _ passed in
@@ -99,3 +102,22 @@ checks_the_named users name password caller e =
       ap (option_map caller_of) found ∙ ap Some parts.1,
       (member.1, ap (λ one. slice_get users one.number) (sym parts.1) ∙ first.stands, parts.0),
     ))
+
+named_passes : (users : List User) (name password : List ℕ) (caller : Caller) (user : User)
+    → caller_named users name ≡ Some caller → slice_get users caller.number ≡ Some user → IsTrue (fits user password)
+    → caller_checked users name password ≡ Some caller
+named_passes users name password caller user e stands fit =
+    let found = option_map_some caller_of (user_named users name) caller e in
+    let member = found.0 in
+    let first = named_is_first users name member found.1 in
+    let same : member.1 ≡ user =
+    same_Some _ _ (sym first.stands ∙ ap (λ one. slice_get users one.number) found.2 ∙ stands) in
+    ap (option_and_then (λ one. then_some (fits one.1 password) (caller_of one))) found.1
+    ∙ ap (λ passed. then_some passed (caller_of member)) (ap (λ one. fits one password) same ∙ fit)
+    ∙ ap Some found.2
+
+pub checks_the_named : ChecksTheNamed
+checks_the_named users name password caller = (
+  passes_as_named users name password caller,
+  λ (e, (user, stands, fit)). named_passes users name password caller user e stands fit,
+)

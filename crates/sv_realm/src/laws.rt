@@ -9,7 +9,7 @@ pub fn the_first_user_of_a_name_counts()
     ensures missed { MissesNone }
 {}
 
-/// Whoever passes the check is the caller of the name, and the password fits the user at their number.
+/// A caller passes the check exactly where they are the caller of the name and the password fits the user at their number.
 pub fn a_checked_caller_is_the_named_one()
     ensures { ChecksTheNamed }
 {}
