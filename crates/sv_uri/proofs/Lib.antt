@@ -1,0 +1,2 @@
+mod DotSegmentLemmas
+mod FrontLemmas
