@@ -1,9 +1,9 @@
 -- What dot segments do to a list of names that grows at its end.
-use Rattle.std.proofs.Common.{ℕ, suc, ◌≡◌, ◌+◌, ◌-◌, ◌<◌, ◌≤◌, Bool, true, false, not, ◌||◌, cond, eqb, ltb, List, [], ◌∷◌, ◌++◌, length, take, take_all, Some, None, sym, refl, ap, ◌∙◌, ⊎_elim, arith}
-use Rattle.std.specs.List.{filter, last_or}
+use Rattle.std.proofs.Common.{ℕ, suc, ◌≡◌, ◌+◌, ◌-◌, ◌<◌, ◌≤◌, Bool, true, false, not, ◌||◌, cond, eqb, ltb, List, [], ◌∷◌, ◌++◌, length, take, take_all, Option, Some, None, sym, refl, ap, ◌∙◌, ⊎_elim, arith}
+use Rattle.std.specs.List.{All, filter, last_or}
 use Rattle.std.specs.Str.{bytes_eq}
-use Rattle.std.proofs.lemmas.Bool.{cases_Bool, cond-true, cond-false, lt-ltb, le-ltb, or_left, or_right, or_from, cases_lt, cases_eq}
-use Rattle.std.proofs.lemmas.Bool.Decides.{nat_tests}
+use Rattle.std.proofs.lemmas.Bool.{cases_Bool, cond-true, cond-false, cond_both, or_parts, lt-ltb, le-ltb, or_left, or_right, or_from, cases_lt, cases_eq}
+use Rattle.std.proofs.lemmas.List.Elements.{All-nil, All-cons, All-head, All-tail}
 use Rattle.sv_uri.specs.Segment.{is_parent}
 use Rattle.sv_uri.specs.DotSegments.{removed_in_front, remaining}
 
@@ -63,3 +63,34 @@ remaining-append (name ∷ rest) more =
         (cases_lt (length (remaining rest)) (removed_in_front more)))
       (cases_lt 0 (removed_in_front rest)))
     (cases_Bool (is_parent name))
+
+-- what is left holds what all names hold, and no `..`
+pub All-remaining : (P : List ℕ → Type 0) (names : List (List ℕ)) → All P names → All P (remaining names)
+All-remaining P [] all = all
+All-remaining P (name ∷ rest) all =
+    let behind = All-remaining P rest (All-tail P name rest all) in
+    cond_both (is_parent name || ltb 0 (removed_in_front rest)) (remaining rest) (name ∷ remaining rest) (All P)
+    (λ _. behind) (λ _. All-cons P name (remaining rest) (All-head P name rest all) behind)
+
+abbrev pub IsName : List ℕ → Type 0
+IsName name = is_parent name ≡ false
+
+pub All-IsName-remaining : (names : List (List ℕ)) → All IsName (remaining names)
+All-IsName-remaining [] = All-nil IsName
+All-IsName-remaining (name ∷ rest) =
+    let behind = All-IsName-remaining rest in
+    cond_both (is_parent name || ltb 0 (removed_in_front rest)) (remaining rest) (name ∷ remaining rest) (All IsName)
+    (λ _. behind) (λ kept. All-cons IsName name (remaining rest) ((or_parts _ _ kept).0) behind)
+
+-- names without `..` stay
+pub unremoved : (names : List (List ℕ)) → All IsName names → (removed_in_front names ≡ 0) × (remaining names ≡ names)
+unremoved [] all = (refl, refl)
+unremoved (name ∷ rest) all =
+    let other = All-head IsName name rest all in
+    let behind = unremoved rest (All-tail IsName name rest all) in
+    (removed-name name rest other ∙ rw behind.0 refl, remaining-kept name rest other (omega arith) ∙ ap (λ xs. name ∷ xs) behind.1)
+
+-- the last of a list
+pub last_or-push : (names : List (List ℕ)) (o : Option (List ℕ)) (name : List ℕ) → last_or o (names ++ name ∷ []) ≡ Some name
+last_or-push [] o name = refl
+last_or-push (first ∷ rest) o name = last_or-push rest (Some first) name
