@@ -4,3 +4,4 @@ mod ItsOwnLemmas
 mod QueryLemmas
 mod SegmentLemmas
 mod TargetLemmas
+mod WalkLemmas
