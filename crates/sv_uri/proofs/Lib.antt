@@ -1,6 +1,7 @@
 mod DotSegmentLemmas
 mod FrontLemmas
 mod ItsOwnLemmas
+mod PathLemmas
 mod QueryLemmas
 mod SegmentLemmas
 mod TargetLemmas

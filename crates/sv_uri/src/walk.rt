@@ -59,7 +59,7 @@ impl<'a> Walk<'a> {
 
     /// The path of the names that are left, a slash before each; it ends in a slash where the last segment was no name.
     pub(crate) fn into_path(self, alloc: Global, capacity: usize) -> Result<Text, NoMemory>
-        requires { All IsUtf8 (shown self.entry.names.items) }
+        requires { All IsUtf8 (shown self.names.items) }
         ensures { GivesAnswer result (flat_map (λ name. byte "/" ∷ name)
             (shown self.entry.names.items ++ (if self.entry.is_open then [] ∷ [] else []))) }
     {
