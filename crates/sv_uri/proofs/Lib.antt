@@ -3,6 +3,7 @@ mod FrontLemmas
 mod ItsOwnLemmas
 mod PathLemmas
 mod QueryLemmas
+mod ReadLemmas
 mod SegmentLemmas
 mod TargetLemmas
 mod WalkLemmas
