@@ -1,3 +1,4 @@
+mod AnswerLemmas
 mod DotSegmentLemmas
 mod FrontLemmas
 mod ItsOwnLemmas

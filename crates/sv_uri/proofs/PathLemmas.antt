@@ -1,5 +1,5 @@
 -- The path of names is a text where the names are.
-use Rattle.std.proofs.Common.{ℕ, ◌≡◌, true, List, [], ◌∷◌, ◌++◌, map, IsUtf8, refl, subst, lit<}
+use Rattle.std.proofs.Common.{ℕ, List, [], ◌∷◌, IsUtf8, refl, subst, lit<}
 use Rattle.std.specs.List.{All}
 use Rattle.std.specs.Str.{byte}
 use Rattle.std.proofs.lemmas.List.Elements.{All-head, All-tail}

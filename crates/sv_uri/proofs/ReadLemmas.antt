@@ -1,5 +1,5 @@
 -- A walk over the segments of a path, one at a time.
-use Rattle.std.proofs.Common.{ℕ, ◌≡◌, ◌+◌, ◌-◌, ◌<◌, ◌≤◌, Bool, true, false, cond, ◌==◌, List, [], ◌∷◌, ◌++◌, map, length, length-drop, drop, append-nil, append_assoc, Option, Some, None, MatchOption, sym, refl, ap, subst, ◌∙◌, arith}
+use Rattle.std.proofs.Common.{ℕ, ◌≡◌, ◌+◌, ◌<◌, ◌==◌, List, [], ◌∷◌, ◌++◌, map, length, length-drop, drop, append-nil, append_assoc, Option, Some, None, MatchOption, refl, ap, ◌∙◌, arith}
 use Rattle.std.specs.List.{flat_map, position_or_len}
 use Rattle.std.specs.Str.{byte}
 use Rattle.std.proofs.lemmas.Bool.{cond_both}
@@ -12,7 +12,7 @@ use Rattle.sv_uri.specs.declared.walk.Walk.{Walk}
 use Rattle.sv_uri.specs.Fault.{first, path_fault}
 use Rattle.sv_uri.specs.Target.{before, behind, between_slashes}
 use Rattle.sv_uri.specs.Segment.{name_of, segment_faults}
-use Rattle.sv_uri.specs.Walked.{HasSeen, GivesWalk}
+use Rattle.sv_uri.specs.Walked.{HasSeen}
 use Rattle.sv_uri.proofs.TargetLemmas.{holds, segments_behind, between_slashes-first}
 
 -- the walk has entered the first segments of the path, which have no fault, and this rest is left
@@ -31,11 +31,11 @@ next_whole walk path text read = read.whole ∙ ap (λ parts. read.seen ++ parts
 
 pub HasRead-more : (walk next : Walk) (path text name : List ℕ) (rest : Option (List ℕ)) (segment : List ℕ) → segment ≡ before (byte "/") text → rest ≡ behind (byte "/") text → segment_faults segment ≡ [] → name ≡ name_of segment → ((seen : List (List ℕ)) → HasSeen walk seen → HasSeen next (seen ++ name ∷ [])) → HasRead walk path (Some text) → HasRead next path rest
 HasRead-more walk next path text name rest segment is_first is_rest none is_name enters read = record {
-    seen = read.seen ++ segment ∷ [];
-    whole = rw (is_first, is_rest, append_assoc) (next_whole walk path text read);
-    faultless = flat_map-append segment_faults read.seen (segment ∷ []) ∙ rw (read.faultless, none) refl;
-    walked = rw (map_push name_of read.seen segment, ← is_name) (enters (map name_of read.seen) read.walked)
-  }
+  seen = read.seen ++ segment ∷ [];
+  whole = rw (is_first, is_rest, append_assoc) (next_whole walk path text read);
+  faultless = flat_map-append segment_faults read.seen (segment ∷ []) ∙ rw (read.faultless, none) refl;
+  walked = rw (map_push name_of read.seen segment, ← is_name) (enters (map name_of read.seen) read.walked);
+}
 
 first-append : (xs ys : List PathFault) (fault : PathFault) → first xs ≡ Some fault → first (xs ++ ys) ≡ Some fault
 first-append [] ys fault is_first = cc
@@ -45,7 +45,7 @@ first-append (x ∷ xs) ys fault is_first = is_first
 pub first_of_next : (walk : Walk) (path text segment : List ℕ) (e : CanonFault) → segment ≡ before (byte "/") text → HasRead walk path (Some text) → MatchOption (path_fault e) (Unit {0}) (λ fault. first (segment_faults segment) ≡ Some fault) → MatchOption (path_fault e) (Unit {0}) (λ fault. first (flat_map segment_faults (between_slashes path)) ≡ Some fault)
 first_of_next walk path text segment (Path fault) is_first read said =
     let all : flat_map segment_faults (between_slashes path) ≡ segment_faults segment ++ flat_map segment_faults (segments_behind (behind (byte "/") text)) =
-      ap (flat_map segment_faults) (next_whole walk path text read) ∙ flat_map-append segment_faults read.seen _ ∙ rw (read.faultless, is_first) refl
+    ap (flat_map segment_faults) (next_whole walk path text read) ∙ flat_map-append segment_faults read.seen _ ∙ rw (read.faultless, is_first) refl
     in
     rw all (first-append (segment_faults segment) _ fault said)
 first_of_next walk path text segment NoMemory is_first read said = tt

@@ -1,15 +1,13 @@
 -- One more segment at the end of those that a walk has seen.
-use Rattle.std.proofs.Common.{ℕ, ◌≡◌, ◌+◌, ◌-◌, ◌<◌, ◌≤◌, Bool, true, false, not, ◌||◌, cond, eqb, ltb, List, [], ◌∷◌, ◌++◌, length, take, take_all, append-nil, map, length-append, Option, Some, None, MatchOption, is_some, sym, refl, ap, ◌∙◌, ⊎_elim, arith}
-use Rattle.std.specs.List.{All, filter, last_or}
-use Rattle.std.specs.Str.{bytes_eq}
-use Rattle.std.proofs.lemmas.Bool.{cases_Bool, cond-true, cond-false, not_from_true, not_from_false, not-true, not-false, ne_eqb}
+use Rattle.std.proofs.Common.{ℕ, ◌≡◌, ◌+◌, ◌-◌, Bool, true, false, not, ◌||◌, eqb, ltb, List, [], ◌∷◌, ◌++◌, length, take, take_all, append-nil, map, length-append, Option, Some, None, MatchOption, is_some, sym, refl, ap, ◌∙◌, arith}
+use Rattle.std.proofs.lemmas.Bool.{cond-true, cond-false, not_from_true, not_from_false, not-true, not-false, ne_eqb}
 use Rattle.std.proofs.lemmas.Bool.Decides.{nat_tests}
 use Rattle.std.specs.Option.{option_to_list}
 use Rattle.std.proofs.lemmas.List.{map-append, take_at}
 use Rattle.std.proofs.lemmas.List.Elements.{filter-append}
 use Rattle.std.proofs.lemmas.Slice.Eq.{bytes_eq-Decides}
-use Rattle.sv_uri.specs.Segment.{is_parent, is_empty, is_same}
-use Rattle.sv_uri.specs.DotSegments.{is_idle, kept, remaining, removed_in_front, climbs, is_open}
+use Rattle.sv_uri.specs.Segment.{is_parent}
+use Rattle.sv_uri.specs.DotSegments.{is_idle, kept, remaining, removed_in_front, climbs}
 use Rattle.sv_uri.specs.Walked.{IsLeftOf}
 use Rattle.sv_uri.proofs.DotSegmentLemmas.{removed-append, remaining-append, removed-parent, removed-name, remaining-parent, remaining-kept, last_or-push}
 
@@ -34,7 +32,7 @@ IsLeftOf-idle names climbed open_end seen name idle before =
     record {
       left = before.left ∙ ap remaining (sym same);
       climbed_by = before.climbed_by ∙ ap climbs (sym same);
-      opened_by = rw (last_or-push seen None name, idle) refl
+      opened_by = rw (last_or-push seen None name, idle) refl;
     }
 
 -- a name is added
@@ -48,7 +46,7 @@ IsLeftOf-name names climbed open_end seen name other busy before =
     record {
       left = rw (same, remaining-append (kept seen) (name ∷ []), all, itself, before.left) refl;
       climbed_by = rw (same, count) before.climbed_by;
-      opened_by = rw (last_or-push seen None name, other, busy) refl
+      opened_by = rw (last_or-push seen None name, other, busy) refl;
     }
 
 climbs_more : (removed left : ℕ) → ltb 0 (removed + (1 - left)) ≡ (ltb 0 removed || eqb left 0)
@@ -63,7 +61,7 @@ IsLeftOf-parent names left climbed none open_end seen name parent shorter empty 
     record {
       left = shorter ∙ rw (same, remaining-append (kept seen) (name ∷ []), one, nothing, append-nil (take (length (remaining (kept seen)) - 1) (remaining (kept seen))), before.left) refl;
       climbed_by = rw (same, removed-append (kept seen) (name ∷ []), one, climbs_more (removed_in_front (kept seen)) (length (remaining (kept seen))), before.climbed_by, empty, before.left) refl;
-      opened_by = rw (last_or-push seen None name, parent, parent_is_not_idle name parent) refl
+      opened_by = rw (last_or-push seen None name, parent, parent_is_not_idle name parent) refl;
     }
 
 -- a list of n items after its last was popped

@@ -1,4 +1,4 @@
-use Rattle.std.proofs.Common.{ap, subst, Some, ◌<◌}
+use Rattle.std.proofs.Common.{ap, subst, ◌<◌}
 use Rattle.std.specs.Option.{option_copied}
 use Rattle.std.proofs.lemmas.Result.{err_from_is_err_and}
 use Rattle.sv_uri.proofs.ReadLemmas.{HasRead, HasRead-none, HasRead-more, HasRead-all, first_of_next, size_of_rest, size_of_rest-behind}
