@@ -1,0 +1,5 @@
+pub mod Fault
+pub mod Value
+pub mod Table
+pub mod ListOf
+pub mod Document
