@@ -1,0 +1,5 @@
+mod DotSegmentLemmas
+mod FrontLemmas
+mod ItsOwnLemmas
+mod SegmentLemmas
+mod TargetLemmas

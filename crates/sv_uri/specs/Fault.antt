@@ -1,0 +1,43 @@
+-- The faults of a request target and their order: Jakarta Servlet 6.0, section 3.5.2 (the sequences to refuse).
+use Rattle.std.specs.Prelude.{ℕ, Bool, List, [], ◌∷◌, Option, Some, None, Result, Ok, Err, if◌then◌else◌, codes}
+use Rattle.sv_uri.specs.declared.fault.PathFault.{PathFault}
+use Rattle.sv_uri.specs.declared.fault.PathFault.TheVariants.{Fragment, NoSlash, BadEscape, EncodedSlash, Backslash, Control, NotUtf8, DotSegment, EmptyParameter, Climbs}
+use Rattle.sv_uri.specs.declared.fault.CanonFault.{CanonFault}
+use Rattle.sv_uri.specs.declared.fault.CanonFault.TheVariants.{Path, NoMemory}
+
+-- the fault, where the test holds
+abbrev pub when : Bool → PathFault → List PathFault
+when test fault = if test then fault ∷ [] else []
+
+-- the first of the faults, or else the answer
+abbrev pub first_or : {A : Type 0} → List PathFault → A → Result A PathFault
+first_or [] answer = Ok answer
+first_or (fault ∷ _) answer = Err fault
+
+-- the first of the faults
+abbrev pub first : List PathFault → Option PathFault
+first [] = None
+first (fault ∷ _) = Some fault
+
+-- the fault of the target, and none for want of memory
+abbrev pub path_fault : CanonFault → Option PathFault
+path_fault (Path fault) = Some fault
+path_fault NoMemory = None
+
+-- the name that is printed for a fault
+abbrev pub fault_name : PathFault → List ℕ
+fault_name Fragment = codes "Fragment"
+fault_name NoSlash = codes "NoSlash"
+fault_name BadEscape = codes "BadEscape"
+fault_name EncodedSlash = codes "EncodedSlash"
+fault_name Backslash = codes "Backslash"
+fault_name Control = codes "Control"
+fault_name NotUtf8 = codes "NotUtf8"
+fault_name DotSegment = codes "DotSegment"
+fault_name EmptyParameter = codes "EmptyParameter"
+fault_name Climbs = codes "Climbs"
+
+-- the text that is printed for a refusal
+abbrev pub refusal_text : CanonFault → List ℕ
+refusal_text (Path fault) = fault_name fault
+refusal_text NoMemory = codes "no memory"

@@ -1,0 +1,7 @@
+pub mod Canonical
+pub mod DotSegments
+pub mod Fault
+pub mod Laws
+pub mod Segment
+pub mod Target
+pub mod Walked

@@ -1,0 +1,26 @@
+-- The parts of a request target: RFC 3986, sections 3.3 (path, segments, parameters) and 3.4 (query).
+use Rattle.std.specs.Prelude.{ℕ, Bool, ◌==◌, not, ◌&&◌, nat_le, List, [], ◌∷◌, Option, Some, None, if◌then◌else◌}
+use Rattle.std.specs.List.{list_any, before_first, after_first, slice_split, flat_map}
+use Rattle.std.specs.Str.{byte}
+use Rattle.percent_encoding.specs.Percent.{percent_encode_byte}
+
+-- what stands before the first such byte, or all where there is none
+abbrev pub before : ℕ → List ℕ → List ℕ
+before separator text = before_first (λ b. b == separator) text
+
+-- what stands behind the first such byte, where there is one
+abbrev pub behind : ℕ → List ℕ → Option (List ℕ)
+behind separator text =
+    if list_any (λ b. b == separator) text then Some (after_first (λ b. b == separator) text) else None
+
+-- what stands between the slashes, and before the first and behind the last
+abbrev pub between_slashes : List ℕ → List (List ℕ)
+between_slashes text = slice_split (λ b. b == byte "/") text
+
+-- the bytes that a query holds as they are
+abbrev pub is_visible : ℕ → Bool
+is_visible b = nat_le 33 b && nat_le b 126
+
+-- the query with every other byte as an escape
+abbrev pub visible_query : List ℕ → List ℕ
+visible_query query = flat_map (λ b. if is_visible b then b ∷ [] else percent_encode_byte b) query

@@ -1,0 +1,63 @@
+//! The canonical path of a request target.
+
+ghost use Rattle.std.specs.Prelude.{◌≡◌, List};
+ghost use Rattle.sv_text.specs.Gives.{Gives};
+ghost use Rattle.sv_uri.specs.Fault.{path_fault, first_or};
+ghost use Rattle.sv_uri.specs.Target.{between_slashes};
+ghost use Rattle.sv_uri.specs.Canonical.{canonical, path_faults, path_text};
+
+use crate::cut::cut;
+use crate::fault::{CanonFault, PathFault};
+use crate::path::Canon;
+use crate::query::visible_query;
+use crate::segment::read_name;
+use crate::walk::Walk;
+use std::alloc::Global;
+use sv_text::Text;
+
+fn walk_of<'a>(alloc: Global, path: &'a [u8]) -> Result<Walk<'a>, CanonFault> {
+    let mut walk = Walk::new(alloc);
+    let mut rest = Some(path);
+    while let Some(text) = rest {
+        let (segment, behind) = cut(text, b'/');
+        walk.enter(read_name(alloc, segment)?)?;
+        rest = behind;
+    }
+    Ok(walk)
+}
+
+// The canonical path of what stands behind the first slash.
+fn canonical_path(alloc: Global, path: &[u8]) -> Result<Text, CanonFault>
+    ensures { let segments = between_slashes path.now in
+        Gives path_fault result (first_or (path_faults segments) (path_text segments)) }
+{
+    let walk = walk_of(alloc, path)?;
+    if walk.climbs {
+        return Err(CanonFault::Path(PathFault::Climbs));
+    }
+    Ok(walk.into_path(alloc, path.len() + 1)?)
+}
+
+/// The canonical path of a request target, with its query (Jakarta Servlet 6.0, section 3.5.2; RFC 3986, section 5.2.4).
+///
+/// The query is cut off at the first `?`, the rest split at each `/`, each segment cut at its first `;` and decoded once. Empty
+/// segments and `.` are dropped, `..` removes the name before it, and where the last segment is empty, `.` or `..` the path ends in `/`.
+/// The target may hold any bytes; a wrong one is answered with the first of its faults, in the order of [`PathFault`], and
+/// `CanonFault::NoMemory` comes only where a growth was refused. The work is linear in the length of the target.
+pub fn canon(alloc: Global, target: &[u8]) -> Result<Canon, CanonFault>
+    ensures { Gives path_fault result (canonical target.now) }
+{
+    if target.contains(&b'#') {
+        return Err(CanonFault::Path(PathFault::Fragment));
+    }
+    let [b'/', relative @ ..] = target else {
+        return Err(CanonFault::Path(PathFault::NoSlash));
+    };
+    let (path, query) = cut(relative, b'?');
+    let path = canonical_path(alloc, path)?;
+    let query = match query {
+        Some(query) => Some(visible_query(alloc, query)?),
+        None => None,
+    };
+    Ok(Canon { path, query })
+}

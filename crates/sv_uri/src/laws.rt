@@ -1,0 +1,13 @@
+//! The laws of canonical paths, each the contract of a function that does nothing.
+
+ghost use Rattle.sv_uri.specs.Laws.{ClimbsByFronts, CanonicalIsItsOwn};
+
+/// A path climbs exactly where some front of its segments has more `..` than other names.
+pub fn climbs_by_fronts()
+    ensures { ClimbsByFronts }
+{}
+
+/// A canonical path without `%`, `?`, `#` and `;` is its own canonical path, without a query.
+pub fn canonical_is_its_own()
+    ensures { CanonicalIsItsOwn }
+{}

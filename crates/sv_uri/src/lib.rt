@@ -1,0 +1,13 @@
+//! Canonical paths of request targets, and the faults for which a target has none.
+#![tactic(auto)]
+
+mod canonical;
+mod cut;
+pub mod fault;
+pub mod laws;
+pub mod path;
+mod query;
+mod segment;
+mod walk;
+
+pub use canonical::canon;

@@ -1,0 +1,20 @@
+//! The query of a target, in bytes that can be seen.
+
+ghost use Rattle.sv_text.specs.Gives.{GivesAnswer};
+ghost use Rattle.sv_uri.specs.Target as target;
+
+use percent_encoding::{AsciiSet, CONTROLS, ascii_set, percent_encode};
+use std::alloc::Global;
+use sv_text::{NoMemory, Text};
+
+// The bytes below 128 that are written as escapes; all bytes from 128 up are.
+const ESCAPED: AsciiSet = ascii_set!(CONTROLS.add(b' '));
+
+/// The query with each byte outside 33 to 126 as an escape.
+pub(crate) fn visible_query(alloc: Global, query: &[u8]) -> Result<Text, NoMemory>
+    ensures { GivesAnswer result (target.visible_query query.now) }
+{
+    let mut text = String::with_capacity(alloc, query.len())?;
+    percent_encode(query, ESCAPED).append_to(&mut text)?;
+    Ok(Text::from_string(text))
+}

@@ -1,0 +1,90 @@
+//! One segment of a path: its name, or the first of its faults.
+
+ghost use Rattle.std.specs.Prelude.{◌≡◌, ℕ, List, [], MatchResult, map};
+ghost use Rattle.std.specs.List.{list_any};
+ghost use Rattle.std.specs.Cow.{cow_slice_items};
+ghost use Rattle.sv_uri.specs.Fault as fault;
+ghost use Rattle.sv_uri.specs.Segment as spec;
+
+use crate::cut::cut;
+use crate::fault::{CanonFault, PathFault};
+use percent_encoding::percent_decode;
+use std::alloc::Global;
+use std::borrow::CowSlice;
+use std::str;
+
+/// Whether the name is `.`, the segment itself.
+pub(crate) fn is_same(name: &[u8]) -> bool
+    ensures { result ≡ spec.is_same name.now }
+{
+    name == b".".as_slice()
+}
+
+/// Whether the name is `..`, the segment above.
+pub(crate) fn is_parent(name: &[u8]) -> bool
+    ensures { result ≡ spec.is_parent name.now }
+{
+    name == b"..".as_slice()
+}
+
+fn begins_with_digits(bytes: &[u8]) -> bool
+    ensures { result ≡ spec.begins_with_digits bytes.now }
+{
+    match bytes {
+        [high, low, ..] => high.is_ascii_hexdigit() && low.is_ascii_hexdigit(),
+        _ => false,
+    }
+}
+
+fn has_bad_escape(name: &[u8]) -> bool
+    ensures { result ≡ spec.has_bad_escape name.now }
+{
+    name.split(|b| *b == b'%')
+        .skip(1)
+        .any(|behind_percent| !begins_with_digits(behind_percent))
+}
+
+fn has_control(name: &[u8]) -> bool
+    ensures { result ≡ list_any spec.is_control name.now }
+{
+    name.iter().any(|b| *b < 32 || *b == 127)
+}
+
+// The first fault of a decoded name; `segment` is how it was written.
+fn name_fault(segment: &[u8], name: &[u8]) -> Option<PathFault>
+    ensures { result ≡ fault.first (spec.name_faults segment.now name.now) }
+{
+    if name.contains(&b'/') {
+        Some(PathFault::EncodedSlash)
+    } else if name.contains(&b'\\') {
+        Some(PathFault::Backslash)
+    } else if has_control(name) {
+        Some(PathFault::Control)
+    } else if str::from_utf8(name).is_err() {
+        Some(PathFault::NotUtf8)
+    } else if (is_same(name) || is_parent(name)) && name != segment {
+        Some(PathFault::DotSegment)
+    } else if name.is_empty() && segment.contains(&b';') {
+        Some(PathFault::EmptyParameter)
+    } else {
+        None
+    }
+}
+
+/// The name of a segment: what stands before its first `;`, decoded once. Memory is taken only where there is something to decode.
+pub(crate) fn read_name<'a>(
+    alloc: Global,
+    segment: &'a [u8],
+) -> Result<CowSlice<'a, u8, Global>, CanonFault>
+    ensures { spec.GivesName result segment.now }
+{
+    let (raw_name, _) = cut(segment, b';');
+    if has_bad_escape(raw_name) {
+        return Err(CanonFault::Path(PathFault::BadEscape));
+    }
+    let name = percent_decode(raw_name).into_cow(alloc)?;
+    match name_fault(segment, name.as_slice()) {
+        Some(fault) => Err(CanonFault::Path(fault)),
+        None => Ok(name),
+    }
+}
