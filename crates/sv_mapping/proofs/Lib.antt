@@ -1,0 +1,3 @@
+pub mod BestMatches
+pub mod FirstBest
+pub mod Uniqueness
