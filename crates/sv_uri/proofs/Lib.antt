@@ -1,5 +1,9 @@
 mod DotSegmentLemmas
 mod FrontLemmas
 mod ItsOwnLemmas
+mod PathLemmas
+mod QueryLemmas
+mod ReadLemmas
 mod SegmentLemmas
 mod TargetLemmas
+mod WalkLemmas

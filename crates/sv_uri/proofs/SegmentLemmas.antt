@@ -1,8 +1,8 @@
 -- What it means for a segment to have no fault.
-use Rattle.std.proofs.Common.{ℕ, suc, ◌≡◌, ◌+◌, ◌<◌, ◌≤◌, Bool, true, false, not, ◌&&◌, ◌||◌, cond, eqb, List, [], ◌∷◌, ◌++◌, map, length, drop, Option, Some, None, IsUtf8, sym, refl, ap, ◌∙◌, ⊎_elim, arith}
+use Rattle.std.proofs.Common.{ℕ, suc, ◌≡◌, ◌+◌, ◌<◌, ◌≤◌, Bool, true, false, not, ◌&&◌, ◌||◌, cond, eqb, List, [], ◌∷◌, ◌++◌, map, length, drop, Option, Some, None, Result, Ok, Err, MatchResult, is_ok, IsUtf8, sym, refl, ap, ◌∙◌, ⊎_elim, arith}
 use Rattle.std.specs.List.{All, list_any, flat_map, slice_split}
 use Rattle.std.specs.Str.{byte, bytes_eq, is_utf8}
-use Rattle.std.proofs.lemmas.Bool.{cases_Bool, or_parts, not-false, eqb-false, and_left, and_right, not_from_true, not_from_false}
+use Rattle.std.proofs.lemmas.Bool.{cases_Bool, or_parts, not-false, eqb-false, false_from_ne_true, and_left, and_right, not_from_true, not_from_false}
 use Rattle.std.proofs.lemmas.List.Elements.{All-nil, All-cons, All-head, All-tail}
 use Rattle.std.proofs.lemmas.List.Splits.{slice_split_none}
 use Rattle.std.proofs.lemmas.Slice.Eq.{bytes_eq-Decides}
@@ -71,3 +71,8 @@ pub faultless_literal : (name : List ℕ) → IsPlain name → holds (byte "%") 
 faultless_literal name plain percentless semicolonless =
     let no_escape : has_bad_escape name ≡ false = rw (slice_split_none (λ b. eqb b 37) name (none_All (λ b. eqb b 37) name percentless)) refl in
     rw (before_none 59 name semicolonless, percent_decode_none name percentless, no_escape, plain.slash, plain.backslash, plain.control, plain.utf8, bytes_eq_same name, behind_none 59 name semicolonless, and_right (is_same name || is_parent name) false refl, and_right (is_empty name) false refl) refl
+
+-- a result that is a text exactly for UTF-8 answers the test
+pub is_ok-is_utf8 : {A E : Type 0} (P : A → Type 0) (Q : E → Type 0) (result : Result A E) (bytes : List ℕ) → MatchResult result (λ text. P text × IsUtf8 bytes) (λ e. ¬ (IsUtf8 bytes) × Q e) → is_ok result ≡ is_utf8 bytes
+is_ok-is_utf8 P Q (Ok text) bytes is_text = sym (is_utf8-from_IsUtf8 bytes is_text.1)
+is_ok-is_utf8 P Q (Err e) bytes no_text = sym (false_from_ne_true (is_utf8 bytes) (λ utf8. no_text.0 (IsUtf8-from_is_utf8 bytes utf8)))

@@ -4,6 +4,7 @@ ghost use Rattle.std.specs.Prelude.{◌≡◌, List};
 ghost use Rattle.sv_text.specs.Gives.{Gives};
 ghost use Rattle.sv_uri.specs.Fault.{path_fault, first_or};
 ghost use Rattle.sv_uri.specs.Target.{between_slashes};
+ghost use Rattle.sv_uri.specs.Walked.{GivesWalk};
 ghost use Rattle.sv_uri.specs.Canonical.{canonical, path_faults, path_text};
 
 use crate::cut::cut;
@@ -15,7 +16,10 @@ use crate::walk::Walk;
 use std::alloc::Global;
 use sv_text::Text;
 
-fn walk_of<'a>(alloc: Global, path: &'a [u8]) -> Result<Walk<'a>, CanonFault> {
+// The walk over all segments of what stands behind the first slash.
+fn walk_of<'a>(alloc: Global, path: &'a [u8]) -> Result<Walk<'a>, CanonFault>
+    ensures { GivesWalk result (between_slashes path.now) }
+{
     let mut walk = Walk::new(alloc);
     let mut rest = Some(path);
     while let Some(text) = rest {
