@@ -1,5 +1,5 @@
 -- The least numbers of constraints, and what is found in them.
-use Rattle.std.proofs.Common.{arith, append-nil, ◌≡◌, ℕ, Bool, true, false, not, List, [], ◌∷◌, ◌++◌, length, refl, ap, sym, ◌∙◌, min, Option, None, Some, ◌==◌, ◌||◌}
+use Rattle.std.proofs.Common.{arith, append-nil, ◌≡◌, ℕ, Bool, true, false, List, [], ◌∷◌, ◌++◌, length, refl, ap, ◌∙◌, min, Option, None, Some, ◌==◌, ◌||◌}
 use Rattle.std.specs.Prelude.{map, filter, is_some, is_none, fold, cond}
 use Rattle.std.specs.Bool.{then_some}
 use Rattle.std.specs.List.{list_any, reduce}

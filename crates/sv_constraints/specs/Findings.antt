@@ -3,7 +3,7 @@ use Rattle.std.specs.Prelude.{ℕ, List, [], ◌∷◌, ◌||◌, not, min, Opti
 use Rattle.std.specs.Bool.{then_some}
 use Rattle.std.specs.List.{list_any}
 use Rattle.sv_realm.specs.declared.caller.Caller.{Caller}
-use Rattle.sv_constraints.specs.Verdict.{least_number, least_where, precludes, travels_plain, is_open, lets_in, first_case, because, uncovered}
+use Rattle.sv_constraints.specs.Verdict.{least_number, least_where, precludes, travels_plain, is_open, admits_caller, first_case, because, uncovered}
 use Rattle.sv_constraints.specs.Decision.{Verdict, Open, Login, Denied}
 use Rattle.sv_constraints.specs.declared.decision.Cause.TheVariants as cause
 use Rattle.sv_constraints.specs.declared.constraint.Constraint.{Constraint}
@@ -17,7 +17,7 @@ findings_of rules caller members = record {
   precluding = least_where precludes members;
   travels_plain = list_any travels_plain members;
   unauthenticated = least_where is_open members;
-  admitting = least_where (lets_in rules caller) members;
+  admitting = least_where (admits_caller rules caller) members;
 }
 
 -- the lesser of two numbers, where there are any
@@ -33,7 +33,7 @@ with_one rules caller constraint found = record {
   precluding = lesser found.precluding (then_some (precludes constraint) constraint.number);
   travels_plain = found.travels_plain || travels_plain constraint;
   unauthenticated = lesser found.unauthenticated (then_some (is_open constraint) constraint.number);
-  admitting = lesser found.admitting (then_some (lets_in rules caller constraint) constraint.number);
+  admitting = lesser found.admitting (then_some (admits_caller rules caller constraint) constraint.number);
 }
 
 -- the verdict's table, at what was found

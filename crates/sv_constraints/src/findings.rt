@@ -7,16 +7,16 @@ ghost use Rattle.sv_constraints.specs.Findings.{lesser};
 ghost use Rattle.sv_constraints.specs.Verdict.{names_nobody, is_absent, allows_plain};
 ghost use Rattle.sv_constraints.specs.Decision.{seen};
 
-use sv_mapping::Pattern;
-use sv_realm::Caller;
-
 use crate::constraint::{Auth, Constraint, Transport};
 use crate::covering::covers;
 use crate::decision::{Cause, Decision, Why};
 use crate::roles::admits;
 use crate::rules::Rules;
+use sv_mapping::Pattern;
+use sv_realm::Caller;
 
-/// The least numbers of the covering constraints by which a request is decided, each none where there is no such constraint.
+/// By which of the covering constraints a request can be decided: the least number of each kind, none where there is no
+/// constraint of that kind.
 #[derive(Clone, Copy)]
 pub struct Findings {
     /// Of all covering constraints.
@@ -106,7 +106,8 @@ impl Findings {
         rules: &Rules,
         caller: Option<&Caller>,
     ) -> Findings
-        ensures { result ≡ findings_of rules.now (option_copied caller.entry) (covering constraints.now (Some pattern.now) method.now) }
+        ensures { let members = covering constraints.now (Some pattern.now) method.now in
+            result ≡ findings_of rules.now (option_copied caller.entry) members }
     {
         let mut found = Findings::none();
         for constraint in constraints {
@@ -133,7 +134,11 @@ impl Findings {
         };
         if self.covering.is_none() {
             let why = because(None, Cause::Uncovered);
-            if rules.deny_uncovered { Decision::Denied(why) } else { Decision::Open(why) }
+            if rules.deny_uncovered {
+                Decision::Denied(why)
+            } else {
+                Decision::Open(why)
+            }
         } else if self.precluding.is_some() {
             Decision::Denied(because(self.precluding, Cause::Precluded))
         } else if !self.travels_plain {

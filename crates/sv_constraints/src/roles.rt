@@ -6,11 +6,10 @@ ghost use Rattle.std.specs.Option.{option_copied};
 ghost use Rattle.sv_constraints.specs.Covering.{lists};
 ghost use Rattle.sv_constraints.specs.Roles.{roles_named, admits_holder, admits};
 
-use sv_realm::Caller;
-use sv_text::Text;
-
 use crate::constraint::Auth;
 use crate::covering::lists;
+use sv_realm::Caller;
+use sv_text::Text;
 
 /// Stands for every declared role.
 const EVERY_ROLE: &str = "*";
@@ -35,7 +34,9 @@ fn name_fits(declared: &[Text], name: &str, held: &[Text]) -> bool
 fn names_fit(declared: &[Text], names: &[Text], held: &[Text]) -> bool
     ensures { result ≡ list_any (λ name. list_any (lists held.now) (roles_named declared.now name)) names.now }
 {
-    names.iter().any(|name| name_fits(declared, name.as_str(), held))
+    names
+        .iter()
+        .any(|name| name_fits(declared, name.as_str(), held))
 }
 
 /// Whether the names admit a caller with these roles.
