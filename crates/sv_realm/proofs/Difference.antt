@@ -1,5 +1,4 @@
-use Rattle.std.proofs.Common.{◌≡◌, ℕ, suc, ◌+◌, Bool, true, false, ◌&&◌, nat_eq, List, [], ◌∷◌, length, fold, bit_or, bit_xor, bit_and, refl, sym, ap, ◌∙◌, arith}
-use Rattle.std.specs.Bool.{Decides}
+use Rattle.std.proofs.Common.{◌≡◌, ℕ, Bool, true, false, ◌&&◌, nat_eq, List, [], ◌∷◌, length, fold, bit_or, bit_xor, refl, ap, ◌∙◌, arith}
 use Rattle.std.specs.Int.Bits.{or_add_and, xor_add_and, or_zero_l, xor_self}
 use Rattle.std.specs.List.{zip}
 use Rattle.std.specs.Str.{bytes_eq}

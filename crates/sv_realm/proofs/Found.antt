@@ -1,4 +1,4 @@
-use Rattle.std.proofs.Common.{◌≡◌, ℕ, ◌+◌, Bool, true, false, cond, List, [], ◌∷◌, map, Option, Some, None, refl, sym, ap, subst, ◌∙◌, zero-add}
+use Rattle.std.proofs.Common.{◌≡◌, ℕ, ◌+◌, Bool, true, false, cond, List, [], ◌∷◌, map, Option, Some, None, refl, ap, ◌∙◌, zero-add}
 use Rattle.std.specs.Prelude.{find, slice_get, option_and_then}
 use Rattle.std.specs.Bool.{then_some}
 use Rattle.std.specs.List.{enumerate_from}
@@ -17,8 +17,8 @@ find-map : {A B : Type 0} (f : A → B) (p : B → Bool) (xs : List A)
 find-map f p [] = refl
 find-map f p (x ∷ xs) =
     elim (p (f x)) as (λ b. cond b (Some (f x)) (find p (map f xs)) ≡ option_map f (cond b (Some x) (find (λ y. p (f y)) xs))) [
-      true ↦ refl
-    | false ↦ find-map f p xs
+      | true ↦ refl
+      | false ↦ find-map f p xs
     ]
 
 -- the first account of a name is the account of the first user of that name
@@ -69,7 +69,7 @@ pub named_caller : (accounts shown : List Account) (users : List User) (name : L
     → option_map (λ account. account.caller) found ≡ caller_named users name
 named_caller accounts shown users name found numbered viewed same e =
     ap (option_map (λ account. account.caller))
-      (e ∙ ap (find (λ account. bytes_eq account.caller.name name)) same ∙ account_found accounts users name numbered viewed)
+    (e ∙ ap (find (λ account. bytes_eq account.caller.name name)) same ∙ account_found accounts users name numbered viewed)
     ∙ their_caller (user_named users name)
 
 pub checked_caller : (accounts shown : List Account) (users : List User) (name password : List ℕ) (found : Option Account)
@@ -79,7 +79,7 @@ pub checked_caller : (accounts shown : List Account) (users : List User) (name p
     ≡ caller_checked users name password
 checked_caller accounts shown users name password found numbered viewed same e =
     ap (option_and_then (λ account. then_some (fits (user_of account) password) account.caller))
-      (e ∙ ap (find (λ account. bytes_eq account.caller.name name)) same ∙ account_found accounts users name numbered viewed)
+    (e ∙ ap (find (λ account. bytes_eq account.caller.name name)) same ∙ account_found accounts users name numbered viewed)
     ∙ their_check password (user_named users name)
 
 pub placed_caller : (accounts : List Account) (users : List User) (place : ℕ) (found : Option Account)

@@ -1,4 +1,4 @@
--- What a realm keeps of its users.
+-- What a realm keeps of its users (Jakarta Servlet 6.0 section 13.6).
 use Rattle.std.specs.Prelude.{◌≡◌, ℕ, List, map}
 use Rattle.std.specs.List.{enumerate_from}
 use Rattle.sv_realm.specs.declared.account.Account.{Account}

@@ -1,5 +1,5 @@
--- What the definitions of a realm come to.
-use Rattle.std.specs.Prelude.{◌≡◌, ◌≢◌, ℕ, List, Some, None, All, IsTrue, slice_get, take}
+-- What the definitions of a realm come to (Jakarta Servlet 6.0 section 13.6; FIPS 180-4 section 6.2).
+use Rattle.std.specs.Prelude.{◌≡◌, ◌≢◌, ◌↔◌, ℕ, List, Some, None, All, IsTrue, length, slice_get, take}
 use Rattle.sv_realm.specs.declared.caller.Caller.{Caller}
 use Rattle.sv_realm.specs.declared.user.User.{User}
 use Rattle.sv_realm.specs.Realm.{caller_at, caller_checked, caller_named}
@@ -16,9 +16,13 @@ abbrev pub MissesNone : Type 0
 MissesNone = (users : List User) (name : List ℕ) → caller_named users name ≡ None
     → All (λ user. user.name ≢ name) users
 
--- a caller who passes the check is the caller of the name, and the password fits the user at their number
+-- a caller passes the check exactly where they are the caller of the name and the password fits the user at their number
 abbrev pub ChecksTheNamed : Type 0
 ChecksTheNamed = (users : List User) (name password : List ℕ) (caller : Caller)
     → caller_checked users name password ≡ Some caller
-    → (caller_named users name ≡ Some caller)
+    ↔ (caller_named users name ≡ Some caller)
     × ((user : User) × (slice_get users caller.number ≡ Some user) × IsTrue (fits user password))
+
+-- a digest that fits a password has 32 bytes
+abbrev pub FitsByWholeDigest : Type 0
+FitsByWholeDigest = (user : User) (password : List ℕ) → IsTrue (fits user password) → length user.digest ≡ 32

@@ -36,8 +36,8 @@ impl Model for Realm {
 impl Realm {
     /// Makes a realm of a list of users. A user's number is their place in the list, from 0.
     ///
-    /// There may be at most `MAX_USERS` users. Names may be equal: the first user of a name counts, and the others are
-    /// found by their numbers alone. Where memory is wanted the users are dropped.
+    /// There may be at most `MAX_USERS` users, which the caller tests by the vector's length. Names may be equal: the first
+    /// user of a name counts, and the others are found by their numbers alone. Where memory is wanted the users are dropped.
     pub fn from_users(alloc: Global, users: Vec<User>) -> Result<Realm, NoMemory>
         requires { vec_len users ≤ MAX_USERS }
         ensures { GivesAnswer result users.items }
@@ -51,7 +51,8 @@ impl Realm {
     /// user's salt followed by the password is the user's digest. `None` where no user has the name, or the password
     /// does not fit that user.
     ///
-    /// It takes no memory. Digests are compared to their last byte also where an earlier one differs.
+    /// It takes no memory. Digests are compared to their last byte also where an earlier one differs, which is a property
+    /// of the code and not of the contract; a name that no user has is answered without a digest.
     pub fn check(&self, name: &str, password: &[u8]) -> Option<&Caller>
         ensures { option_copied result ≡ caller_checked self.now name.now password.now }
     {

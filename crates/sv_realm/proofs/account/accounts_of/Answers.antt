@@ -1,4 +1,4 @@
-use Rattle.std.proofs.Common.{arith, ◌≡◌, length, List, [], ◌∷◌, ◌++◌, ap, ◌∙◌, append_assoc, length-append}
+use Rattle.std.proofs.Common.{arith, ◌≡◌, length, [], ◌∷◌, ap, ◌∙◌, append_assoc, length-append}
 use Rattle.std.specs.Vec.Iter.{into_iter_items}
 use Rattle.sv_realm.proofs.Numbered.{accounts_more}
 use Rattle.sv_realm.proofs.account.accounts_of.Goals as goal
