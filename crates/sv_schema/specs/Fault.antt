@@ -1,5 +1,5 @@
 -- The first fault of a configuration file, and steps of which the first fault is the answer.
-use Rattle.std.specs.Prelude.{ℕ, List, Option, Some, None, Result, Ok, Err}
+use Rattle.std.specs.Prelude.{ℕ, Bool, if◌then◌else◌, List, Option, Some, None, Result, Ok, Err}
 use Rattle.sv_schema.specs.declared.fault.DescriptorFault.{DescriptorFault}
 use Rattle.sv_schema.specs.declared.fault.FaultCode.{FaultCode}
 use Rattle.sv_schema.specs.declared.fault.FaultCode.TheVariants.{NotToml, UnknownKey, MissingKey, WrongType, BadPattern, DuplicatePattern, UnknownServlet, UnknownFilter, BothMethodLists, ReservedRole, BadTimeout, BadValue, DuplicateName, TooMany}
@@ -27,6 +27,10 @@ first >> next = first >>= (λ _. next)
 
 abbrev pub refuse : {A : Type 0} → FaultCode → List ℕ → Reads A
 refuse code key = Err (record { code = code; key = key })
+
+-- a test of what was read, and the fault where it fails
+abbrev pub check : Bool → FaultCode → List ℕ → Reads (Unit {0})
+check holds code key = if holds then Ok tt else refuse code key
 
 abbrev pub number : FaultCode → ℕ
 number NotToml = 1

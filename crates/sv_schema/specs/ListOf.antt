@@ -38,7 +38,7 @@ abbrev pub list_of : {A : Type 0} → ℕ → ℕ → (Data → Bool) → Reader
 list_of least most fits reads key value = list_items least most fits key value >>= each (reads key)
 
 abbrev pub is_array : Data → Bool
-is_array (array items) = true
+is_array (array _) = true
 is_array _ = false
 
 -- the items as a reference to them is seen

@@ -22,7 +22,7 @@ whole_of reads key _ = refuse WrongType key
 
 -- a table, of which more is read
 abbrev pub table_of : {A : Type 0} → (Members → Reads A) → Reader A
-table_of reads key (table members) = reads members
+table_of reads key (table inner) = reads inner
 table_of reads key _ = refuse WrongType key
 
 abbrev pub truth : Reader Bool
@@ -30,19 +30,19 @@ truth key (boolean b) = Ok b
 truth key _ = refuse WrongType key
 
 abbrev pub is_text : Data → Bool
-is_text (string text) = true
+is_text (string _) = true
 is_text _ = false
 
 abbrev pub is_whole : Data → Bool
-is_whole (integer number) = true
+is_whole (integer _) = true
 is_whole _ = false
 
 abbrev pub is_truth : Data → Bool
-is_truth (boolean b) = true
+is_truth (boolean _) = true
 is_truth _ = false
 
 abbrev pub is_table : Data → Bool
-is_table (table members) = true
+is_table (table _) = true
 is_table _ = false
 
 -- any text

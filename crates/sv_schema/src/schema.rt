@@ -69,6 +69,25 @@ pub fn optional<S: Schema>(
     }
 }
 
+/// Reads the value at a key that may be missing, where another value stands in its place.
+///
+/// # Errors
+/// The first fault of the value, or [`ReadFault::NoMemory`].
+pub fn optional_or<S: Schema>(
+    alloc: Global,
+    table: &Table,
+    key: &str,
+    schema: &S,
+    other: S::Output,
+) -> Result<S::Output, ReadFault>
+    ensures { Gives fault result (spec.optional_or other (S.reads schema.now) key.now (table_view table.now)) }
+{
+    match optional(alloc, table, key, schema)? {
+        Some(output) => Ok(output),
+        None => Ok(other),
+    }
+}
+
 /// Reads the list at a key that may be missing, as an empty one where it is.
 ///
 /// # Errors
@@ -79,12 +98,16 @@ pub fn list_or_empty<T: Drop, S: Schema<Output = Listed<T>>>(
     key: &str,
     schema: &S,
 ) -> Result<Listed<T>, ReadFault>
-    ensures { Gives fault result (spec.default [] (S.reads schema.now) key.now (table_view table.now)) }
+    ensures { Gives fault result (spec.optional_or [] (S.reads schema.now) key.now (table_view table.now)) }
 {
-    match optional(alloc, table, key, schema)? {
-        Some(list) => Ok(list),
-        None => Ok(Listed::from_vec(Vec::new(alloc))),
-    }
+    optional_or(alloc, table, key, schema, Listed::from_vec(Vec::new(alloc)))
+}
+
+/// Whether a table has a key.
+pub fn has_key(table: &Table, key: &str) -> bool
+    ensures { result ≡ spec.has_key key.now (table_view table.now) }
+{
+    member(table, key).is_some()
 }
 
 fn member<'a>(table: &'a Table, key: &str) -> Option<&'a Value>

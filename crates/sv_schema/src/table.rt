@@ -1,6 +1,6 @@
 //! Tables with known keys.
 
-ghost use Rattle.std.specs.Prelude.{◌≡◌, ℕ, List, map};
+ghost use Rattle.std.specs.Prelude.{◌≡◌, ℕ, List};
 ghost use Rattle.sv_text.specs.Gives.{Gives};
 ghost use Rattle.toml.specs.Data.{Members};
 ghost use Rattle.toml.specs.View.{table_view};
@@ -51,15 +51,20 @@ impl<T: TableSchema> Schema for TableOf<T> {
     }
 }
 
-/// Sees that a table has no keys but those that are known.
+/// Sees that a table has no keys but those that are known, and those that are ignored whatever they hold.
 ///
 /// # Errors
 /// [`FaultCode::UnknownKey`] at the first other key in the order of bytes, or [`ReadFault::NoMemory`].
-pub fn only_keys(alloc: Global, known: &[&str], table: &Table) -> Result<(), ReadFault>
-    ensures { Gives fault result (spec.only_keys (map (λ key. key.now) known.now) (table_view table.now)) }
+pub fn only_keys(
+    alloc: Global,
+    known: &[&str],
+    ignored: &[&str],
+    table: &Table,
+) -> Result<(), ReadFault>
+    ensures { Gives fault result (spec.only_keys (spec.texts known.now) (spec.texts ignored.now) (table_view table.now)) }
 {
     for key in table.keys() {
-        if !is_among(known, key.as_str()) {
+        if !is_among(known, key.as_str()) && !is_among(ignored, key.as_str()) {
             return refuse(alloc, FaultCode::UnknownKey, key.as_str());
         }
     }
@@ -67,7 +72,7 @@ pub fn only_keys(alloc: Global, known: &[&str], table: &Table) -> Result<(), Rea
 }
 
 fn is_among(texts: &[&str], text: &str) -> bool
-    ensures { result ≡ spec.is_among (map (λ other. other.now) texts.now) text.now }
+    ensures { result ≡ spec.is_among (spec.texts texts.now) text.now }
 {
     texts.contains(&text)
 }

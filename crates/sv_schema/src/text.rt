@@ -108,7 +108,8 @@ impl TextSchema for HexText {
     }
 }
 
-fn is_within(text: &str, least: usize, most: usize) -> bool
+/// Whether a text has from `least` to `most` bytes.
+pub fn is_within(text: &str, least: usize, most: usize) -> bool
     ensures { result ≡ spec.is_within least most text.now }
 {
     least <= text.len() && text.len() <= most
