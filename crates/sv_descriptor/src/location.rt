@@ -44,6 +44,7 @@ impl TextSchema for ContextPath {
     }
 }
 
+#[tactic(auto, unfolding(crate::specs::Location::is_location))]
 fn is_location(alloc: Global, text: &str) -> Result<bool, NoMemory>
     ensures { GivesAnswer result (spec.is_location text.now) }
 {
@@ -63,6 +64,7 @@ fn is_context_path(alloc: Global, text: &str) -> Result<bool, NoMemory>
     Ok(is_canonical(alloc, text)? && !text.ends_with('/'))
 }
 
+#[tactic(auto, unfolding(crate::specs::Location::is_canonical))]
 fn is_canonical(alloc: Global, text: &str) -> Result<bool, NoMemory>
     ensures { GivesAnswer result (spec.is_canonical text.now) }
 {
