@@ -4,7 +4,7 @@ use Rattle.std.specs.List.{list_all, flat_map}
 use Rattle.sv_schema.specs.Fault.{Reads, check, ◌>>=◌, ◌>>◌}
 use Rattle.sv_schema.specs.Table.{is_among}
 use Rattle.sv_schema.specs.declared.fault.FaultCode.TheVariants.{DuplicatePattern, UnknownServlet, UnknownFilter, DuplicateName}
-use Rattle.sv_descriptor.specs.Names.{repeats}
+use Rattle.sv_schema.specs.Names.{repeats}
 use Rattle.sv_descriptor.specs.Servlet.{is_reserved_servlet}
 use Rattle.sv_descriptor.specs.declared.descriptor.Descriptor.{Descriptor}
 

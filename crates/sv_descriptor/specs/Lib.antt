@@ -14,6 +14,3 @@ pub mod Listener
 pub mod Ignored
 pub mod Descriptor
 pub mod Agreement
-pub mod Server
-pub mod Users
-pub mod Names

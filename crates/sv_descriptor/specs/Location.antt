@@ -1,10 +1,6 @@
--- Paths of pages within a context, and of contexts: texts that have a canonical path (Jakarta Servlet 6.0 section 3.5.2).
-use Rattle.std.specs.Prelude.{ℕ, Bool, false, ◌&&◌, ◌||◌, not, nat_eq, List, [], codes, if◌then◌else◌, is_none, Result, Ok, Err, is_ok}
-use Rattle.std.specs.List.{ends_with}
-use Rattle.std.specs.Str.{bytes_eq}
+-- Paths of pages within a context: texts that have a canonical path (Jakarta Servlet 6.0 section 3.5.2).
+use Rattle.std.specs.Prelude.{ℕ, Bool, List, if◌then◌else◌, Ok, is_ok}
 use Rattle.sv_uri.specs.Canonical.{canonical}
-use Rattle.sv_uri.specs.declared.fault.PathFault.{PathFault}
-use Rattle.sv_uri.specs.declared.path.Canon.{Canon}
 use Rattle.sv_schema.specs.Fault.{Reads, refuse}
 use Rattle.sv_schema.specs.declared.fault.FaultCode.TheVariants.{BadValue}
 
@@ -14,18 +10,3 @@ is_location text = is_ok (canonical text)
 
 abbrev pub location : List ℕ → List ℕ → Reads (List ℕ)
 location key text = if is_location text then Ok text else refuse BadValue key
-
-abbrev pub is_itself : List ℕ → Result Canon PathFault → Bool
-is_itself text (Ok canon) = bytes_eq canon.path text && is_none canon.query
-is_itself text (Err fault) = false
-
--- the text is its own canonical path
-unfoldable pub is_canonical : List ℕ → Bool
-is_canonical text = is_itself text (canonical text)
-
--- the root context, or a canonical path that does not end in a slash
-abbrev pub is_context_path : List ℕ → Bool
-is_context_path text = bytes_eq text [] || (is_canonical text && not (ends_with nat_eq text (codes "/")))
-
-abbrev pub context_path : List ℕ → List ℕ → Reads (List ℕ)
-context_path key text = if is_context_path text then Ok text else refuse BadValue key

@@ -1,21 +1,20 @@
 //! What the elements of a descriptor say of one another.
 
-ghost use Rattle.std.specs.Prelude.{◌≡◌, ◌||◌, ◌++◌, map, IfOk, OnOk};
+ghost use Rattle.std.specs.Prelude.{◌≡◌, ◌||◌, ◌++◌, IfOk, OnOk};
 ghost use Rattle.std.specs.List.{flat_map, list_all};
 ghost use Rattle.sv_text.specs.Gives.{Gives};
 ghost use Rattle.sv_descriptor.specs.Agreement as spec;
-ghost use Rattle.sv_descriptor.specs.Names.{HaveSame};
+ghost use Rattle.sv_schema.specs.Names.{HaveSame};
 ghost use Rattle.sv_descriptor.specs.Servlet.{is_reserved_servlet};
 ghost use Rattle.sv_schema.specs.Fault.{fault};
-ghost use Rattle.sv_schema.specs.Table.{is_among};
+ghost use Rattle.sv_schema.specs.Table.{is_among, texts as texts_of};
 
 use crate::descriptor::Descriptor;
 use crate::filter::FilterMapping;
-use crate::names::{Named, Names, distinct_names, repeats};
 use crate::servlet::{ServletMapping, is_reserved_servlet};
 use std::alloc::Global;
 use sv_mapping::Pattern;
-use sv_schema::{FaultCode, ReadFault, refuse};
+use sv_schema::{FaultCode, Names, ReadFault, distinct_names, refuse, repeats};
 use sv_text::{NoMemory, Text};
 
 /// Sees that the elements of a descriptor fit one another.
@@ -67,7 +66,7 @@ fn are_mapped(servlets: &Names<'_>, mappings: &[ServletMapping]) -> bool
 }
 
 fn servlet_patterns(alloc: Global, mappings: &[ServletMapping]) -> Result<Vec<&str>, NoMemory>
-    ensures { IfOk result (λ texts. map (λ text. text.now) texts.items ≡ flat_map (λ mapping. mapping.url_patterns) mappings.now) }
+    ensures { IfOk result (λ texts. texts_of texts.items ≡ flat_map (λ mapping. mapping.url_patterns) mappings.now) }
 {
     let mut texts = Vec::new(alloc);
     for mapping in mappings {
@@ -77,20 +76,12 @@ fn servlet_patterns(alloc: Global, mappings: &[ServletMapping]) -> Result<Vec<&s
 }
 
 fn push_patterns<'a>(texts: &mut Vec<&'a str>, patterns: &'a [Pattern]) -> Result<(), NoMemory>
-    ensures { OnOk result (map (λ text. text.now) texts.new.items ≡ map (λ text. text.now) texts.old.items ++ patterns.now) }
+    ensures { OnOk result (texts_of texts.new.items ≡ texts_of texts.old.items ++ patterns.now) }
 {
     for pattern in patterns {
         texts.push(pattern.text())?;
     }
     Ok(())
-}
-
-impl Named for &str {
-    ghost its_name = { λ text. text.now };
-
-    fn name(&self) -> &str {
-        *self
-    }
 }
 
 fn check_filter_mappings(

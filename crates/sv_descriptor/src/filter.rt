@@ -5,13 +5,12 @@ ghost use Rattle.sv_descriptor.specs.Filter as spec;
 use crate::ignored::element_keys;
 use crate::init_param::{InitParam, InitParams};
 use crate::kind::Kind;
-use crate::names::Named;
 use crate::pattern::{UrlPattern, UrlPatterns};
 use std::alloc::Global;
 use sv_mapping::Pattern;
 use sv_schema::{
-    FaultCode, ListOf, MAX_LIST_ITEMS, Name, ReadFault, TableOf, TableSchema, TextOf, TextSchema,
-    has_key, list_or_empty, refuse, required,
+    FaultCode, ListOf, MAX_LIST_ITEMS, Name, Named, ReadFault, TableOf, TableSchema, TextOf,
+    TextSchema, has_key, list_or_empty, refuse, required,
 };
 use sv_text::{Listed, Text};
 use toml::Table;

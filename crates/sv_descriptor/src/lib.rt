@@ -15,13 +15,10 @@ mod limits;
 mod listener;
 mod location;
 mod login;
-mod names;
 mod pattern;
 mod role;
-mod server;
 mod servlet;
 mod session;
-mod users;
 mod welcome_file;
 
 pub use descriptor::{Descriptor, read_descriptor};
@@ -35,7 +32,6 @@ pub use limits::{
 };
 pub use listener::ListenerEntry;
 pub use login::FormLogin;
-pub use server::{ContextEntry, Server, read_server};
 pub use servlet::{ServletEntry, ServletMapping};
 pub use sv_schema::{DescriptorFault, FaultCode, MAX_LIST_ITEMS, MAX_NAME_BYTES, ReadFault};
-pub use users::read_users;
+pub use sv_settings::{ContextEntry, Server, read_server, read_users};

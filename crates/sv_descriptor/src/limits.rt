@@ -20,15 +20,3 @@ pub const MAX_METHOD_BYTES: usize = 15;
 
 /// How many patterns the collections of one constraint may have together.
 pub const MAX_PATTERNS_OF_CONSTRAINT: usize = 64;
-
-/// The greatest port.
-pub const MAX_PORT: u16 = 65_535;
-
-/// How many hexadecimal digits a seed has.
-pub const SEED_DIGITS: usize = 64;
-
-/// How many hexadecimal digits a digest has.
-pub const DIGEST_DIGITS: usize = 64;
-
-/// How many hexadecimal digits a salt may have.
-pub const MAX_SALT_DIGITS: usize = 64;

@@ -1,4 +1,4 @@
-//! Pages within a context, and context paths.
+//! Pages within a context.
 
 ghost use Rattle.std.specs.Prelude.{◌≡◌};
 ghost use Rattle.sv_text.specs.Gives.{GivesAnswer};
@@ -27,49 +27,12 @@ impl TextSchema for Location {
     }
 }
 
-/// A context path: empty, or its own canonical path and not ending in `/`.
-#[derive(Clone, Copy)]
-pub struct ContextPath;
-
-impl TextSchema for ContextPath {
-    type Output = Text;
-
-    ghost reads = { λ _. spec.context_path };
-
-    fn read(&self, alloc: Global, key: &str, text: &str) -> Result<Text, ReadFault> {
-        if !is_context_path(alloc, text)? {
-            return refuse(alloc, FaultCode::BadValue, key);
-        }
-        Ok(Text::copy_of(alloc, text)?)
-    }
-}
-
 #[tactic(auto, unfolding(crate::specs::Location::is_location))]
 fn is_location(alloc: Global, text: &str) -> Result<bool, NoMemory>
     ensures { GivesAnswer result (spec.is_location text.now) }
 {
     match canon(alloc, text.as_bytes()) {
         Ok(_) => Ok(true),
-        Err(CanonFault::Path(_)) => Ok(false),
-        Err(CanonFault::NoMemory) => Err(NoMemory),
-    }
-}
-
-fn is_context_path(alloc: Global, text: &str) -> Result<bool, NoMemory>
-    ensures { GivesAnswer result (spec.is_context_path text.now) }
-{
-    if text.is_empty() {
-        return Ok(true);
-    }
-    Ok(is_canonical(alloc, text)? && !text.ends_with('/'))
-}
-
-#[tactic(auto, unfolding(crate::specs::Location::is_canonical))]
-fn is_canonical(alloc: Global, text: &str) -> Result<bool, NoMemory>
-    ensures { GivesAnswer result (spec.is_canonical text.now) }
-{
-    match canon(alloc, text.as_bytes()) {
-        Ok(canon) => Ok(canon.path.as_str() == text && canon.query.is_none()),
         Err(CanonFault::Path(_)) => Ok(false),
         Err(CanonFault::NoMemory) => Err(NoMemory),
     }

@@ -4,7 +4,6 @@ ghost use Rattle.std.specs.Prelude.{◌≡◌};
 ghost use Rattle.sv_descriptor.specs.Role as spec;
 
 use crate::ignored::element_keys;
-use crate::names::Named;
 use std::alloc::Global;
 use sv_schema::{FaultCode, Name, ReadFault, TableSchema, TextOf, TextSchema, refuse, required};
 use sv_text::Text;
@@ -22,14 +21,6 @@ impl TableSchema for RoleTable {
     fn read(&self, alloc: Global, table: &Table) -> Result<Text, ReadFault> {
         element_keys(alloc, &["role-name"], table)?;
         required(alloc, table, "role-name", &TextOf(RoleName))
-    }
-}
-
-impl Named for Text {
-    ghost its_name = { λ role. role };
-
-    fn name(&self) -> &str {
-        self.as_str()
     }
 }
 

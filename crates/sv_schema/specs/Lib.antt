@@ -3,3 +3,4 @@ pub mod Value
 pub mod Table
 pub mod ListOf
 pub mod Document
+pub mod Names

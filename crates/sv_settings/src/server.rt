@@ -1,16 +1,15 @@
 //! The server file.
 
 ghost use Rattle.sv_text.specs.Gives.{Gives};
-ghost use Rattle.sv_descriptor.specs.Server as spec;
+ghost use Rattle.sv_settings.specs.Server as spec;
 ghost use Rattle.sv_schema.specs.Fault.{fault};
 
+use crate::context_path::ContextPath;
 use crate::limits::{MAX_PORT, SEED_DIGITS};
-use crate::location::ContextPath;
-use crate::names::{Named, repeats};
 use std::alloc::Global;
 use sv_schema::{
-    AnyText, FaultCode, HexText, ListOf, NO_LIMIT, NumberBetween, ReadFault, TableOf, TableSchema,
-    TextOf, WholeOf, only_keys, optional, read_document, refuse, required,
+    AnyText, FaultCode, HexText, ListOf, NO_LIMIT, Named, NumberBetween, ReadFault, TableOf,
+    TableSchema, TextOf, WholeOf, only_keys, optional, read_document, refuse, repeats, required,
 };
 use sv_text::{Bytes, Listed, Text};
 use toml::Table;

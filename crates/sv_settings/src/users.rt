@@ -1,27 +1,20 @@
 //! The users file.
 
+ghost use Rattle.std.specs.Prelude.{◌≡◌, IfOk};
 ghost use Rattle.sv_text.specs.Gives.{Gives};
-ghost use Rattle.sv_descriptor.specs.Users as spec;
+ghost use Rattle.sv_settings.specs.Users as spec;
 ghost use Rattle.sv_schema.specs.Fault.{fault};
+ghost use Rattle.sv_schema.specs.Table.{texts};
 
 use crate::limits::{DIGEST_DIGITS, MAX_SALT_DIGITS};
-use crate::names::{Named, repeats};
 use std::alloc::Global;
 use sv_realm::User;
 use sv_schema::{
     FaultCode, HexText, ListOf, MAX_LIST_ITEMS, Name, ReadFault, TableOf, TableSchema, TextOf,
-    only_keys, read_document, refuse, required,
+    only_keys, read_document, refuse, repeats, required,
 };
-use sv_text::Listed;
+use sv_text::{Listed, NoMemory};
 use toml::Table;
-
-impl Named for User {
-    ghost its_name = { λ user. user.name };
-
-    fn name(&self) -> &str {
-        self.name.as_str()
-    }
-}
 
 /// Reads a users file.
 ///
@@ -51,11 +44,21 @@ impl TableSchema for UsersTable {
             item: TableOf(UserTable),
         };
         let users = required(alloc, table, "user", &users)?;
-        if repeats(alloc, users.as_slice())? {
+        if repeats(alloc, user_names(alloc, users.as_slice())?.as_slice())? {
             return refuse(alloc, FaultCode::DuplicateName, "name");
         }
         Ok(users)
     }
+}
+
+fn user_names(alloc: Global, users: &[User]) -> Result<Vec<&str>, NoMemory>
+    ensures { IfOk result (λ names. texts names.items ≡ spec.user_names users.now) }
+{
+    let mut names = Vec::with_capacity(alloc, users.len())?;
+    for user in users {
+        names.push(user.name.as_str())?;
+    }
+    Ok(names)
 }
 
 /// The table of a user.

@@ -1,7 +1,7 @@
 use Rattle.std.proofs.Common.{◌≡◌, Bool, true, false, not, sym, ap, ◌∙◌, refl}
 use Rattle.sv_schema.specs.Table.{is_among}
-use Rattle.sv_descriptor.proofs.Repeats.{distinct-more, repeats-found}
-use Rattle.sv_descriptor.proofs.names.distinct_names.Goals as goal
+use Rattle.sv_schema.proofs.Differing.{distinct-more, repeats-found}
+use Rattle.sv_schema.proofs.names.distinct_names.Goals as goal
 
 not-back : (a b c : Bool) → a ≡ c → a ≡ not b → b ≡ not c
 not-back true true c e h = cc

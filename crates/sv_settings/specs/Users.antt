@@ -11,8 +11,8 @@ use Rattle.sv_schema.specs.Value.{name, hex_text, is_text, is_table, table_of, t
 use Rattle.sv_schema.specs.declared.fault.FaultCode.TheVariants.{DuplicateName}
 use Rattle.sv_schema.specs.declared.fault.ReadFault.{ReadFault}
 use Rattle.sv_schema.specs.declared.limits.TheConstants.{MAX_LIST_ITEMS}
-use Rattle.sv_descriptor.specs.Names.{repeats}
-use Rattle.sv_descriptor.specs.declared.limits.TheConstants.{DIGEST_DIGITS, MAX_SALT_DIGITS}
+use Rattle.sv_schema.specs.Names.{repeats}
+use Rattle.sv_settings.specs.declared.limits.TheConstants.{DIGEST_DIGITS, MAX_SALT_DIGITS}
 
 abbrev pub user : Members → Reads User
 user table = do

@@ -6,7 +6,7 @@ use Rattle.std.proofs.lemmas.Cmp.{nat_list_eq_equiv}
 use Rattle.std.proofs.lemmas.List.{take_more, take-append-drop, map-append}
 use Rattle.std.proofs.lemmas.List.Folds.{list_any-append}
 use Rattle.sv_schema.specs.Table.{is_among}
-use Rattle.sv_descriptor.specs.Names.{repeats, HaveSame}
+use Rattle.sv_schema.specs.Names.{repeats, HaveSame}
 
 is_among-append : (xs ys : List (List ℕ)) (text : List ℕ) → is_among (xs ++ ys) text ≡ (is_among xs text || is_among ys text)
 is_among-append xs ys text = list_any-append (λ other. bytes_eq other text) xs ys
@@ -70,7 +70,7 @@ module _ {X : Type 0} (f : X → List ℕ) (items : List X) where
   repeats-found names i item h at before found =
       let more = names_before-more i item h at in
       let repeated : repeats (names_before (i + 1)) ≡ true =
-          ap repeats more ∙ repeats-push (names_before i) (f item) ∙ rw (before.differ, ← before.same (f item)) found in
+      ap repeats more ∙ repeats-push (names_before i) (f item) ∙ rw (before.differ, ← before.same (f item)) found in
       ap (λ xs. repeats (map f xs)) (sym (take-append-drop (i + 1) items))
       ∙ ap repeats (map-append f (take (i + 1) items) (drop (i + 1) items))
       ∙ repeats-append (names_before (i + 1)) (map f (drop (i + 1) items)) repeated

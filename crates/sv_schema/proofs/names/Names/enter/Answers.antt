@@ -1,7 +1,7 @@
 use Rattle.std.proofs.Common.{◌∙◌, ap, not}
-use Rattle.sv_descriptor.proofs.Sets.{list_any-is_at, is_among-insert_key, seen}
+use Rattle.sv_schema.proofs.Sets.{list_any-is_at, is_among-insert_key, seen}
 use Rattle.sv_schema.specs.Table.{is_among}
-use Rattle.sv_descriptor.proofs.names.Names.enter.Goals as goal
+use Rattle.sv_schema.proofs.names.Names.enter.Goals as goal
 
 pub returns-clause-new : goal.returns-clause-new
 returns-clause-new c = c.in_ok-insert.ensures.added ∙ ap not (rw (← c.self.view_is) (list_any-is_at c.args.name.now c.self.inside.set.keys))

@@ -8,11 +8,11 @@ use Rattle.sv_schema.specs.Table.{only_keys, required, optional}
 use Rattle.sv_schema.specs.Value.{any_text, hex_text, number_between, is_table, table_of, text_of, whole_of}
 use Rattle.sv_schema.specs.declared.fault.FaultCode.TheVariants.{DuplicateName}
 use Rattle.sv_schema.specs.declared.limits.TheConstants.{NO_LIMIT}
-use Rattle.sv_descriptor.specs.Names.{repeats}
-use Rattle.sv_descriptor.specs.Location.{context_path}
-use Rattle.sv_descriptor.specs.declared.limits.TheConstants.{MAX_PORT, SEED_DIGITS}
-use Rattle.sv_descriptor.specs.declared.server.ContextEntry.{ContextEntry}
-use Rattle.sv_descriptor.specs.declared.server.Server.{Server}
+use Rattle.sv_schema.specs.Names.{repeats}
+use Rattle.sv_settings.specs.ContextPath.{context_path}
+use Rattle.sv_settings.specs.declared.limits.TheConstants.{MAX_PORT, SEED_DIGITS}
+use Rattle.sv_settings.specs.declared.server.ContextEntry.{ContextEntry}
+use Rattle.sv_settings.specs.declared.server.Server.{Server}
 
 abbrev pub context : Members → Reads ContextEntry
 context table = do

@@ -2,13 +2,13 @@
 
 ghost use Rattle.std.specs.Prelude.{◌≡◌, ℕ, List, [], ◌∷◌, map, not, IfOk};
 ghost use Rattle.sv_text.specs.Gives.{GivesAnswer};
-ghost use Rattle.sv_descriptor.specs.Names as spec;
+ghost use Rattle.sv_schema.specs.Names as spec;
 ghost use Rattle.sv_schema.specs.Table.{is_among};
 
 use std::alloc::Global;
 use std::collections::BTreeSet;
 use std::marker::Model;
-use sv_text::NoMemory;
+use sv_text::{NoMemory, Text};
 
 /// What has a name that tells it from others of its kind.
 pub trait Named {
@@ -17,6 +17,22 @@ pub trait Named {
     /// The name.
     fn name(&self) -> &str
         ensures { result.now ≡ its_name self.now };
+}
+
+impl Named for Text {
+    ghost its_name = { λ text. text };
+
+    fn name(&self) -> &str {
+        self.as_str()
+    }
+}
+
+impl Named for &str {
+    ghost its_name = { λ text. text.now };
+
+    fn name(&self) -> &str {
+        *self
+    }
 }
 
 /// A set of names. Contracts see the list of its names.

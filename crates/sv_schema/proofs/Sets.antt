@@ -12,7 +12,7 @@ use Rattle.std.proofs.lemmas.Map.Text.{is_eq-slice_cmp}
 use Rattle.std.proofs.lemmas.Cmp.{nat_list_eq_equiv}
 use Rattle.std.proofs.lemmas.Slice.Eq.{bytes_eq-Decides}
 use Rattle.sv_schema.specs.Table.{is_among}
-use Rattle.sv_descriptor.specs.Names.{repeats}
+use Rattle.sv_schema.specs.Names.{repeats}
 
 abbrev pub Name : Type 0
 Name = Bor (List ℕ)
@@ -48,7 +48,7 @@ same_name a b h = (bytes_eq-Decides a b).0 (sym (is_eq-slice_cmp a b) ∙ ap is_
 inserted_at : (o : Ordering) (name x : Name) (names : List Name) (text : List ℕ) → slice_cmp nat_cmp name.now x.now ≡ o
     → is_among (seen (insert_key name_cmp names name)) text ≡ (bytes_eq name.now text || is_among (seen names) text)
     → is_among (seen (match_ordering o (name ∷ x ∷ names) (x ∷ names) (x ∷ insert_key name_cmp names name))) text
-      ≡ (bytes_eq name.now text || is_among (seen (x ∷ names)) text)
+    ≡ (bytes_eq name.now text || is_among (seen (x ∷ names)) text)
 inserted_at Less name x names text same ih = refl
 inserted_at Equal name x names text same ih = or-twice _ _ _ (ap (λ t. bytes_eq t text) (sym (same_name name.now x.now same)))
 inserted_at Greater name x names text same ih = rw ih (or-swap (bytes_eq x.now text) (bytes_eq name.now text) (is_among (seen names) text))
