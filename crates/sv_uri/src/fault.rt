@@ -1,6 +1,6 @@
 //! Why a request target has no canonical path.
 
-use std::alloc::{AllocError, AllocFailed};
+use std::alloc::AllocError;
 use std::error::Error;
 use std::fmt;
 use sv_text::NoMemory;
@@ -80,17 +80,6 @@ impl fmt::Display for CanonFault {
 
 impl Error for CanonFault {}
 
-impl From<PathFault> for CanonFault {
-    ghost use Rattle.std.specs.Prelude.{◌≡◌};
-    ghost use Rattle.sv_uri.specs.declared.fault.CanonFault.TheVariants.{Path};
-
-    ghost from_gives = { λ fault e. e ≡ Path fault };
-
-    fn from(fault: PathFault) -> CanonFault {
-        CanonFault::Path(fault)
-    }
-}
-
 impl From<NoMemory> for CanonFault {
     ghost use Rattle.std.specs.Prelude.{◌≡◌};
     ghost use Rattle.sv_uri.specs.declared.fault.CanonFault.TheVariants as fault;
@@ -98,7 +87,7 @@ impl From<NoMemory> for CanonFault {
     ghost from_gives = { λ _ e. e ≡ fault.NoMemory };
 
     fn from(_error: NoMemory) -> CanonFault {
-        CanonFault::NoMemory
+        Self::NoMemory
     }
 }
 
@@ -109,6 +98,6 @@ impl From<AllocError> for CanonFault {
     ghost from_gives = { λ _ e. e ≡ fault.NoMemory };
 
     fn from(_error: AllocError) -> CanonFault {
-        CanonFault::NoMemory
+        Self::from(NoMemory)
     }
 }
