@@ -1,3 +1,4 @@
+pub mod BoolLemmas
 pub mod CutLemmas
 pub mod EmptyLinesLemmas
 pub mod FieldsLemmas

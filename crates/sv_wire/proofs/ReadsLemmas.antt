@@ -16,6 +16,7 @@ use Rattle.sv_wire.specs.Head.{ends_head, judge}
 use Rattle.sv_wire.specs.Items.{is_last, are_ended}
 use Rattle.sv_wire.specs.Laws.{ReadingsJoin, ReadingsAreUnique, ReadingsSplitAtACut}
 use Rattle.sv_wire.specs.Reads.{IsNoHead, has_too_many_lines, ReadsHead, cut_head, BeginsWith, Begins, Rests, Reads}
+use Rattle.sv_wire.proofs.BoolLemmas.{MatchBool-from_true, MatchBool-from_false}
 use Rattle.sv_wire.proofs.CutLemmas.{IsShortestFront, cut-whole, cut_whole-fits, cut_endless-fits, cut_whole-append, cut_endless-append}
 use Rattle.sv_wire.proofs.EmptyLinesLemmas.{drop_empty_lines-append, drop_empty_lines_stays}
 
@@ -179,12 +180,6 @@ pub Reads-behind : (stream other : List ℕ) (items : List Item) (rest : List �
 Reads-behind stream other [] rest same reads = (sym same ∙ reads.0, reads.1)
 Reads-behind stream other (item ∷ items) rest same reads =
     (reads.0, subst (λ text. BeginsWith (cut_head text) text item reads.0) same reads.1, reads.2)
-
-MatchBool-from_true : (t : Bool) (P Q : Type 0) → t ≡ true → P → MatchBool t P Q
-MatchBool-from_true t P Q is holds = subst (λ b. MatchBool b P Q) (sym is) holds
-
-MatchBool-from_false : (t : Bool) (P Q : Type 0) → t ≡ false → Q → MatchBool t P Q
-MatchBool-from_false t P Q is holds = subst (λ b. MatchBool b P Q) (sym is) holds
 
 pub readings_join : ReadingsJoin
 readings_join first second [] more between rest unended reads later =

@@ -37,7 +37,9 @@ pub(crate) fn read_head(alloc: Global, text: &[u8]) -> Result<Item, NoMemory>
         Ok(Status::Complete(head)) if head.len == text.len() => {
             judge(alloc, text, &head, &spans[..head.headers])
         }
-        _ => Ok(Item::Refuse(WireFault::BadHead)),
+        Ok(Status::Complete(_)) => Ok(Item::Refuse(WireFault::BadHead)),
+        Ok(Status::Partial) => Ok(Item::Refuse(WireFault::BadHead)),
+        Err(_) => Ok(Item::Refuse(WireFault::BadHead)),
     }
 }
 
