@@ -1,6 +1,6 @@
 -- What the spans of a parser show in the text of a head, and how many lines it has.
-use Rattle.std.proofs.Common.{◌≡◌, ℕ, zero, suc, ◌+◌, ◌<◌, ◌≤◌, Bool, true, false, Result, Ok, Err, List, [], ◌∷◌, ◌++◌, length, get_or, take, drop, map, refl, ◌==◌, sym, ap, ◌∙◌, subst, inl, inr, cond, arith, length-append}
-use Rattle.std.specs.Prelude.{All, IsTrue, IfOk}
+use Rattle.std.proofs.Common.{◌≡◌, ℕ, ◌+◌, ◌<◌, ◌≤◌, false, Result, Ok, Err, List, [], ◌∷◌, ◌++◌, length, get_or, take, drop, map, refl, ◌==◌, sym, ap, ◌∙◌, subst, inl, inr, cond, arith, length-append}
+use Rattle.std.specs.Prelude.{All, IfOk}
 use Rattle.std.specs.List.{count_by, flat_map}
 use Rattle.std.proofs.lemmas.Bool.{ltb-false}
 use Rattle.std.proofs.lemmas.List.{append-nil, append_assoc, length-map, get_or-map, drop_all}
@@ -10,7 +10,7 @@ use Rattle.http_header.specs.FieldName.{IsFieldName}
 use Rattle.http_header.specs.FieldValue.{IsFieldValue, plain_value}
 use Rattle.http_header.specs.Token as written
 use Rattle.httparse.specs.Grammar.{LineEnd, crlf, lf, print_end, Field, IsField, is_token_byte, is_value_byte, IsToken, print_field, print_section, print_version, print_blank, RequestHead, print_request, ReadsRequest}
-use Rattle.httparse.specs.Spans.{span_bytes, header_bytes, name_and_value, IsHeaderWithin, IsRequestWithin, IsRequestAt, FindsRequest}
+use Rattle.httparse.specs.Spans.{header_bytes, name_and_value, IsRequestWithin, IsRequestAt, FindsRequest}
 use Rattle.httparse.specs.declared.spans.HeaderSpan.{HeaderSpan}
 use Rattle.httparse.specs.declared.spans.RequestSpans.{RequestSpans}
 use Rattle.httparse.specs.Outcome.{IsCompleteAnd}
@@ -26,8 +26,7 @@ use Rattle.sv_wire.specs.declared.item.Item.TheVariants.{Refuse}
 use Rattle.sv_wire.specs.declared.wire_fault.WireFault.TheVariants.{BadHead}
 use Rattle.sv_wire.specs.Head.{judge}
 use Rattle.sv_wire.specs.Reads.{IsNoHead, has_too_many_lines, ReadsHead}
-use Rattle.sv_wire.specs.Spans.{field_at, IsFieldAt, AreHeadSpans, ShowHead}
-use Rattle.sv_wire.specs.Fields.{field_of, fields_of}
+use Rattle.sv_wire.specs.Spans.{IsFieldAt, AreHeadSpans, ShowHead}
 use Rattle.sv_wire.proofs.BoolLemmas.{MatchBool-from_false}
 
 -- ---- lines
@@ -57,8 +56,15 @@ unfolding print_request
 feeds-request h =
     let line = print_blank h.blank ++ h.method ++ 32 ∷ h.target ++ 32 ∷ print_version h.minor in
     let start : List ℕ = print_blank h.blank ++ h.method ++ 32 ∷ h.target ++ 32 ∷ print_version h.minor ++ print_end h.line_end in
-    omega (arith, feeds-append start (print_section h.fields h.last), feeds-append line (print_end h.line_end),
-        feeds-append (flat_map print_field h.fields) (print_end h.last), feeds-fields h.fields, feeds-end h.line_end, feeds-end h.last)
+    omega (
+      arith,
+      feeds-append start (print_section h.fields h.last),
+      feeds-append line (print_end h.line_end),
+      feeds-append (flat_map print_field h.fields) (print_end h.last),
+      feeds-fields h.fields,
+      feeds-end h.line_end,
+      feeds-end h.last,
+    )
 
 -- ---- names
 
@@ -67,20 +73,30 @@ name_fits : (fields : List Field) (last : LineEnd) → All (λ f. length f.name 
 name_fits [] last = All-nil _
 name_fits (f ∷ fields) last =
     let here : length f.name < length (print_section (f ∷ fields) last) =
-        omega (arith, length-append f.name (58 ∷ f.raw), length-append (f.name ++ 58 ∷ f.raw) (print_end f.end),
-        length-append (print_field f) (flat_map print_field fields),
-        length-append (print_field f ++ flat_map print_field fields) (print_end last)) in
+    omega (
+      arith,
+      length-append f.name (58 ∷ f.raw),
+      length-append (f.name ++ 58 ∷ f.raw) (print_end f.end),
+      length-append (print_field f) (flat_map print_field fields),
+      length-append (print_field f ++ flat_map print_field fields) (print_end last),
+    ) in
     All-cons (λ g. length g.name < length (print_section (f ∷ fields) last)) f fields here
     (All-weaker (λ g. length g.name < length (print_section fields last)) (λ g. length g.name < length (print_section (f ∷ fields) last))
-        (λ g short. omega (arith,
-            length-append (print_field f) (flat_map print_field fields ++ print_end last), ap length (append_assoc (print_field f) (flat_map print_field fields) (print_end last))))
-        fields (name_fits fields last))
+    (λ g short. omega (
+      arith,
+      length-append (print_field f) (flat_map print_field fields ++ print_end last),
+      ap length (append_assoc (print_field f) (flat_map print_field fields) (print_end last)),
+    ))
+    fields (name_fits fields last))
 
 section_fits : (h : RequestHead) → length (print_section h.fields h.last) ≤ length (print_request h)
 unfolding print_request
 section_fits h =
-    omega (arith, length-append (print_blank h.blank ++ h.method ++ 32 ∷ h.target ++ 32 ∷ print_version h.minor ++ print_end h.line_end)
-    (print_section h.fields h.last))
+    omega (
+      arith,
+      length-append (print_blank h.blank ++ h.method ++ 32 ∷ h.target ++ 32 ∷ print_version h.minor ++ print_end h.line_end)
+          (print_section h.fields h.last),
+    )
 
 -- ---- validity
 
@@ -97,9 +113,10 @@ IsValid pair = IsFieldName pair.0 × IsFieldValue pair.1
 fields_valid : (h : RequestHead) → All IsField h.fields → length (print_request h) ≤ 65536 → All (λ f. IsValid (name_and_value f)) h.fields
 fields_valid h valid short k d inside =
     let f = get_or h.fields k d in
-    let is = valid k d inside in
-    ((token_is f.name is.name, omega (arith, name_fits h.fields h.last k d inside, section_fits h)),
-        AllPass-trim_ows is_value_byte f.raw is.raw)
+    let is = valid k d inside in (
+      (token_is f.name is.name, omega (arith, name_fits h.fields h.last k d inside, section_fits h)),
+      AllPass-trim_ows is_value_byte f.raw is.raw,
+    )
 
 -- ---- spans
 
@@ -132,7 +149,7 @@ module _ (text : List ℕ) (headers : List HeaderSpan) (line : RequestSpans) (h 
   field_is k d inside =
       let fits = within.section.headers_fit k d inside in
       let pair = subst IsValid (get_or-map (header_bytes text) (take line.headers headers) k d (header_bytes text d) inside)
-          (valid_pairs k (header_bytes text d) (omega (arith, length-map (take line.headers headers) (header_bytes text)))) in
+      (valid_pairs k (header_bytes text d) (omega (arith, length-map (take line.headers headers) (header_bytes text)))) in
       record {
         within = ((fits.0.0, omega (arith, fits.0.1, within.section.len_fits)), (fits.1.0, omega (arith, fits.1.1, within.section.len_fits)));
         name = pair.0;

@@ -3,4 +3,5 @@ pub mod CutLemmas
 pub mod EmptyLinesLemmas
 pub mod FieldsLemmas
 pub mod HeadLemmas
+pub mod NextLemmas
 pub mod ReadsLemmas

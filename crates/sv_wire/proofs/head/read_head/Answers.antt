@@ -1,5 +1,4 @@
-use Rattle.std.proofs.Common.{◌≡◌, ℕ, ◌≤◌, Bool, false, true, Result, Ok, Err, length, sym, ap, ◌∙◌, subst, inl, inr, refl, arith, rules}
-use Rattle.httparse.specs.Outcome.{IfComplete}
+use Rattle.std.proofs.Common.{◌≡◌, Result, Ok, sym, ap, ◌∙◌}
 use Rattle.httparse.specs.declared.Error.{Error}
 use Rattle.httparse.specs.declared.Status.{Status}
 use Rattle.httparse.specs.declared.Status.TheVariants.{Complete, Partial}
@@ -34,8 +33,8 @@ returns-in-Ok-Complete-2 c =
     (no_head c.args.text.now c.parse_request.new.headers c.parse_request.result (sym c.if-has_too_many_lines.ensures)
     c.parse_request.ensures.found
     (λ line is whole.
-        let same : line ≡ c.in-Ok-Complete.head = cc in
-        c.if-head-text.false (ap (λ (l : RequestSpans). l.len) (sym same) ∙ whole)))
+    let same : line ≡ c.in-Ok-Complete.head = cc in
+    c.if-head-text.false (ap (λ (l : RequestSpans). l.len) (sym same) ∙ whole)))
 
 partial_never : (r : Result (Status RequestSpans) Error) (s : Status RequestSpans) (line : RequestSpans)
     → r ≡ Ok s → s ≡ Partial → r ≡ Ok (Complete line) → ⊥
