@@ -8,14 +8,14 @@ use Rattle.sv_constraints.proofs.Least.{least_number_more, least_where_more, any
 use Rattle.sv_constraints.specs.Covering.{covers, covering, all_patterns}
 use Rattle.sv_constraints.specs.Decision.{Verdict}
 use Rattle.sv_constraints.specs.Findings.{findings_of, with_one, decided}
-use Rattle.sv_constraints.specs.Verdict.{precludes, travels_plain, is_open, admits_caller, verdict, verdict_at}
+use Rattle.sv_constraints.specs.Verdict.{precludes, permits_plain, is_open, admits_caller, verdict, verdict_at}
 use Rattle.sv_constraints.specs.declared.constraint.Constraint.{Constraint}
 use Rattle.sv_constraints.specs.declared.findings.Findings.{Findings}
 use Rattle.sv_constraints.specs.declared.rules.Rules.{Rules}
 
 found_more : (rules : Rules) (caller : Option Caller) (members : List Constraint) (c : Constraint) → with_one rules caller c (findings_of rules caller members) ≡ findings_of rules caller (members ++ c ∷ [])
 found_more rules caller members c =
-    cc (least_number_more members c, least_where_more precludes members c, any_more travels_plain members c, least_where_more is_open members c, least_where_more (admits_caller rules caller) members c)
+    cc (least_number_more members c, least_where_more precludes members c, any_more permits_plain members c, least_where_more is_open members c, least_where_more (admits_caller rules caller) members c)
 
 -- the covering constraints among one more
 covering_more : (constraints : List Constraint) (pattern method : List ℕ) (i : ℕ) (c : Constraint) → i < length constraints → c ≡ get_or constraints i c → covering (take (i + 1) constraints) (Some pattern) method ≡ covering (take i constraints) (Some pattern) method ++ cond (covers c pattern method) (c ∷ []) []
