@@ -1,5 +1,5 @@
 -- The best match among URL patterns (Jakarta Servlet 6.0, section 12.1).
-use Rattle.std.specs.Prelude.{◌≡◌, ℕ, Bool, ◌||◌, ◌&&◌, not, nat_lt, ◌==◌, List, length, Option, IsTrue, Contains, find, position}
+use Rattle.std.specs.Prelude.{◌≡◌, ℕ, Bool, ◌||◌, ◌&&◌, not, nat_lt, ◌==◌, List, length, Option, Some, is_some, IsTrue, Contains, find, position}
 use Rattle.std.specs.List.{list_any}
 use Rattle.sv_mapping.specs.Pattern.{Form, Root, Default, Extension, Prefix, Exact, form, matches}
 
@@ -14,9 +14,11 @@ form_rank (Exact text) = (3, 0)
 abbrev pub rank : List ℕ → ℕ × ℕ
 rank pattern = form_rank (form pattern)
 
+-- the first number decides, and then the second
 abbrev pub is_above : ℕ × ℕ → ℕ × ℕ → Bool
 is_above a b = nat_lt b.0 a.0 || (a.0 == b.0 && nat_lt b.1 a.1)
 
+-- the pattern is chosen before the other one where both match
 abbrev pub outranks : List ℕ → List ℕ → Bool
 outranks pattern other = is_above (rank pattern) (rank other)
 
@@ -32,6 +34,14 @@ best patterns path = position (is_best patterns path) patterns
 abbrev pub best_pattern : List (List ℕ) → List ℕ → Option (List ℕ)
 best_pattern patterns path = find (is_best patterns path) patterns
 
--- of the patterns of a list that match best, all have one text
+-- there is a best match exactly where a pattern matches
+abbrev pub BestExists : Type 0
+BestExists = (patterns : List (List ℕ)) (path : List ℕ) → is_some (best_pattern patterns path) ≡ list_any (λ pattern. matches pattern path) patterns
+
+-- the best match is one of the patterns, and it matches
+abbrev pub BestIsAMatch : Type 0
+BestIsAMatch = (patterns : List (List ℕ)) (path pattern : List ℕ) → best_pattern patterns path ≡ Some pattern → Contains patterns pattern × IsTrue (matches pattern path)
+
+-- the patterns of a list that match best have one text
 abbrev pub BestIsUnique : Type 0
 BestIsUnique = (patterns : List (List ℕ)) (path a b : List ℕ) → Contains patterns a → Contains patterns b → IsTrue (is_best patterns path a) → IsTrue (is_best patterns path b) → a ≡ b
