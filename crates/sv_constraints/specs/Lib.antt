@@ -1,0 +1,5 @@
+pub mod Covering
+pub mod Decision
+pub mod Findings
+pub mod Roles
+pub mod Verdict

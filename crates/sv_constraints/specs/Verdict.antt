@@ -1,0 +1,82 @@
+-- Jakarta Servlet 6.0 sections 13.8.1, 13.8.3 and 13.8.4: the verdict on a request, as a table of eight cases.
+use Rattle.std.specs.Prelude.{ℕ, Bool, true, false, not, cond, ◌==◌, List, [], ◌∷◌, length, filter, map, min, Option, None, Some, is_none, if◌then◌else◌}
+use Rattle.std.specs.List.{list_any, reduce}
+use Rattle.sv_mapping.specs.BestMatch.{best_pattern}
+use Rattle.sv_realm.specs.declared.caller.Caller.{Caller}
+use Rattle.sv_constraints.specs.Covering.{covering, all_patterns}
+use Rattle.sv_constraints.specs.Decision.{Grounds, Verdict, Open, Login, Denied}
+use Rattle.sv_constraints.specs.Roles.{admits}
+use Rattle.sv_constraints.specs.declared.constraint.Auth.{Auth}
+use Rattle.sv_constraints.specs.declared.constraint.Auth.TheVariants.{Absent, Roles}
+use Rattle.sv_constraints.specs.declared.constraint.Constraint.{Constraint}
+use Rattle.sv_constraints.specs.declared.constraint.Transport.{Transport}
+use Rattle.sv_constraints.specs.declared.constraint.Transport.TheVariants as transport
+use Rattle.sv_constraints.specs.declared.decision.Cause.{Cause}
+use Rattle.sv_constraints.specs.declared.decision.Cause.TheVariants as cause
+use Rattle.sv_constraints.specs.declared.rules.Rules.{Rules}
+
+-- the least number of the constraints, if there is one
+abbrev pub least_number : List Constraint → Option ℕ
+least_number members = reduce min (map (λ member. member.number) members)
+
+-- the least number of those that pass the test
+abbrev pub least_where : (Constraint → Bool) → List Constraint → Option ℕ
+least_where test members = least_number (filter test members)
+
+-- whether there is an authorization constraint, and its list of roles is empty
+abbrev pub names_nobody : Auth → Bool
+names_nobody Absent = false
+names_nobody (Roles names) = length names == 0
+
+-- whether there is no authorization constraint
+abbrev pub is_absent : Auth → Bool
+is_absent Absent = true
+is_absent (Roles names) = false
+
+-- whether a plain connection will do
+abbrev pub allows_plain : Transport → Bool
+allows_plain transport.Absent = true
+allows_plain transport.Plain = true
+allows_plain transport.Integral = false
+allows_plain transport.Confidential = false
+
+-- the tests of the table on a constraint
+abbrev pub precludes : Constraint → Bool
+precludes constraint = names_nobody constraint.auth
+
+abbrev pub travels_plain : Constraint → Bool
+travels_plain constraint = allows_plain constraint.transport
+
+abbrev pub is_open : Constraint → Bool
+is_open constraint = is_absent constraint.auth
+
+abbrev pub lets_in : Rules → Option Caller → Constraint → Bool
+lets_in rules caller constraint = admits rules.declared caller constraint.auth
+
+-- the verdict of the first row whose test holds, or else the last verdict
+abbrev pub first_case : List (Bool × Verdict) → Verdict → Verdict
+first_case [] last = last
+first_case (row ∷ rows) last = cond row.0 row.1 (first_case rows last)
+
+-- the table, at the text of the best pattern and the constraints that cover the method there
+abbrev pub verdict_at : Rules → Option Caller → Option (List ℕ) → List Constraint → Verdict
+verdict_at rules caller pattern members = first_case
+    ((is_none pattern, Open (because None cause.NoPattern))
+    ∷ (length members == 0, uncovered (because None cause.Uncovered))
+    ∷ (list_any precludes members, Denied (because (least_where precludes members) cause.Precluded))
+    ∷ (not (list_any travels_plain members), Denied (because (least_number members) cause.Transport))
+    ∷ (list_any is_open members, Open (because (least_where is_open members) cause.Unauthenticated))
+    ∷ (is_none caller, Login (because (least_number members) cause.NeedsCaller))
+    ∷ (list_any (lets_in rules caller) members, Open (because (least_where (lets_in rules caller) members) cause.Role))
+    ∷ [])
+    (Denied (because (least_number members) cause.NoRole))
+  where
+  because : Option ℕ → Cause → Grounds
+  because number why = record { pattern = pattern; number = number; cause = why }
+  uncovered : Grounds → Verdict
+  uncovered grounds = if rules.deny_uncovered then Denied grounds else Open grounds
+
+-- the verdict on a request
+abbrev pub verdict : List Constraint → Rules → List ℕ → List ℕ → Option Caller → Verdict
+verdict constraints rules method path caller =
+    let pattern = best_pattern (all_patterns constraints) path in verdict_at rules caller pattern (covering constraints pattern method)

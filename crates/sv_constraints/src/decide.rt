@@ -1,0 +1,67 @@
+//! The decision on a request.
+
+ghost use Rattle.std.specs.Prelude.{◌≡◌, ◌++◌, List, ℕ};
+ghost use Rattle.std.specs.Option.{option_copied};
+ghost use Rattle.sv_mapping.specs.BestMatch.{best_pattern};
+ghost use Rattle.sv_constraints.specs.Covering.{patterns_in, all_patterns};
+ghost use Rattle.sv_constraints.specs.Decision.{seen};
+ghost use Rattle.sv_constraints.specs.Verdict.{verdict};
+
+use sv_mapping::{Pattern, better};
+use sv_realm::Caller;
+
+use crate::constraint::Constraint;
+use crate::decision::{Cause, Decision, Why};
+use crate::findings::Findings;
+use crate::rules::Rules;
+
+/// Decides a request by the combined constraints on the best pattern for its path (Jakarta Servlet 6.0 section 13.8):
+/// those of its constraints that cover the method decide, whatever other patterns match the path.
+///
+/// The path is the path in the context, any text. The constraints may be any list: where numbers repeat, the number of
+/// the answer is that of some deciding constraint. It takes no memory, and time linear in the constraints.
+pub fn decide_plain<'a>(
+    constraints: &'a [Constraint],
+    rules: &Rules,
+    method: &str,
+    path: &str,
+    caller: Option<&Caller>,
+) -> Decision<'a>
+    ensures { seen result ≡ verdict constraints.now rules.now method.now path.now (option_copied caller.entry) }
+{
+    match best_of(constraints, path) {
+        Some(pattern) => Findings::gather(constraints, pattern.text(), method, rules, caller)
+            .decide(pattern, rules, caller),
+        None => Decision::Open(Why {
+            pattern: None,
+            number: None,
+            cause: Cause::NoPattern,
+        }),
+    }
+}
+
+/// The best pattern for the path among those of all constraints.
+fn best_of<'a>(constraints: &'a [Constraint], path: &str) -> Option<&'a Pattern>
+    ensures { option_copied result ≡ best_pattern (all_patterns constraints.now) path.now }
+{
+    let mut best = None;
+    for constraint in constraints {
+        best = better_of(best, constraint, path);
+    }
+    best
+}
+
+/// The best pattern for the path among the patterns of a constraint and one that was the best of what came before them.
+fn better_of<'a>(
+    found: Option<&'a Pattern>,
+    constraint: &'a Constraint,
+    path: &str,
+) -> Option<&'a Pattern>
+    ensures { (before : List (List ℕ)) → best_pattern before path.now ≡ option_copied found.entry → option_copied result ≡ best_pattern (before ++ patterns_in constraint.now) path.now }
+{
+    let mut best = found;
+    for collection in constraint.collections.as_slice() {
+        best = better(best, collection.patterns.as_slice(), path);
+    }
+    best
+}

@@ -1,0 +1,151 @@
+//! What one pass over the constraints finds of those that cover a request.
+
+ghost use Rattle.std.specs.Prelude.{◌≡◌, ◌==◌, ◌++◌, ◌∷◌, [], List, Some};
+ghost use Rattle.std.specs.Option.{option_copied};
+ghost use Rattle.sv_constraints.specs.Covering.{covering};
+ghost use Rattle.sv_constraints.specs.Findings.{lesser};
+ghost use Rattle.sv_constraints.specs.Verdict.{names_nobody, is_absent, allows_plain, verdict_at};
+ghost use Rattle.sv_constraints.specs.Decision.{seen};
+
+use sv_mapping::Pattern;
+use sv_realm::Caller;
+
+use crate::constraint::{Auth, Constraint, Transport};
+use crate::covering::covers;
+use crate::decision::{Cause, Decision, Why};
+use crate::roles::admits;
+use crate::rules::Rules;
+
+/// The least numbers of the covering constraints by which a request is decided, each none where there is no such constraint.
+#[derive(Clone, Copy)]
+pub struct Findings {
+    /// Of all covering constraints.
+    pub covering: Option<u64>,
+    /// Of those that name no roles.
+    pub precluding: Option<u64>,
+    /// Whether there are any for which a plain connection will do.
+    pub travels_plain: bool,
+    /// Of those without an authorization constraint.
+    pub unauthenticated: Option<u64>,
+    /// Of those that name a role of the caller, or every caller.
+    pub admitting: Option<u64>,
+}
+
+/// Whether nobody may pass.
+fn names_nobody(auth: &Auth) -> bool
+    ensures { result ≡ names_nobody auth.now }
+{
+    match auth {
+        Auth::Absent => false,
+        Auth::Roles(names) => names.as_slice().is_empty(),
+    }
+}
+
+/// Whether everyone may pass.
+fn is_absent(auth: &Auth) -> bool
+    ensures { result ≡ is_absent auth.now }
+{
+    matches!(auth, Auth::Absent)
+}
+
+/// Whether a plain connection will do.
+fn allows_plain(transport: Transport) -> bool
+    ensures { result ≡ allows_plain transport }
+{
+    matches!(transport, Transport::Absent | Transport::Plain)
+}
+
+/// The lesser of two numbers, where there are any.
+fn lesser(number: Option<u64>, other: Option<u64>) -> Option<u64>
+    ensures { result ≡ lesser number other }
+{
+    match (number, other) {
+        (Some(number), Some(other)) => Some(number.min(other)),
+        (None, other) => other,
+        (number, None) => number,
+    }
+}
+
+impl Findings {
+    ghost use Rattle.sv_constraints.specs.Findings.{findings_of};
+
+    /// What there is to find in no constraint.
+    fn none() -> Findings
+        ensures { (rules : Rules) (caller : Option Caller) → result ≡ findings_of rules caller [] }
+    {
+        Findings {
+            covering: None,
+            precluding: None,
+            travels_plain: false,
+            unauthenticated: None,
+            admitting: None,
+        }
+    }
+
+    /// What there is to find with one more constraint.
+    fn with(self, constraint: &Constraint, rules: &Rules, caller: Option<&Caller>) -> Findings
+        ensures { (members : List Constraint) → self ≡ findings_of rules.now (option_copied caller.entry) members → result ≡ findings_of rules.now (option_copied caller.entry) (members ++ constraint.now ∷ []) }
+    {
+        let number = constraint.number;
+        let auth = &constraint.auth;
+        let admitted = admits(rules.declared.as_slice(), caller, auth);
+        Findings {
+            covering: lesser(self.covering, Some(number)),
+            precluding: lesser(self.precluding, names_nobody(auth).then_some(number)),
+            travels_plain: self.travels_plain || allows_plain(constraint.transport),
+            unauthenticated: lesser(self.unauthenticated, is_absent(auth).then_some(number)),
+            admitting: lesser(self.admitting, admitted.then_some(number)),
+        }
+    }
+
+    /// What there is to find in the constraints that cover the method at the pattern.
+    pub fn gather(
+        constraints: &[Constraint],
+        pattern: &str,
+        method: &str,
+        rules: &Rules,
+        caller: Option<&Caller>,
+    ) -> Findings
+        ensures { result ≡ findings_of rules.now (option_copied caller.entry) (covering constraints.now (Some pattern.now) method.now) }
+    {
+        let mut found = Findings::none();
+        for constraint in constraints {
+            if covers(constraint, pattern, method) {
+                found = found.with(constraint, rules, caller);
+            }
+        }
+        found
+    }
+
+    /// The decision of the first case that holds.
+    pub fn decide<'a>(
+        &self,
+        pattern: &'a Pattern,
+        rules: &Rules,
+        caller: Option<&Caller>,
+    ) -> Decision<'a>
+        ensures { (members : List Constraint) → self.now ≡ findings_of rules.now (option_copied caller.entry) members → seen result ≡ verdict_at rules.now (option_copied caller.entry) (Some pattern.now) members }
+    {
+        let because = |number: Option<u64>, cause: Cause| Why {
+            pattern: Some(pattern),
+            number,
+            cause,
+        };
+        if self.covering.is_none() {
+            let why = because(None, Cause::Uncovered);
+            if rules.deny_uncovered { Decision::Denied(why) } else { Decision::Open(why) }
+        } else if self.precluding.is_some() {
+            Decision::Denied(because(self.precluding, Cause::Precluded))
+        } else if !self.travels_plain {
+            Decision::Denied(because(self.covering, Cause::Transport))
+        } else if self.unauthenticated.is_some() {
+            Decision::Open(because(self.unauthenticated, Cause::Unauthenticated))
+        } else if caller.is_none() {
+            Decision::Login(because(self.covering, Cause::NeedsCaller))
+        } else if self.admitting.is_some() {
+            Decision::Open(because(self.admitting, Cause::Role))
+        } else {
+            Decision::Denied(because(self.covering, Cause::NoRole))
+        }
+    }
+}

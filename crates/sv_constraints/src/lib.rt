@@ -1,0 +1,16 @@
+//! Combined security constraints: which constraints cover a request, and what they decide for its caller
+//! (Jakarta Servlet 6.0 section 13.8).
+#![tactic(auto)]
+
+mod constraint;
+mod covering;
+mod decide;
+mod decision;
+mod findings;
+mod roles;
+mod rules;
+
+pub use constraint::{Auth, Collection, Constraint, Methods, Transport};
+pub use decide::decide_plain;
+pub use decision::{Cause, Decision, Why};
+pub use rules::Rules;

@@ -1,0 +1,59 @@
+//! How the role names of an authorization constraint are read.
+
+ghost use Rattle.std.specs.Prelude.{◌≡◌, ◌||◌, Option};
+ghost use Rattle.std.specs.List.{list_any};
+ghost use Rattle.std.specs.Option.{option_copied};
+ghost use Rattle.sv_constraints.specs.Covering.{lists};
+ghost use Rattle.sv_constraints.specs.Roles.{roles_named, roles_read, admits_holder, admits};
+
+use sv_realm::Caller;
+use sv_text::Text;
+
+use crate::constraint::Auth;
+use crate::covering::lists;
+
+/// Stands for every declared role.
+const EVERY_ROLE: &str = "*";
+
+/// Stands for every authenticated caller, whatever their roles.
+const EVERY_CALLER: &str = "**";
+
+/// Whether the caller's roles hold one that the name stands for.
+fn name_fits(declared: &[Text], name: &str, held: &[Text]) -> bool
+    ensures { result ≡ list_any (lists held.now) (roles_named declared.now name.now) }
+{
+    if name == EVERY_ROLE {
+        declared.iter().any(|role| lists(held, role.as_str()))
+    } else if name == EVERY_CALLER {
+        false
+    } else {
+        lists(held, name)
+    }
+}
+
+/// Whether the caller's roles hold one that the names stand for.
+#[tactic(auto, using(crate::proofs::Joined::any_of_joined))]
+fn names_fit(declared: &[Text], names: &[Text], held: &[Text]) -> bool
+    ensures { result ≡ list_any (lists held.now) (roles_read declared.now names.now) }
+{
+    names.iter().any(|name| name_fits(declared, name.as_str(), held))
+}
+
+/// Whether the names admit a caller with these roles.
+fn admits_holder(declared: &[Text], names: &[Text], held: &[Text]) -> bool
+    ensures { result ≡ admits_holder declared.now names.now held.now }
+{
+    lists(names, EVERY_CALLER) || names_fit(declared, names, held)
+}
+
+/// Whether an authorization constraint names roles that admit the caller.
+pub fn admits(declared: &[Text], caller: Option<&Caller>, auth: &Auth) -> bool
+    ensures { result ≡ admits declared.now (option_copied caller.entry) auth.now }
+{
+    match (caller, auth) {
+        (Some(caller), Auth::Roles(names)) => {
+            admits_holder(declared, names.as_slice(), caller.roles.as_slice())
+        }
+        _ => false,
+    }
+}

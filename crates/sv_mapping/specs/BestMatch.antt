@@ -1,0 +1,37 @@
+-- The best match among URL patterns (Jakarta Servlet 6.0, section 12.1).
+use Rattle.std.specs.Prelude.{◌≡◌, ℕ, Bool, ◌||◌, ◌&&◌, not, nat_lt, ◌==◌, List, length, Option, IsTrue, Contains, find, position}
+use Rattle.std.specs.List.{list_any}
+use Rattle.sv_mapping.specs.Pattern.{Form, Root, Default, Extension, Prefix, Exact, form, matches}
+
+-- exact 3, prefix 2 and then its length, extension 1, default 0
+abbrev pub form_rank : Form → ℕ × ℕ
+form_rank Root = (3, 0)
+form_rank Default = (0, 0)
+form_rank (Extension wanted) = (1, 0)
+form_rank (Prefix prefix) = (2, length prefix)
+form_rank (Exact text) = (3, 0)
+
+abbrev pub rank : List ℕ → ℕ × ℕ
+rank pattern = form_rank (form pattern)
+
+abbrev pub is_above : ℕ × ℕ → ℕ × ℕ → Bool
+is_above a b = nat_lt b.0 a.0 || (a.0 == b.0 && nat_lt b.1 a.1)
+
+abbrev pub outranks : List ℕ → List ℕ → Bool
+outranks pattern other = is_above (rank pattern) (rank other)
+
+-- the pattern matches, and no pattern of the list that matches outranks it
+abbrev pub is_best : List (List ℕ) → List ℕ → List ℕ → Bool
+is_best patterns path pattern = matches pattern path && not (list_any (λ other. matches other path && outranks other pattern) patterns)
+
+-- the place of the best match, the least among equal texts
+abbrev pub best : List (List ℕ) → List ℕ → Option ℕ
+best patterns path = position (is_best patterns path) patterns
+
+-- the text of the best match
+abbrev pub best_pattern : List (List ℕ) → List ℕ → Option (List ℕ)
+best_pattern patterns path = find (is_best patterns path) patterns
+
+-- of the patterns of a list that match best, all have one text
+abbrev pub BestIsUnique : Type 0
+BestIsUnique = (patterns : List (List ℕ)) (path a b : List ℕ) → Contains patterns a → Contains patterns b → IsTrue (is_best patterns path a) → IsTrue (is_best patterns path b) → a ≡ b

@@ -1,0 +1,14 @@
+-- What parsing a URL pattern answers (Jakarta Servlet 6.0, section 12.2).
+use Rattle.std.specs.Prelude.{ℕ, List, if◌then◌else◌, Option, Some, None, Result, Ok, Err}
+use Rattle.sv_mapping.specs.Pattern.{is_pattern}
+use Rattle.sv_mapping.specs.declared.fault.PatternFault.{PatternFault}
+use Rattle.sv_mapping.specs.declared.fault.PatternFault.TheVariants.{BadPattern, NoMemory}
+
+-- a fault of the text, apart from want of memory
+abbrev pub text_fault : PatternFault → Option PatternFault
+text_fault BadPattern = Some BadPattern
+text_fault NoMemory = None
+
+-- a pattern is the text that it was read from
+abbrev pub parsed : List ℕ → Result (List ℕ) PatternFault
+parsed text = if is_pattern text then Ok text else Err BadPattern

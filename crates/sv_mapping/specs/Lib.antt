@@ -1,0 +1,6 @@
+pub mod BestMatch
+pub mod Fault
+pub mod Form
+pub mod Pattern
+pub mod Rank
+pub mod Split

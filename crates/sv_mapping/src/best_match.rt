@@ -1,0 +1,59 @@
+//! The best match among patterns (Jakarta Servlet 6.0, section 12.1).
+
+ghost use Rattle.std.specs.Prelude.{◌≡◌, ◌&&◌, ℕ, List, ◌++◌, true};
+ghost use Rattle.std.specs.Option.{option_copied, option_map_or};
+ghost use Rattle.sv_mapping.specs.BestMatch.{BestIsUnique, best, best_pattern, outranks};
+ghost use Rattle.sv_mapping.specs.Pattern.{matches};
+
+use crate::pattern::Pattern;
+
+/// The place of the best match for a path: of the patterns that match it, the one that none of them outranks. An exact
+/// match comes first, then the longest prefix, then an extension, then the default pattern; of equal patterns the first.
+/// It is `None` where no pattern matches.
+pub fn best(patterns: &[Pattern], path: &str) -> Option<usize>
+    ensures { result ≡ best patterns.now path.now }
+{
+    let mut held = None;
+    let mut best = None;
+    for (place, pattern) in patterns.iter().enumerate() {
+        if takes_over(pattern, held, path) {
+            held = Some(pattern);
+            best = Some(place);
+        }
+    }
+    best
+}
+
+/// The best match among further patterns and one that was the best of what came before them, so that lists of patterns
+/// are searched one after another. Of equal patterns it is the first.
+pub fn better<'a>(
+    found: Option<&'a Pattern>,
+    patterns: &'a [Pattern],
+    path: &str,
+) -> Option<&'a Pattern>
+    ensures { (before : List (List ℕ)) → best_pattern before path.now ≡ option_copied found.entry → option_copied result ≡ best_pattern (before ++ patterns.now) path.now }
+{
+    let mut held = found;
+    for pattern in patterns {
+        if takes_over(pattern, held, path) {
+            held = Some(pattern);
+        }
+    }
+    held
+}
+
+/// Two patterns of a list that both match a path best have the same text.
+pub fn best_is_unique()
+    ensures { BestIsUnique }
+{}
+
+/// Whether a further pattern is a better match than the best one of those before it.
+fn takes_over(pattern: &Pattern, held: Option<&Pattern>, path: &str) -> bool
+    ensures { result ≡ (matches pattern.now path.now && option_map_or (λ other. outranks pattern.now other) (option_copied held.entry) true) }
+{
+    pattern.matches(path)
+        && match held {
+            Some(other) => pattern.outranks(other),
+            None => true,
+        }
+}

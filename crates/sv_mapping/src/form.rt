@@ -1,0 +1,89 @@
+//! The forms of URL patterns, and which paths each matches.
+
+ghost use Rattle.std.specs.Prelude.{◌≡◌};
+ghost use Rattle.std.specs.Option.{option_copied};
+ghost use Rattle.sv_mapping.specs.Form.{seen};
+ghost use Rattle.sv_mapping.specs.Pattern.{form, form_matches, has_extension, is_within, last_segment, extension};
+
+/// What a pattern's text says (Jakarta Servlet 6.0, section 12.2).
+#[derive(Clone, Copy)]
+pub enum Form<'a> {
+    /// `""`: the context root alone.
+    Root,
+    /// `/`: every path.
+    Default,
+    /// `*.` and this extension.
+    Extension(&'a str),
+    /// This prefix and `/*`.
+    Prefix(&'a str),
+    /// This path alone.
+    Exact(&'a str),
+}
+
+impl<'a> Form<'a> {
+    /// The form of a pattern's text.
+    pub fn of(text: &'a str) -> Form<'a>
+        ensures { seen result ≡ form text.now }
+    {
+        if text.is_empty() {
+            return Form::Root;
+        }
+        if text == "/" {
+            return Form::Default;
+        }
+        if let Some(extension) = text.strip_prefix("*.") {
+            return Form::Extension(extension);
+        }
+        match text.strip_suffix("/*") {
+            Some(prefix) => Form::Prefix(prefix),
+            None => Form::Exact(text),
+        }
+    }
+
+    /// Whether a pattern of this form matches the path.
+    pub fn matches(self, path: &str) -> bool
+        ensures { result ≡ form_matches (seen self.entry) path.now }
+    {
+        match self {
+            Form::Root => path == "/",
+            Form::Default => true,
+            Form::Extension(wanted) => has_extension(path, wanted),
+            Form::Prefix(prefix) => is_within(prefix, path),
+            Form::Exact(text) => path == text,
+        }
+    }
+}
+
+fn is_within(prefix: &str, path: &str) -> bool
+    ensures { result ≡ is_within prefix.now path.now }
+{
+    match path.strip_prefix(prefix) {
+        Some(rest) => rest.is_empty() || rest.starts_with('/'),
+        None => false,
+    }
+}
+
+fn has_extension(path: &str, wanted: &str) -> bool
+    ensures { result ≡ has_extension wanted.now path.now }
+{
+    match extension(path) {
+        Some(found) => found == wanted,
+        None => false,
+    }
+}
+
+fn extension(path: &str) -> Option<&str>
+    ensures { option_copied result ≡ extension path.now }
+{
+    let (_, extension) = last_segment(path).rsplit_once('.')?;
+    Some(extension)
+}
+
+fn last_segment(path: &str) -> &str
+    ensures { result.now ≡ last_segment path.now }
+{
+    match path.rsplit_once('/') {
+        Some((_, segment)) => segment,
+        None => path,
+    }
+}

@@ -1,0 +1,18 @@
+//! URL patterns of a servlet mapping, the best match among them, and how a match splits the path.
+#![tactic(auto)]
+
+mod best_match;
+mod fault;
+mod form;
+mod limits;
+mod parts;
+mod pattern;
+mod rank;
+mod splitting;
+
+pub use best_match::{best, better};
+pub use fault::PatternFault;
+pub use limits::MAX_PATTERN_BYTES;
+pub use parts::Split;
+pub use pattern::Pattern;
+pub use splitting::split;

@@ -1,0 +1,100 @@
+//! URL patterns: texts that say which paths they match.
+
+ghost use Rattle.std.specs.Prelude.{◌≡◌, ◌↔◌, false, not, IsErrOf, IsTrue};
+ghost use Rattle.sv_text.specs.Gives.{Gives};
+ghost use Rattle.sv_mapping.specs.BestMatch.{outranks};
+ghost use Rattle.sv_mapping.specs.Fault.{parsed, text_fault};
+ghost use Rattle.sv_mapping.specs.Form.{seen};
+ghost use Rattle.sv_mapping.specs.Pattern.{form, is_extension_pattern, is_path_pattern, is_pattern, matches};
+
+use crate::fault::PatternFault;
+use crate::form::Form;
+use crate::limits::MAX_PATTERN_BYTES;
+use crate::rank::Rank;
+use std::alloc::Global;
+use std::marker::Model;
+use sv_text::Text;
+
+/// A URL pattern (Jakarta Servlet 6.0, section 12.2). Contracts see its text.
+#[derive(Debug, Drop)]
+pub struct Pattern {
+    text: Text,
+}
+
+impl Model for Pattern {
+    ghost use Rattle.std.specs.Prelude.{◌≡◌, ℕ, List, IsTrue};
+    ghost use Rattle.sv_mapping.specs.Pattern.{is_pattern};
+
+    ghost Value = { List ℕ };
+
+    ghost view = { λ p. p.text };
+
+    ghost invariant = { λ p. IsTrue (is_pattern p.text) };
+}
+
+impl Pattern {
+    /// Reads a URL pattern of at most [`MAX_PATTERN_BYTES`] bytes: the empty text, a text that begins with `/`,
+    /// or `*.` and a text without `/` (Jakarta Servlet 6.0, section 12.2).
+    ///
+    /// # Errors
+    /// [`PatternFault::BadPattern`] for every other text, and [`PatternFault::NoMemory`] where there was no memory
+    /// to keep the text of a pattern.
+    pub fn parse(alloc: Global, text: &str) -> Result<Pattern, PatternFault>
+        ensures gives { Gives text_fault result (parsed text.now) }
+        ensures refused { IsErrOf result PatternFault.BadPattern ↔ IsTrue (not (is_pattern text.now)) }
+    {
+        if !is_pattern(text) {
+            return Err(PatternFault::BadPattern);
+        }
+        Ok(Pattern {
+            text: Text::copy_of(alloc, text)?,
+        })
+    }
+
+    /// The text that the pattern was read from.
+    pub fn text(&self) -> &str
+        ensures value { result.now ≡ self.now }
+        ensures accepted { IsTrue (is_pattern result.now) }
+    {
+        self.text.as_str()
+    }
+
+    /// Whether the pattern matches a path within its context (Jakarta Servlet 6.0, sections 12.1 and 12.2). The path
+    /// is any text that begins with `/`, canonical or not, and is compared with case.
+    pub fn matches(&self, path: &str) -> bool
+        ensures { result ≡ matches self.now path.now }
+    {
+        self.form().matches(path)
+    }
+
+    /// Whether the pattern stands before the other one where both match a path.
+    pub(crate) fn outranks(&self, other: &Pattern) -> bool
+        ensures { result ≡ outranks self.now other.now }
+    {
+        Rank::of(self.form()).is_above(Rank::of(other.form()))
+    }
+
+    pub(crate) fn form(&self) -> Form<'_>
+        ensures { seen result ≡ form self.now }
+    {
+        Form::of(self.text())
+    }
+}
+
+fn is_pattern(text: &str) -> bool
+    ensures { result ≡ is_pattern text.now }
+{
+    text.len() <= MAX_PATTERN_BYTES && (is_path_pattern(text) || is_extension_pattern(text))
+}
+
+fn is_path_pattern(text: &str) -> bool
+    ensures { result ≡ is_path_pattern text.now }
+{
+    text.is_empty() || text.starts_with('/')
+}
+
+fn is_extension_pattern(text: &str) -> bool
+    ensures { result ≡ is_extension_pattern text.now }
+{
+    text.starts_with("*.") && !text.as_bytes().contains(&b'/')
+}

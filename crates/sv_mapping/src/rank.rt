@@ -1,0 +1,39 @@
+//! The order in which matching patterns are chosen.
+
+ghost use Rattle.std.specs.Prelude.{◌≡◌};
+ghost use Rattle.sv_mapping.specs.BestMatch.{form_rank, is_above};
+ghost use Rattle.sv_mapping.specs.Form.{seen};
+ghost use Rattle.sv_mapping.specs.Rank.{number};
+
+use crate::form::Form;
+
+/// The ranks of patterns in rising order (Jakarta Servlet 6.0, section 12.1).
+#[derive(Clone, Copy, PartialEq, Eq, PartialOrd, Ord)]
+pub enum Rank {
+    Default,
+    Extension,
+    /// Of prefixes the longer one, by its bytes.
+    Prefix(usize),
+    Exact,
+}
+
+impl Rank {
+    /// The rank of a form.
+    pub fn of(form: Form<'_>) -> Rank
+        ensures { number result ≡ form_rank (seen form.entry) }
+    {
+        match form {
+            Form::Default => Rank::Default,
+            Form::Extension(_) => Rank::Extension,
+            Form::Prefix(prefix) => Rank::Prefix(prefix.len()),
+            Form::Root | Form::Exact(_) => Rank::Exact,
+        }
+    }
+
+    /// Whether a pattern of this rank is chosen before one of the other.
+    pub fn is_above(self, other: Rank) -> bool
+        ensures { result ≡ is_above (number self) (number other) }
+    {
+        self > other
+    }
+}

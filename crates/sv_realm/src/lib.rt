@@ -1,0 +1,6 @@
+//! Users of a realm, and the caller whom a login found among them (Jakarta Servlet 6.0 section 13.3).
+#![tactic(auto)]
+
+mod caller;
+
+pub use caller::Caller;
