@@ -1,0 +1,15 @@
+//! What an inbox reads from a stream, one after another.
+
+use crate::message::Message;
+use crate::wire_fault::WireFault;
+
+/// One thing that a stream says.
+#[derive(Debug, Drop)]
+pub enum Item {
+    /// A head whose body is awaited asks for `100 Continue` (RFC 9110, section 10.1.1).
+    Continue,
+    /// A whole request.
+    Message(Message),
+    /// A request is refused. It is the last item of its stream.
+    Refuse(WireFault),
+}
