@@ -48,14 +48,22 @@ has_bad_escape name =
 abbrev pub is_control : ℕ → Bool
 is_control b = nat_lt b 32 || b == 127
 
+-- the name is `.` or `..`, and was written in another way
+abbrev pub is_disguised : List ℕ → List ℕ → Bool
+is_disguised segment name = (is_same name || is_parent name) && not (bytes_eq name segment)
+
+-- the segment is a parameter without a name
+abbrev pub is_bare_parameter : List ℕ → List ℕ → Bool
+is_bare_parameter segment name = is_empty name && has_parameter segment
+
 -- the faults that show once the name is decoded, by number
 abbrev pub name_faults : List ℕ → List ℕ → List PathFault
 name_faults segment name = when (list_any (λ b. b == byte "/") name) EncodedSlash
     ++ when (list_any (λ b. b == byte "\\") name) Backslash
     ++ when (list_any is_control name) Control
     ++ when (not (is_utf8 name)) NotUtf8
-    ++ when ((is_same name || is_parent name) && not (bytes_eq name segment)) DotSegment
-    ++ when (is_empty name && has_parameter segment) EmptyParameter
+    ++ when (is_disguised segment name) DotSegment
+    ++ when (is_bare_parameter segment name) EmptyParameter
 
 -- the faults of a segment, by number
 abbrev pub segment_faults : List ℕ → List PathFault

@@ -1,5 +1,5 @@
 -- What a walk over the segments of a path keeps of those that it has seen: RFC 3986, section 5.2.4.
-use Rattle.std.specs.Prelude.{ℕ, ◌≡◌, List, map, None}
+use Rattle.std.specs.Prelude.{ℕ, ◌≡◌, Bool, List, map, None}
 use Rattle.std.specs.List.{last_or}
 use Rattle.std.specs.Cow.{cow_slice_items}
 use Rattle.std.specs.declared.borrow.CowSlice.{CowSlice}
@@ -11,8 +11,12 @@ use Rattle.sv_uri.specs.DotSegments.{kept, remaining, climbs, is_open}
 abbrev pub shown : List (CowSlice ℕ Global) → List (List ℕ)
 shown names = map cow_slice_items names
 
+-- what is left of these segments, whether they climb, and whether the last leaves the path open
+pub record IsLeftOf (names : List (List ℕ)) (climbed open_end : Bool) (seen : List (List ℕ)) : Type 0 where
+  pub left : names ≡ remaining (kept seen)
+  pub climbed_by : climbed ≡ climbs (kept seen)
+  pub opened_by : open_end ≡ is_open (last_or None seen)
+
 -- the walk has entered these names
-pub record HasSeen (walk : Walk) (seen : List (List ℕ)) : Type 0 where
-  pub names : shown walk.names.items ≡ remaining (kept seen)
-  pub climbs : walk.climbs ≡ climbs (kept seen)
-  pub open_end : walk.is_open ≡ is_open (last_or None seen)
+abbrev pub HasSeen : Walk → List (List ℕ) → Type 0
+HasSeen walk seen = IsLeftOf (shown walk.names.items) walk.climbs walk.is_open seen

@@ -1,8 +1,8 @@
 //! One segment of a path: its name, or the first of its faults.
 
-ghost use Rattle.std.specs.Prelude.{◌≡◌, ℕ, List, [], MatchResult, map};
+ghost use Rattle.std.specs.Prelude.{◌≡◌};
 ghost use Rattle.std.specs.List.{list_any};
-ghost use Rattle.std.specs.Cow.{cow_slice_items};
+ghost use Rattle.std.specs.Str.{is_utf8};
 ghost use Rattle.sv_uri.specs.Fault as fault;
 ghost use Rattle.sv_uri.specs.Segment as spec;
 
@@ -50,6 +50,26 @@ fn has_control(name: &[u8]) -> bool
     name.iter().any(|b| *b < 32 || *b == 127)
 }
 
+fn is_text(name: &[u8]) -> bool
+    ensures { result ≡ is_utf8 name.now }
+{
+    str::from_utf8(name).is_ok()
+}
+
+// Whether `.` or `..` was written in another way.
+fn is_disguised(segment: &[u8], name: &[u8]) -> bool
+    ensures { result ≡ spec.is_disguised segment.now name.now }
+{
+    (is_same(name) || is_parent(name)) && name != segment
+}
+
+// Whether the segment is a parameter alone.
+fn is_bare_parameter(segment: &[u8], name: &[u8]) -> bool
+    ensures { result ≡ spec.is_bare_parameter segment.now name.now }
+{
+    name.is_empty() && segment.contains(&b';')
+}
+
 // The first fault of a decoded name; `segment` is how it was written.
 fn name_fault(segment: &[u8], name: &[u8]) -> Option<PathFault>
     ensures { result ≡ fault.first (spec.name_faults segment.now name.now) }
@@ -60,11 +80,11 @@ fn name_fault(segment: &[u8], name: &[u8]) -> Option<PathFault>
         Some(PathFault::Backslash)
     } else if has_control(name) {
         Some(PathFault::Control)
-    } else if str::from_utf8(name).is_err() {
+    } else if !is_text(name) {
         Some(PathFault::NotUtf8)
-    } else if (is_same(name) || is_parent(name)) && name != segment {
+    } else if is_disguised(segment, name) {
         Some(PathFault::DotSegment)
-    } else if name.is_empty() && segment.contains(&b';') {
+    } else if is_bare_parameter(segment, name) {
         Some(PathFault::EmptyParameter)
     } else {
         None

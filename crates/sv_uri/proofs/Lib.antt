@@ -1,0 +1,6 @@
+mod DotSegmentLemmas
+mod FrontLemmas
+mod ItsOwnLemmas
+mod QueryLemmas
+mod SegmentLemmas
+mod TargetLemmas
