@@ -1,0 +1,65 @@
+-- The best match of a list of patterns.
+use Rattle.std.proofs.Common.{◌≡◌, ℕ, ◌+◌, ◌<◌, take, get_or, sym, ◌∙◌, ap, append_assoc, Bool, true, false, cond, ◌&&◌, ◌||◌, List, [], ◌∷◌, ◌++◌, length, eqb, ltb, arith, Option, Some, None, IsTrue, inl, inr}
+use Rattle.std.specs.Cmp.{IsStrictWeakOrder}
+use Rattle.std.specs.List.{Contains, fold}
+use Rattle.std.specs.Option.{option_map_or}
+use Rattle.std.proofs.lemmas.Bool.{and_from, and_parts, both_ways, cases_Bool, not-true}
+use Rattle.std.proofs.lemmas.List.Folds.{list_any-from_Any}
+use Rattle.std.proofs.lemmas.List.{length-take, take_more}
+use Rattle.std.proofs.lemmas.Bool.Decides.{nat_tests}
+use Rattle.sv_mapping.specs.BestMatch.{is_above, is_best, rank, outranks, best, best_pattern}
+use Rattle.sv_mapping.specs.Pattern.{matches}
+use Rattle.sv_mapping.proofs.FirstBest.{found_in, found_passes, found-push, place-push}
+
+is_above-one_way : (a b c d : ℕ) → (ltb c a || (eqb a c && ltb d b)) ≡ true → (ltb a c || (eqb c a && ltb b d)) ≡ false
+is_above-one_way a b c d h = grind (arith, nat_tests)
+
+is_above-chain : (a b c d e f : ℕ) → (ltb c a || (eqb a c && ltb d b)) ≡ false → (ltb e c || (eqb c e && ltb f d)) ≡ false → (ltb e a || (eqb a e && ltb f b)) ≡ false
+is_above-chain a b c d e f h k = grind (arith, nat_tests)
+
+pub outranks-order : IsStrictWeakOrder outranks
+outranks-order = record {
+  one_way = λ x y. is_above-one_way (rank x).0 (rank x).1 (rank y).0 (rank y).1;
+  chain = λ x y z. is_above-chain (rank x).0 (rank x).1 (rank y).0 (rank y).1 (rank z).0 (rank z).1
+}
+
+-- whether a further pattern is a better match than the best one of those before it
+abbrev pub takes_over : List ℕ → Option (List ℕ) → List ℕ → Bool
+takes_over path held pattern = matches pattern path && option_map_or (λ other. outranks pattern other) held true
+
+pub best_pattern-push : (patterns : List (List ℕ)) (path pattern : List ℕ) → best_pattern (patterns ++ pattern ∷ []) path ≡ cond (takes_over path (best_pattern patterns path) pattern) (Some pattern) (best_pattern patterns path)
+best_pattern-push patterns path pattern = found-push (λ p. matches p path) outranks outranks-order patterns pattern
+
+pub best-push : (patterns : List (List ℕ)) (path pattern : List ℕ) → best (patterns ++ pattern ∷ []) path ≡ cond (takes_over path (best_pattern patterns path) pattern) (Some (length patterns)) (best patterns path)
+best-push patterns path pattern = place-push (λ p. matches p path) outranks outranks-order patterns pattern
+
+-- the best match is one of the patterns, and it matches
+pub best_pattern-member : (patterns : List (List ℕ)) (path pattern : List ℕ) → best_pattern patterns path ≡ Some pattern → Contains patterns pattern × IsTrue (matches pattern path)
+best_pattern-member patterns path pattern found = (
+  found_in (is_best patterns path) patterns pattern found,
+  (and_parts (matches pattern path) _ (found_passes (is_best patterns path) patterns pattern found)).0)
+
+-- no pattern of the list that matches outranks a best one
+pub unbeaten_by_member : (patterns : List (List ℕ)) (path pattern other : List ℕ) → is_best patterns path pattern ≡ true → Contains patterns other → matches other path ≡ true → outranks other pattern ≡ false
+unbeaten_by_member patterns path pattern other tops member matching =
+    elim (cases_Bool (outranks other pattern)) [
+      inr e ↦ e
+    | inl e ↦
+        let beaten = list_any-from_Any (λ p. matches p path && outranks p pattern) patterns (member.0, other, member.1, member.2, and_from (matches other path) _ matching e) in
+        absurd (both_ways _ (not-true _ (and_parts (matches pattern path) _ tops).1) beaten) ]
+
+-- ---- one more pattern
+take_next : (patterns : List (List ℕ)) (pattern : List ℕ) (i : ℕ) → i < length patterns → pattern ≡ get_or patterns i pattern → take (i + 1) patterns ≡ take i patterns ++ pattern ∷ []
+take_next patterns pattern i within at = take_more patterns i pattern within ∙ ap (λ p. take i patterns ++ p ∷ []) (sym at)
+
+pub best_pattern-next : (before patterns : List (List ℕ)) (path pattern : List ℕ) (i : ℕ) (held : Option (List ℕ)) (taken : Bool) → i < length patterns → pattern ≡ get_or patterns i pattern → held ≡ best_pattern (before ++ take i patterns) path → taken ≡ takes_over path held pattern
+    → cond taken (Some pattern) held ≡ best_pattern (before ++ take (i + 1) patterns) path
+best_pattern-next before patterns path pattern i held taken within at was takes =
+    let longer : before ++ take (i + 1) patterns ≡ (before ++ take i patterns) ++ pattern ∷ [] = ap (λ ps. before ++ ps) (take_next patterns pattern i within at) ∙ sym (append_assoc before (take i patterns) (pattern ∷ [])) in
+    rw (longer, takes, was) (sym (best_pattern-push (before ++ take i patterns) path pattern))
+
+pub best-next : (patterns : List (List ℕ)) (path pattern : List ℕ) (i : ℕ) (held : Option (List ℕ)) (place : Option ℕ) (taken : Bool) → i < length patterns → pattern ≡ get_or patterns i pattern → held ≡ best_pattern (take i patterns) path → place ≡ best (take i patterns) path → taken ≡ takes_over path held pattern
+    → cond taken (Some i) place ≡ best (take (i + 1) patterns) path
+best-next patterns path pattern i held place taken within at was was_at takes =
+    let len : length (take i patterns) ≡ i = omega (arith, length-take i patterns) in
+    rw (take_next patterns pattern i within at, takes, was, was_at) (ap (λ n. cond (takes_over path (best_pattern (take i patterns) path) pattern) (Some n) (best (take i patterns) path)) (sym len) ∙ sym (best-push (take i patterns) path pattern))

@@ -1,0 +1,4 @@
+pub mod BestMatches
+pub mod FirstBest
+pub mod Texts
+pub mod Uniqueness
