@@ -11,6 +11,9 @@ any_of_joined test f (x ∷ xs) =
     list_any-append test (f x) (flat_map f xs) ∙ ap (λ found. list_any test (f x) || found) (any_of_joined test f xs)
 
 -- the joined list after one more part
-pub joined_more : {X A : Type 0} (f : X → List A) (before : List A) (xs : List X) (i : ℕ) (d : X) → i < length xs → (before ++ flat_map f (take i xs)) ++ f (get_or xs i d) ≡ before ++ flat_map f (take (i + 1) xs)
-joined_more f before xs i d within =
-    flat_map_more f before (take i xs) (get_or xs i d) ∙ ap (λ ys. before ++ flat_map f ys) (sym (take_more xs i d within))
+pub joined_more : {X A : Type 0} (f : X → List A) (before part : List A) (xs : List X) (i : ℕ) (x : X) → i < length xs → x ≡ get_or xs i x → part ≡ f x → (before ++ flat_map f (take i xs)) ++ part ≡ before ++ flat_map f (take (i + 1) xs)
+joined_more f before part xs i x within at_i is_part =
+    ap (λ last. (before ++ flat_map f (take i xs)) ++ last) is_part
+    ∙ flat_map_more f before (take i xs) x
+    ∙ ap (λ last. before ++ flat_map f (take i xs ++ last ∷ [])) at_i
+    ∙ ap (λ ys. before ++ flat_map f ys) (sym (take_more xs i x within))

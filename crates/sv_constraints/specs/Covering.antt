@@ -1,4 +1,4 @@
--- Jakarta Servlet 6.0 sections 13.8 and 13.8.3: which constraints cover a request.
+-- Jakarta Servlet 6.0, sections 13.8 and 13.8.3: which constraints cover a request.
 use Rattle.std.specs.Prelude.{ℕ, Bool, true, not, ◌&&◌, List, [], filter, Option, None, Some}
 use Rattle.std.specs.List.{list_any, flat_map}
 use Rattle.std.specs.Str.{bytes_eq}

@@ -1,8 +1,7 @@
--- Jakarta Servlet 6.0 section 13.8: what can be decided for a request, as contracts see it, and its text.
-use Rattle.std.specs.Prelude.{ℕ, List, ◌++◌, Option, None, Some, codes, unwrap_or}
+-- Jakarta Servlet 6.0, section 13.8: what can be decided for a request, as contracts see it, and its text.
+use Rattle.std.specs.Prelude.{ℕ, List, ◌++◌, Option, codes, unwrap_or}
 use Rattle.std.specs.Option.{option_copied, option_map_or}
 use Rattle.std.specs.Fmt.{decimal}
-use Rattle.std.specs.Borrow.{Bor}
 use Rattle.sv_constraints.specs.declared.decision.Cause.{Cause}
 use Rattle.sv_constraints.specs.declared.decision.Cause.TheVariants.{NoPattern, Uncovered, Precluded, Transport, Unauthenticated, NeedsCaller, Role, NoRole}
 use Rattle.sv_constraints.specs.declared.decision.Decision.{Decision}

@@ -1,8 +1,11 @@
 -- What a pass over the constraints finds: the numbers and tests of the verdict's table.
-use Rattle.std.specs.Prelude.{ℕ, List, min, Option, None, Some}
+use Rattle.std.specs.Prelude.{ℕ, List, [], ◌∷◌, ◌||◌, not, min, Option, None, Some, is_none, is_some}
+use Rattle.std.specs.Bool.{then_some}
 use Rattle.std.specs.List.{list_any}
 use Rattle.sv_realm.specs.declared.caller.Caller.{Caller}
-use Rattle.sv_constraints.specs.Verdict.{least_number, least_where, precludes, travels_plain, is_open, lets_in}
+use Rattle.sv_constraints.specs.Verdict.{least_number, least_where, precludes, travels_plain, is_open, admits_caller, first_case, because, uncovered}
+use Rattle.sv_constraints.specs.Decision.{Verdict, Open, Login, Denied}
+use Rattle.sv_constraints.specs.declared.decision.Cause.TheVariants as cause
 use Rattle.sv_constraints.specs.declared.constraint.Constraint.{Constraint}
 use Rattle.sv_constraints.specs.declared.findings.Findings.{Findings}
 use Rattle.sv_constraints.specs.declared.rules.Rules.{Rules}
@@ -14,7 +17,7 @@ findings_of rules caller members = record {
   precluding = least_where precludes members;
   travels_plain = list_any travels_plain members;
   unauthenticated = least_where is_open members;
-  admitting = least_where (lets_in rules caller) members;
+  admitting = least_where (admits_caller rules caller) members;
 }
 
 -- the lesser of two numbers, where there are any
@@ -22,3 +25,25 @@ abbrev pub lesser : Option ℕ → Option ℕ → Option ℕ
 lesser None other = other
 lesser (Some number) None = Some number
 lesser (Some number) (Some other) = Some (min number other)
+
+-- what there is to find with one more constraint
+abbrev pub with_one : Rules → Option Caller → Constraint → Findings → Findings
+with_one rules caller constraint found = record {
+  covering = lesser found.covering (Some constraint.number);
+  precluding = lesser found.precluding (then_some (precludes constraint) constraint.number);
+  travels_plain = found.travels_plain || travels_plain constraint;
+  unauthenticated = lesser found.unauthenticated (then_some (is_open constraint) constraint.number);
+  admitting = lesser found.admitting (then_some (admits_caller rules caller constraint) constraint.number);
+}
+
+-- the verdict's table, at what was found
+abbrev pub decided : Rules → Option Caller → Option (List ℕ) → Findings → Verdict
+decided rules caller pattern found = first_case
+    ((is_none found.covering, uncovered rules (because pattern None cause.Uncovered))
+    ∷ (is_some found.precluding, Denied (because pattern found.precluding cause.Precluded))
+    ∷ (not found.travels_plain, Denied (because pattern found.covering cause.Transport))
+    ∷ (is_some found.unauthenticated, Open (because pattern found.unauthenticated cause.Unauthenticated))
+    ∷ (is_none caller, Login (because pattern found.covering cause.NeedsCaller))
+    ∷ (is_some found.admitting, Open (because pattern found.admitting cause.Role))
+    ∷ [])
+    (Denied (because pattern found.covering cause.NoRole))

@@ -3,3 +3,4 @@ pub mod Decision
 pub mod Findings
 pub mod Roles
 pub mod Verdict
+pub mod Laws

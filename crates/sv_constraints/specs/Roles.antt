@@ -1,4 +1,4 @@
--- Jakarta Servlet 6.0 section 13.8: how the role names of an authorization constraint are read.
+-- Jakarta Servlet 6.0, section 13.8: how the role names of an authorization constraint are read.
 use Rattle.std.specs.Prelude.{ℕ, Bool, false, ◌||◌, List, [], ◌∷◌, Option, None, Some, codes, if◌then◌else◌}
 use Rattle.std.specs.List.{list_any, flat_map}
 use Rattle.std.specs.Str.{bytes_eq}

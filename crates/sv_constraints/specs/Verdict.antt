@@ -1,5 +1,5 @@
--- Jakarta Servlet 6.0 sections 13.8.1, 13.8.3 and 13.8.4: the verdict on a request, as a table of eight cases.
-use Rattle.std.specs.Prelude.{ℕ, Bool, true, false, not, cond, ◌==◌, List, [], ◌∷◌, length, filter, map, min, Option, None, Some, is_none, if◌then◌else◌}
+-- Jakarta Servlet 6.0, sections 13.8.1, 13.8.3 and 13.8.4: the verdict on a request, as a table of eight cases.
+use Rattle.std.specs.Prelude.{ℕ, Bool, true, false, not, cond, ◌==◌, List, [], ◌∷◌, length, filter, map, min, Option, None, is_none, if◌then◌else◌}
 use Rattle.std.specs.List.{list_any, reduce}
 use Rattle.sv_mapping.specs.BestMatch.{best_pattern}
 use Rattle.sv_realm.specs.declared.caller.Caller.{Caller}
@@ -50,31 +50,37 @@ travels_plain constraint = allows_plain constraint.transport
 abbrev pub is_open : Constraint → Bool
 is_open constraint = is_absent constraint.auth
 
-abbrev pub lets_in : Rules → Option Caller → Constraint → Bool
-lets_in rules caller constraint = admits rules.declared caller constraint.auth
+abbrev pub admits_caller : Rules → Option Caller → Constraint → Bool
+admits_caller rules caller constraint = admits rules.declared caller constraint.auth
 
 -- the verdict of the first row whose test holds, or else the last verdict
 abbrev pub first_case : List (Bool × Verdict) → Verdict → Verdict
 first_case [] last = last
 first_case (row ∷ rows) last = cond row.0 row.1 (first_case rows last)
 
+-- why, at a best pattern
+abbrev pub because : Option (List ℕ) → Option ℕ → Cause → Grounds
+because pattern number cause = record { pattern = pattern; number = number; cause = cause }
+
+-- an uncovered request passes, unless such requests are denied
+abbrev pub uncovered : Rules → Grounds → Verdict
+uncovered rules grounds = if rules.deny_uncovered then Denied grounds else Open grounds
+
 -- the table, at the text of the best pattern and the constraints that cover the method there
+abbrev pub cases : Rules → Option Caller → Option (List ℕ) → List Constraint → List (Bool × Verdict)
+cases rules caller pattern members =
+    (is_none pattern, Open (because pattern None cause.NoPattern))
+    ∷ (length members == 0, uncovered rules (because pattern None cause.Uncovered))
+    ∷ (list_any precludes members, Denied (because pattern (least_where precludes members) cause.Precluded))
+    ∷ (not (list_any travels_plain members), Denied (because pattern (least_number members) cause.Transport))
+    ∷ (list_any is_open members, Open (because pattern (least_where is_open members) cause.Unauthenticated))
+    ∷ (is_none caller, Login (because pattern (least_number members) cause.NeedsCaller))
+    ∷ (list_any (admits_caller rules caller) members, Open (because pattern (least_where (admits_caller rules caller) members) cause.Role))
+    ∷ []
+
 abbrev pub verdict_at : Rules → Option Caller → Option (List ℕ) → List Constraint → Verdict
-verdict_at rules caller pattern members = first_case
-    ((is_none pattern, Open (because None cause.NoPattern))
-    ∷ (length members == 0, uncovered (because None cause.Uncovered))
-    ∷ (list_any precludes members, Denied (because (least_where precludes members) cause.Precluded))
-    ∷ (not (list_any travels_plain members), Denied (because (least_number members) cause.Transport))
-    ∷ (list_any is_open members, Open (because (least_where is_open members) cause.Unauthenticated))
-    ∷ (is_none caller, Login (because (least_number members) cause.NeedsCaller))
-    ∷ (list_any (lets_in rules caller) members, Open (because (least_where (lets_in rules caller) members) cause.Role))
-    ∷ [])
-    (Denied (because (least_number members) cause.NoRole))
-  where
-  because : Option ℕ → Cause → Grounds
-  because number why = record { pattern = pattern; number = number; cause = why }
-  uncovered : Grounds → Verdict
-  uncovered grounds = if rules.deny_uncovered then Denied grounds else Open grounds
+verdict_at rules caller pattern members =
+    first_case (cases rules caller pattern members) (Denied (because pattern (least_number members) cause.NoRole))
 
 -- the verdict on a request
 abbrev pub verdict : List Constraint → Rules → List ℕ → List ℕ → Option Caller → Verdict

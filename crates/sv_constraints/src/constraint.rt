@@ -4,7 +4,7 @@ use sv_mapping::Pattern;
 use sv_text::{Listed, Text};
 
 /// A web resource collection: the requests whose best pattern is among `patterns` and whose method is among `methods`
-/// (Jakarta Servlet 6.0 section 13.8).
+/// (Jakarta Servlet 6.0, section 13.8).
 #[derive(Debug, Drop)]
 pub struct Collection {
     /// The patterns, which are compared with the best pattern by their texts.
@@ -24,7 +24,7 @@ pub enum Methods {
     Except(Listed<Text>),
 }
 
-/// A security constraint (Jakarta Servlet 6.0 section 13.8).
+/// A security constraint (Jakarta Servlet 6.0, section 13.8).
 #[derive(Debug, Drop)]
 pub struct Constraint {
     /// The number by which a decision names the constraint.

@@ -3,10 +3,9 @@
 ghost use Rattle.std.specs.Prelude.{◌≡◌};
 ghost use Rattle.sv_constraints.specs.Covering.{lists, covers_method, collection_covers, covers};
 
+use crate::constraint::{Collection, Constraint, Methods};
 use sv_mapping::Pattern;
 use sv_text::Text;
-
-use crate::constraint::{Collection, Constraint, Methods};
 
 /// Whether the text is among the texts.
 pub fn lists(texts: &[Text], text: &str) -> bool
@@ -43,9 +42,7 @@ fn collection_covers(collection: &Collection, pattern: &str, method: &str) -> bo
 pub fn covers(constraint: &Constraint, pattern: &str, method: &str) -> bool
     ensures { result ≡ covers constraint.now pattern.now method.now }
 {
-    constraint
-        .collections
-        .as_slice()
-        .iter()
-        .any(|collection| collection_covers(collection, pattern, method))
+    constraint.collections.as_slice().iter().any(|collection| collection_covers(
+        collection, pattern, method,
+    ))
 }

@@ -7,15 +7,14 @@ ghost use Rattle.sv_constraints.specs.Covering.{patterns_in, all_patterns};
 ghost use Rattle.sv_constraints.specs.Decision.{seen};
 ghost use Rattle.sv_constraints.specs.Verdict.{verdict};
 
-use sv_mapping::{Pattern, better};
-use sv_realm::Caller;
-
 use crate::constraint::Constraint;
 use crate::decision::{Cause, Decision, Why};
 use crate::findings::Findings;
 use crate::rules::Rules;
+use sv_mapping::{Pattern, better};
+use sv_realm::Caller;
 
-/// Decides a request by the combined constraints on the best pattern for its path (Jakarta Servlet 6.0 section 13.8):
+/// Decides a request by the combined constraints on the best pattern for its path (Jakarta Servlet 6.0, section 13.8):
 /// those of its constraints that cover the method decide, whatever other patterns match the path.
 ///
 /// The path is the path in the context, any text. The constraints may be any list: where numbers repeat, the number of
@@ -30,8 +29,13 @@ pub fn decide_plain<'a>(
     ensures { seen result ≡ verdict constraints.now rules.now method.now path.now (option_copied caller.entry) }
 {
     match best_of(constraints, path) {
-        Some(pattern) => Findings::gather(constraints, pattern.text(), method, rules, caller)
-            .decide(pattern, rules, caller),
+        Some(pattern) => Findings::gather(
+            constraints,
+            pattern.text(),
+            method,
+            rules,
+            caller,
+        ).decide(pattern, rules, caller),
         None => Decision::Open(Why {
             pattern: None,
             number: None,

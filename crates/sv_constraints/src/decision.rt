@@ -5,7 +5,6 @@ ghost use Rattle.std.specs.Option.{option_copied, option_map_or};
 ghost use Rattle.std.specs.Fmt.{decimal};
 
 use std::fmt;
-
 use sv_mapping::Pattern;
 
 /// What the constraints decide for a request.
@@ -30,7 +29,7 @@ pub struct Why<'a> {
     pub cause: Cause,
 }
 
-/// The cases of the verdict, in their order: the first that holds decides (Jakarta Servlet 6.0 section 13.8).
+/// The cases of the verdict, in their order: the first that holds decides (Jakarta Servlet 6.0, section 13.8).
 #[derive(Clone, Copy, Debug, PartialEq, Eq)]
 pub enum Cause {
     /// Open: no pattern matches the path.
@@ -116,7 +115,11 @@ impl fmt::Display for Why<'_> {
     fn fmt<W: fmt::Write>(&self, f: &mut fmt::Formatter<W>) -> fmt::Result {
         let pattern = text_or_dash(self.pattern);
         let number = OrDash(self.number);
-        write!(f, "pattern={pattern} constraint={number} cause={}", self.cause)
+        write!(
+            f,
+            "pattern={pattern} constraint={number} cause={}",
+            self.cause
+        )
     }
 }
 

@@ -1,20 +1,19 @@
 //! What one pass over the constraints finds of those that cover a request.
 
-ghost use Rattle.std.specs.Prelude.{◌≡◌, ◌==◌, ◌++◌, ◌∷◌, [], List, Some};
+ghost use Rattle.std.specs.Prelude.{◌≡◌, [], Option, Some};
 ghost use Rattle.std.specs.Option.{option_copied};
 ghost use Rattle.sv_constraints.specs.Covering.{covering};
 ghost use Rattle.sv_constraints.specs.Findings.{lesser};
-ghost use Rattle.sv_constraints.specs.Verdict.{names_nobody, is_absent, allows_plain, verdict_at};
+ghost use Rattle.sv_constraints.specs.Verdict.{names_nobody, is_absent, allows_plain};
 ghost use Rattle.sv_constraints.specs.Decision.{seen};
-
-use sv_mapping::Pattern;
-use sv_realm::Caller;
 
 use crate::constraint::{Auth, Constraint, Transport};
 use crate::covering::covers;
 use crate::decision::{Cause, Decision, Why};
 use crate::roles::admits;
 use crate::rules::Rules;
+use sv_mapping::Pattern;
+use sv_realm::Caller;
 
 /// The least numbers of the covering constraints by which a request is decided, each none where there is no such constraint.
 #[derive(Clone, Copy)]
@@ -67,7 +66,7 @@ fn lesser(number: Option<u64>, other: Option<u64>) -> Option<u64>
 }
 
 impl Findings {
-    ghost use Rattle.sv_constraints.specs.Findings.{findings_of};
+    ghost use Rattle.sv_constraints.specs.Findings.{findings_of, with_one, decided};
 
     /// What there is to find in no constraint.
     fn none() -> Findings
@@ -84,7 +83,7 @@ impl Findings {
 
     /// What there is to find with one more constraint.
     fn with(self, constraint: &Constraint, rules: &Rules, caller: Option<&Caller>) -> Findings
-        ensures { (members : List Constraint) → self ≡ findings_of rules.now (option_copied caller.entry) members → result ≡ findings_of rules.now (option_copied caller.entry) (members ++ constraint.now ∷ []) }
+        ensures { result ≡ with_one rules.now (option_copied caller.entry) constraint.now self }
     {
         let number = constraint.number;
         let auth = &constraint.auth;
@@ -124,7 +123,7 @@ impl Findings {
         rules: &Rules,
         caller: Option<&Caller>,
     ) -> Decision<'a>
-        ensures { (members : List Constraint) → self.now ≡ findings_of rules.now (option_copied caller.entry) members → seen result ≡ verdict_at rules.now (option_copied caller.entry) (Some pattern.now) members }
+        ensures { seen result ≡ decided rules.now (option_copied caller.entry) (Some pattern.now) self.now }
     {
         let because = |number: Option<u64>, cause: Cause| Why {
             pattern: Some(pattern),
@@ -133,7 +132,11 @@ impl Findings {
         };
         if self.covering.is_none() {
             let why = because(None, Cause::Uncovered);
-            if rules.deny_uncovered { Decision::Denied(why) } else { Decision::Open(why) }
+            if rules.deny_uncovered {
+                Decision::Denied(why)
+            } else {
+                Decision::Open(why)
+            }
         } else if self.precluding.is_some() {
             Decision::Denied(because(self.precluding, Cause::Precluded))
         } else if !self.travels_plain {

@@ -1,5 +1,5 @@
 //! Combined security constraints: which constraints cover a request, and what they decide for its caller
-//! (Jakarta Servlet 6.0 section 13.8).
+//! (Jakarta Servlet 6.0, section 13.8).
 #![tactic(auto)]
 
 mod constraint;
@@ -7,10 +7,12 @@ mod covering;
 mod decide;
 mod decision;
 mod findings;
+mod laws;
 mod roles;
 mod rules;
 
 pub use constraint::{Auth, Collection, Constraint, Methods, Transport};
 pub use decide::decide_plain;
 pub use decision::{Cause, Decision, Why};
+pub use laws::{just_one_case_holds, only_the_best_pattern_decides};
 pub use rules::Rules;

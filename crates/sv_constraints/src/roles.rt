@@ -4,13 +4,12 @@ ghost use Rattle.std.specs.Prelude.{◌≡◌, ◌||◌, Option};
 ghost use Rattle.std.specs.List.{list_any};
 ghost use Rattle.std.specs.Option.{option_copied};
 ghost use Rattle.sv_constraints.specs.Covering.{lists};
-ghost use Rattle.sv_constraints.specs.Roles.{roles_named, roles_read, admits_holder, admits};
-
-use sv_realm::Caller;
-use sv_text::Text;
+ghost use Rattle.sv_constraints.specs.Roles.{roles_named, admits_holder, admits};
 
 use crate::constraint::Auth;
 use crate::covering::lists;
+use sv_realm::Caller;
+use sv_text::Text;
 
 /// Stands for every declared role.
 const EVERY_ROLE: &str = "*";
@@ -32,11 +31,12 @@ fn name_fits(declared: &[Text], name: &str, held: &[Text]) -> bool
 }
 
 /// Whether the caller's roles hold one that the names stand for.
-#[tactic(auto, using(crate::proofs::Joined::any_of_joined))]
 fn names_fit(declared: &[Text], names: &[Text], held: &[Text]) -> bool
-    ensures { result ≡ list_any (lists held.now) (roles_read declared.now names.now) }
+    ensures { result ≡ list_any (λ name. list_any (lists held.now) (roles_named declared.now name)) names.now }
 {
-    names.iter().any(|name| name_fits(declared, name.as_str(), held))
+    names
+        .iter()
+        .any(|name| name_fits(declared, name.as_str(), held))
 }
 
 /// Whether the names admit a caller with these roles.

@@ -8,6 +8,6 @@ pub struct Rules {
     /// The declared roles (`security-role`), for which `*` stands in a list of roles.
     pub declared: Listed<Text>,
     /// Whether requests that no constraint covers at their best pattern are denied
-    /// (`deny-uncovered-http-methods`, Jakarta Servlet 6.0 section 13.8.4).
+    /// (`deny-uncovered-http-methods`, Jakarta Servlet 6.0, section 13.8.4).
     pub deny_uncovered: bool,
 }

@@ -1,0 +1,56 @@
+-- Jakarta Servlet 6.0, section 13.8: laws of the verdict.
+use Rattle.std.specs.Prelude.{◌≡◌, ℕ, Bool, true, not, ◌&&◌, ◌==◌, List, [], ◌∷◌, length, filter, Option, None, is_none}
+use Rattle.std.specs.List.{list_any}
+use Rattle.sv_mapping.specs.BestMatch.{best_pattern}
+use Rattle.sv_realm.specs.declared.caller.Caller.{Caller}
+use Rattle.sv_constraints.specs.Covering.{covering, all_patterns}
+use Rattle.sv_constraints.specs.Decision.{Verdict, Open, Login, Denied}
+use Rattle.sv_constraints.specs.Verdict.{least_number, least_where, precludes, travels_plain, is_open, admits_caller, because, uncovered, verdict, verdict_at}
+use Rattle.sv_constraints.specs.declared.constraint.Constraint.{Constraint}
+use Rattle.sv_constraints.specs.declared.decision.Cause.TheVariants.{NoPattern, Uncovered, Precluded, Transport, Unauthenticated, NeedsCaller, Role, NoRole}
+use Rattle.sv_constraints.specs.declared.rules.Rules.{Rules}
+
+-- the eight cases, each with its full condition: no case before it holds, and it does
+abbrev pub full_cases : Rules → Option Caller → Option (List ℕ) → List Constraint → List (Bool × Verdict)
+full_cases rules caller pattern members =
+    (is_none pattern, Open (because pattern None NoPattern))
+    ∷ (matched && length members == 0, uncovered rules (because pattern None Uncovered))
+    ∷ (covered && list_any precludes members, Denied (because pattern (least_where precludes members) Precluded))
+    ∷ (permitted && not (list_any travels_plain members), Denied (because pattern (least_number members) Transport))
+    ∷ (carried && list_any is_open members, Open (because pattern (least_where is_open members) Unauthenticated))
+    ∷ (closed && is_none caller, Login (because pattern (least_number members) NeedsCaller))
+    ∷ (known && list_any (admits_caller rules caller) members, Open (because pattern (least_where (admits_caller rules caller) members) Role))
+    ∷ (known && not (list_any (admits_caller rules caller) members), Denied (because pattern (least_number members) NoRole))
+    ∷ []
+  where
+    matched : Bool
+    matched = not (is_none pattern)
+
+    covered : Bool
+    covered = matched && not (length members == 0)
+
+    permitted : Bool
+    permitted = covered && not (list_any precludes members)
+
+    carried : Bool
+    carried = permitted && not (not (list_any travels_plain members))
+
+    closed : Bool
+    closed = carried && not (list_any is_open members)
+
+    known : Bool
+    known = closed && not (is_none caller)
+
+-- of the eight cases just one holds, and it gives the verdict
+abbrev pub JustOneCaseHolds : Type 0
+JustOneCaseHolds =
+    (rules : Rules) (caller : Option Caller) (pattern : Option (List ℕ)) (members : List Constraint) →
+    filter (λ row. row.0) (full_cases rules caller pattern members) ≡ (true, verdict_at rules caller pattern members) ∷ []
+
+-- lists of constraints with the same best pattern and the same covering constraints there give the same verdict
+abbrev pub OnlyTheBestPatternDecides : Type 0
+OnlyTheBestPatternDecides =
+    (constraints others : List Constraint) (rules : Rules) (method path : List ℕ) (caller : Option Caller) (pattern : Option (List ℕ)) →
+    best_pattern (all_patterns constraints) path ≡ pattern → best_pattern (all_patterns others) path ≡ pattern →
+    covering constraints pattern method ≡ covering others pattern method →
+    verdict constraints rules method path caller ≡ verdict others rules method path caller
