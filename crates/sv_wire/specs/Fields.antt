@@ -1,6 +1,6 @@
 -- The fields of a head, and their values by name (RFC 9110, sections 5.1 to 5.6.1).
 use Rattle.std.specs.Prelude.{ℕ, Bool, List, map, ◌==◌, bytes_eq}
-use Rattle.std.specs.List.{filter, slice_split}
+use Rattle.std.specs.List.{filter, list_any, slice_split}
 use Rattle.http_header.specs.Token.{lowercase}
 use Rattle.http_header.specs.FieldValue.{plain_value}
 use Rattle.httparse.specs.Ascii.{comma}
@@ -24,6 +24,10 @@ is_named name field = bytes_eq field.name name
 abbrev pub values_of : List ℕ → List Field → List (List ℕ)
 values_of name fields = map (λ field. field.value.bytes) (filter (is_named name) fields)
 
--- the members of a list that a value writes with commas, without the blanks around them
-abbrev pub members_of : List ℕ → List (List ℕ)
-members_of value = map trim_ows (slice_split (λ b. b == comma) value)
+-- whether a part of a list is the word, in any case and without the blanks around it
+abbrev pub is_member : List ℕ → List ℕ → Bool
+is_member word part = bytes_eq (lowercase (trim_ows part)) word
+
+-- whether the list that a value writes with commas holds the word, which is in lower case
+abbrev pub has_member : List ℕ → List ℕ → Bool
+has_member word value = list_any (is_member word) (slice_split (λ b. b == comma) value)

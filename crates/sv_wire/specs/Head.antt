@@ -1,5 +1,5 @@
 -- The head of a request, and the one verdict on it (RFC 9112, sections 2.1, 3, 5 and 6).
-use Rattle.std.specs.Prelude.{ℕ, Bool, ◌||◌, not, List, [], ◌∷◌, ◌++◌, ◌==◌, nat_eq, codes, if◌then◌else◌}
+use Rattle.std.specs.Prelude.{ℕ, Bool, ◌||◌, not, List, [], ◌∷◌, ◌++◌, ◌==◌, nat_eq, codes, slice_get, if◌then◌else◌, Option, None, Some}
 use Rattle.std.specs.List.{ends_with, list_any, starts_with}
 use Rattle.httparse.specs.Ascii.{line_feed, carriage_return}
 use Rattle.httparse.specs.Grammar.{RequestHead}
@@ -33,12 +33,16 @@ abbrev pub is_of_body : Field → Bool
 is_of_body field =
     is_named (codes "transfer-encoding") field || is_named (codes "content-length") field || is_named (codes "expect") field
 
--- the faults of a head in the order in which they are judged
-abbrev pub faults_of : RequestHead → List WireFault
-faults_of head =
-    when (not (accepts_hosts head.minor (values_of (codes "host") (fields_of head)))) BadHost
-    ++ when (not (is_origin_form head.target)) BadTarget
-    ++ when (list_any is_of_body (fields_of head)) BadFraming
+-- the faults of a head in the order in which they are judged, by its version, its target and its fields
+abbrev pub faults_of : ℕ → List ℕ → List Field → List WireFault
+faults_of minor target fields =
+    when (not (accepts_hosts minor (values_of (codes "host") fields))) BadHost
+    ++ when (not (is_origin_form target)) BadTarget
+    ++ when (list_any is_of_body fields) BadFraming
+
+-- the first of them
+abbrev pub first_fault : ℕ → List ℕ → List Field → Option WireFault
+first_fault minor target fields = slice_get (faults_of minor target fields) 0
 
 -- the request that a head without faults is
 abbrev pub message_of : RequestHead → MessageRecord
@@ -51,11 +55,11 @@ message_of head = record {
   keep = keeps head.minor (fields_of head);
 }
 
--- the refusal for the first of the faults, or else the item
-abbrev pub first_of : List WireFault → Item → Item
-first_of [] item = item
-first_of (fault ∷ faults) item = Refuse fault
+-- the refusal for a fault, or else the request
+abbrev pub verdict_of : Option WireFault → MessageRecord → Item
+verdict_of None message = Message message
+verdict_of (Some fault) message = Refuse fault
 
 -- the verdict on a head
 abbrev pub judge : RequestHead → Item
-judge head = first_of (faults_of head) (Message (message_of head))
+judge head = verdict_of (first_fault head.minor head.target (fields_of head)) (message_of head)

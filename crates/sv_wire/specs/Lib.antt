@@ -7,5 +7,7 @@ pub mod Inbox
 pub mod Items
 pub mod Laws
 pub mod Persistence
+pub mod Next
 pub mod Reads
+pub mod Spans
 pub mod WireFault

@@ -11,6 +11,7 @@ use std::mem;
 use sv_text::NoMemory;
 
 use crate::item::Item;
+use crate::reading::read_items;
 
 /// What the end of a stream means.
 #[derive(Clone, Copy, Debug, PartialEq, Eq)]
@@ -67,9 +68,20 @@ impl Inbox {
         ensures no_memory { OnErr result (self.new ≡ spent_for_good) }
         ensures spent { self.old.spent ≡ true → IsOkAnd result (λ items. items.items ≡ []) × (self.new ≡ self.old) }
     {
-        let _ = mem::replace(&mut self.spent, true);
-        let _ = piece;
-        Err(NoMemory)
+        if self.spent {
+            return Ok(Vec::new(self.alloc));
+        }
+        self.spent = true;
+        let mut stream = mem::replace(&mut self.rest, Vec::new(self.alloc));
+        let held = stream.len();
+        stream.extend_from_slice(piece)?;
+        let reading = read_items(self.alloc, &stream, held + 1)?;
+        if let Some(at) = reading.rest {
+            stream.drain(..at);
+            self.rest = stream;
+            self.spent = false;
+        }
+        Ok(reading.items)
     }
 
     /// Says what the end of the stream means. The inbox is spent afterwards.

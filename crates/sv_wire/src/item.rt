@@ -1,5 +1,7 @@
 //! What an inbox reads from a stream, one after another.
 
+ghost use Rattle.std.specs.Prelude.{◌≡◌};
+
 use crate::message::Message;
 use crate::wire_fault::WireFault;
 
@@ -12,4 +14,19 @@ pub enum Item {
     Message(Message),
     /// A request is refused. It is the last item of its stream.
     Refuse(WireFault),
+}
+
+impl Item {
+    ghost use Rattle.sv_wire.specs.Items.{is_last};
+
+    /// Whether nothing is read behind the item.
+    pub(crate) fn is_last(&self) -> bool
+        ensures { result ≡ is_last self.now }
+    {
+        match self {
+            Item::Continue => false,
+            Item::Message(message) => !message.keep,
+            Item::Refuse(_) => true,
+        }
+    }
 }

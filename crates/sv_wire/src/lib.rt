@@ -10,8 +10,10 @@ mod inbox;
 mod item;
 mod laws;
 mod limits;
+mod members;
 mod message;
 mod persistence;
+mod reading;
 mod wire_fault;
 
 pub use field::Field;
