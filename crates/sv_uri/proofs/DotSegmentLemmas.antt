@@ -1,8 +1,7 @@
 -- What dot segments do to a list of names that grows at its end.
-use Rattle.std.proofs.Common.{ℕ, suc, ◌≡◌, ◌+◌, ◌-◌, ◌<◌, ◌≤◌, Bool, true, false, not, ◌||◌, cond, eqb, ltb, List, [], ◌∷◌, ◌++◌, length, take, take_all, Option, Some, None, sym, refl, ap, ◌∙◌, ⊎_elim, arith}
-use Rattle.std.specs.List.{All, filter, last_or}
-use Rattle.std.specs.Str.{bytes_eq}
-use Rattle.std.proofs.lemmas.Bool.{cases_Bool, cond-true, cond-false, cond_both, or_parts, lt-ltb, le-ltb, or_left, or_right, or_from, cases_lt, cases_eq}
+use Rattle.std.proofs.Common.{ℕ, suc, ◌≡◌, ◌+◌, ◌-◌, ◌<◌, ◌≤◌, true, false, ◌||◌, ltb, List, [], ◌∷◌, ◌++◌, length, take, take_all, Option, Some, sym, refl, ap, ◌∙◌, ⊎_elim, arith}
+use Rattle.std.specs.List.{All, last_or}
+use Rattle.std.proofs.lemmas.Bool.{cases_Bool, cond-true, cond-false, cond_both, or_parts, lt-ltb, le-ltb, or_left, or_right, or_from, cases_lt}
 use Rattle.std.proofs.lemmas.List.Elements.{All-nil, All-cons, All-head, All-tail}
 use Rattle.sv_uri.specs.Segment.{is_parent}
 use Rattle.sv_uri.specs.DotSegments.{removed_in_front, remaining}
@@ -31,10 +30,10 @@ removed-append (name ∷ rest) more =
     ⊎_elim
     (λ parent. rw (removed-parent name (rest ++ more) parent, removed-parent name rest parent, remaining-parent name rest parent, before) (omega arith))
     (λ other.
-      ⊎_elim
-      (λ removed. rw (removed-name name (rest ++ more) other, removed-name name rest other, remaining-removed name rest removed, before) (omega arith))
-      (λ unremoved. rw (removed-name name (rest ++ more) other, removed-name name rest other, remaining-kept name rest other unremoved, before) (omega arith))
-      (cases_lt 0 (removed_in_front rest)))
+    ⊎_elim
+    (λ removed. rw (removed-name name (rest ++ more) other, removed-name name rest other, remaining-removed name rest removed, before) (omega arith))
+    (λ unremoved. rw (removed-name name (rest ++ more) other, removed-name name rest other, remaining-kept name rest other unremoved, before) (omega arith))
+    (cases_lt 0 (removed_in_front rest)))
     (cases_Bool (is_parent name))
 
 pub remaining-append : (names more : List (List ℕ)) → remaining (names ++ more) ≡ take (length (remaining names) - removed_in_front more) (remaining names) ++ remaining more
@@ -45,23 +44,23 @@ remaining-append (name ∷ rest) more =
     ⊎_elim
     (λ parent. rw (remaining-parent name (rest ++ more) parent, remaining-parent name rest parent) before)
     (λ other.
-      ⊎_elim
-      (λ removed.
-        let still : 0 < removed_in_front (rest ++ more) = omega arith in
-        rw (remaining-removed name (rest ++ more) still, remaining-removed name rest removed) before)
-      (λ unremoved.
-        ⊎_elim
-        (λ reaches.
-          let still : 0 < removed_in_front (rest ++ more) = omega arith in
-          let none : length (remaining rest) - removed_in_front more ≡ 0 = omega arith in
-          let none_more : suc (length (remaining rest)) - removed_in_front more ≡ 0 = omega arith in
-          rw (remaining-removed name (rest ++ more) still, remaining-kept name rest other unremoved, none_more) (rw none at before))
-        (λ within.
-          let still : removed_in_front (rest ++ more) ≤ 0 = omega arith in
-          let one_more : suc (length (remaining rest)) - removed_in_front more ≡ suc (length (remaining rest) - removed_in_front more) = omega arith in
-          rw (remaining-kept name (rest ++ more) other still, remaining-kept name rest other unremoved, one_more) (ap (λ xs. name ∷ xs) before))
-        (cases_lt (length (remaining rest)) (removed_in_front more)))
-      (cases_lt 0 (removed_in_front rest)))
+    ⊎_elim
+    (λ removed.
+    let still : 0 < removed_in_front (rest ++ more) = omega arith in
+    rw (remaining-removed name (rest ++ more) still, remaining-removed name rest removed) before)
+    (λ unremoved.
+    ⊎_elim
+    (λ reaches.
+    let still : 0 < removed_in_front (rest ++ more) = omega arith in
+    let none : length (remaining rest) - removed_in_front more ≡ 0 = omega arith in
+    let none_more : suc (length (remaining rest)) - removed_in_front more ≡ 0 = omega arith in
+    rw (remaining-removed name (rest ++ more) still, remaining-kept name rest other unremoved, none_more) (rw none at before))
+    (λ within.
+    let still : removed_in_front (rest ++ more) ≤ 0 = omega arith in
+    let one_more : suc (length (remaining rest)) - removed_in_front more ≡ suc (length (remaining rest) - removed_in_front more) = omega arith in
+    rw (remaining-kept name (rest ++ more) other still, remaining-kept name rest other unremoved, one_more) (ap (λ xs. name ∷ xs) before))
+    (cases_lt (length (remaining rest)) (removed_in_front more)))
+    (cases_lt 0 (removed_in_front rest)))
     (cases_Bool (is_parent name))
 
 -- what is left holds what all names hold, and no `..`

@@ -1,11 +1,11 @@
 -- A path climbs where one of its fronts does.
-use Rattle.std.proofs.Common.{ℕ, zero, suc, ◌≡◌, ◌+◌, ◌-◌, ◌<◌, ◌≤◌, ◌↔◌, Bool, true, false, not, cond, List, [], ◌∷◌, take, sym, refl, ap, ◌∙◌, ⊎_elim, arith}
+use Rattle.std.proofs.Common.{ℕ, zero, suc, ◌≡◌, ◌+◌, ◌<◌, ◌≤◌, true, false, not, cond, List, [], ◌∷◌, take, ⊎_elim, arith}
 use Rattle.std.specs.List.{count_by}
 use Rattle.std.proofs.lemmas.List.Sums.{sum_by-cons}
 use Rattle.std.proofs.lemmas.Bool.{cases_Bool, lt-ltb, ltb-true, cases_lt, not_from_true, not_from_false, cond-true, cond-false}
 use Rattle.sv_uri.specs.Segment.{is_parent}
-use Rattle.sv_uri.specs.DotSegments.{removed_in_front, climbs}
-use Rattle.sv_uri.specs.Laws.{ClimbsByFronts, HasMoreParents}
+use Rattle.sv_uri.specs.DotSegments.{removed_in_front}
+use Rattle.sv_uri.specs.Laws.{ClimbsByFronts}
 use Rattle.sv_uri.proofs.DotSegmentLemmas.{removed-parent, removed-name}
 
 abbrev parents : List (List ℕ) → ℕ
@@ -33,15 +33,15 @@ reached (name ∷ rest) =
     let (n, before) = reached rest in
     ⊎_elim
     (λ parent.
-      let counts = parents-parent name (take n rest) parent in
-      (suc n, rw (removed-parent name rest parent) (omega arith)))
+    let counts = parents-parent name (take n rest) parent in
+    (suc n, rw (removed-parent name rest parent) (omega arith)))
     (λ other.
-      ⊎_elim
-      (λ (removed : 0 < removed_in_front rest).
-        let counts = parents-name name (take n rest) other in
-        (suc n, rw (removed-name name rest other) (omega arith)))
-      (λ (unremoved : removed_in_front rest ≤ 0). (0, rw (removed-name name rest other) (omega arith)))
-      (cases_lt 0 (removed_in_front rest)))
+    ⊎_elim
+    (λ (removed : 0 < removed_in_front rest).
+    let counts = parents-name name (take n rest) other in
+    (suc n, rw (removed-name name rest other) (omega arith)))
+    (λ (unremoved : removed_in_front rest ≤ 0). (0, rw (removed-name name rest other) (omega arith)))
+    (cases_lt 0 (removed_in_front rest)))
     (cases_Bool (is_parent name))
 
 -- and none has more
@@ -52,11 +52,11 @@ bounded (name ∷ rest) (suc n) =
     let before = bounded rest n in
     ⊎_elim
     (λ parent.
-      let counts = parents-parent name (take n rest) parent in
-      rw (removed-parent name rest parent) (omega arith))
+    let counts = parents-parent name (take n rest) parent in
+    rw (removed-parent name rest parent) (omega arith))
     (λ other.
-      let counts = parents-name name (take n rest) other in
-      rw (removed-name name rest other) (omega arith))
+    let counts = parents-name name (take n rest) other in
+    rw (removed-name name rest other) (omega arith))
     (cases_Bool (is_parent name))
 
 pub climbs_by_fronts : ClimbsByFronts

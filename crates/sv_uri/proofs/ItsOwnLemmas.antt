@@ -1,22 +1,21 @@
 -- A canonical path is its own canonical path.
-use Rattle.std.proofs.Common.{ℕ, ◌≡◌, ◌+◌, ◌<◌, ◌≤◌, Bool, true, false, not, ◌||◌, cond, ◌==◌, eqb, List, [], ◌∷◌, ◌++◌, map, length, Option, Some, None, Result, Ok, Err, append-nil, append_assoc, length-append, sym, refl, ap, subst, ◌∙◌, ⊎_elim, ◌⊎◌, inl, inr, arith}
-use Rattle.std.specs.List.{All, AllPass, list_any, flat_map, filter, last_or}
+use Rattle.std.proofs.Common.{ℕ, ◌≡◌, ◌<◌, true, false, not, ◌||◌, eqb, List, [], ◌∷◌, ◌++◌, map, length, Option, Some, None, Ok, append-nil, sym, refl, ap, subst, ◌∙◌, ⊎_elim, ◌⊎◌, inl, inr, arith}
+use Rattle.std.specs.List.{All, AllPass, flat_map, last_or}
 use Rattle.std.specs.Option.{option_map}
 use Rattle.std.specs.Str.{byte}
 use Rattle.std.proofs.lemmas.Bool.{cases_Bool, both_ways, cond-true, cond-false, cond_both, or_parts, not-true, not-false, eqb-true, not_from_false, or_from}
 use Rattle.std.proofs.lemmas.List.{length-map}
-use Rattle.std.proofs.lemmas.List.Concat.{flat_map-append}
 use Rattle.std.proofs.lemmas.List.Elements.{All-nil, All-cons, All-head, All-tail, All-append, All-weaker, All-filter, filter-append, filter_passes}
 use Rattle.std.proofs.lemmas.List.Folds.{list_any_none}
 use Rattle.std.proofs.lemmas.List.Splits.{length-slice_split}
-use Rattle.sv_uri.specs.declared.fault.PathFault.{PathFault}
 use Rattle.sv_uri.specs.declared.path.Canon.{Canon}
 use Rattle.sv_uri.specs.Fault.{first_or}
 use Rattle.sv_uri.specs.Target.{before, behind, between_slashes, visible_query}
-use Rattle.sv_uri.specs.Segment.{is_parent, is_empty, is_same, name_of, segment_faults}
-use Rattle.sv_uri.specs.DotSegments.{kept, remaining, removed_in_front, climbs, is_open, closing}
-use Rattle.sv_uri.specs.Canonical.{canonical, target_faults, path_faults, path_text, raw_segments, begins_with_slash}
+use Rattle.sv_uri.specs.Segment.{is_empty, is_same, name_of, segment_faults}
+use Rattle.sv_uri.specs.DotSegments.{kept, remaining, climbs, is_open, closing}
+use Rattle.sv_uri.specs.Canonical.{canonical, target_faults, path_text, raw_segments, begins_with_slash}
 use Rattle.sv_uri.specs.Laws.{CanonicalIsItsOwn, is_literal}
+use Rattle.sv_uri.proofs.AnswerLemmas.{answered}
 use Rattle.sv_uri.proofs.TargetLemmas.{holds, slashed, before_none, behind_none, none_in_names, between_slashes-slashed, raw_segments-slash}
 use Rattle.sv_uri.proofs.SegmentLemmas.{IsPlain, IsPlain-nil, All-IsPlain, append_none, when_none, name_of_literal, faultless_literal}
 use Rattle.sv_uri.proofs.DotSegmentLemmas.{IsName, All-remaining, All-IsName-remaining, unremoved, remaining-append, last_or-push}
@@ -75,15 +74,15 @@ begins_parts front last =
     let ends = last_or-push front None last in
     ⊎_elim
     (λ (open_end : is_open (Some last) ≡ true).
-      let closing_one : closing names ≡ [] ∷ [] = rw ends (cond-true _ _ _ open_end) in
-      rw closing_one (begins_push (remaining (kept names)) []))
+    let closing_one : closing names ≡ [] ∷ [] = rw ends (cond-true _ _ _ open_end) in
+    rw closing_one (begins_push (remaining (kept names)) []))
     (λ (name_end : is_open (Some last) ≡ false).
-      let tests = or_parts _ _ name_end in
-      let closing_none : closing names ≡ [] = rw ends (cond-false _ _ _ name_end) in
-      let kept_last : kept (last ∷ []) ≡ last ∷ [] = cond-true _ _ _ (not_from_false _ tests.0) in
-      let kept_all : kept names ≡ kept front ++ last ∷ [] = filter-append _ front (last ∷ []) ∙ ap (λ xs. kept front ++ xs) kept_last in
-      let stays : remaining (last ∷ []) ≡ last ∷ [] = (unremoved (last ∷ []) (All-cons IsName last [] tests.1 (All-nil IsName))).1 in
-      rw (closing_none, append-nil (remaining (kept names)), kept_all, remaining-append (kept front) (last ∷ []), stays) (begins_push _ last))
+    let tests = or_parts _ _ name_end in
+    let closing_none : closing names ≡ [] = rw ends (cond-false _ _ _ name_end) in
+    let kept_last : kept (last ∷ []) ≡ last ∷ [] = cond-true _ _ _ (not_from_false _ tests.0) in
+    let kept_all : kept names ≡ kept front ++ last ∷ [] = filter-append _ front (last ∷ []) ∙ ap (λ xs. kept front ++ xs) kept_last in
+    let stays : remaining (last ∷ []) ≡ last ∷ [] = (unremoved (last ∷ []) (All-cons IsName last [] tests.1 (All-nil IsName))).1 in
+    rw (closing_none, append-nil (remaining (kept names)), kept_all, remaining-append (kept front) (last ∷ []), stays) (begins_push _ last))
     (cases_Bool (is_open (Some last)))
 
 begins : (names : List (List ℕ)) → 0 < length names → begins_with_slash (slashed (parts_of names)) ≡ true
@@ -134,10 +133,6 @@ path_again names some plain literal =
     let no_fault : target_faults path ≡ [] = rw (absent 35 path refl literal, begins names some, segments, again.0, no_climb) refl in
     let same_text : path_text (raw_segments path) ≡ path = rw (segments, again.1, same.0, same.1, left.1) refl in
     canonical_from path no_fault same_text (behind_none 63 path no_query)
-
-answered : {A : Type 0} (faults : List PathFault) (a b : A) → first_or faults a ≡ Ok b → (faults ≡ []) × (a ≡ b)
-answered [] a b given = (refl, cc)
-answered (fault ∷ faults) a b given = cc
 
 -- a target without faults begins with a slash and has segments
 has_names : (target : List ℕ) → begins_with_slash target ≡ true → 0 < length (map name_of (raw_segments target))

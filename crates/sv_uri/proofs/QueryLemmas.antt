@@ -1,12 +1,12 @@
 -- Escaping a query is what the percent-encoding of its bytes outside 33 to 126 does.
-use Rattle.std.proofs.Common.{ℕ, ◌≡◌, ◌<◌, ◌+◌, ◌-◌, ◌^◌, Bool, true, false, not, cond, List, [], ◌∷◌, ◌++◌, sym, refl, ap, ◌∙◌, ⊎_elim}
+use Rattle.std.proofs.Common.{ℕ, ◌≡◌, ◌<◌, ◌+◌, ◌-◌, ◌^◌, not, cond, List, [], ◌∷◌, ◌++◌, sym, refl, ap, ◌∙◌, ⊎_elim}
 use Rattle.std.specs.List.{All}
 use Rattle.std.proofs.lemmas.Bool.{cases_Bool, cond-true, cond-false, agree_below_at, not_from_true, not_from_false}
 use Rattle.std.proofs.lemmas.List.Elements.{All-head, All-tail}
 use Rattle.percent_encoding.specs.declared.ascii_set.AsciiSet.{AsciiSet}
 use Rattle.percent_encoding.specs.AsciiSet.{should_percent_encode}
 use Rattle.percent_encoding.specs.Percent.{percent_encode, percent_encode_byte, encode_byte}
-use Rattle.percent_encoding.proofs.PercentLemmas.{IsByte, percent_encode-nil}
+use Rattle.percent_encoding.proofs.PercentLemmas.{IsByte}
 use Rattle.sv_uri.specs.Target.{is_visible, visible_query}
 
 -- the bytes below 33, and 127

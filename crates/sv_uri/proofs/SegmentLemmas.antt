@@ -1,9 +1,9 @@
 -- What it means for a segment to have no fault.
-use Rattle.std.proofs.Common.{ℕ, suc, ◌≡◌, ◌+◌, ◌<◌, ◌≤◌, Bool, true, false, not, ◌&&◌, ◌||◌, cond, eqb, List, [], ◌∷◌, ◌++◌, map, length, drop, Option, Some, None, Result, Ok, Err, MatchResult, is_ok, IsUtf8, sym, refl, ap, ◌∙◌, ⊎_elim, arith}
-use Rattle.std.specs.List.{All, list_any, flat_map, slice_split}
+use Rattle.std.proofs.Common.{ℕ, ◌≡◌, Bool, true, false, ◌||◌, eqb, List, [], ◌∷◌, ◌++◌, map, Result, Ok, Err, MatchResult, is_ok, IsUtf8, sym, refl, ap, ◌∙◌}
+use Rattle.std.specs.List.{All, list_any, flat_map}
 use Rattle.std.specs.Str.{byte, bytes_eq, is_utf8}
-use Rattle.std.proofs.lemmas.Bool.{cases_Bool, or_parts, not-false, eqb-false, false_from_ne_true, and_left, and_right, not_from_true, not_from_false}
-use Rattle.std.proofs.lemmas.List.Elements.{All-nil, All-cons, All-head, All-tail}
+use Rattle.std.proofs.lemmas.Bool.{or_parts, not-false, eqb-false, false_from_ne_true, and_right}
+use Rattle.std.proofs.lemmas.List.Elements.{All-nil, All-cons}
 use Rattle.std.proofs.lemmas.List.Splits.{slice_split_none}
 use Rattle.std.proofs.lemmas.Slice.Eq.{bytes_eq-Decides}
 use Rattle.std.proofs.lemmas.Str.{IsUtf8-nil, IsUtf8-from_is_utf8, is_utf8-from_IsUtf8}
@@ -40,7 +40,7 @@ plain_from_faultless segment name none =
       slash = when_none _ _ to_backslash.0;
       backslash = when_none _ _ to_backslash.1;
       control = when_none _ _ to_control.1;
-      utf8 = not-false _ (when_none _ _ to_utf8.1)
+      utf8 = not-false _ (when_none _ _ to_utf8.1);
     }
 
 pub All-IsPlain : (segments : List (List ℕ)) → flat_map segment_faults segments ≡ [] → All IsPlain (map name_of segments)

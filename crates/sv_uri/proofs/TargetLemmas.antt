@@ -1,8 +1,8 @@
 -- Cutting bytes at a separator.
-use Rattle.std.proofs.Common.{ℕ, suc, ◌≡◌, ◌+◌, ◌<◌, ◌≤◌, Bool, true, false, not, ◌||◌, cond, ◌==◌, eqb, ltb, List, [], ◌∷◌, ◌++◌, length, take, drop, append-nil, Option, Some, None, sym, refl, ap, ◌∙◌, ⊎_elim, arith}
-use Rattle.std.specs.List.{All, list_any, flat_map, slice_split, position, position_or_len, before_first, after_first}
+use Rattle.std.proofs.Common.{ℕ, suc, ◌≡◌, ◌+◌, ◌<◌, Bool, true, false, ◌||◌, cond, ◌==◌, eqb, ltb, List, [], ◌∷◌, ◌++◌, length, take, drop, append-nil, Option, Some, None, sym, refl, ap, ◌∙◌, ⊎_elim, arith}
+use Rattle.std.specs.List.{All, list_any, flat_map, position, position_or_len, after_first}
 use Rattle.std.specs.Str.{byte}
-use Rattle.std.proofs.lemmas.Bool.{cases_Bool, cond-true, cond-false, or_parts, or_left, or_right, or_from, not_from_true, not_from_false, ltb-true, ltb-false}
+use Rattle.std.proofs.lemmas.Bool.{cases_Bool, cond-true, cond-false, or_parts, or_left, not_from_true, not_from_false, ltb-true, ltb-false}
 use Rattle.std.proofs.lemmas.List.Elements.{All-nil, All-cons, All-head, All-tail}
 use Rattle.std.proofs.lemmas.List.Folds.{list_any-append, list_any_at, list_any_none}
 use Rattle.std.proofs.lemmas.List.Sums.{passes_at_first, fails_before_first}
@@ -100,10 +100,10 @@ cut_at_place c place text found =
     let p = λ (b : ℕ). eqb b c in
     ⊎_elim
     (λ inside.
-      let here : place ≡ position_or_len p text = cc (found, cond-true _ (Some (position_or_len p text)) None inside) in
-      let within = ltb-true _ _ inside in
-      let held = list_any_at p text (position_or_len p text) 0 within (passes_at_first p text 0 within) in
-      rw here (within, refl, sym (cond-true _ _ _ held)))
+    let here : place ≡ position_or_len p text = cc (found, cond-true _ (Some (position_or_len p text)) None inside) in
+    let within = ltb-true _ _ inside in
+    let held = list_any_at p text (position_or_len p text) 0 within (passes_at_first p text 0 within) in
+    rw here (within, refl, sym (cond-true _ _ _ held)))
     (λ outside. cc (found, cond-false _ (Some (position_or_len p text)) None outside))
     (cases_Bool (ltb (position_or_len p text) (length text)))
 
@@ -113,6 +113,6 @@ cut_nowhere c text found =
     ⊎_elim
     (λ inside. cc (found, cond-true _ (Some (position_or_len p text)) None inside))
     (λ outside.
-      let past = ltb-false _ _ outside in
-      list_any_none p text (λ k d within. fails_before_first p text k d (omega arith)))
+    let past = ltb-false _ _ outside in
+    list_any_none p text (λ k d within. fails_before_first p text k d (omega arith)))
     (cases_Bool (ltb (position_or_len p text) (length text)))

@@ -3,9 +3,13 @@ use Rattle.std.specs.Prelude.{ℕ, ◌+◌, ◌-◌, Bool, false, not, ◌||◌,
 use Rattle.std.specs.List.{last_or}
 use Rattle.sv_uri.specs.Segment.{is_empty, is_same, is_parent}
 
--- the segments that name something: neither empty nor `.`
+-- the segment changes nothing: it is empty or `.`
+abbrev pub is_idle : List ℕ → Bool
+is_idle name = is_empty name || is_same name
+
+-- the segments that change something: names and `..`
 abbrev pub kept : List (List ℕ) → List (List ℕ)
-kept names = filter (λ name. not (is_empty name || is_same name)) names
+kept names = filter (λ name. not (is_idle name)) names
 
 -- how many of the names in front of these segments are removed by the `..` among them
 abbrev pub removed_in_front : List (List ℕ) → ℕ
@@ -25,7 +29,7 @@ remaining (name ∷ rest) =
 -- the segment, where it is the last, leaves the path open for a name: it is empty, `.` or `..`
 abbrev pub is_open : Option (List ℕ) → Bool
 is_open None = false
-is_open (Some name) = is_empty name || is_same name || is_parent name
+is_open (Some name) = is_idle name || is_parent name
 
 -- the empty last segment, where the path is left open
 abbrev pub closing : List (List ℕ) → List (List ℕ)

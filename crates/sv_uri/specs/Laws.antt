@@ -1,5 +1,5 @@
 -- The laws of canonical paths: RFC 3986, section 5.2.4; Jakarta Servlet 6.0, section 3.5.2.
-use Rattle.std.specs.Prelude.{ℕ, ◌<◌, ◌≡◌, ◌↔◌, Bool, true, ◌==◌, not, ◌||◌, List, take, Result, Ok, None, count_by, IsTrue}
+use Rattle.std.specs.Prelude.{ℕ, ◌<◌, ◌≡◌, ◌↔◌, Bool, ◌==◌, not, ◌||◌, List, take, Ok, None, count_by, IsTrue}
 use Rattle.std.specs.List.{AllPass}
 use Rattle.std.specs.Str.{byte}
 use Rattle.sv_uri.specs.declared.path.Canon.{Canon}

@@ -1,5 +1,5 @@
 -- The parts of a request target: RFC 3986, sections 3.3 (path, segments, parameters) and 3.4 (query).
-use Rattle.std.specs.Prelude.{ℕ, Bool, ◌==◌, not, ◌&&◌, nat_le, List, [], ◌∷◌, Option, Some, None, if◌then◌else◌}
+use Rattle.std.specs.Prelude.{ℕ, Bool, ◌==◌, ◌&&◌, nat_le, List, [], ◌∷◌, Option, Some, None, if◌then◌else◌}
 use Rattle.std.specs.List.{list_any, before_first, after_first, slice_split, flat_map}
 use Rattle.std.specs.Str.{byte}
 use Rattle.percent_encoding.specs.Percent.{percent_encode_byte}

@@ -1,21 +1,26 @@
 //! The canonical path of a request target.
 
-ghost use Rattle.std.specs.Prelude.{◌≡◌, List};
+ghost use Rattle.std.specs.Prelude.{◌≡◌, false, ◌∷◌, MatchOption};
+ghost use Rattle.std.specs.Str.{byte};
 ghost use Rattle.sv_text.specs.Gives.{Gives};
 ghost use Rattle.sv_uri.specs.Fault.{path_fault, first_or};
 ghost use Rattle.sv_uri.specs.Target.{between_slashes};
-ghost use Rattle.sv_uri.specs.Canonical.{canonical, path_faults, path_text};
+ghost use Rattle.sv_uri.specs.Walked.{GivesWalk};
+ghost use Rattle.sv_uri.specs.Canonical.{canonical, begins_with_slash, path_faults, path_text};
 
 use crate::cut::cut;
 use crate::fault::{CanonFault, PathFault};
 use crate::path::Canon;
-use crate::query::visible_query;
+use crate::query::read_query;
 use crate::segment::read_name;
 use crate::walk::Walk;
 use std::alloc::Global;
 use sv_text::Text;
 
-fn walk_of<'a>(alloc: Global, path: &'a [u8]) -> Result<Walk<'a>, CanonFault> {
+// The walk over all segments of what stands behind the first slash.
+fn walk_of<'a>(alloc: Global, path: &'a [u8]) -> Result<Walk<'a>, CanonFault>
+    ensures { GivesWalk result (between_slashes path.now) }
+{
     let mut walk = Walk::new(alloc);
     let mut rest = Some(path);
     while let Some(text) = rest {
@@ -38,6 +43,17 @@ fn canonical_path(alloc: Global, path: &[u8]) -> Result<Text, CanonFault>
     Ok(walk.into_path(alloc, path.len() + 1)?)
 }
 
+// What stands behind the slash with which a target begins.
+fn behind_slash(target: &[u8]) -> Option<&[u8]>
+    ensures { MatchOption result (begins_with_slash target.now ≡ false)
+        (λ relative. target.now ≡ byte "/" ∷ relative.now) }
+{
+    match target {
+        [b'/', relative @ ..] => Some(relative),
+        _ => None,
+    }
+}
+
 /// The canonical path of a request target, with its query (Jakarta Servlet 6.0, section 3.5.2; RFC 3986, section 5.2.4).
 ///
 /// The query is cut off at the first `?`, the rest split at each `/`, each segment cut at its first `;` and decoded once. Empty
@@ -50,14 +66,11 @@ pub fn canon(alloc: Global, target: &[u8]) -> Result<Canon, CanonFault>
     if target.contains(&b'#') {
         return Err(CanonFault::Path(PathFault::Fragment));
     }
-    let [b'/', relative @ ..] = target else {
+    let Some(relative) = behind_slash(target) else {
         return Err(CanonFault::Path(PathFault::NoSlash));
     };
     let (path, query) = cut(relative, b'?');
     let path = canonical_path(alloc, path)?;
-    let query = match query {
-        Some(query) => Some(visible_query(alloc, query)?),
-        None => None,
-    };
+    let query = read_query(alloc, query)?;
     Ok(Canon { path, query })
 }

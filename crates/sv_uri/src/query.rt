@@ -1,5 +1,6 @@
 //! The query of a target, in bytes that can be seen.
 
+ghost use Rattle.std.specs.Option.{option_copied, option_map};
 ghost use Rattle.sv_text.specs.Gives.{GivesAnswer};
 ghost use Rattle.sv_uri.specs.Target as target;
 
@@ -10,11 +11,20 @@ use sv_text::{NoMemory, Text};
 // The bytes below 128 that are written as escapes; all bytes from 128 up are.
 const ESCAPED: AsciiSet = ascii_set!(CONTROLS.add(b' '));
 
-/// The query with each byte outside 33 to 126 as an escape.
-pub(crate) fn visible_query(alloc: Global, query: &[u8]) -> Result<Text, NoMemory>
+fn visible_query(alloc: Global, query: &[u8]) -> Result<Text, NoMemory>
     ensures { GivesAnswer result (target.visible_query query.now) }
 {
     let mut text = String::with_capacity(alloc, query.len())?;
     percent_encode(query, ESCAPED).append_to(&mut text)?;
     Ok(Text::from_string(text))
+}
+
+/// The query of a target, where it has one, with each byte outside 33 to 126 as an escape.
+pub(crate) fn read_query(alloc: Global, query: Option<&[u8]>) -> Result<Option<Text>, NoMemory>
+    ensures { GivesAnswer result (option_map target.visible_query (option_copied query.entry)) }
+{
+    match query {
+        Some(query) => Ok(Some(visible_query(alloc, query)?)),
+        None => Ok(None),
+    }
 }

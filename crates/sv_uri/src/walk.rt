@@ -5,12 +5,19 @@ ghost use Rattle.std.specs.List.{flat_map};
 ghost use Rattle.std.specs.Str.{byte};
 ghost use Rattle.std.specs.Cow.{cow_slice_items};
 ghost use Rattle.sv_text.specs.Gives.{GivesAnswer};
+ghost use Rattle.sv_uri.specs.DotSegments as spec;
 ghost use Rattle.sv_uri.specs.Walked.{shown, HasSeen};
 
 use crate::segment::{is_parent, is_same};
 use std::alloc::Global;
 use std::borrow::CowSlice;
 use sv_text::{NoMemory, Text};
+
+fn is_idle(name: &[u8]) -> bool
+    ensures { result ≡ spec.is_idle name.now }
+{
+    name.is_empty() || is_same(name)
+}
 
 /// The names that are left of the segments that were entered.
 #[derive(Drop)]
@@ -41,7 +48,7 @@ impl<'a> Walk<'a> {
         if is_parent(bytes) {
             self.climbs |= self.names.pop().is_none();
             self.is_open = true;
-        } else if bytes.is_empty() || is_same(bytes) {
+        } else if is_idle(bytes) {
             self.is_open = true;
         } else {
             self.names.push(name)?;
@@ -52,7 +59,7 @@ impl<'a> Walk<'a> {
 
     /// The path of the names that are left, a slash before each; it ends in a slash where the last segment was no name.
     pub(crate) fn into_path(self, alloc: Global, capacity: usize) -> Result<Text, NoMemory>
-        requires { All IsUtf8 (shown self.entry.names.items) }
+        requires { All IsUtf8 (shown self.names.items) }
         ensures { GivesAnswer result (flat_map (λ name. byte "/" ∷ name)
             (shown self.entry.names.items ++ (if self.entry.is_open then [] ∷ [] else []))) }
     {

@@ -1,6 +1,5 @@
-use Rattle.std.proofs.Common.{ap, ◌∙◌, ◌++◌, string_bytes, arith}
+use Rattle.std.proofs.Common.{arith}
 use Rattle.std.proofs.lemmas.List.Elements.{All-from_get_or}
-use Rattle.percent_encoding.specs.Iter.{encoded_text}
 use Rattle.percent_encoding.proofs.PercentLemmas.{IsByte}
 use Rattle.sv_uri.proofs.QueryLemmas.{percent_encode-query}
 use Rattle.sv_uri.proofs.query.visible_query.Goals as goal

@@ -1,0 +1,27 @@
+use Rattle.std.proofs.Common.{ap, subst, ◌<◌}
+use Rattle.std.specs.Option.{option_copied}
+use Rattle.std.proofs.lemmas.Result.{err_from_is_err_and}
+use Rattle.sv_uri.proofs.ReadLemmas.{HasRead, HasRead-none, HasRead-more, HasRead-all, first_of_next, size_of_rest, size_of_rest-behind}
+use Rattle.sv_uri.proofs.canonical.walk_of.Goals as goal
+
+pub loop-rest-init : goal.loop-rest-init
+loop-rest-init c = HasRead-none _ _ c.new-walk.ensures
+
+pub returns-in_err-read_name : goal.returns-in_err-read_name
+returns-in_err-read_name c =
+    let exit = err_from_is_err_and c.from_residual.result c.from_residual.ensures.1 in
+    let read = subst (HasRead c.loop-rest.walk c.args.path.now) (ap option_copied c.in-Some.is) c.loop-rest.invariant in
+    rw (exit.1, exit.2) (first_of_next _ _ _ _ c.in_err-read_name.field-0.0 c.cut.ensures.front read c.in_err-read_name.ensures)
+
+pub loop-rest-smaller : goal.loop-rest-smaller
+loop-rest-smaller c =
+    let smaller : size_of_rest (option_copied c.cut.result.1) < size_of_rest (option_copied c.loop-rest.rest) = rw (c.cut.ensures.back, c.in-Some.is) (size_of_rest-behind 47 c.in-Some.text.now) in
+    smaller
+
+pub loop-rest-preserved : goal.loop-rest-preserved
+loop-rest-preserved c =
+    let read = subst (HasRead c.loop-rest.walk c.args.path.now) (ap option_copied c.in-Some.is) c.loop-rest.invariant in
+    HasRead-more _ _ _ _ _ _ _ c.cut.ensures.front c.cut.ensures.back c.in_ok-read_name.ensures.0 c.in_ok-read_name.ensures.1 c.in_ok-enter.ensures read
+
+pub returns : goal.returns
+returns c = HasRead-all _ _ _ (ap option_copied c.in_default.is) c.loop-rest.invariant
