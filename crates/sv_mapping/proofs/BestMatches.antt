@@ -1,13 +1,13 @@
 -- The best match of a list of patterns.
-use Rattle.std.proofs.Common.{◌≡◌, ℕ, ◌+◌, ◌<◌, take, get_or, sym, ◌∙◌, ap, append_assoc, Bool, true, false, cond, ◌&&◌, ◌||◌, List, [], ◌∷◌, ◌++◌, length, eqb, ltb, arith, Option, Some, None, IsTrue, inl, inr}
+use Rattle.std.proofs.Common.{◌≡◌, ℕ, ◌+◌, ◌<◌, ◌≤◌, take, get_or, sym, ◌∙◌, ap, append_assoc, Bool, true, false, cond, ◌&&◌, ◌||◌, List, [], ◌∷◌, ◌++◌, length, eqb, ltb, arith, Option, Some, IsTrue, inl, inr}
 use Rattle.std.specs.Cmp.{IsStrictWeakOrder}
-use Rattle.std.specs.List.{Contains, fold}
+use Rattle.std.specs.List.{Contains}
 use Rattle.std.specs.Option.{option_map_or}
 use Rattle.std.proofs.lemmas.Bool.{and_from, and_parts, both_ways, cases_Bool, not-true}
 use Rattle.std.proofs.lemmas.List.Folds.{list_any-from_Any}
-use Rattle.std.proofs.lemmas.List.{length-take, take_more}
+use Rattle.std.proofs.lemmas.List.{length-take, take_all, take_more}
 use Rattle.std.proofs.lemmas.Bool.Decides.{nat_tests}
-use Rattle.sv_mapping.specs.BestMatch.{is_above, is_best, rank, outranks, best, best_pattern}
+use Rattle.sv_mapping.specs.BestMatch.{is_best, rank, outranks, best, best_pattern}
 use Rattle.sv_mapping.specs.Pattern.{matches}
 use Rattle.sv_mapping.proofs.FirstBest.{found_in, found_passes, found-push, place-push}
 
@@ -20,7 +20,7 @@ is_above-chain a b c d e f h k = grind (arith, nat_tests)
 pub outranks-order : IsStrictWeakOrder outranks
 outranks-order = record {
   one_way = λ x y. is_above-one_way (rank x).0 (rank x).1 (rank y).0 (rank y).1;
-  chain = λ x y z. is_above-chain (rank x).0 (rank x).1 (rank y).0 (rank y).1 (rank z).0 (rank z).1
+  chain = λ x y z. is_above-chain (rank x).0 (rank x).1 (rank y).0 (rank y).1 (rank z).0 (rank z).1;
 }
 
 -- whether a further pattern is a better match than the best one of those before it
@@ -37,16 +37,18 @@ best-push patterns path pattern = place-push (λ p. matches p path) outranks out
 pub best_pattern-member : (patterns : List (List ℕ)) (path pattern : List ℕ) → best_pattern patterns path ≡ Some pattern → Contains patterns pattern × IsTrue (matches pattern path)
 best_pattern-member patterns path pattern found = (
   found_in (is_best patterns path) patterns pattern found,
-  (and_parts (matches pattern path) _ (found_passes (is_best patterns path) patterns pattern found)).0)
+  (and_parts (matches pattern path) _ (found_passes (is_best patterns path) patterns pattern found)).0,
+)
 
 -- no pattern of the list that matches outranks a best one
 pub unbeaten_by_member : (patterns : List (List ℕ)) (path pattern other : List ℕ) → is_best patterns path pattern ≡ true → Contains patterns other → matches other path ≡ true → outranks other pattern ≡ false
 unbeaten_by_member patterns path pattern other tops member matching =
     elim (cases_Bool (outranks other pattern)) [
-      inr e ↦ e
-    | inl e ↦
-        let beaten = list_any-from_Any (λ p. matches p path && outranks p pattern) patterns (member.0, other, member.1, member.2, and_from (matches other path) _ matching e) in
-        absurd (both_ways _ (not-true _ (and_parts (matches pattern path) _ tops).1) beaten) ]
+      | inr e ↦ e
+      | inl e ↦
+          let beaten = list_any-from_Any (λ p. matches p path && outranks p pattern) patterns (member.0, other, member.1, member.2, and_from (matches other path) _ matching e) in
+          absurd (both_ways _ (not-true _ (and_parts (matches pattern path) _ tops).1) beaten)
+    ]
 
 -- ---- one more pattern
 take_next : (patterns : List (List ℕ)) (pattern : List ℕ) (i : ℕ) → i < length patterns → pattern ≡ get_or patterns i pattern → take (i + 1) patterns ≡ take i patterns ++ pattern ∷ []
@@ -63,3 +65,6 @@ pub best-next : (patterns : List (List ℕ)) (path pattern : List ℕ) (i : ℕ)
 best-next patterns path pattern i held place taken within at was was_at takes =
     let len : length (take i patterns) ≡ i = omega (arith, length-take i patterns) in
     rw (take_next patterns pattern i within at, takes, was, was_at) (ap (λ n. cond (takes_over path (best_pattern (take i patterns) path) pattern) (Some n) (best (take i patterns) path)) (sym len) ∙ sym (best-push (take i patterns) path pattern))
+
+pub best-whole : (patterns : List (List ℕ)) (path : List ℕ) (i : ℕ) (place : Option ℕ) → place ≡ best (take i patterns) path → length patterns ≤ i → place ≡ best patterns path
+best-whole patterns path i place was past = rw take_all at was

@@ -1,61 +1,71 @@
--- The first element of a list that passes a test and that none of those which pass beats.
-use Rattle.std.proofs.Common.{◌≡◌, ℕ, ◌+◌, Bool, true, false, cond, not, ◌&&◌, ◌||◌, ◌⊎◌, inl, inr, List, [], ◌∷◌, ◌++◌, length, refl, sym, ◌∙◌, ap, add-zero, zero-add, arith, Option, Some, None}
-use Rattle.std.specs.List.{Contains, find, list_any, position, position_from}
-use Rattle.std.specs.Option.{option_or, option_map_or}
+-- The first element of a list that passes a test and that none of those which pass beats, while the list grows at its end.
+use Rattle.std.proofs.Common.{◌≡◌, ℕ, ◌+◌, ◌<◌, ltb, Bool, true, false, cond, not, ◌&&◌, ◌||◌, inl, inr, List, [], ◌∷◌, ◌++◌, length, refl, sym, ◌∙◌, ap, add-zero, zero-add, append-nil, append_assoc, arith, Option, Some, None}
 use Rattle.std.specs.Cmp.{IsStrictWeakOrder}
-use Rattle.std.proofs.lemmas.Bool.{and_parts, and_cases, and_left, and_right, and_from, or_parts, or_from, or_left, or_right, cases_Bool, both_ways, not-true, not_from_true, not_from_false}
-use Rattle.std.proofs.lemmas.List.Elements.{Contains-append_right}
-use Rattle.std.proofs.lemmas.List.Folds.{find-append, list_any-append}
+use Rattle.std.specs.List.{Contains, find, list_any, position, position_from, position_or_len, slice_get}
+use Rattle.std.specs.Option.{IfSome, is_some, option_and_then, option_or, option_map_or}
+use Rattle.std.proofs.lemmas.Bool.{and_cases, and_parts, and_right, both_ways, cases_Bool, false_from_ne_true, ltb-false, ltb-true, not-true, or_from, or_parts}
 use Rattle.std.proofs.lemmas.Iterator.Adapters.{position_from-zero}
+use Rattle.std.proofs.lemmas.List.Elements.{Contains-append_right}
+use Rattle.std.proofs.lemmas.List.Folds.{find_at, list_any-append}
+use Rattle.std.proofs.lemmas.Option.{slice_get_past}
 
 -- ---- tests on lists
-pub list_any_weaker : {X : Type 0} (t u : X → Bool) (xs : List X) → ((x : X) → u x ≡ false → t x ≡ false) → list_any u xs ≡ false → list_any t xs ≡ false
+list_any_weaker : {X : Type 0} (t u : X → Bool) (xs : List X) → ((x : X) → u x ≡ false → t x ≡ false) → list_any u xs ≡ false → list_any t xs ≡ false
 list_any_weaker t u [] weaker h = refl
 list_any_weaker t u (x ∷ xs) weaker h =
     let parts = or_parts (u x) (list_any u xs) h in
     or_from (t x) (list_any t xs) (weaker x parts.0) (list_any_weaker t u xs weaker parts.1)
 
-pub find_none : {X : Type 0} (t : X → Bool) (xs : List X) → list_any t xs ≡ false → find t xs ≡ None
-find_none t [] h = refl
-find_none t (x ∷ xs) h = let parts = or_parts (t x) (list_any t xs) h in rw parts.0 (find_none t xs parts.1)
-
-pub none_found : {X : Type 0} (t : X → Bool) (xs : List X) → find t xs ≡ None → list_any t xs ≡ false
-none_found t [] h = refl
-none_found t (x ∷ xs) h =
-    elim (cases_Bool (t x)) [ inl e ↦ cc | inr e ↦ or_from (t x) (list_any t xs) e (none_found t xs (rw e at h)) ]
-
--- what was found passes, and every test that no element passes fails at it
+-- what was found passes, is in the list, and fails each test that nothing in the list passes
 pub found_passes : {X : Type 0} (t : X → Bool) (xs : List X) (x : X) → find t xs ≡ Some x → t x ≡ true
 found_passes t [] x h = cc
 found_passes t (y ∷ ys) x h = elim (cases_Bool (t y)) [ inl e ↦ cc | inr e ↦ found_passes t ys x (rw e at h) ]
 
-pub found_fails : {X : Type 0} (t u : X → Bool) (xs : List X) (x : X) → find t xs ≡ Some x → list_any u xs ≡ false → u x ≡ false
+pub found_in : {X : Type 0} (t : X → Bool) (xs : List X) (x : X) → find t xs ≡ Some x → Contains xs x
+found_in t [] x h = cc
+found_in t (y ∷ ys) x h =
+    elim (cases_Bool (t y)) [ inl e ↦ let same : y ≡ x = cc in (0, omega arith, same) | inr e ↦ Contains-append_right (y ∷ []) ys x (found_in t ys x (rw e at h)) ]
+
+found_fails : {X : Type 0} (t u : X → Bool) (xs : List X) (x : X) → find t xs ≡ Some x → list_any u xs ≡ false → u x ≡ false
 found_fails t u [] x h none = cc
 found_fails t u (y ∷ ys) x h none =
     let parts = or_parts (u y) (list_any u ys) none in
     elim (cases_Bool (t y)) [ inl e ↦ cc | inr e ↦ found_fails t u ys x (rw e at h) parts.1 ]
 
-pub found_in : {X : Type 0} (t : X → Bool) (xs : List X) (x : X) → find t xs ≡ Some x → Contains xs x
-found_in t [] x h = cc
-found_in t (y ∷ ys) x h =
-    elim (cases_Bool (t y)) [ inl e ↦ (0, omega arith, some_same (rw e at h)) | inr e ↦ Contains-append_right (y ∷ []) ys x (found_in t ys x (rw e at h)) ]
-  where
-  some_same : {Y : Type 0} {a b : Y} → Some a ≡ Some b → a ≡ b
-  some_same p = cc
+-- the element at the place of the first one is the first one
+pub get-position : {X : Type 0} (t : X → Bool) (xs : List X) → option_and_then (λ i. slice_get xs i) (position t xs) ≡ find t xs
+get-position t xs =
+    elim (cases_Bool (ltb (position_or_len t xs) (length xs))) [ inl e ↦ rw e (sym (find_at t xs)) | inr e ↦ rw e (sym (find_at t xs ∙ slice_get_past xs _ (ltb-false _ _ e))) ]
 
--- ---- places
-position_from-append : {X : Type 0} (t : X → Bool) (i : ℕ) (xs ys : List X) → position_from t i (xs ++ ys) ≡ option_or (position_from t i xs) (position_from t (i + length xs) ys)
-position_from-append t i [] ys = rw add-zero refl
-position_from-append t i (x ∷ xs) ys =
-    elim (cases_Bool (t x)) [ inl e ↦ rw e refl | inr e ↦ rw (e, position_from-append t (i + 1) xs ys) (ap (λ n. option_or (position_from t (i + 1) xs) (position_from t n ys)) (omega arith)) ]
+pub position_within : {X : Type 0} (t : X → Bool) (xs : List X) → IfSome (position t xs) (λ i. i < length xs)
+position_within t xs = elim (cases_Bool (ltb (position_or_len t xs) (length xs))) [ inl e ↦ rw e (ltb-true _ _ e) | inr e ↦ rw e tt ]
 
-position_from-find : {X : Type 0} (t : X → Bool) (i : ℕ) (xs : List X) → find t xs ≡ None → position_from t i xs ≡ None
-position_from-find t i [] h = refl
-position_from-find t i (x ∷ xs) h = elim (cases_Bool (t x)) [ inl e ↦ cc | inr e ↦ rw e (position_from-find t (i + 1) xs (rw e at h)) ]
+-- ---- what g makes of the first element that passes, and of its place
+abbrev first : {X Y : Type 0} → (ℕ → X → Y) → (X → Bool) → ℕ → List X → Option Y
+first g t i [] = None
+first g t i (x ∷ xs) = cond (t x) (Some (g i x)) (first g t (i + 1) xs)
 
-position_from-found : {X : Type 0} (t : X → Bool) (i : ℕ) (xs : List X) (x : X) (other : Option ℕ) → find t xs ≡ Some x → option_or (position_from t i xs) other ≡ position_from t i xs
-position_from-found t i [] x other h = cc
-position_from-found t i (y ∷ ys) x other h = elim (cases_Bool (t y)) [ inl e ↦ rw e refl | inr e ↦ rw e (position_from-found t (i + 1) ys x other (rw e at h)) ]
+first-find : {X : Type 0} (t : X → Bool) (i : ℕ) (xs : List X) → first (λ _ x. x) t i xs ≡ find t xs
+first-find t i [] = refl
+first-find t i (x ∷ xs) = ap (cond (t x) (Some x)) (first-find t (i + 1) xs)
+
+first-position_from : {X : Type 0} (t : X → Bool) (i : ℕ) (xs : List X) → first (λ i _. i) t i xs ≡ position_from t i xs
+first-position_from t i [] = refl
+first-position_from t i (x ∷ xs) = ap (cond (t x) (Some i)) (first-position_from t (i + 1) xs)
+
+module _ {X Y : Type 0} (g : ℕ → X → Y) (t : X → Bool) where
+  first-push : (i : ℕ) (xs : List X) (x : X) → first g t i (xs ++ x ∷ []) ≡ option_or (first g t i xs) (cond (t x) (Some (g (i + length xs) x)) None)
+  first-push i [] x = rw add-zero refl
+  first-push i (y ∷ ys) x =
+      elim (cases_Bool (t y)) [ inl e ↦ rw e refl | inr e ↦ rw (e, first-push (i + 1) ys x) (ap (λ n. option_or (first g t (i + 1) ys) (cond (t x) (Some (g n x)) None)) (omega arith)) ]
+
+  first_none : (i : ℕ) (xs : List X) → list_any t xs ≡ false → first g t i xs ≡ None
+  first_none i [] h = refl
+  first_none i (y ∷ ys) h = let parts = or_parts (t y) (list_any t ys) h in rw parts.0 (first_none (i + 1) ys parts.1)
+
+  first_stays : (i : ℕ) (xs : List X) (x : X) (other : Option Y) → find t xs ≡ Some x → option_or (first g t i xs) other ≡ first g t i xs
+  first_stays i [] x other h = cc
+  first_stays i (y ∷ ys) x other h = elim (cases_Bool (t y)) [ inl e ↦ rw e refl | inr e ↦ rw e (first_stays (i + 1) ys x other (rw e at h)) ]
 
 module _ {X : Type 0} (P : X → Bool) (beats : X → X → Bool) where
   -- x passes, and nothing of the list that passes beats it
@@ -66,21 +76,26 @@ module _ {X : Type 0} (P : X → Bool) (beats : X → X → Bool) where
   abbrev pub takes : Option X → X → Bool
   takes held x = P x && option_map_or (λ y. beats x y) held true
 
-  -- an element that passes and that none of those which pass beats
-  record HasTop (xs : List X) : Type 0 where
-    at : X
-    among : (t : X → Bool) → t at ≡ true → list_any t xs ≡ true
-    passes : P at ≡ true
-    unbeaten : list_any (λ y. P y && beats y at) xs ≡ false
-
-  top-push : (xs : List X) (x y : X) → top (xs ++ x ∷ []) y ≡ (top xs y && not (P x && beats x y))
+  top-push : (xs : List X) (x y : X) → top (xs ++ x ∷ []) y ≡ (not (P x && beats x y) && top xs y)
   top-push xs x y = rw (list_any-append (λ z. P z && beats z y) xs (x ∷ [])) (regroup (P y) (list_any (λ z. P z && beats z y) xs) (P x && beats x y))
     where
-    regroup : (a b c : Bool) → (a && not (b || (c || false))) ≡ ((a && not b) && not c)
-    regroup true true c = refl
-    regroup true false true = refl
-    regroup true false false = refl
-    regroup false b c = refl
+      regroup : (a b c : Bool) → (a && not (b || (c || false))) ≡ (not c && (a && not b))
+      regroup true true true = refl
+      regroup true true false = refl
+      regroup true false true = refl
+      regroup true false false = refl
+      regroup false b true = refl
+      regroup false b false = refl
+
+  failing_is_no_top : (xs : List X) (y : X) → P y ≡ false → top xs y ≡ false
+  failing_is_no_top xs y fails = rw fails refl
+
+  -- an element that fails changes no top
+  same_where_failing : (xs : List X) (x : X) → P x ≡ false → top (xs ++ x ∷ []) ≡ top xs
+  same_where_failing xs x fails = λ i y. unchanged y i
+    where
+      unchanged : (y : X) → top (xs ++ x ∷ []) y ≡ top xs y
+      unchanged y = rw (top-push xs x y, fails) refl
 
   module _ (order : IsStrictWeakOrder beats) where
     unbeaten_by_itself : (x : X) → beats x x ≡ false
@@ -88,164 +103,116 @@ module _ {X : Type 0} (P : X → Bool) (beats : X → X → Bool) where
 
     -- what beats h beats all that does not beat h
     beats_rest : (x y h : X) → beats x h ≡ true → beats y h ≡ false → beats x y ≡ true
-    beats_rest x y h over under =
-        elim (cases_Bool (beats x y)) [ inl e ↦ e | inr e ↦ absurd (both_ways _ (order.chain x y h e under) over) ]
+    beats_rest x y h over under = elim (cases_Bool (beats x y)) [ inl e ↦ e | inr e ↦ absurd (both_ways _ (order.chain x y h e under) over) ]
 
-    unbeaten_above : (xs : List X) (x h : X) → beats x h ≡ true → list_any (λ y. P y && beats y h) xs ≡ false → list_any (λ y. P y && beats y x) xs ≡ false
-    unbeaten_above xs x h over none =
-        list_any_weaker (λ y. P y && beats y x) (λ y. P y && beats y h) xs
-        (λ y e. elim (and_cases (P y) (beats y h) e) [ inl fails ↦ and_left (P y) (beats y x) fails | inr under ↦ and_right (P y) (beats y x) (order.one_way x y (beats_rest x y h over under)) ])
-        none
+    -- a new element that passes and that nothing beats is a top
+    last_is_top : (xs : List X) (x : X) → P x ≡ true → list_any (λ y. P y && beats y x) xs ≡ false → top (xs ++ x ∷ []) x ≡ true
+    last_is_top xs x passes none = rw (top-push xs x x, passes, unbeaten_by_itself x, none) refl
 
-    unbeaten_alone : (xs : List X) (x : X) → list_any P xs ≡ false → list_any (λ y. P y && beats y x) xs ≡ false
-    unbeaten_alone xs x none = list_any_weaker (λ y. P y && beats y x) P xs (λ y e. and_left (P y) (beats y x) e) none
+    -- one that does not beat a top changes no top
+    same_where_under : (xs : List X) (x h : X) → find (top xs) xs ≡ Some h → P x ≡ true → beats x h ≡ false → top (xs ++ x ∷ []) ≡ top xs
+    same_where_under xs x h e passes under = λ i y. unchanged y i
+      where
+        beats_no_top : (y : X) → top xs y ≡ true → beats x y ≡ false
+        beats_no_top y tops =
+            let held = (and_parts (P h) (not (list_any (λ z. P z && beats z h) xs)) (found_passes (top xs) xs h e)).0 in
+            let unbeaten = found_fails (top xs) (λ z. P z && beats z y) xs h e (not-true _ (and_parts (P y) (not (list_any (λ z. P z && beats z y) xs)) tops).1) in
+            order.chain x h y under (rw held at unbeaten)
 
-    top_exists : (xs : List X) → (list_any P xs ≡ false) ⊎ HasTop xs
-    top_exists [] = inl refl
-    top_exists (x ∷ xs) =
-        elim (cases_Bool (P x)) [
-          inr fails ↦ elim (top_exists xs) [
-            inl none ↦ inl (or_from (P x) (list_any P xs) fails none)
-          | inr h ↦ inr (record {
-              at = h.at;
-              among = λ t e. or_right (t x) (list_any t xs) (h.among t e);
-              passes = h.passes;
-              unbeaten = or_from (P x && beats x h.at) _ (and_left (P x) (beats x h.at) fails) h.unbeaten
-            }) ]
-        | inl passes ↦ elim (top_exists xs) [
-            inl none ↦ inr (record {
-              at = x;
-              among = λ t e. or_left (t x) (list_any t xs) e;
-              passes = passes;
-              unbeaten = or_from (P x && beats x x) _ (and_right (P x) (beats x x) (unbeaten_by_itself x)) (unbeaten_alone xs x none)
-            })
-          | inr h ↦ elim (cases_Bool (beats x h.at)) [
-              inl over ↦ inr (record {
-                at = x;
-                among = λ t e. or_left (t x) (list_any t xs) e;
-                passes = passes;
-                unbeaten = or_from (P x && beats x x) _ (and_right (P x) (beats x x) (unbeaten_by_itself x)) (unbeaten_above xs x h.at over h.unbeaten)
-              })
-            | inr under ↦ inr (record {
-                at = h.at;
-                among = λ t e. or_right (t x) (list_any t xs) (h.among t e);
-                passes = h.passes;
-                unbeaten = or_from (P x && beats x h.at) _ (and_right (P x) (beats x h.at) under) h.unbeaten
-              }) ] ] ]
+        unchanged : (y : X) → top (xs ++ x ∷ []) y ≡ top xs y
+        unchanged y =
+            elim (cases_Bool (beats x y)) [
+              | inr low ↦ rw (top-push xs x y, passes, low) refl
+              | inl high ↦
+                  let lost : top xs y ≡ false = false_from_ne_true _ (λ tops. both_ways _ (beats_no_top y tops) high) in
+                  rw (top-push xs x y, passes, high, lost) refl
+            ]
+
+    module _ {Y : Type 0} (g : ℕ → X → Y) (xs : List X) (x : X) where
+      abbrev grown : List X
+      grown = xs ++ x ∷ []
+
+      -- x takes over where no other is a top of the longer list
+      taken : P x ≡ true → list_any (λ y. P y && beats y x) xs ≡ false → list_any (top grown) xs ≡ false → first g (top grown) 0 grown ≡ Some (g (length xs) x)
+      taken passes none lost = first-push g (top grown) 0 xs x ∙ rw (first_none g (top grown) 0 xs lost, last_is_top xs x passes none, zero-add) refl
+
+      kept : (h : X) → find (top xs) xs ≡ Some h → top grown ≡ top xs → first g (top grown) 0 grown ≡ first g (top xs) 0 xs
+      kept h e same = rw same (first-push g (top xs) 0 xs x ∙ first_stays g (top xs) 0 xs h _ e)
+
+      grows : (held : Option X) → find (top xs) xs ≡ held → (held ≡ None → list_any P xs ≡ false) → first g (top grown) 0 grown ≡ cond (takes held x) (Some (g (length xs) x)) (first g (top xs) 0 xs)
+      grows None e none_passes =
+          elim (cases_Bool (P x)) [
+            | inl passes ↦ rw passes (taken passes
+                (list_any_weaker (λ y. P y && beats y x) P xs (λ y fails. rw fails refl) (none_passes refl))
+                (list_any_weaker (top grown) P xs (failing_is_no_top grown) (none_passes refl)))
+            | inr fails ↦
+                let lost = first_none g (top xs) 0 xs (list_any_weaker (top xs) P xs (failing_is_no_top xs) (none_passes refl)) in
+                rw (fails, same_where_failing xs x fails) (first-push g (top xs) 0 xs x ∙ rw (lost, fails) refl)
+          ]
+      grows (Some h) e none_passes =
+          elim (cases_Bool (P x)) [
+            | inr fails ↦ rw fails (kept h e (same_where_failing xs x fails))
+            | inl passes ↦ elim (cases_Bool (beats x h)) [
+              | inr under ↦ rw (passes, under) (kept h e (same_where_under xs x h e passes under))
+              | inl over ↦
+                  let unbeaten = not-true _ (and_parts (P h) (not (list_any (λ y. P y && beats y h) xs)) (found_passes (top xs) xs h e)).1 in
+                  rw (passes, over) (taken passes
+                  (list_any_weaker (λ y. P y && beats y x) (λ y. P y && beats y h) xs (λ y low. elim (and_cases (P y) (beats y h) low) [
+                    | inl fails ↦ rw fails refl
+                    | inr under ↦ and_right (P y) (beats y x) (order.one_way x y (beats_rest x y h over under))
+                  ]) unbeaten)
+                  (list_any_weaker (top grown) (λ y. P y && beats y h) xs (λ y low. elim (and_cases (P y) (beats y h) low) [
+                    | inl fails ↦ failing_is_no_top grown y fails
+                    | inr under ↦ rw (top-push xs x y, passes, beats_rest x y h over under) refl
+                  ]) unbeaten))
+            ]
+          ]
+
+    find_grows : (xs : List X) (x : X) → (find (top xs) xs ≡ None → list_any P xs ≡ false) → find (top (xs ++ x ∷ [])) (xs ++ x ∷ []) ≡ cond (takes (find (top xs) xs) x) (Some x) (find (top xs) xs)
+    find_grows xs x none_passes =
+        sym (first-find (top (xs ++ x ∷ [])) 0 (xs ++ x ∷ []))
+        ∙ (grows (λ _ y. y) xs x (find (top xs) xs) refl none_passes ∙ ap (cond (takes (find (top xs) xs) x) (Some x)) (first-find (top xs) 0 xs))
+
+    never : (b : Bool) (x h : X) → cond b (Some x) (Some h) ≡ None → ⊥
+    never true x h e = cc
+    never false x h e = cc
 
     -- where there is no top, nothing passes
+    none_passes_along : (before rest : List X) → (find (top before) before ≡ None → list_any P before ≡ false) → find (top (before ++ rest)) (before ++ rest) ≡ None → list_any P (before ++ rest) ≡ false
+    none_passes_along before [] known none = rw append-nil (known (rw append-nil at none))
+    none_passes_along before (x ∷ rest) known none =
+        rw (← append_assoc before (x ∷ []) rest) (none_passes_along (before ++ x ∷ []) rest longer (rw (← append_assoc before (x ∷ []) rest) at none))
+      where
+        still_none : (held : Option X) → find (top before) before ≡ held → cond (takes held x) (Some x) held ≡ None → list_any P (before ++ x ∷ []) ≡ false
+        still_none (Some h) e lost = absurd (never (takes (Some h) x) x h lost)
+        still_none None e lost =
+            elim (cases_Bool (P x)) [ inl passes ↦ absurd (never true x x (rw passes at lost)) | inr fails ↦ rw (list_any-append P before (x ∷ []), known e, fails) refl ]
+
+        longer : find (top (before ++ x ∷ [])) (before ++ x ∷ []) ≡ None → list_any P (before ++ x ∷ []) ≡ false
+        longer lost = still_none (find (top before) before) refl (sym (find_grows before x known) ∙ lost)
+
     none_passes : (xs : List X) → find (top xs) xs ≡ None → list_any P xs ≡ false
-    none_passes xs none =
-        elim (top_exists xs) [
-          inl e ↦ e
-        | inr h ↦ absurd (both_ways _ (none_found (top xs) xs none) (h.among (top xs) (and_from (P h.at) _ h.passes (not_from_false _ h.unbeaten)))) ]
+    none_passes xs = none_passes_along [] xs (λ _. refl)
 
-    -- where no other that passes beats x, x is a top of the list that ends with it
-    last_is_top : (xs : List X) (x : X) → P x ≡ true → list_any (λ y. P y && beats y x) xs ≡ false → top (xs ++ x ∷ []) x ≡ true
-    last_is_top xs x passes none =
-        top-push xs x x ∙ and_from (top xs x) (not (P x && beats x x)) (and_from (P x) (not (list_any (λ y. P y && beats y x) xs)) passes (not_from_false _ none))
-        (not_from_false _ (and_right (P x) (beats x x) (unbeaten_by_itself x)))
-
-    -- what x beats is no top of the list that ends with it
-    beaten_is_no_top : (xs : List X) (x y : X) → P x ≡ true → beats x y ≡ true → top (xs ++ x ∷ []) y ≡ false
-    beaten_is_no_top xs x y passes over = top-push xs x y ∙ and_right (top xs y) (not (P x && beats x y)) (not_from_true _ (and_from (P x) (beats x y) passes over))
-
-    failing_is_no_top : (xs : List X) (y : X) → P y ≡ false → top xs y ≡ false
-    failing_is_no_top xs y fails = and_left (P y) (not (list_any (λ z. P z && beats z y) xs)) fails
-
-    record TakesOver (xs : List X) (x : X) : Type 0 where
-      none_before : find (top (xs ++ x ∷ [])) xs ≡ None
-      is_top : top (xs ++ x ∷ []) x ≡ true
-
-    takes_over_from : (xs : List X) (x : X) (held : Option X) → find (top xs) xs ≡ held → takes held x ≡ true → TakesOver xs x
-    takes_over_from xs x None e taken =
-        let passes = (and_parts (P x) true taken).0 in
-        let none = none_passes xs e in
-        record {
-          none_before = find_none (top (xs ++ x ∷ [])) xs (list_any_weaker (top (xs ++ x ∷ [])) P xs (failing_is_no_top (xs ++ x ∷ [])) none);
-          is_top = last_is_top xs x passes (unbeaten_alone xs x none)
-        }
-    takes_over_from xs x (Some h) e taken =
-        let parts = and_parts (P x) (beats x h) taken in
-        let unbeaten = not-true _ (and_parts (P h) (not (list_any (λ y. P y && beats y h) xs)) (found_passes (top xs) xs h e)).1 in
-        record {
-          none_before = find_none (top (xs ++ x ∷ [])) xs
-              (list_any_weaker (top (xs ++ x ∷ [])) (λ y. P y && beats y h) xs
-              (λ y low. elim (and_cases (P y) (beats y h) low) [
-                inl fails ↦ failing_is_no_top (xs ++ x ∷ []) y fails
-              | inr under ↦ beaten_is_no_top xs x y parts.0 (beats_rest x y h parts.1 under) ])
-              unbeaten);
-          is_top = last_is_top xs x parts.0 (unbeaten_above xs x h parts.1 unbeaten)
-        }
-
-    record StandsBack (xs : List X) (x : X) : Type 0 where
-      same : top (xs ++ x ∷ []) ≡ top xs
-      is_no_top : find (top xs) xs ≡ None → top (xs ++ x ∷ []) x ≡ false
-
-    same_where_failing : (xs : List X) (x y : X) → P x ≡ false → top (xs ++ x ∷ []) y ≡ top xs y
-    same_where_failing xs x y fails = top-push xs x y ∙ rw fails (unchanged (top xs y))
+    pub top_exists : (xs : List X) → is_some (find (top xs) xs) ≡ list_any P xs
+    top_exists xs = go (find (top xs) xs) refl
       where
-      unchanged : (b : Bool) → (b && true) ≡ b
-      unchanged true = refl
-      unchanged false = refl
+        go : (held : Option X) → find (top xs) xs ≡ held → is_some held ≡ list_any P xs
+        go None e = sym (none_passes xs e)
+        go (Some h) e =
+            elim (cases_Bool (list_any P xs)) [
+              | inl some ↦ sym some
+              | inr none ↦ absurd (both_ways _ (found_fails (top xs) P xs h e none) (and_parts (P h) (not (list_any (λ y. P y && beats y h) xs)) (found_passes (top xs) xs h e)).0)
+            ]
 
-    -- the top that was found is not beaten by x, so that no top is
-    same_where_under : (xs : List X) (x y h : X) → find (top xs) xs ≡ Some h → beats x h ≡ false → top (xs ++ x ∷ []) y ≡ top xs y
-    same_where_under xs x y h e under =
-        top-push xs x y ∙ elim (cases_Bool (top xs y)) [
-          inr fails ↦ and_left (top xs y) _ fails ∙ sym fails
-        | inl tops ↦
-            let held = (and_parts (P h) _ (found_passes (top xs) xs h e)).0 in
-            let unbeaten = found_fails (top xs) (λ z. P z && beats z y) xs h e (not-true _ (and_parts (P y) (not (list_any (λ z. P z && beats z y) xs)) tops).1) in
-            let beneath = order.chain x h y under (fails_right (P h) (beats h y) held unbeaten) in
-            and_from (top xs y) (not (P x && beats x y)) tops (not_from_false _ (and_right (P x) (beats x y) beneath)) ∙ sym tops ]
-      where
-      fails_right : (a b : Bool) → a ≡ true → (a && b) ≡ false → b ≡ false
-      fails_right true b e h = h
-      fails_right false b e h = cc
-
-    stands_back_from : (xs : List X) (x : X) (held : Option X) → find (top xs) xs ≡ held → takes held x ≡ false → StandsBack xs x
-    stands_back_from xs x None e taken =
-        let fails : P x ≡ false = fails_alone (P x) taken in
-        record { same = λ i y. same_where_failing xs x y fails i; is_no_top = λ _. failing_is_no_top (xs ++ x ∷ []) x fails }
-      where
-      fails_alone : (a : Bool) → (a && true) ≡ false → a ≡ false
-      fails_alone true h = h
-      fails_alone false h = h
-    stands_back_from xs x (Some h) e taken =
-        elim (and_cases (P x) (beats x h) taken) [
-          inl fails ↦ record { same = λ i y. same_where_failing xs x y fails i; is_no_top = λ _. failing_is_no_top (xs ++ x ∷ []) x fails }
-        | inr under ↦ record { same = λ i y. same_where_under xs x y h e under i; is_no_top = λ none. cc } ]
-
-    -- the first top of a list that grows at its end
+    -- the first top of a list that grows at its end, and its place
     pub found-push : (xs : List X) (x : X) → find (top (xs ++ x ∷ [])) (xs ++ x ∷ []) ≡ cond (takes (find (top xs) xs) x) (Some x) (find (top xs) xs)
-    found-push xs x =
-        find-append (top (xs ++ x ∷ [])) xs (x ∷ []) ∙ elim (cases_Bool (takes (find (top xs) xs) x)) [
-          inl taken ↦ let step = takes_over_from xs x (find (top xs) xs) refl taken in rw (step.none_before, step.is_top, taken) refl
-        | inr stays ↦ let step = stands_back_from xs x (find (top xs) xs) refl stays in
-            rw (stays, step.same) (stood (find (top xs) xs) refl step.is_no_top) ]
-      where
-      stood : (held : Option X) → find (top xs) xs ≡ held → (find (top xs) xs ≡ None → top (xs ++ x ∷ []) x ≡ false) → option_or held (cond (top (xs ++ x ∷ []) x) (Some x) None) ≡ held
-      stood None e none = rw (none e) refl
-      stood (Some h) e none = refl
+    found-push xs x = find_grows xs x (none_passes xs)
 
-    -- its place
     pub place-push : (xs : List X) (x : X) → position (top (xs ++ x ∷ [])) (xs ++ x ∷ []) ≡ cond (takes (find (top xs) xs) x) (Some (length xs)) (position (top xs) xs)
     place-push xs x =
-        position_from-zero (top (xs ++ x ∷ [])) (xs ++ x ∷ []) ∙ (position_from-append (top (xs ++ x ∷ [])) 0 xs (x ∷ []) ∙ elim (cases_Bool (takes (find (top xs) xs) x)) [
-          inl taken ↦
-            let step = takes_over_from xs x (find (top xs) xs) refl taken in
-            let nothing = position_from-find (top (xs ++ x ∷ [])) 0 xs step.none_before in
-            rw (nothing, step.is_top, taken, zero-add) refl
-        | inr stays ↦
-            let step = stands_back_from xs x (find (top xs) xs) refl stays in
-            let before : position_from (top (xs ++ x ∷ [])) 0 xs ≡ position_from (top xs) 0 xs = ap (λ t. position_from t 0 xs) step.same in
-            rw (stays, before) (stood (find (top xs) xs) refl step.is_no_top ∙ sym (position_from-zero (top xs) xs)) ])
+        place (top (xs ++ x ∷ [])) (xs ++ x ∷ [])
+        ∙ (grows (λ i _. i) xs x (find (top xs) xs) refl (none_passes xs) ∙ ap (cond (takes (find (top xs) xs) x) (Some (length xs))) (sym (place (top xs) xs)))
       where
-      kept : (o : Option ℕ) → option_or o None ≡ o
-      kept None = refl
-      kept (Some n) = refl
-
-      stood : (held : Option X) → find (top xs) xs ≡ held → (find (top xs) xs ≡ None → top (xs ++ x ∷ []) x ≡ false) → option_or (position_from (top xs) 0 xs) (cond (top (xs ++ x ∷ []) x) (Some (0 + length xs)) None) ≡ position_from (top xs) 0 xs
-      stood None e none = rw (none e) (kept (position_from (top xs) 0 xs))
-      stood (Some h) e none = position_from-found (top xs) 0 xs h _ e
+        place : (t : X → Bool) (ys : List X) → position t ys ≡ first (λ i _. i) t 0 ys
+        place t ys = position_from-zero t ys ∙ sym (first-position_from t 0 ys)

@@ -1,9 +1,9 @@
 -- What the tests of the code say of texts, in the words of the definitions.
-use Rattle.std.proofs.Common.{◌≡◌, ℕ, ◌+◌, ◌-◌, ◌<◌, ◌≤◌, Bool, true, false, cond, ◌&&◌, ◌||◌, not, List, [], ◌∷◌, ◌++◌, length, take, drop, get_or, eqb, ltb, refl, sym, ◌∙◌, ap, append_assoc, add-zero, append-nil, arith, length-append, length-drop, Option, Some, None, ◌⊎◌, inl, inr}
-use Rattle.std.specs.List.{starts_with, ends_with, suffix_len, after_last, list_any, All}
+use Rattle.std.proofs.Common.{◌≡◌, ℕ, ◌+◌, ◌-◌, ◌<◌, ◌≤◌, true, false, not, List, [], ◌∷◌, ◌++◌, length, take, drop, get_or, eqb, refl, sym, ◌∙◌, ap, append_assoc, add-zero, append-nil, arith, length-append, length-drop, Some, None, inl, inr}
+use Rattle.std.specs.List.{starts_with, suffix_len, after_last, list_any}
 use Rattle.std.specs.Str.{bytes_eq, IsCharBoundary, NoCharPasses}
 use Rattle.std.specs.Str.Pattern.{FindsTextPrefix, FindsTextSuffix, StripsPrefix, StripsSuffix, RFindsChar, SplitsAroundMatch}
-use Rattle.std.proofs.lemmas.Bool.{both_ways, cases_Bool, eqb-true, eq-eqb, false_from_ne_true, ne_eqb, not_from_false, not_from_true, or_cases, or_from, or_left, or_right}
+use Rattle.std.proofs.lemmas.Bool.{both_ways, cases_Bool, eqb-true, eq-eqb, false_from_ne_true, ne_eqb, not_from_false, not_from_true, or_cases, or_from, or_left}
 use Rattle.std.proofs.lemmas.Bool.Decides.{Decides-eqb}
 use Rattle.std.proofs.lemmas.List.{get_or-drop}
 use Rattle.std.proofs.lemmas.List.Folds.{list_any_at, list_any_none}
@@ -14,7 +14,7 @@ use Rattle.std.proofs.lemmas.Grind.{get_or_default_zero}
 use Rattle.std.proofs.lemmas.Str.{IsCharBoundary-before_ascii, IsCharBoundary-end, len_utf8_ascii}
 use Rattle.std.proofs.lemmas.Slice.Eq.{bytes_eq-Decides, starts_is, ends_is}
 use Rattle.std.proofs.lemmas.Str.Pattern.{NoCharPasses-char}
-use Rattle.sv_mapping.specs.Pattern.{Form, Root, Default, Extension, Prefix, Exact, form, is_within, last_segment, extension, matches}
+use Rattle.sv_mapping.specs.Pattern.{Root, Default, Extension, Prefix, Exact, form, is_within, last_segment, extension, matches}
 
 pub same_bytes : (xs ys : List ℕ) → bytes_eq xs ys ≡ true → xs ≡ ys
 same_bytes xs ys h = (bytes_eq-Decides xs ys).0 h
@@ -51,11 +51,12 @@ within_rest prefix path [] h some = absurd (both_ways _ some refl)
 within_rest prefix path (x ∷ xs) h some =
     let longer : bytes_eq path prefix ≡ false = false_from_ne_true _ (λ same. absurd (omega (arith, ap length ((bytes_eq-Decides path prefix).0 same), ap length h, length-append prefix (x ∷ xs)))) in
     rw longer (elim (cases_Bool (eqb x 47)) [
-      inl e ↦ starts path (prefix ++ 47 ∷ []) xs (h ∙ (ap (λ b. prefix ++ b ∷ xs) (eqb-true x 47 e) ∙ sym (append_assoc prefix (47 ∷ []) xs))) ∙ sym e
-    | inr e ↦ starts_not path (prefix ++ 47 ∷ []) (λ rest k. apart x xs rest e (sym (front_rest path prefix (x ∷ xs) h) ∙ front_rest path prefix (47 ∷ rest) (k ∙ append_assoc prefix (47 ∷ []) rest))) ∙ sym e ])
+      | inl e ↦ starts path (prefix ++ 47 ∷ []) xs (h ∙ (ap (λ b. prefix ++ b ∷ xs) (eqb-true x 47 e) ∙ sym (append_assoc prefix (47 ∷ []) xs))) ∙ sym e
+      | inr e ↦ starts_not path (prefix ++ 47 ∷ []) (λ rest k. apart x xs rest e (sym (front_rest path prefix (x ∷ xs) h) ∙ front_rest path prefix (47 ∷ rest) (k ∙ append_assoc prefix (47 ∷ []) rest))) ∙ sym e
+    ])
   where
-  apart : (b : ℕ) (bs rest : List ℕ) → eqb b 47 ≡ false → b ∷ bs ≡ 47 ∷ rest → ⊥
-  apart b bs rest e k = let same : b ≡ 47 = cc in both_ways _ e (eq-eqb b 47 same)
+    apart : (b : ℕ) (bs rest : List ℕ) → eqb b 47 ≡ false → b ∷ bs ≡ 47 ∷ rest → ⊥
+    apart b bs rest e k = let same : b ≡ 47 = cc in both_ways _ e (eq-eqb b 47 same)
 
 pub within_none : (prefix path : List ℕ) → ((rest : List ℕ) → path ≡ prefix ++ rest → ⊥) → is_within prefix path ≡ false
 within_none prefix path none =
@@ -66,21 +67,23 @@ within_none prefix path none =
 pub within_front : (prefix path : List ℕ) → is_within prefix path ≡ true → take (length prefix) path ≡ prefix
 within_front prefix path h =
     elim (or_cases _ _ h) [
-      inl whole ↦ rw (same_bytes path prefix whole) (take-length prefix)
-    | inr below ↦
-        let front : path ≡ (prefix ++ 47 ∷ []) ++ drop (length (prefix ++ 47 ∷ [])) path = (starts_is Decides-eqb path (prefix ++ 47 ∷ []) _ refl).0 below in
-        let cut : take (length prefix) ((prefix ++ 47 ∷ []) ++ drop (length (prefix ++ 47 ∷ [])) path) ≡ prefix = rw append_assoc (take-append_seam prefix _) in
-        ap (take (length prefix)) front ∙ cut ]
+      | inl whole ↦ rw (same_bytes path prefix whole) (take-length prefix)
+      | inr below ↦
+          let front : path ≡ (prefix ++ 47 ∷ []) ++ drop (length (prefix ++ 47 ∷ [])) path = (starts_is Decides-eqb path (prefix ++ 47 ∷ []) _ refl).0 below in
+          let cut : take (length prefix) ((prefix ++ 47 ∷ []) ++ drop (length (prefix ++ 47 ∷ [])) path) ≡ prefix = rw append_assoc (take-append_seam prefix _) in
+          ap (take (length prefix)) front ∙ cut
+    ]
 
 pub within_boundary : (prefix path : List ℕ) → is_within prefix path ≡ true → IsCharBoundary path (length prefix)
 within_boundary prefix path h =
     elim (or_cases _ _ h) [
-      inl whole ↦ rw (same_bytes path prefix whole) (IsCharBoundary-end prefix)
-    | inr below ↦
-        let front : path ≡ (prefix ++ 47 ∷ []) ++ drop (length (prefix ++ 47 ∷ [])) path = (starts_is Decides-eqb path (prefix ++ 47 ∷ []) _ refl).0 below in
-        let rest : drop (length prefix) path ≡ 47 ∷ drop (length (prefix ++ 47 ∷ [])) path = front_rest path prefix _ (front ∙ append_assoc prefix (47 ∷ []) _) in
-        let slash : get_or path (length prefix) 0 ≡ 47 = ap (λ n. get_or path n 0) (sym (add-zero (length prefix))) ∙ (sym (get_or-drop (length prefix) path 0 0) ∙ ap (λ r. get_or r 0 0) rest) in
-        IsCharBoundary-before_ascii path (length prefix) (omega (arith, ap length rest, length-drop (length prefix) path)) (omega (arith, slash)) ]
+      | inl whole ↦ rw (same_bytes path prefix whole) (IsCharBoundary-end prefix)
+      | inr below ↦
+          let front : path ≡ (prefix ++ 47 ∷ []) ++ drop (length (prefix ++ 47 ∷ [])) path = (starts_is Decides-eqb path (prefix ++ 47 ∷ []) _ refl).0 below in
+          let rest : drop (length prefix) path ≡ 47 ∷ drop (length (prefix ++ 47 ∷ [])) path = front_rest path prefix _ (front ∙ append_assoc prefix (47 ∷ []) _) in
+          let slash : get_or path (length prefix) 0 ≡ 47 = ap (λ n. get_or path n 0) (sym (add-zero (length prefix))) ∙ (sym (get_or-drop (length prefix) path 0 0) ∙ ap (λ r. get_or r 0 0) rest) in
+          IsCharBoundary-before_ascii path (length prefix) (omega (arith, ap length rest, length-drop (length prefix) path)) (omega (arith, slash))
+    ]
 
 -- ---- after the last of a character
 -- the character stands at i, the last time, and what follows it begins at j
@@ -94,10 +97,10 @@ last_at c text i j small found = record {
   here = found.1.byte small;
   next = found.1.ends ∙ ap (λ n. i + n) (len_utf8_ascii c small);
   none_after = λ k from within.
-    let inside : k - j < length (drop j text) = omega (arith, length-drop j text) in
-    let other = NoCharPasses-char c (drop j text) (k - j) found.0 small inside in
-    let read : get_or (drop j text) (k - j) 0 ≡ get_or text k 0 = get_or-drop j text (k - j) 0 ∙ ap (λ n. get_or text n 0) (omega arith) in
-    ne_eqb (get_or text k 0) c (λ same. other (read ∙ same))
+      let inside : k - j < length (drop j text) = omega (arith, length-drop j text) in
+      let other = NoCharPasses-char c (drop j text) (k - j) found.0 small inside in
+      let read : get_or (drop j text) (k - j) 0 ≡ get_or text k 0 = get_or-drop j text (k - j) 0 ∙ ap (λ n. get_or text n 0) (omega arith) in
+      ne_eqb (get_or text k 0) c (λ same. other (read ∙ same));
 }
 
 after_last_at : (c : ℕ) (text : List ℕ) (i j : ℕ) → c < 128 → RFindsChar c text (Some (i, j)) → j ≤ length text → after_last (λ b. eqb b c) text ≡ drop j text

@@ -1,15 +1,14 @@
 -- Two patterns that match a path and of which neither outranks the other have one text.
-use Rattle.std.proofs.Common.{◌≡◌, ℕ, ◌+◌, ◌-◌, Bool, true, false, cond, ◌&&◌, ◌||◌, not, List, [], ◌∷◌, ◌++◌, length, take, drop, eqb, ltb, refl, sym, ◌∙◌, ap, append_assoc, arith, Option, Some, None, ◌⊎◌, inl, inr}
+use Rattle.std.proofs.Common.{◌≡◌, ℕ, true, false, ◌&&◌, ◌||◌, List, [], ◌∷◌, ◌++◌, take, eqb, ltb, refl, sym, ◌∙◌, ap, arith, Option, Some, None, inl, inr}
 use Rattle.std.specs.List.{starts_with, ends_with}
 use Rattle.std.specs.Option.{option_map_or}
 use Rattle.std.specs.Str.{bytes_eq}
-use Rattle.std.proofs.lemmas.Bool.{cases_Bool, or_cases}
+use Rattle.std.proofs.lemmas.Bool.{cases_Bool}
 use Rattle.std.proofs.lemmas.Bool.Decides.{nat_tests, Decides-eqb}
-use Rattle.std.proofs.Math.Seq.{take-append_seam, take-length}
-use Rattle.std.proofs.lemmas.Slice.Eq.{bytes_eq-Decides, starts_is, ends_is}
-use Rattle.sv_mapping.specs.BestMatch.{form_rank, is_above, rank, outranks}
+use Rattle.std.proofs.lemmas.Slice.Eq.{starts_is, ends_is}
+use Rattle.sv_mapping.specs.BestMatch.{form_rank, rank, outranks}
 use Rattle.sv_mapping.proofs.Texts.{same_bytes, within_front}
-use Rattle.sv_mapping.specs.Pattern.{Form, Root, Default, Extension, Prefix, Exact, extension, form, form_matches, is_within, matches}
+use Rattle.sv_mapping.specs.Pattern.{Form, Root, Default, Extension, Prefix, Exact, extension, form, form_matches, matches}
 
 -- the text of a form
 abbrev pub text_of : Form → List ℕ
@@ -23,14 +22,18 @@ pub text_of-form : (text : List ℕ) → text_of (form text) ≡ text
 unfolding form
 text_of-form text =
     elim (cases_Bool (bytes_eq text [])) [
-      inl e ↦ rw e (sym (same_bytes text [] e))
-    | inr e ↦ elim (cases_Bool (bytes_eq text (47 ∷ []))) [
-        inl f ↦ rw (e, f) (sym (same_bytes text (47 ∷ []) f))
-      | inr f ↦ elim (cases_Bool (starts_with eqb text (42 ∷ 46 ∷ []))) [
-          inl g ↦ rw (e, f, g) (sym ((starts_is Decides-eqb text (42 ∷ 46 ∷ []) _ refl).0 g))
-        | inr g ↦ elim (cases_Bool (ends_with eqb text (47 ∷ 42 ∷ []))) [
-            inl h ↦ rw (e, f, g, h) (sym ((ends_is Decides-eqb text (47 ∷ 42 ∷ []) _ refl).0 h))
-          | inr h ↦ rw (e, f, g, h) refl ] ] ] ]
+      | inl e ↦ rw e (sym (same_bytes text [] e))
+      | inr e ↦ elim (cases_Bool (bytes_eq text (47 ∷ []))) [
+        | inl f ↦ rw (e, f) (sym (same_bytes text (47 ∷ []) f))
+        | inr f ↦ elim (cases_Bool (starts_with eqb text (42 ∷ 46 ∷ []))) [
+          | inl g ↦ rw (e, f, g) (sym ((starts_is Decides-eqb text (42 ∷ 46 ∷ []) _ refl).0 g))
+          | inr g ↦ elim (cases_Bool (ends_with eqb text (47 ∷ 42 ∷ []))) [
+            | inl h ↦ rw (e, f, g, h) (sym ((ends_is Decides-eqb text (47 ∷ 42 ∷ []) _ refl).0 h))
+            | inr h ↦ rw (e, f, g, h) refl
+          ]
+        ]
+      ]
+    ]
 
 -- the text `/` is the default pattern and never exact
 exact_is_no_slash : (text : List ℕ) → form text ≡ Exact (47 ∷ []) → ⊥
@@ -51,30 +54,13 @@ not_above a b c d h k = grind (arith, nat_tests)
 -- two forms of one rank that match one path are one, unless one of them is the exact `/`
 same_form : (f g : Form) (path : List ℕ) → ¬ (f ≡ Exact (47 ∷ [])) → ¬ (g ≡ Exact (47 ∷ [])) → form_matches f path ≡ true → form_matches g path ≡ true → (form_rank f).0 ≡ (form_rank g).0 → (form_rank f).1 ≡ (form_rank g).1 → f ≡ g
 same_form Root Root path p q m n c l = refl
-same_form Root Default path p q m n c l = absurd (omega arith)
-same_form Root (Extension y) path p q m n c l = absurd (omega arith)
-same_form Root (Prefix y) path p q m n c l = absurd (omega arith)
-same_form Root (Exact y) path p q m n c l = absurd (q (ap Exact (sym (same_bytes path y n) ∙ same_bytes path (47 ∷ []) m)))
-same_form Default Root path p q m n c l = absurd (omega arith)
 same_form Default Default path p q m n c l = refl
-same_form Default (Extension y) path p q m n c l = absurd (omega arith)
-same_form Default (Prefix y) path p q m n c l = absurd (omega arith)
-same_form Default (Exact y) path p q m n c l = absurd (omega arith)
-same_form (Extension x) Root path p q m n c l = absurd (omega arith)
-same_form (Extension x) Default path p q m n c l = absurd (omega arith)
 same_form (Extension x) (Extension y) path p q m n c l = ap Extension (same_extension x y (extension path) m n)
-same_form (Extension x) (Prefix y) path p q m n c l = absurd (omega arith)
-same_form (Extension x) (Exact y) path p q m n c l = absurd (omega arith)
-same_form (Prefix x) Root path p q m n c l = absurd (omega arith)
-same_form (Prefix x) Default path p q m n c l = absurd (omega arith)
-same_form (Prefix x) (Extension y) path p q m n c l = absurd (omega arith)
 same_form (Prefix x) (Prefix y) path p q m n c l = ap Prefix (sym (within_front x path m) ∙ (ap (λ k. take k path) l ∙ within_front y path n))
-same_form (Prefix x) (Exact y) path p q m n c l = absurd (omega arith)
-same_form (Exact x) Root path p q m n c l = absurd (p (ap Exact (sym (same_bytes path x m) ∙ same_bytes path (47 ∷ []) n)))
-same_form (Exact x) Default path p q m n c l = absurd (omega arith)
-same_form (Exact x) (Extension y) path p q m n c l = absurd (omega arith)
-same_form (Exact x) (Prefix y) path p q m n c l = absurd (omega arith)
 same_form (Exact x) (Exact y) path p q m n c l = ap Exact (sym (same_bytes path x m) ∙ same_bytes path y n)
+same_form Root (Exact y) path p q m n c l = absurd (q (ap Exact (sym (same_bytes path y n) ∙ same_bytes path (47 ∷ []) m)))
+same_form (Exact x) Root path p q m n c l = absurd (p (ap Exact (sym (same_bytes path x m) ∙ same_bytes path (47 ∷ []) n)))
+same_form f g path p q m n c l = absurd (omega arith)
 
 pub same_text : (a b path : List ℕ) → matches a path ≡ true → matches b path ≡ true → outranks a b ≡ false → outranks b a ≡ false → a ≡ b
 same_text a b path m n over under =

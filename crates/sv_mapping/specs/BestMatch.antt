@@ -1,5 +1,5 @@
 -- The best match among URL patterns (Jakarta Servlet 6.0, section 12.1).
-use Rattle.std.specs.Prelude.{◌≡◌, ℕ, Bool, ◌||◌, ◌&&◌, not, nat_lt, ◌==◌, List, length, Option, IsTrue, Contains, find, position}
+use Rattle.std.specs.Prelude.{◌≡◌, ℕ, Bool, ◌||◌, ◌&&◌, not, nat_lt, ◌==◌, List, length, Option, Some, is_some, IsTrue, Contains, find, position}
 use Rattle.std.specs.List.{list_any}
 use Rattle.sv_mapping.specs.Pattern.{Form, Root, Default, Extension, Prefix, Exact, form, matches}
 
@@ -32,6 +32,14 @@ best patterns path = position (is_best patterns path) patterns
 abbrev pub best_pattern : List (List ℕ) → List ℕ → Option (List ℕ)
 best_pattern patterns path = find (is_best patterns path) patterns
 
--- of the patterns of a list that match best, all have one text
+-- there is a best match exactly where a pattern matches
+abbrev pub BestExists : Type 0
+BestExists = (patterns : List (List ℕ)) (path : List ℕ) → is_some (best_pattern patterns path) ≡ list_any (λ pattern. matches pattern path) patterns
+
+-- the best match is one of the patterns, and it matches
+abbrev pub BestIsAMatch : Type 0
+BestIsAMatch = (patterns : List (List ℕ)) (path pattern : List ℕ) → best_pattern patterns path ≡ Some pattern → Contains patterns pattern × IsTrue (matches pattern path)
+
+-- the patterns of a list that match best have one text
 abbrev pub BestIsUnique : Type 0
 BestIsUnique = (patterns : List (List ℕ)) (path a b : List ℕ) → Contains patterns a → Contains patterns b → IsTrue (is_best patterns path a) → IsTrue (is_best patterns path b) → a ≡ b

@@ -1,8 +1,8 @@
 //! The best match among patterns (Jakarta Servlet 6.0, section 12.1).
 
-ghost use Rattle.std.specs.Prelude.{◌≡◌, ◌&&◌, ℕ, List, ◌++◌, true};
-ghost use Rattle.std.specs.Option.{option_copied, option_map_or};
-ghost use Rattle.sv_mapping.specs.BestMatch.{BestIsUnique, best, best_pattern, outranks};
+ghost use Rattle.std.specs.Prelude.{◌≡◌, ◌<◌, ◌&&◌, ℕ, List, ◌++◌, length, true, IfSome, slice_get};
+ghost use Rattle.std.specs.Option.{option_and_then, option_copied, option_map_or};
+ghost use Rattle.sv_mapping.specs.BestMatch.{best, best_pattern, outranks};
 ghost use Rattle.sv_mapping.specs.Pattern.{matches};
 
 use crate::pattern::Pattern;
@@ -11,7 +11,9 @@ use crate::pattern::Pattern;
 /// match comes first, then the longest prefix, then an extension, then the default pattern; of equal patterns the first.
 /// It is `None` where no pattern matches.
 pub fn best(patterns: &[Pattern], path: &str) -> Option<usize>
-    ensures { result ≡ best patterns.now path.now }
+    ensures place { result ≡ best patterns.now path.now }
+    ensures within { IfSome result (λ place. place < length patterns.now) }
+    ensures text { option_and_then (λ place. slice_get patterns.now place) result ≡ best_pattern patterns.now path.now }
 {
     let mut held = None;
     let mut best = None;
@@ -41,11 +43,6 @@ pub fn better<'a>(
     }
     held
 }
-
-/// Two patterns of a list that both match a path best have the same text.
-pub fn best_is_unique()
-    ensures { BestIsUnique }
-{}
 
 /// Whether a further pattern is a better match than the best one of those before it.
 fn takes_over(pattern: &Pattern, held: Option<&Pattern>, path: &str) -> bool

@@ -4,6 +4,7 @@
 mod best_match;
 mod fault;
 mod form;
+pub mod laws;
 mod limits;
 mod parts;
 mod pattern;

@@ -1,5 +1,4 @@
-use Rattle.std.proofs.Common.{◌≡◌, Bool, true, ap, sym, ◌∙◌}
-use Rattle.sv_mapping.specs.Pattern.{is_within}
+use Rattle.std.proofs.Common.{ap, ◌∙◌}
 use Rattle.sv_mapping.specs.Split.{form_servlet_path}
 use Rattle.sv_mapping.proofs.Texts.{within_boundary, within_front, within_from_matches}
 use Rattle.sv_mapping.proofs.splitting.split.Goals as goal

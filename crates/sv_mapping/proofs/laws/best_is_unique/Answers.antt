@@ -1,8 +1,7 @@
-use Rattle.std.proofs.Common.{Bool, true, false, ◌≡◌, ◌&&◌}
-use Rattle.std.proofs.lemmas.Bool.{and_parts, not-true}
+use Rattle.std.proofs.lemmas.Bool.{and_parts}
 use Rattle.sv_mapping.proofs.Uniqueness.{same_text}
 use Rattle.sv_mapping.proofs.BestMatches.{unbeaten_by_member}
-use Rattle.sv_mapping.proofs.best_match.best_is_unique.Goals as goal
+use Rattle.sv_mapping.proofs.laws.best_is_unique.Goals as goal
 
 pub returns : goal.returns
 returns c patterns path a b a_in b_in a_best b_best =
