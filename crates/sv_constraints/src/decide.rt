@@ -17,8 +17,9 @@ use sv_realm::Caller;
 /// Decides a request by the combined constraints on the best pattern for its path (Jakarta Servlet 6.0, section 13.8):
 /// those of its constraints that cover the method decide, whatever other patterns match the path.
 ///
-/// The path is the path in the context, any text. The constraints may be any list: where numbers repeat, the number of
-/// the answer is that of some deciding constraint. It takes no memory, and time linear in the constraints.
+/// The path is any text: it is the path within the context, and is compared as it stands. The constraints are any list
+/// in any order. No memory is taken, and the constraints are gone over twice: for the best pattern, and for those that
+/// cover the method there.
 pub fn decide_plain<'a>(
     constraints: &'a [Constraint],
     rules: &Rules,
@@ -28,20 +29,15 @@ pub fn decide_plain<'a>(
 ) -> Decision<'a>
     ensures { seen result ≡ verdict constraints.now rules.now method.now path.now (option_copied caller.entry) }
 {
-    match best_of(constraints, path) {
-        Some(pattern) => Findings::gather(
-            constraints,
-            pattern.text(),
-            method,
-            rules,
-            caller,
-        ).decide(pattern, rules, caller),
-        None => Decision::Open(Why {
+    let Some(pattern) = best_of(constraints, path) else {
+        return Decision::Open(Why {
             pattern: None,
             number: None,
             cause: Cause::NoPattern,
-        }),
-    }
+        });
+    };
+    let found = Findings::gather(constraints, pattern.text(), method, rules, caller);
+    found.decide(pattern, rules, caller)
 }
 
 /// The best pattern for the path among those of all constraints.
@@ -61,7 +57,8 @@ fn better_of<'a>(
     constraint: &'a Constraint,
     path: &str,
 ) -> Option<&'a Pattern>
-    ensures { (before : List (List ℕ)) → best_pattern before path.now ≡ option_copied found.entry → option_copied result ≡ best_pattern (before ++ patterns_in constraint.now) path.now }
+    ensures { (before : List (List ℕ)) → best_pattern before path.now ≡ option_copied found.entry →
+        option_copied result ≡ best_pattern (before ++ patterns_in constraint.now) path.now }
 {
     let mut best = found;
     for collection in constraint.collections.as_slice() {

@@ -15,7 +15,8 @@ use crate::rules::Rules;
 use sv_mapping::Pattern;
 use sv_realm::Caller;
 
-/// The least numbers of the covering constraints by which a request is decided, each none where there is no such constraint.
+/// By which of the covering constraints a request can be decided: the least number of each kind, none where there is no
+/// constraint of that kind.
 #[derive(Clone, Copy)]
 pub struct Findings {
     /// Of all covering constraints.
@@ -105,7 +106,8 @@ impl Findings {
         rules: &Rules,
         caller: Option<&Caller>,
     ) -> Findings
-        ensures { result ≡ findings_of rules.now (option_copied caller.entry) (covering constraints.now (Some pattern.now) method.now) }
+        ensures { let members = covering constraints.now (Some pattern.now) method.now in
+            result ≡ findings_of rules.now (option_copied caller.entry) members }
     {
         let mut found = Findings::none();
         for constraint in constraints {
