@@ -1,6 +1,6 @@
 -- Empty lines before more bytes.
-use Rattle.std.proofs.Common.{◌≡◌, ℕ, ◌≤◌, Bool, true, false, ◌&&◌, ◌||◌, List, [], ◌∷◌, ◌++◌, length, refl, sym, ap, ◌∙◌, cond, eqb, arith}
-use Rattle.std.proofs.lemmas.Bool.{cond-true, cond-false, or_cases, or_left, and_right, both_ways}
+use Rattle.std.proofs.Common.{◌≡◌, ℕ, ◌≤◌, Bool, true, false, ◌&&◌, ◌||◌, List, [], ◌∷◌, ◌++◌, length, refl, sym, ◌∙◌, cond, eqb, arith}
+use Rattle.std.proofs.lemmas.Bool.{cond-true, cond-false}
 use Rattle.sv_wire.specs.EmptyLines.{is_of_empty_line, drop_empty_lines}
 
 -- a byte of an empty line stays one where bytes follow

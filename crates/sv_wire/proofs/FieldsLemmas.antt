@@ -48,5 +48,5 @@ module _ (bytes word : List ℕ) where
       let lengths = length-map bytes to_ascii_lowercase in
       (bytes_eq-Decides (lowercase bytes) word).1
       (ext_get_or 0 (lowercase bytes) word (lengths ∙ long) (λ i inside.
-          let within : i < length bytes = omega (arith, lengths) in
-          get_or-map to_ascii_lowercase bytes i 0 0 within ∙ each i within))
+      let within : i < length bytes = omega (arith, lengths) in
+      get_or-map to_ascii_lowercase bytes i 0 0 within ∙ each i within))

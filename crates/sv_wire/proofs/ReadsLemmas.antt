@@ -1,7 +1,7 @@
 -- Readings joined, compared and cut.
-use Rattle.std.proofs.Common.{◌≡◌, ℕ, ◌+◌, ◌<◌, ◌≤◌, Bool, true, false, ◌&&◌, ◌||◌, ◌⊎◌, List, [], ◌∷◌, ◌++◌, length, take, drop, refl, sym, ap, ◌∙◌, subst, inl, inr, cond, eqb, arith}
+use Rattle.std.proofs.Common.{◌≡◌, ℕ, ◌≤◌, Bool, true, false, ◌&&◌, ◌||◌, ◌⊎◌, List, [], ◌∷◌, ◌++◌, length, take, drop, refl, sym, ap, ◌∙◌, subst, inl, inr, eqb, arith}
 use Rattle.std.specs.Bool.{MatchBool}
-use Rattle.std.proofs.lemmas.Bool.{MatchBool-at_true, MatchBool-at_false, or_parts, or_left, or_right, or_from}
+use Rattle.std.proofs.lemmas.Bool.{MatchBool-at_false, or_parts, or_left, or_right, or_from}
 use Rattle.std.proofs.lemmas.List.{take-append-le, drop-append-le, length-take}
 use Rattle.httparse.specs.Grammar.{RequestHead, ReadsRequest}
 use Rattle.httparse.proofs.GrammarLemmas.{request_unique}
@@ -15,8 +15,10 @@ use Rattle.sv_wire.specs.EmptyLines.{drop_empty_lines}
 use Rattle.sv_wire.specs.Head.{ends_head, judge}
 use Rattle.sv_wire.specs.Items.{is_last, are_ended}
 use Rattle.sv_wire.specs.Laws.{ReadingsJoin, ReadingsAreUnique, ReadingsSplitAtACut}
-use Rattle.sv_wire.specs.Reads.{IsNoHead, has_too_many_lines, ReadsHead, cut_head, BeginsWith, Begins, Rests, Reads}
-use Rattle.sv_wire.proofs.CutLemmas.{IsShortestFront, cut-whole, cut_whole-fits, cut_endless-fits, cut_whole-append, cut_endless-append}
+use Rattle.sv_wire.specs.Next.{HoldsText}
+use Rattle.sv_wire.specs.Reads.{IsNoHead, has_too_many_lines, ReadsHead, cut_head, BeginsWith, Begins, Reads}
+use Rattle.sv_wire.proofs.BoolLemmas.{MatchBool-from_true, MatchBool-from_false}
+use Rattle.sv_wire.proofs.CutLemmas.{cut-whole, cut_whole-fits, cut_endless-fits, cut_whole-append, cut_endless-append}
 use Rattle.sv_wire.proofs.EmptyLinesLemmas.{drop_empty_lines-append, drop_empty_lines_stays}
 
 -- ---- the cut of a head
@@ -40,6 +42,17 @@ module _ (stream more : List ℕ) where
 
   endless_long : cut_head stream ≡ Endless → 2 ≤ length stream
   endless_long is = omega (arith, cut_endless-fits ends_head MAX_HEAD_LEN stream more is)
+
+-- what is cut from a stream is there, and a head has bytes and is within the limit
+pub cut_holds : (stream : List ℕ) (c : Cut) → c ≡ cut_head stream → HoldsText stream c
+cut_holds stream (Whole n) is =
+    let found = cut-whole ends_head MAX_HEAD_LEN stream [] n (sym is) in (
+      omega (arith, ends_head-long (take n (take MAX_HEAD_LEN stream)) found.passes, length-take n (take MAX_HEAD_LEN stream)),
+      cut_whole-fits ends_head MAX_HEAD_LEN stream [] n (sym is),
+      omega (arith, found.fits, length-take MAX_HEAD_LEN stream),
+    )
+cut_holds stream Endless is = cut_endless-fits ends_head MAX_HEAD_LEN stream [] (sym is)
+cut_holds stream Unended is = tt
 
 -- ---- an item's text before more bytes
 
@@ -148,9 +161,9 @@ ReadsHead-unique text item other = by_lines (has_too_many_lines text)
 
     by_lines : (t : Bool)
         → MatchBool t (item ≡ Refuse HeadTooLarge)
-            (((head : RequestHead) × ReadsRequest text head [] × (item ≡ judge head)) ⊎ (IsNoHead text × (item ≡ Refuse BadHead)))
+        (((head : RequestHead) × ReadsRequest text head [] × (item ≡ judge head)) ⊎ (IsNoHead text × (item ≡ Refuse BadHead)))
         → MatchBool t (other ≡ Refuse HeadTooLarge)
-            (((head : RequestHead) × ReadsRequest text head [] × (other ≡ judge head)) ⊎ (IsNoHead text × (other ≡ Refuse BadHead)))
+        (((head : RequestHead) × ReadsRequest text head [] × (other ≡ judge head)) ⊎ (IsNoHead text × (other ≡ Refuse BadHead)))
         → item ≡ other
     by_lines true a b = a ∙ sym b
     by_lines false a b = judged a b
@@ -179,12 +192,6 @@ pub Reads-behind : (stream other : List ℕ) (items : List Item) (rest : List �
 Reads-behind stream other [] rest same reads = (sym same ∙ reads.0, reads.1)
 Reads-behind stream other (item ∷ items) rest same reads =
     (reads.0, subst (λ text. BeginsWith (cut_head text) text item reads.0) same reads.1, reads.2)
-
-MatchBool-from_true : (t : Bool) (P Q : Type 0) → t ≡ true → P → MatchBool t P Q
-MatchBool-from_true t P Q is holds = subst (λ b. MatchBool b P Q) (sym is) holds
-
-MatchBool-from_false : (t : Bool) (P Q : Type 0) → t ≡ false → Q → MatchBool t P Q
-MatchBool-from_false t P Q is holds = subst (λ b. MatchBool b P Q) (sym is) holds
 
 pub readings_join : ReadingsJoin
 readings_join first second [] more between rest unended reads later =
@@ -216,10 +223,10 @@ readings_are_unique stream (item ∷ items) [] rest left a b =
 readings_are_unique stream (item ∷ items) (other ∷ others) rest left a b =
     let here = Begins-unique stream item other a.0 b.0 a.1 b.1 in
     let same : MatchBool (is_last item) ((others ≡ []) × (left ≡ [])) (Reads a.0 others left) =
-        subst (λ i. MatchBool (is_last i) ((others ≡ []) × (left ≡ [])) (Reads a.0 others left)) (sym here.0)
-        (subst (λ text. MatchBool (is_last other) ((others ≡ []) × (left ≡ [])) (Reads text others left)) (sym here.1) b.2) in
+    subst (λ i. MatchBool (is_last i) ((others ≡ []) × (left ≡ [])) (Reads a.0 others left)) (sym here.0)
+    (subst (λ text. MatchBool (is_last other) ((others ≡ []) × (left ≡ [])) (Reads text others left)) (sym here.1) b.2) in
     let behind = same_behind (is_last item) items others rest left (Reads a.0 items rest) (Reads a.0 others left)
-        (readings_are_unique a.0 items others rest left) a.2 same in
+    (readings_are_unique a.0 items others rest left) a.2 same in
     (λ i. here.0 i ∷ behind.0 i, behind.1)
 
 -- ---- cuts

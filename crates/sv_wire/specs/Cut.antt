@@ -1,5 +1,5 @@
 -- A text that ends at a mark, within a limit (RFC 9112, section 2.1): it is cut from the stream first, and read then.
-use Rattle.std.specs.Prelude.{ℕ, zero, suc, Bool, true, false, List, [], ◌∷◌, length, take, nat_lt, if◌then◌else◌, Option, None, Some, option_map}
+use Rattle.std.specs.Prelude.{ℕ, suc, Bool, List, [], ◌∷◌, length, take, nat_lt, if◌then◌else◌, Option, None, Some, option_map}
 use Rattle.sv_wire.specs.declared.cut.Cut.{Cut}
 use Rattle.sv_wire.specs.declared.cut.Cut.TheVariants.{Whole, Endless, Unended}
 

@@ -1,5 +1,5 @@
 -- The head of a request, and the one verdict on it (RFC 9112, sections 2.1, 3, 5 and 6).
-use Rattle.std.specs.Prelude.{ℕ, Bool, ◌||◌, not, List, [], ◌∷◌, ◌++◌, ◌==◌, nat_eq, codes, slice_get, if◌then◌else◌, Option, None, Some}
+use Rattle.std.specs.Prelude.{ℕ, Bool, ◌||◌, not, List, [], ◌∷◌, ◌++◌, nat_eq, codes, slice_get, if◌then◌else◌, Option, None, Some}
 use Rattle.std.specs.List.{ends_with, list_any, starts_with}
 use Rattle.httparse.specs.Ascii.{line_feed, carriage_return}
 use Rattle.httparse.specs.Grammar.{RequestHead}

@@ -1,5 +1,5 @@
 -- The laws of the reading of a stream: together they say that no cut of the stream into pieces matters.
-use Rattle.std.specs.Prelude.{◌≡◌, ℕ, true, false, ◌⊎◌, List, [], ◌++◌}
+use Rattle.std.specs.Prelude.{◌≡◌, ℕ, true, false, ◌⊎◌, List, ◌++◌}
 use Rattle.sv_wire.specs.declared.item.Item.{Item}
 use Rattle.sv_wire.specs.Items.{are_ended}
 use Rattle.sv_wire.specs.Reads.{Reads}

@@ -1,5 +1,5 @@
 -- The reading of a stream of bytes as items (RFC 9112, sections 2 and 9.3).
-use Rattle.std.specs.Prelude.{◌≡◌, ℕ, ◌+◌, Bool, true, false, ◌⊎◌, List, [], ◌∷◌, take, drop, ◌==◌, nat_lt, count_by}
+use Rattle.std.specs.Prelude.{◌≡◌, ℕ, ◌+◌, Bool, ◌⊎◌, List, [], ◌∷◌, take, drop, ◌==◌, nat_lt, count_by}
 use Rattle.std.specs.Bool.{MatchBool}
 use Rattle.httparse.specs.Ascii.{line_feed}
 use Rattle.httparse.specs.Grammar.{RequestHead, ReadsRequest}

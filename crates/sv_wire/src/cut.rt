@@ -4,6 +4,7 @@ ghost use Rattle.std.specs.Prelude.{◌≡◌, ℕ, ◌<◌, false, take};
 ghost use Rattle.sv_wire.specs.Cut.{shortest_front};
 ghost use Rattle.sv_wire.specs.Head.{ends_head};
 ghost use Rattle.sv_wire.specs.Reads.{cut_head};
+ghost use Rattle.sv_wire.specs.Next.{HoldsText};
 
 use crate::limits::MAX_HEAD_LEN;
 
@@ -21,7 +22,8 @@ pub(crate) enum Cut {
 /// Where the head ends that the stream begins with. No front of fewer than `from` bytes ends it.
 pub(crate) fn cut_head(stream: &[u8], from: usize) -> Cut
     requires { (k : ℕ) → k < from → ends_head (take k stream.now) ≡ false }
-    ensures { result ≡ cut_head stream.now }
+    ensures value { result ≡ cut_head stream.now }
+    ensures holds { HoldsText stream.now result }
 {
     match head_len(&stream[..stream.len().min(MAX_HEAD_LEN)], from) {
         Some(len) => Cut::Whole(len),

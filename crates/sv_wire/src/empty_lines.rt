@@ -1,10 +1,19 @@
 //! The empty lines before a request.
 
-ghost use Rattle.std.specs.Prelude.{◌≡◌, ◌≤◌, length, drop};
+ghost use Rattle.std.specs.Prelude.{◌≡◌, ◌-◌, ◌≤◌, length, drop};
 ghost use Rattle.sv_wire.specs.EmptyLines.{is_of_empty_line, drop_empty_lines};
 
+/// The stream behind the empty lines that it begins with.
+pub(crate) fn behind_empty_lines(stream: &[u8]) -> &[u8]
+    ensures value { result.now ≡ drop_empty_lines stream.now }
+    ensures end { result.now ≡ drop (length stream.now - length result.now) stream.now }
+    ensures fits { length result.now ≤ length stream.now }
+{
+    &stream[empty_lines_len(stream)..]
+}
+
 /// How many bytes the empty lines have that the stream begins with.
-pub(crate) fn empty_lines_len(stream: &[u8]) -> usize
+fn empty_lines_len(stream: &[u8]) -> usize
     ensures fits { result ≤ length stream.now }
     ensures behind { drop result stream.now ≡ drop_empty_lines stream.now }
 {

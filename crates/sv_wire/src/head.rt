@@ -9,13 +9,6 @@ ghost use Rattle.sv_wire.specs.Head.{first_fault, is_origin_form, is_of_body, ju
 ghost use Rattle.sv_wire.specs.Reads.{ReadsHead, has_too_many_lines};
 ghost use Rattle.sv_wire.specs.Spans.{field_at, IsFieldAt, AreHeadSpans, ShowHead};
 
-use http::Method;
-use http::method::MethodError;
-use httparse::Status;
-use httparse::spans::{EMPTY_HEADER_SPAN, HeaderSpan, RequestSpans, parse_request};
-use std::alloc::Global;
-use sv_text::{Bytes, Listed, NoMemory};
-
 use crate::field::Field;
 use crate::host::accepts_hosts;
 use crate::item::Item;
@@ -23,6 +16,12 @@ use crate::limits::{MAX_FIELD_LINES, MAX_HEAD_LEN};
 use crate::message::{Message, Target};
 use crate::persistence::keeps;
 use crate::wire_fault::WireFault;
+use http::Method;
+use http::method::MethodError;
+use httparse::Status;
+use httparse::spans::{EMPTY_HEADER_SPAN, HeaderSpan, RequestSpans, parse_request};
+use std::alloc::Global;
+use sv_text::{Bytes, Listed, NoMemory};
 
 /// Reads the whole text of a head, which is no longer than a head may be.
 pub(crate) fn read_head(alloc: Global, text: &[u8]) -> Result<Item, NoMemory>
@@ -37,7 +36,9 @@ pub(crate) fn read_head(alloc: Global, text: &[u8]) -> Result<Item, NoMemory>
         Ok(Status::Complete(head)) if head.len == text.len() => {
             judge(alloc, text, &head, &spans[..head.headers])
         }
-        _ => Ok(Item::Refuse(WireFault::BadHead)),
+        Ok(Status::Complete(_)) => Ok(Item::Refuse(WireFault::BadHead)),
+        Ok(Status::Partial) => Ok(Item::Refuse(WireFault::BadHead)),
+        Err(_) => Ok(Item::Refuse(WireFault::BadHead)),
     }
 }
 

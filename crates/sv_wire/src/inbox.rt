@@ -1,17 +1,16 @@
 //! The inbox of a connection: bytes in, items out.
 
-ghost use Rattle.std.specs.Prelude.{◌≡◌, true, false, [], ◌++◌, IfOk, IsOkAnd, OnErr};
+ghost use Rattle.std.specs.Prelude.{◌≡◌, ◌≤◌, true, false, [], ◌++◌, drop, vec_len, IfOk, IsOkAnd, OnErr};
 ghost use Rattle.sv_wire.specs.Inbox.{nothing_held, spent_for_good, end_of};
 ghost use Rattle.sv_wire.specs.Items.{are_ended};
 ghost use Rattle.sv_wire.specs.Reads.{Reads};
 
+use crate::item::Item;
+use crate::reading::read_items;
 use std::alloc::Global;
 use std::marker::Model;
 use std::mem;
 use sv_text::NoMemory;
-
-use crate::item::Item;
-use crate::reading::read_items;
 
 /// What the end of a stream means.
 #[derive(Clone, Copy, Debug, PartialEq, Eq)]
@@ -77,7 +76,7 @@ impl Inbox {
         stream.extend_from_slice(piece)?;
         let reading = read_items(self.alloc, &stream, held + 1)?;
         if let Some(at) = reading.rest {
-            stream.drain(..at);
+            drop_front(&mut stream, at);
             self.rest = stream;
             self.spent = false;
         }
@@ -100,4 +99,12 @@ impl Inbox {
         self.rest.clear();
         ended
     }
+}
+
+/// Takes so many bytes away from the front.
+fn drop_front(bytes: &mut Vec<u8>, count: usize)
+    requires { count ≤ vec_len bytes.old }
+    ensures { bytes.new.items ≡ drop count bytes.old.items }
+{
+    bytes.drain(..count);
 }

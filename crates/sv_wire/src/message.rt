@@ -1,9 +1,8 @@
 //! A request, as the container handles it.
 
+use crate::field::Field;
 use http::Method;
 use sv_text::{Bytes, Listed};
-
-use crate::field::Field;
 
 /// A whole request (RFC 9112, section 2).
 #[derive(Debug, Drop)]

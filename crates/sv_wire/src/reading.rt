@@ -6,15 +6,14 @@ ghost use Rattle.sv_wire.specs.Items.{are_ended};
 ghost use Rattle.sv_wire.specs.Next.{ComesNext, rest_from};
 ghost use Rattle.sv_wire.specs.Reads.{Reads};
 
-use std::alloc::Global;
-use sv_text::NoMemory;
-
 use crate::cut::{Cut, cut_head};
-use crate::empty_lines::empty_lines_len;
+use crate::empty_lines::behind_empty_lines;
 use crate::head::read_head;
 use crate::item::Item;
 use crate::limits::MAX_HEAD_LEN;
 use crate::wire_fault::WireFault;
+use std::alloc::Global;
+use sv_text::NoMemory;
 
 /// What comes next in a stream.
 #[derive(Drop)]
@@ -22,7 +21,7 @@ enum Next {
     /// An item, which ends after so many bytes.
     Found(Item, usize),
     /// No item yet. What is awaited begins after so many bytes.
-    Unended(usize),
+    Awaits(usize),
 }
 
 /// What a stream was read as.
@@ -38,20 +37,17 @@ fn next_item(alloc: Global, stream: &[u8], from: usize) -> Result<Next, NoMemory
     requires { (k : ℕ) → k < from → ends_head (take k stream.now) ≡ false }
     ensures { IfOk result (ComesNext stream.now) }
 {
-    let at = empty_lines_len(stream);
-    let head = &stream[at..];
+    let head = behind_empty_lines(stream);
+    let at = stream.len() - head.len();
     match cut_head(head, if at == 0 { from } else { 0 }) {
         Cut::Whole(len) => Ok(Next::Found(read_head(alloc, &head[..len])?, at + len)),
-        Cut::Endless => Ok(Next::Found(
-            Item::Refuse(WireFault::HeadTooLarge),
-            at + MAX_HEAD_LEN,
-        )),
-        Cut::Unended => Ok(Next::Unended(at)),
+        Cut::Endless => Ok(Next::Found(Item::Refuse(WireFault::HeadTooLarge), at + MAX_HEAD_LEN)),
+        Cut::Unended => Ok(Next::Awaits(at)),
     }
 }
 
 /// Reads the items of a stream. No front of fewer than `from` bytes ends a head.
-pub(crate) fn read_items(alloc: Global, stream: &[u8], from: usize) -> Result<Reading, NoMemory>
+pub(crate) fn read_items(alloc: Global, stream: &[u8], mut from: usize) -> Result<Reading, NoMemory>
     requires { (k : ℕ) → k < from → ends_head (take k stream.now) ≡ false }
     ensures { IfOk result (λ reading.
         Reads stream.now reading.items.items (rest_from stream.now reading.rest)
@@ -60,10 +56,9 @@ pub(crate) fn read_items(alloc: Global, stream: &[u8], from: usize) -> Result<Re
 {
     let mut items = Vec::new(alloc);
     let mut at = 0;
-    let mut from = from;
     loop {
         match next_item(alloc, &stream[at..], from)? {
-            Next::Unended(len) => {
+            Next::Awaits(len) => {
                 let rest = Some(at + len);
                 return Ok(Reading { items, rest });
             }

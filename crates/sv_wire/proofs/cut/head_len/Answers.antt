@@ -1,4 +1,4 @@
-use Rattle.std.proofs.Common.{◌+◌, ◌<◌, ℕ, sym, arith}
+use Rattle.std.proofs.Common.{sym, arith}
 use borrow.Author.Count.{below_more}
 use Rattle.sv_wire.specs.Head.{ends_head}
 use Rattle.sv_wire.proofs.CutLemmas.{shortest_front_some, shortest_front_none}

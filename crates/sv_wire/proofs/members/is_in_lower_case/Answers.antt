@@ -1,5 +1,5 @@
 use Rattle.std.proofs.Common.{◌≡◌, length, sym, ◌∙◌, arith}
-use Rattle.sv_wire.proofs.FieldsLemmas.{lowered_long, lowered_other, lowered_same}
+use Rattle.sv_wire.proofs.FieldsLemmas.{lowered_other, lowered_same}
 use Rattle.sv_wire.proofs.members.is_in_lower_case.Goals as goal
 
 pub returns-then-to_ascii_lowercase-word : goal.returns-then-to_ascii_lowercase-word
