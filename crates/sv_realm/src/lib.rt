@@ -1,6 +1,18 @@
-//! Users of a realm, and the caller whom a login found among them (Jakarta Servlet 6.0, section 13.5).
+//! Users of a realm, and the caller whom a login found among them (Jakarta Servlet 6.0 sections 13.3, 13.5 and 13.6).
 #![tactic(auto)]
 
+mod account;
 mod caller;
+mod laws;
+mod limits;
+mod password;
+mod realm;
+mod user;
 
 pub use caller::Caller;
+pub use laws::{
+    a_checked_caller_is_the_named_one, a_digest_that_fits_is_whole, the_first_user_of_a_name_counts,
+};
+pub use limits::MAX_USERS;
+pub use realm::Realm;
+pub use user::User;

@@ -1,45 +1,86 @@
--- What the walk over all segments of a path says of its canonical form.
-use Rattle.std.proofs.Common.{ℕ, ◌≡◌, true, false, cond, List, [], ◌∷◌, ◌++◌, map, IsUtf8, Option, Some, Ok, Err, MatchOption, sym, refl, ap, subst, ◌∙◌}
-use Rattle.std.specs.Option.{option_map}
-use Rattle.std.specs.List.{All, flat_map}
+-- What the walk over all segments of a path says of the canonical path.
+use Rattle.std.proofs.Common.{ℕ, List, [], ◌∷◌, IsUtf8, refl, subst, lit<, ◌≡◌, ◌+◌, ◌<◌, ◌==◌, ◌++◌, map, length, length-drop, drop, append-nil, append_assoc, Option, Some, None, MatchOption, ap, ◌∙◌, arith, false, Ok, Err, sym}
+use Rattle.std.specs.List.{All, flat_map, position_or_len}
 use Rattle.std.specs.Str.{byte}
-use Rattle.std.proofs.lemmas.List.Elements.{All-weaker, All-filter}
-use Rattle.std.proofs.lemmas.Str.{IsUtf8-from_is_utf8}
+use Rattle.std.proofs.lemmas.List.Elements.{All-head, All-tail, All-weaker, All-filter}
+use Rattle.std.proofs.lemmas.Str.{IsUtf8-nil, IsUtf8-append, IsUtf8-encode, encode_ascii, IsUtf8-from_is_utf8}
+use Rattle.sv_uri.proofs.TargetLemmas.{slashed, holds, segments_behind, between_slashes-first, behind-other, raw_segments-slash}
+use Rattle.std.proofs.lemmas.Bool.{cond_both}
+use Rattle.std.proofs.lemmas.List.{map_push}
+use Rattle.std.proofs.lemmas.List.Concat.{flat_map-append}
 use Rattle.sv_uri.specs.declared.fault.CanonFault.{CanonFault}
 use Rattle.sv_uri.specs.declared.fault.CanonFault.TheVariants.{Path, NoMemory}
 use Rattle.sv_uri.specs.declared.fault.PathFault.{PathFault}
-use Rattle.sv_uri.specs.declared.fault.PathFault.TheVariants.{Climbs}
 use Rattle.sv_uri.specs.declared.walk.Walk.{Walk}
-use Rattle.sv_uri.specs.Fault.{first, first_or, path_fault}
-use Rattle.sv_uri.specs.declared.path.Canon.{Canon}
+use Rattle.sv_uri.specs.Fault.{first, path_fault, first_or}
 use Rattle.sv_uri.specs.Target.{before, behind, between_slashes, visible_query}
 use Rattle.sv_uri.specs.Segment.{name_of, segment_faults}
-use Rattle.sv_uri.specs.DotSegments.{kept, climbs}
+use Rattle.sv_uri.specs.Walked.{HasSeen, shown}
+use Rattle.std.specs.Option.{option_map}
+use Rattle.sv_uri.specs.declared.path.Canon.{Canon}
+use Rattle.sv_uri.specs.DotSegments.{kept}
 use Rattle.sv_uri.specs.Canonical.{canonical, path_faults, path_text}
-use Rattle.sv_uri.specs.Walked.{shown, HasSeen}
 use Rattle.sv_uri.proofs.DotSegmentLemmas.{All-remaining}
 use Rattle.sv_uri.proofs.SegmentLemmas.{IsPlain, All-IsPlain}
-use Rattle.sv_uri.proofs.TargetLemmas.{holds, slashed, behind-other, raw_segments-slash}
 
-pub first_or-first : {A : Type 0} (xs ys : List PathFault) (answer : A) (fault : PathFault) → first xs ≡ Some fault → first_or (xs ++ ys) answer ≡ Err fault
-first_or-first [] ys answer fault is_first = cc
-first_or-first (x ∷ xs) ys answer fault is_first = cc
+pub IsUtf8-slash : IsUtf8 (byte "/" ∷ [])
+IsUtf8-slash = subst IsUtf8 (encode_ascii 47 (lit< tt)) (IsUtf8-encode 47 refl)
 
--- a fault of a segment is the fault of the path
-pub segment_answer : {A : Type 0} (segments : List (List ℕ)) (answer : A) (e : CanonFault) → MatchOption (path_fault e) (Unit {0}) (λ fault. first (flat_map segment_faults segments) ≡ Some fault) → MatchOption (path_fault e) (Unit {0}) (λ fault. first_or (path_faults segments) answer ≡ Err fault)
-segment_answer segments answer (Path fault) said = first_or-first (flat_map segment_faults segments) _ answer fault said
-segment_answer segments answer NoMemory said = tt
+pub IsUtf8-slashed : (names : List (List ℕ)) → All IsUtf8 names → IsUtf8 (slashed names)
+IsUtf8-slashed [] all = IsUtf8-nil
+IsUtf8-slashed (name ∷ names) all =
+    IsUtf8-append (47 ∷ name) (slashed names) (IsUtf8-append (47 ∷ []) name IsUtf8-slash (All-head IsUtf8 name names all)) (IsUtf8-slashed names (All-tail IsUtf8 name names all))
 
-pub climbs_answer : {A : Type 0} (walk : Walk) (segments : List (List ℕ)) (answer : A) → flat_map segment_faults segments ≡ [] → HasSeen walk (map name_of segments) → walk.climbs ≡ true → first_or (path_faults segments) answer ≡ Err Climbs
-climbs_answer walk segments answer none walked climbed =
-    let above : climbs (kept (map name_of segments)) ≡ true = sym walked.climbed_by ∙ climbed in
-    rw (none, above) refl
+-- the walk has entered the first segments of the path, which have no fault, and this rest is left
+pub record HasRead (walk : Walk) (path : List ℕ) (rest : Option (List ℕ)) : Type 0 where
+  pub seen : List (List ℕ)
+  pub whole : between_slashes path ≡ seen ++ segments_behind rest
+  pub faultless : flat_map segment_faults seen ≡ []
+  pub walked : HasSeen walk (map name_of seen)
 
-pub path_answer : (walk : Walk) (segments : List (List ℕ)) (path : List ℕ) → flat_map segment_faults segments ≡ [] → HasSeen walk (map name_of segments) → walk.climbs ≡ false → path ≡ slashed (shown walk.names.items ++ cond walk.is_open ([] ∷ []) []) → first_or (path_faults segments) (path_text segments) ≡ Ok path
-path_answer walk segments path none walked stays is_path =
-    let below : climbs (kept (map name_of segments)) ≡ false = sym walked.climbed_by ∙ stays in
-    let text : path_text segments ≡ path = sym (is_path ∙ rw (walked.left, walked.opened_by) refl) in
-    rw (none, below, text) refl
+pub HasRead-none : (walk : Walk) (path : List ℕ) → HasSeen walk [] → HasRead walk path (Some path)
+HasRead-none walk path walked = record { seen = []; whole = refl; faultless = refl; walked = walked }
+
+-- the segments of the path, where one more stands in front of the rest
+next_whole : (walk : Walk) (path text : List ℕ) (read : HasRead walk path (Some text)) → between_slashes path ≡ read.seen ++ (before (byte "/") text ∷ segments_behind (behind (byte "/") text))
+next_whole walk path text read = read.whole ∙ ap (λ parts. read.seen ++ parts) (between_slashes-first text)
+
+pub HasRead-more : (walk next : Walk) (path text name : List ℕ) (rest : Option (List ℕ)) (segment : List ℕ) → segment ≡ before (byte "/") text → rest ≡ behind (byte "/") text → segment_faults segment ≡ [] → name ≡ name_of segment → ((seen : List (List ℕ)) → HasSeen walk seen → HasSeen next (seen ++ name ∷ [])) → HasRead walk path (Some text) → HasRead next path rest
+HasRead-more walk next path text name rest segment is_first is_rest none is_name enters read = record {
+  seen = read.seen ++ segment ∷ [];
+  whole = rw (is_first, is_rest, append_assoc) (next_whole walk path text read);
+  faultless = flat_map-append segment_faults read.seen (segment ∷ []) ∙ rw (read.faultless, none) refl;
+  walked = rw (map_push name_of read.seen segment, ← is_name) (enters (map name_of read.seen) read.walked);
+}
+
+first-append : (xs ys : List PathFault) (fault : PathFault) → first xs ≡ Some fault → first (xs ++ ys) ≡ Some fault
+first-append [] ys fault is_first = cc
+first-append (x ∷ xs) ys fault is_first = is_first
+
+-- the first fault of the next segment is the first of the path
+pub first_of_next : (walk : Walk) (path text segment : List ℕ) (e : CanonFault) → segment ≡ before (byte "/") text → HasRead walk path (Some text) → MatchOption (path_fault e) (Unit {0}) (λ fault. first (segment_faults segment) ≡ Some fault) → MatchOption (path_fault e) (Unit {0}) (λ fault. first (flat_map segment_faults (between_slashes path)) ≡ Some fault)
+first_of_next walk path text segment (Path fault) is_first read said =
+    let all : flat_map segment_faults (between_slashes path) ≡ segment_faults segment ++ flat_map segment_faults (segments_behind (behind (byte "/") text)) =
+    ap (flat_map segment_faults) (next_whole walk path text read) ∙ flat_map-append segment_faults read.seen _ ∙ rw (read.faultless, is_first) refl
+    in
+    rw all (first-append (segment_faults segment) _ fault said)
+first_of_next walk path text segment NoMemory is_first read said = tt
+
+pub HasRead-all : (walk : Walk) (path : List ℕ) (rest : Option (List ℕ)) → rest ≡ None → HasRead walk path rest → (flat_map segment_faults (between_slashes path) ≡ []) × HasSeen walk (map name_of (between_slashes path))
+HasRead-all walk path rest ended read =
+    let all : between_slashes path ≡ read.seen = read.whole ∙ rw ended (append-nil read.seen) in
+    (rw all read.faultless, rw all read.walked)
+
+-- what is left to read, counting the slash in front of it
+abbrev pub size_of_rest : Option (List ℕ) → ℕ
+size_of_rest None = 0
+size_of_rest (Some text) = length text + 1
+
+pub size_of_rest-behind : (c : ℕ) (text : List ℕ) → size_of_rest (behind c text) < length text + 1
+size_of_rest-behind c [] = omega arith
+size_of_rest-behind c (b ∷ text) =
+    cond_both (holds c (b ∷ text)) (Some (drop (position_or_len (λ x. x == c) (b ∷ text) + 1) (b ∷ text))) None (λ rest. size_of_rest rest < length (b ∷ text) + 1)
+    (λ _. simp length-drop (omega arith)) (λ _. omega arith)
 
 -- the names of a path without faults are texts
 pub names_are_texts : (walk : Walk) (segments : List (List ℕ)) → flat_map segment_faults segments ≡ [] → HasSeen walk (map name_of segments) → All IsUtf8 (shown walk.names.items)

@@ -1,10 +1,6 @@
 mod AnswerLemmas
 mod DotSegmentLemmas
-mod FrontLemmas
 mod ItsOwnLemmas
-mod PathLemmas
 mod QueryLemmas
-mod ReadLemmas
 mod SegmentLemmas
 mod TargetLemmas
-mod WalkLemmas

@@ -80,17 +80,6 @@ impl fmt::Display for CanonFault {
 
 impl Error for CanonFault {}
 
-impl From<PathFault> for CanonFault {
-    ghost use Rattle.std.specs.Prelude.{◌≡◌};
-    ghost use Rattle.sv_uri.specs.declared.fault.CanonFault.TheVariants.{Path};
-
-    ghost from_gives = { λ fault e. e ≡ Path fault };
-
-    fn from(fault: PathFault) -> CanonFault {
-        CanonFault::Path(fault)
-    }
-}
-
 impl From<NoMemory> for CanonFault {
     ghost use Rattle.std.specs.Prelude.{◌≡◌};
     ghost use Rattle.sv_uri.specs.declared.fault.CanonFault.TheVariants as fault;

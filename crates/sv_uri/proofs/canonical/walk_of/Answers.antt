@@ -1,7 +1,7 @@
 use Rattle.std.proofs.Common.{ap, subst, ◌<◌}
 use Rattle.std.specs.Option.{option_copied}
 use Rattle.std.proofs.lemmas.Result.{err_from_is_err_and}
-use Rattle.sv_uri.proofs.ReadLemmas.{HasRead, HasRead-none, HasRead-more, HasRead-all, first_of_next, size_of_rest, size_of_rest-behind}
+use Rattle.sv_uri.proofs.AnswerLemmas.{HasRead, HasRead-none, HasRead-more, HasRead-all, first_of_next, size_of_rest, size_of_rest-behind}
 use Rattle.sv_uri.proofs.canonical.walk_of.Goals as goal
 
 pub loop-rest-init : goal.loop-rest-init

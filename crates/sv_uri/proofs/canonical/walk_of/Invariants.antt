@@ -1,5 +1,5 @@
 use Rattle.std.specs.Option.{option_copied}
-use Rattle.sv_uri.proofs.ReadLemmas.{HasRead, size_of_rest}
+use Rattle.sv_uri.proofs.AnswerLemmas.{HasRead, size_of_rest}
 use Rattle.sv_uri.proofs.canonical.walk_of.Given as goal
 
 abbrev pub invariant-loop-rest : goal.invariant-loop-rest

@@ -3,7 +3,7 @@ use Rattle.std.proofs.lemmas.List.{map-append}
 use Rattle.std.specs.Cow.{cow_slice_items}
 use Rattle.sv_uri.specs.Segment.{is_parent}
 use Rattle.sv_uri.specs.DotSegments.{is_idle}
-use Rattle.sv_uri.proofs.WalkLemmas.{IsLeftOf-parent, IsLeftOf-idle, IsLeftOf-name, popped}
+use Rattle.sv_uri.proofs.DotSegmentLemmas.{IsLeftOf-parent, IsLeftOf-idle, IsLeftOf-name, popped}
 use Rattle.sv_uri.proofs.walk.Walk.enter.Goals as goal
 
 pub returns-then-is_parent : goal.returns-then-is_parent

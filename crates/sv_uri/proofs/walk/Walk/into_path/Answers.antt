@@ -1,7 +1,7 @@
 use Rattle.std.proofs.Common.{IsUtf8}
 use Rattle.std.proofs.lemmas.Bool.{false≢true}
 use Rattle.std.proofs.lemmas.Str.{IsUtf8-append}
-use Rattle.sv_uri.proofs.PathLemmas.{IsUtf8-slash, IsUtf8-slashed}
+use Rattle.sv_uri.proofs.AnswerLemmas.{IsUtf8-slash, IsUtf8-slashed}
 use Rattle.sv_uri.proofs.walk.Walk.into_path.Goals as goal
 use Rattle.sv_uri.proofs.walk.Walk.into_path.Goals.{then-self+in_ok-push, else-self}
 

@@ -1,0 +1,5 @@
+pub mod Numbered
+pub mod Whole
+pub mod Difference
+pub mod Found
+pub mod First

@@ -1,0 +1,4 @@
+pub mod Account
+pub mod Realm
+pub mod User
+pub mod Laws

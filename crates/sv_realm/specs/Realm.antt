@@ -1,0 +1,30 @@
+-- The callers of a realm, whose users are a list (Jakarta Servlet 6.0 sections 13.3 and 13.6).
+use Rattle.std.specs.Prelude.{ℕ, List, Option, find, slice_get, option_and_then}
+use Rattle.std.specs.Bool.{then_some}
+use Rattle.std.specs.List.{enumerate_from}
+use Rattle.std.specs.Option.{option_map}
+use Rattle.std.specs.Str.{bytes_eq}
+use Rattle.sv_realm.specs.declared.caller.Caller.{Caller}
+use Rattle.sv_realm.specs.declared.user.User.{User}
+use Rattle.sv_realm.specs.User.{fits}
+
+-- the caller that the user with a number becomes
+abbrev pub caller_of : ℕ × User → Caller
+caller_of (number, user) = record { number = number; name = user.name; roles = user.roles }
+
+-- the first user of a name, with the user's place
+abbrev pub user_named : List User → List ℕ → Option (ℕ × User)
+user_named users name = find (λ member. bytes_eq member.1.name name) (enumerate_from 0 users)
+
+-- the caller of the first user of a name
+abbrev pub caller_named : List User → List ℕ → Option Caller
+caller_named users name = option_map caller_of (user_named users name)
+
+-- the same, where the password fits that user
+abbrev pub caller_checked : List User → List ℕ → List ℕ → Option Caller
+caller_checked users name password =
+    option_and_then (λ member. then_some (fits member.1 password) (caller_of member)) (user_named users name)
+
+-- the caller of the user at a place
+abbrev pub caller_at : List User → ℕ → Option Caller
+caller_at users number = option_map (λ user. caller_of (number, user)) (slice_get users number)

@@ -1,0 +1,66 @@
+//! What a realm keeps of a user: the caller, made once, beside what the password is checked against.
+
+ghost use Rattle.std.specs.Prelude.{◌≡◌, ◌≤◌, IfOk, find, map, vec_len};
+ghost use Rattle.std.specs.List.{enumerate_from};
+ghost use Rattle.std.specs.Option.{option_copied};
+ghost use Rattle.std.specs.Str.{bytes_eq};
+ghost use Rattle.sv_realm.specs.Account.{account_of};
+
+use crate::caller::Caller;
+use crate::limits::MAX_USERS;
+use crate::user::User;
+use std::alloc::Global;
+use sv_text::{Bytes, NoMemory};
+
+/// A user of a realm, as the caller whom they become and what their password is checked against.
+#[derive(Drop)]
+pub struct Account {
+    pub caller: Caller,
+    pub salt: Bytes,
+    pub digest: Bytes,
+}
+
+impl Account {
+    /// The account of the user at a place, without taking memory.
+    pub fn new(number: u32, user: User) -> Account
+        ensures { result ≡ account_of (number, user) }
+    {
+        let User {
+            name,
+            salt,
+            digest,
+            roles,
+        } = user;
+        Account {
+            caller: Caller {
+                number,
+                name,
+                roles,
+            },
+            salt,
+            digest,
+        }
+    }
+}
+
+/// The accounts of a list of users, numbered by their places.
+pub fn accounts_of(alloc: Global, users: Vec<User>) -> Result<Vec<Account>, NoMemory>
+    requires { vec_len users ≤ MAX_USERS }
+    ensures { IfOk result (λ accounts. accounts.items ≡ map account_of (enumerate_from 0 users.items)) }
+{
+    let mut accounts = Vec::with_capacity(alloc, users.len())?;
+    for user in users {
+        let number = accounts.len() as u32;
+        accounts.push(Account::new(number, user))?;
+    }
+    Ok(accounts)
+}
+
+/// The first account of a name.
+pub fn account_named<'a>(accounts: &'a [Account], name: &str) -> Option<&'a Account>
+    ensures { option_copied result ≡ find (λ account. bytes_eq account.caller.name name.now) accounts.now }
+{
+    accounts
+        .iter()
+        .find(|account| account.caller.name.as_str() == name)
+}
