@@ -16,58 +16,56 @@ use paths::{Reading, TARGETS};
 use patterns::Matching;
 use std::env;
 use std::rt::{Clock, Env};
+use std::time::Duration;
 
 /// Rounds of a run whose time is printed.
 const ROUNDS: u32 = 10_000;
+
+/// Rounds of a run whose time is not printed.
+const FEW_ROUNDS: u32 = 100;
+
+/// A head that comes byte by byte may take so many times as long as in one piece.
+const MOST_TIMES: u32 = 30;
 
 fn main(rt: HostRuntime) -> Result<()> {
     let alloc = rt.alloc();
     let figures = wants_figures(&rt)?;
     let matching = Matching::new(alloc)?;
     let texts = matching.texts(alloc)?;
-    report(
-        &rt,
-        figures,
-        "canon",
-        &Reading { alloc },
-        TARGETS[0].as_bytes(),
-    )?;
-    report(
-        &rt,
-        figures,
-        "best of 100 patterns",
-        &matching,
-        texts.as_bytes(),
-    )?;
+    let texts = texts.as_bytes();
+    let reading = Reading { alloc };
+    let deciding = Deciding::new(alloc)?;
+    report(&rt, figures, "canon", &reading, TARGETS[0].as_bytes())?;
+    report(&rt, figures, "best of 100 patterns", &matching, texts)?;
     report(
         &rt,
         figures,
         "decide_plain of 100 constraints",
-        &Deciding::new(alloc)?,
-        texts.as_bytes(),
+        &deciding,
+        texts,
     )?;
-    let whole = Feeding {
-        alloc,
-        piece: HEAD.len(),
-    };
-    report(
-        &rt,
-        figures,
-        "feed of a 600-byte head",
-        &whole,
-        HEAD.as_bytes(),
-    )?;
-    let single = Feeding { alloc, piece: 1 };
-    report(
-        &rt,
-        figures,
-        "feed of it byte by byte",
-        &single,
-        HEAD.as_bytes(),
-    )
+    report_feeding(&rt, figures)
 }
 
-fn wants_figures(rt: &HostRuntime) -> Result<bool> {
+/// Measures the reading of a head in one piece and byte by byte, and says whether the second keeps its limit.
+fn report_feeding<R: Clock + Print + AllocGlobal>(rt: &R, figures: bool) -> Result<()> {
+    let alloc = rt.alloc();
+    let head = HEAD.as_bytes();
+    let piece = head.len();
+    let whole = Feeding { alloc, piece };
+    let single = Feeding { alloc, piece: 1 };
+    let whole = report(rt, figures, "feed of a 600-byte head", &whole, head)?;
+    let single = report(rt, figures, "feed of it byte by byte", &single, head)?;
+    let bound = if single / MOST_TIMES <= whole {
+        "at most"
+    } else {
+        "more than"
+    };
+    println!(rt; "byte by byte takes {bound} {MOST_TIMES} times as long")?;
+    Ok(())
+}
+
+fn wants_figures<R: Env + AllocGlobal>(rt: &R) -> Result<bool> {
     for argument in env::args(rt)? {
         if argument.as_str() == "figures" {
             return Ok(true);
@@ -76,21 +74,23 @@ fn wants_figures(rt: &HostRuntime) -> Result<bool> {
     Ok(false)
 }
 
-/// Measures a piece of work and a plain loop over the bytes, and prints both times where figures are wanted.
-fn report<W: Work>(
-    rt: &HostRuntime,
+/// Measures a piece of work and a plain loop over the bytes, and prints both times where figures are wanted. It answers
+/// the time of the work.
+fn report<R: Clock + Print, W: Work>(
+    rt: &R,
     figures: bool,
     name: &str,
     work: &W,
     bytes: &[u8],
-) -> Result<()> {
-    let rounds = if figures { ROUNDS } else { 1 };
-    let time = time_of_round(rt, work, rounds)?.as_nanos();
-    let plain = time_of_round(rt, &PlainLoop(bytes), rounds)?.as_nanos();
+) -> Result<Duration> {
+    let rounds = if figures { ROUNDS } else { FEW_ROUNDS };
+    let time = time_of_round(rt, work, rounds)?;
+    let plain = time_of_round(rt, &PlainLoop(bytes), rounds)?;
     if figures {
-        println!(rt; "{name}: {time} ns, plain loop {plain} ns")?;
+        let (nanoseconds, floor) = (time.as_nanos(), plain.as_nanos());
+        println!(rt; "{name}: {nanoseconds} ns, plain loop {floor} ns")?;
     } else {
         println!(rt; "{name} measured")?;
     }
-    Ok(())
+    Ok(time)
 }
