@@ -3,11 +3,10 @@
 ghost use Rattle.std.specs.Prelude.{◌≡◌, IfSome, OnOk, map, string_bytes};
 ghost use Rattle.sv_program.specs.Command.{words_of, RunsCommand};
 
+use crate::command_fault::CommandFault;
+use crate::first_request::first;
 use std::alloc::Global;
 use std::io::{Read, Write};
-
-use crate::command_fault::CommandFault;
-use crate::first::first;
 
 /// A command of the program.
 #[derive(Clone, Copy, Debug, PartialEq, Eq)]

@@ -3,6 +3,7 @@
 ghost use Rattle.std.specs.Prelude.{◌≡◌, Some};
 ghost use Rattle.sv_program.specs.CommandFault.{fault_line, status_of};
 
+use std::alloc::AllocError;
 use std::error::Error;
 use std::fmt;
 use sv_text::NoMemory;
@@ -47,6 +48,16 @@ impl fmt::Display for CommandFault {
 }
 
 impl Error for CommandFault {}
+
+impl From<AllocError> for CommandFault {
+    ghost use Rattle.sv_program.specs.declared.command_fault.CommandFault.TheVariants.{NoMemory};
+
+    ghost from_gives = { λ _ fault. fault ≡ NoMemory };
+
+    fn from(_: AllocError) -> CommandFault {
+        CommandFault::NoMemory
+    }
+}
 
 impl From<NoMemory> for CommandFault {
     ghost use Rattle.sv_program.specs.declared.command_fault.CommandFault.TheVariants.{NoMemory};

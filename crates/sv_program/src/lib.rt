@@ -4,11 +4,10 @@
 mod command;
 mod command_fault;
 mod example_policy;
-mod first;
+mod first_request;
 mod limits;
 
 pub use command::Command;
 pub use command_fault::CommandFault;
-pub use first::{first, first_line};
+pub use first_request::{first, first_line};
 pub use limits::MAX_INPUT_BYTES;
-
