@@ -2,6 +2,7 @@
 
 use std::test::Fail;
 use sv_mapping::Pattern;
+use sv_program::first_line;
 use sv_text::Text;
 use sv_uri::canon;
 use sv_uri::path::Canon;
@@ -27,5 +28,8 @@ fn want_of_memory_is_not_the_answer_with_ample_memory(rt: HostRuntime) -> Result
         panic!(rt; "the message is missing");
     };
     assert_eq!(rt; message.method.as_str(), "GET");
+
+    let line = first_line(rt.alloc(), b"", false)?;
+    assert_eq!(rt; line.as_str(), "none");
     Ok(())
 }

@@ -8,6 +8,10 @@ mod best_matches;
 #[cfg(test)]
 mod canonical_paths;
 #[cfg(test)]
+mod command_runs;
+#[cfg(test)]
+mod first_lines;
+#[cfg(test)]
 mod pattern_texts;
 #[cfg(test)]
 mod specification_table;
