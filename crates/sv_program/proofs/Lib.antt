@@ -1,1 +1,2 @@
+mod FirstRequest
 mod ShortLists

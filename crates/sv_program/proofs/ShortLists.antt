@@ -1,5 +1,5 @@
 -- Lists of one and of two items, by their length and their items.
-use Rattle.std.proofs.Common.{◌≡◌, ℕ, ◌<◌, ◌≤◌, length, List, [], ◌∷◌, slice_index_or, arith, ap, refl, sym, suc}
+use Rattle.std.proofs.Common.{◌≡◌, ◌<◌, length, List, [], ◌∷◌, slice_index_or, arith, refl}
 
 -- a list of no items
 none : {A : Type 0} (xs : List A) → length xs < 1 → xs ≡ []

@@ -54,3 +54,9 @@ command_fault (Users context fault) = Some (Users context fault)
 command_fault User = Some User
 command_fault Method = Some Method
 command_fault NoMemory = None
+
+-- a fault that ends the reading of the input
+abbrev pub IsReadFault : CommandFault → Type 0
+IsReadFault Input = Unit {0}
+IsReadFault NoMemory = Unit {0}
+IsReadFault other = ⊥

@@ -1,6 +1,5 @@
 -- The fixed policy of the command `first`.
 use Rattle.std.specs.Prelude.{ℕ, Bool, List, [], ◌∷◌, codes}
-use Rattle.sv_constraints.specs.declared.constraint.Collection.{Collection}
 use Rattle.sv_constraints.specs.declared.constraint.Constraint.{Constraint}
 use Rattle.sv_constraints.specs.declared.constraint.Methods.{Methods}
 use Rattle.sv_constraints.specs.declared.constraint.Methods.TheVariants.{All, Only}
@@ -14,7 +13,7 @@ constraint_on number pattern methods = record {
   number = number;
   collections = record { patterns = pattern ∷ []; methods = methods } ∷ [];
   auth = Roles (codes "manager" ∷ []);
-  transport = Absent
+  transport = Absent;
 }
 
 -- `manager` everywhere, and below `/pub/` for GET alone

@@ -1,15 +1,14 @@
 //! The command that the program's arguments name.
 
-ghost use Rattle.std.specs.Prelude.{◌≡◌, ◌∷◌, [], IfSome, IsSome, map, codes, string_bytes};
+ghost use Rattle.std.specs.Prelude.{◌≡◌, ◌≢◌, IfErr, IfSome, IsSome, map, string_bytes};
 ghost use Rattle.sv_program.specs.Command.{words_of, RunsCommand};
 
+use crate::command_fault::CommandFault;
+use crate::first_request::first;
+use crate::policy_command::policy;
+use crate::question::Question;
 use std::io::{Read, Write};
 use std::rt::Files;
-
-use crate::command_fault::CommandFault;
-use crate::first::first;
-use crate::policy::policy;
-use crate::question::Question;
 
 /// A command of the program.
 #[derive(Clone, Copy, Debug, PartialEq, Eq)]
@@ -66,7 +65,9 @@ impl<'a> Command<'a> {
         reader: I,
         writer: &mut W,
     ) -> Result<(), CommandFault>
-        ensures { RunsCommand self.entry result (I.remaining reader) (W.contents writer.old) (W.contents writer.new) }
+        ensures written { RunsCommand self.entry result (I.remaining reader) (W.contents writer.old) (W.contents writer.new) }
+        ensures faults { IfErr result (λ fault. fault ≢ CommandFault.Usage) }
+        ensures untouched { IfErr result (λ fault. fault ≢ CommandFault.Output → writer.new ≡ writer.old) }
     {
         match self {
             Command::First { deny_uncovered } => first(rt.alloc(), reader, writer, deny_uncovered),

@@ -8,6 +8,6 @@ returns-in-len1-clause-named c =
     rw shape (search rules)
 
 pub returns-in-len2-clause-named : goal.returns-in-len2-clause-named
-returns-in-len2-clause-named c = 
+returns-in-len2-clause-named c =
     let shape = two_items c.args.arguments.now c.name-item-then-arguments-lt3.result c.option-item.result (omega arith) (omega arith) c.name-item-then-arguments-lt3.is c.option-item.is in
     rw shape (search rules)

@@ -1,22 +1,21 @@
 //! The command `policy`: what would become of a request, by the configuration of a server.
 
-ghost use Rattle.std.specs.Prelude.{◌≡◌};
+ghost use Rattle.std.specs.Prelude.{◌≡◌, ◌≢◌, IfErr};
 ghost use Rattle.std.specs.Option.{option_copied};
 ghost use Rattle.sv_text.specs.Gives.{Gives};
 ghost use Rattle.sv_program.specs.CommandFault.{command_fault};
 ghost use Rattle.sv_program.specs.Policy as spec;
-
-use std::alloc::Global;
-use std::io::Write;
-use std::rt::Files;
-use sv_explain::{ContextPolicy, ExplainFault, Explanation, explain_parts};
-use sv_text::Text;
 
 use crate::command_fault::CommandFault;
 use crate::configuration::{ContextTexts, configured_contexts, server_in};
 use crate::files::{read_contexts, read_text};
 use crate::output::write_line;
 use crate::question::Question;
+use std::alloc::Global;
+use std::io::Write;
+use std::rt::Files;
+use sv_explain::{ContextPolicy, ExplainFault, Explanation, explain_parts};
+use sv_text::Text;
 
 /// Reads the server file of the question, then for each of its contexts the descriptor and the users file, and writes the
 /// line that `policy_line` gives for them, and a line feed. The names in the server file are taken from its folder; the
@@ -30,13 +29,18 @@ pub fn policy<R: Files + AllocGlobal, W: Write>(
     writer: &mut W,
     question: &Question<'_>,
 ) -> Result<(), CommandFault>
-    ensures { spec.RunsPolicy question.now result (W.contents writer.old) (W.contents writer.new) }
+    ensures written { spec.RunsPolicy question.now result (W.contents writer.old) (W.contents writer.new) }
+    ensures faults { IfErr result (λ fault. fault ≢ CommandFault.Usage) }
+    ensures untouched { IfErr result (λ fault. fault ≢ CommandFault.Output → writer.new ≡ writer.old) }
 {
     let text = read_text(rt, question.config)?;
     let server = server_in(rt.alloc(), question.config, text.as_ref())?;
     let texts = read_contexts(rt, question.config, server.contexts)?;
     let line = policy_line(rt.alloc(), texts.as_slice(), question)?;
-    write_line(writer, line.as_str()).map_err(|_| CommandFault::Output)
+    match write_line(writer, line.as_str()) {
+        Ok(()) => Ok(()),
+        Err(_) => Err(CommandFault::Output),
+    }
 }
 
 /// The line that the command `policy` prints where the contexts of the server file have files of these texts: the text of

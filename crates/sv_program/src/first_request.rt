@@ -1,10 +1,14 @@
 //! The command `first`: what the example policy decides for the first request on a stream.
 
-ghost use Rattle.std.specs.Prelude.{◌≡◌, [], ◌∷◌, ◌++◌, string_bytes, option_copied, IfOk, OnOk, IfSome};
+ghost use Rattle.std.specs.Prelude.{◌≡◌, ◌≢◌, [], ◌∷◌, ◌++◌, take, string_bytes, option_copied, IfOk, IfErr, OnOk, IfSome};
 ghost use Rattle.std.specs.Io.KnownBytes.{Appends};
 ghost use Rattle.sv_wire.specs.Items.{first_item};
+ghost use Rattle.sv_program.specs.CommandFault.{IsReadFault};
 ghost use Rattle.sv_program.specs.FirstLine.{item_line, message_line, decision_line, refused_line, IsFirstLine, RunsFirst};
 
+use crate::command_fault::CommandFault;
+use crate::example_policy::example_constraints;
+use crate::limits::MAX_INPUT_BYTES;
 use std::alloc::Global;
 use std::fmt::Display;
 use std::io;
@@ -14,10 +18,6 @@ use sv_text::{Listed, NoMemory};
 use sv_uri::canon;
 use sv_uri::fault::CanonFault;
 use sv_wire::{Inbox, Item, Message, Target};
-
-use crate::command_fault::CommandFault;
-use crate::example_policy::example_constraints;
-use crate::limits::MAX_INPUT_BYTES;
 
 /// Reads `reader` to its end, but at most `MAX_INPUT_BYTES` bytes, and writes the line that `first_line` gives for
 /// them, and a line feed.
@@ -29,25 +29,34 @@ pub fn first<R: Read + Drop, W: Write>(
     writer: &mut W,
     deny_uncovered: bool,
 ) -> Result<(), CommandFault>
-    ensures { OnOk result (RunsFirst deny_uncovered (R.remaining reader) (W.contents writer.old) (W.contents writer.new)) }
+    ensures written { OnOk result (RunsFirst deny_uncovered (R.remaining reader) (W.contents writer.old) (W.contents writer.new)) }
+    ensures faults { IfErr result (λ fault. fault ≢ CommandFault.Usage) }
+    ensures untouched { IfErr result (λ fault. fault ≢ CommandFault.Output → writer.new ≡ writer.old) }
+{
+    let input = read_input(alloc, reader)?;
+    let line = first_line(alloc, input.as_slice(), deny_uncovered)?;
+    match write_line(writer, line.as_str()) {
+        Ok(()) => Ok(()),
+        Err(_) => Err(CommandFault::Output),
+    }
+}
+
+fn read_input<R: Read + Drop>(alloc: Global, reader: R) -> Result<Vec<u8>, CommandFault>
+    ensures front { IfOk result (λ input. IfSome (R.remaining reader) (λ bytes. input.items ≡ take 65536 bytes)) }
+    ensures faults { IfErr result IsReadFault }
 {
     let mut input = Vec::new(alloc);
-    reader
-        .take(MAX_INPUT_BYTES)
-        .read_to_end(&mut input)
-        .map_err(input_fault)?;
-    let line = first_line(alloc, input.as_slice(), deny_uncovered)?;
-    write_line(writer, line.as_str()).map_err(|_| CommandFault::Output)
+    match reader.take(MAX_INPUT_BYTES).read_to_end(&mut input) {
+        Ok(_) => Ok(input),
+        Err(error) if error.kind() == ErrorKind::OutOfMemory => Err(CommandFault::NoMemory),
+        Err(_) => Err(CommandFault::Input),
+    }
 }
 
 /// The line that the command `first` prints for a stream that holds `input`: the decision of the example policy on
 /// the first request, `refused cause=NAME` where that request is refused before a decision, or `none` where the stream
 /// holds no whole request.
-pub fn first_line(
-    alloc: Global,
-    input: &[u8],
-    deny_uncovered: bool,
-) -> Result<String, NoMemory>
+pub fn first_line(alloc: Global, input: &[u8], deny_uncovered: bool) -> Result<String, NoMemory>
     ensures { IfOk result (λ line. IsFirstLine input.now deny_uncovered (string_bytes line)) }
 {
     let mut inbox = Inbox::new(alloc);
@@ -59,14 +68,15 @@ pub fn first_line(
 fn first_item(items: &[Item]) -> Option<&Item>
     ensures { option_copied result ≡ first_item items.now }
 {
-    items.iter().find(|item| !matches!(item, Item::Continue))
+    for item in items {
+        if !matches!(item, Item::Continue) {
+            return Some(item);
+        }
+    }
+    None
 }
 
-fn item_line(
-    alloc: Global,
-    item: Option<&Item>,
-    deny_uncovered: bool,
-) -> Result<String, NoMemory>
+fn item_line(alloc: Global, item: Option<&Item>, deny_uncovered: bool) -> Result<String, NoMemory>
     ensures { IfOk result (λ line. string_bytes line ≡ item_line (option_copied item.entry) deny_uncovered) }
 {
     match item {
@@ -76,11 +86,7 @@ fn item_line(
     }
 }
 
-fn message_line(
-    alloc: Global,
-    message: &Message,
-    deny_uncovered: bool,
-) -> Result<String, NoMemory>
+fn message_line(alloc: Global, message: &Message, deny_uncovered: bool) -> Result<String, NoMemory>
     ensures { IfOk result (λ line. string_bytes line ≡ message_line message.now deny_uncovered) }
 {
     let Target::Path(target) = &message.target else {
@@ -126,11 +132,4 @@ fn write_line<W: Write>(writer: &mut W, line: &str) -> io::Result<()>
 {
     writer.writeln(line)?;
     writer.flush()
-}
-
-fn input_fault(error: io::Error) -> CommandFault {
-    match error.kind() {
-        ErrorKind::OutOfMemory => CommandFault::NoMemory,
-        _ => CommandFault::Input,
-    }
 }
