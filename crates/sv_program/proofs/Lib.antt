@@ -1,2 +1,6 @@
+mod Faults
 mod FirstRequest
 mod ShortLists
+mod Steps
+mod Users
+mod Words

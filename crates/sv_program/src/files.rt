@@ -1,11 +1,10 @@
 //! The texts of configuration files. What a file holds is known to no contract.
 
-ghost use Rattle.std.specs.Prelude.{◌≡◌, map, IfOk, path_buf_bytes};
+ghost use Rattle.std.specs.Prelude.{◌≡◌, map, IfOk};
 
-use std::alloc::Global;
 use std::fs;
 use std::io::ErrorKind;
-use std::path::{Path, PathBuf};
+use std::path::Path;
 use std::rt::Files;
 use sv_settings::ContextEntry;
 use sv_text::{Listed, NoMemory, Text};

@@ -1,5 +1,5 @@
 use Rattle.std.proofs.Common.{rules, arith}
-use Rattle.sv_program.proofs.ShortLists.{one_item, two_items}
+use Rattle.sv_program.proofs.ShortLists.{one_item, two_items, four_items, five_items}
 use Rattle.sv_program.proofs.command.Command.parse.Goals as goal
 
 pub returns-in-len1-clause-named : goal.returns-in-len1-clause-named
@@ -11,3 +11,12 @@ pub returns-in-len2-clause-named : goal.returns-in-len2-clause-named
 returns-in-len2-clause-named c =
     let shape = two_items c.args.arguments.now c.name-item-then-arguments-lt3.result c.option-item.result (omega arith) (omega arith) c.name-item-then-arguments-lt3.is c.option-item.is in
     rw shape (search rules)
+
+pub returns-in-len4-clause-named : goal.returns-in-len4-clause-named
+returns-in-len4-clause-named c = ?
+
+pub returns-in-len5-clause-named : goal.returns-in-len5-clause-named
+returns-in-len5-clause-named c = ?
+
+pub returns-in_default-clause-found : goal.returns-in_default-clause-found
+returns-in_default-clause-found c = ?
