@@ -3,3 +3,4 @@ pub mod Tables
 pub mod Sets
 pub mod Differing
 pub mod Yields
+pub mod HexTexts
