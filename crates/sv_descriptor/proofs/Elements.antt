@@ -1,22 +1,21 @@
 -- A descriptor that was read is well-formed.
-use Rattle.std.proofs.Common.{◌≡◌, ℕ, ◌<◌, ◌≤◌, Bool, true, false, not, cond, codes, List, [], ◌∷◌, length, map, Option, Some, None, Result, Ok, Err, refl, sym, ap, ◌∙◌, subst, arith, rules}
-use Rattle.std.specs.List.{All, Contains, list_all}
+use Rattle.std.proofs.Common.{◌≡◌, ℕ, ◌≤◌, Bool, true, false, not, codes, List, [], ◌∷◌, length, Option, Ok, refl, subst, arith}
+use Rattle.std.specs.List.{list_all}
 use Rattle.std.specs.Option.{IfSome}
 use Rattle.std.proofs.lemmas.Option.{IfSome_then}
 use Rattle.sv_schema.specs.ListOf.{list_of}
 use Rattle.sv_constraints.specs.declared.constraint.Constraint.{Constraint}
 use Rattle.std.proofs.lemmas.List.Sums.{AllPass-from_list_all}
-use Rattle.toml.specs.Data.{Data, Members}
-use Rattle.sv_constraints.specs.Covering.{patterns_in}
-use Rattle.sv_schema.specs.Fault.{Reads, check, ◌>>=◌, ◌>>◌}
-use Rattle.sv_schema.specs.Names.{Differ, repeats}
+use Rattle.toml.specs.Data.{Members}
+use Rattle.sv_schema.specs.Fault.{Reads, check}
+use Rattle.sv_schema.specs.Names.{repeats}
 use Rattle.sv_schema.specs.Table.{is_among, optional, optional_or}
 use Rattle.sv_schema.specs.Value.{truth, table_of, whole_of, number_between, is_text, text_of}
 use Rattle.sv_schema.specs.declared.fault.FaultCode.TheVariants.{DuplicatePattern, UnknownServlet, UnknownFilter, DuplicateName}
 use Rattle.sv_schema.specs.declared.limits.TheConstants.{MAX_LIST_ITEMS}
 use Rattle.sv_schema.proofs.Differing.{Differ-repeats, Contains-is_among}
-use Rattle.sv_schema.proofs.Yields.{Yields, IsListOf, bind-Ok, check-Ok, table_of-yields, list_of-yields, optional-Ok, optional_or-Ok, required-Ok}
-use Rattle.sv_descriptor.specs.Agreement.{elements_agree, names_differ, servlet_mappings_fit, filter_mappings_fit, servlet_names, filter_names, servlet_patterns, is_known_servlet}
+use Rattle.sv_schema.proofs.Yields.{IsListOf, bind-Ok, check-Ok, table_of-yields, list_of-yields, optional-Ok, optional_or-Ok, required-Ok}
+use Rattle.sv_descriptor.specs.Agreement.{elements_agree, names_differ, servlet_mappings_fit, servlet_names, filter_names, servlet_patterns, is_known_servlet}
 use Rattle.sv_descriptor.specs.Constraint.{constraints}
 use Rattle.sv_descriptor.specs.Descriptor.{descriptor, tables, top_keys, web_app}
 use Rattle.sv_descriptor.specs.ErrorPage.{error_page}
@@ -29,12 +28,12 @@ use Rattle.sv_descriptor.specs.Role.{is_reserved_role, security_role}
 use Rattle.sv_descriptor.specs.Servlet.{is_reserved_servlet, servlet, servlet_mapping}
 use Rattle.sv_descriptor.specs.Session.{session_config}
 use Rattle.sv_descriptor.specs.WelcomeFile.{welcome_file, welcome_file_list}
-use Rattle.sv_descriptor.specs.WellFormed.{AreNumbered, HasShortLists, IsWellFormed}
+use Rattle.sv_descriptor.specs.WellFormed.{IsWellFormed}
 use Rattle.sv_descriptor.specs.declared.descriptor.Descriptor.{Descriptor}
 use Rattle.sv_descriptor.specs.declared.error_page.ErrorPage.{ErrorPage}
 use Rattle.sv_descriptor.specs.declared.filter.FilterEntry.{FilterEntry}
 use Rattle.sv_descriptor.specs.declared.filter.FilterMapping.{FilterMapping}
-use Rattle.sv_descriptor.specs.declared.limits.TheConstants.{DEFAULT_SESSION_TIMEOUT, MAX_PATTERNS_OF_CONSTRAINT, MAX_SESSION_TIMEOUT, VERSION}
+use Rattle.sv_descriptor.specs.declared.limits.TheConstants.{DEFAULT_SESSION_TIMEOUT, MAX_SESSION_TIMEOUT, VERSION}
 use Rattle.sv_descriptor.specs.declared.listener.ListenerEntry.{ListenerEntry}
 use Rattle.sv_descriptor.specs.declared.login.FormLogin.{FormLogin}
 use Rattle.sv_descriptor.specs.declared.servlet.ServletEntry.{ServletEntry}
@@ -46,7 +45,7 @@ tables-Ok : {A : Type 0} (P : A → Type 0) (reads : Members → Reads A) → ((
     → (key : List ℕ) (members : Members) (found : List A) → optional_or [] (tables reads) key members ≡ Ok found → IsListOf P MAX_LIST_ITEMS found
 tables-Ok P reads h key members found e =
     optional_or-Ok (IsListOf P MAX_LIST_ITEMS) [] (tables reads) (record { short = omega arith; each = λ k d l. absurd (omega arith) })
-      (list_of-yields P 0 MAX_LIST_ITEMS _ (table_of reads) (table_of-yields P reads h)) key members found e
+    (list_of-yields P 0 MAX_LIST_ITEMS _ (table_of reads) (table_of-yields P reads h)) key members found e
 
 abbrev Any : {A : Type 0} → A → Type 0
 Any a = Unit {0}
@@ -57,8 +56,8 @@ none = record { short = omega arith; each = λ k d l. absurd (omega arith) }
 welcome_file_list-Ok : (members : Members) (files : List (List ℕ)) → welcome_file_list members ≡ Ok files → IsListOf Any MAX_LIST_ITEMS files
 welcome_file_list-Ok members files e =
     bind-Ok (element_keys (codes "welcome-file" ∷ []) members) _ _ e (λ _ _ e1.
-      required-Ok (IsListOf Any MAX_LIST_ITEMS) (list_of 0 MAX_LIST_ITEMS is_text (text_of welcome_file))
-        (list_of-yields Any 0 MAX_LIST_ITEMS is_text (text_of welcome_file) (λ _ _ _ _. tt)) (codes "welcome-file") members files e1)
+    required-Ok (IsListOf Any MAX_LIST_ITEMS) (list_of 0 MAX_LIST_ITEMS is_text (text_of welcome_file))
+    (list_of-yields Any 0 MAX_LIST_ITEMS is_text (text_of welcome_file) (λ _ _ _ _. tt)) (codes "welcome-file") members files e1)
 
 -- what holds of the elements one by one
 record HasElements (d : Descriptor) : Type 0 where
@@ -90,28 +89,38 @@ web_app-Ok members d e =
     bind-Ok (optional_or [] constraints (codes "security-constraint") members) _ _ e10 (λ a10 r10 e11.
     bind-Ok (optional_or [] (tables security_role) (codes "security-role") members) _ _ e11 (λ a11 r11 e12.
     bind-Ok (optional (table_of login_config) (codes "login-config") members) _ _ e12 (λ a12 r12 e13.
-      let same : read_as a1 a2 a3 a4 a5 a6 a7 a8 a9 a10 a11 a12 ≡ d = cc in
-      subst HasElements same (record {
-        servlets = tables-Ok _ servlet servlet-Ok (codes "servlet") members a2 r2;
-        servlet_mappings = (tables-Ok Any servlet_mapping (λ _ _ _. tt) (codes "servlet-mapping") members a3 r3).short;
-        filters = (tables-Ok Any filter_entry (λ _ _ _. tt) (codes "filter") members a4 r4).short;
-        filter_mappings = (tables-Ok Any filter_mapping (λ _ _ _. tt) (codes "filter-mapping") members a5 r5).short;
-        listeners = (tables-Ok Any listener (λ _ _ _. tt) (codes "listener") members a6 r6).short;
-        session_timeout = optional_or-Ok (λ t. t ≤ MAX_SESSION_TIMEOUT) DEFAULT_SESSION_TIMEOUT (table_of session_config) (omega arith)
+    let same : read_as a1 a2 a3 a4 a5 a6 a7 a8 a9 a10 a11 a12 ≡ d = cc in
+    subst HasElements same (record {
+      servlets = tables-Ok _ servlet servlet-Ok (codes "servlet") members a2 r2;
+      servlet_mappings = (tables-Ok Any servlet_mapping (λ _ _ _. tt) (codes "servlet-mapping") members a3 r3).short;
+      filters = (tables-Ok Any filter_entry (λ _ _ _. tt) (codes "filter") members a4 r4).short;
+      filter_mappings = (tables-Ok Any filter_mapping (λ _ _ _. tt) (codes "filter-mapping") members a5 r5).short;
+      listeners = (tables-Ok Any listener (λ _ _ _. tt) (codes "listener") members a6 r6).short;
+      session_timeout = optional_or-Ok (λ t. t ≤ MAX_SESSION_TIMEOUT) DEFAULT_SESSION_TIMEOUT (table_of session_config) (omega arith)
           (table_of-yields _ session_config session_config-Ok) (codes "session-config") members a7 r7;
-        welcome_files = (optional_or-Ok (IsListOf Any MAX_LIST_ITEMS) [] (table_of welcome_file_list) none
+      welcome_files = (optional_or-Ok (IsListOf Any MAX_LIST_ITEMS) [] (table_of welcome_file_list) none
           (table_of-yields _ welcome_file_list welcome_file_list-Ok) (codes "welcome-file-list") members a8 r8).short;
-        error_pages = tables-Ok _ error_page error_page-Ok (codes "error-page") members a9 r9;
-        constraints = optional_or-Ok AreConstraints [] constraints (record { short = omega arith; numbered = λ i d l. absurd (omega arith); few_patterns = λ i d l. absurd (omega arith) })
+      error_pages = tables-Ok _ error_page error_page-Ok (codes "error-page") members a9 r9;
+      constraints = optional_or-Ok AreConstraints [] constraints (record { short = omega arith; numbered = λ i d l. absurd (omega arith); few_patterns = λ i d l. absurd (omega arith) })
           constraints-yields (codes "security-constraint") members a10 r10;
-        roles = tables-Ok _ security_role security_role-Ok (codes "security-role") members a11 r11;
-        login = optional-Ok HasPages (table_of login_config) (table_of-yields HasPages login_config login_config-Ok) (codes "login-config") members a12 r12;
-      })))))))))))))))
+      roles = tables-Ok _ security_role security_role-Ok (codes "security-role") members a11 r11;
+      login = optional-Ok HasPages (table_of login_config) (table_of-yields HasPages login_config login_config-Ok) (codes "login-config") members a12 r12;
+    })))))))))))))))
   where
     read_as : Bool → List ServletEntry → List ServletMapping → List FilterEntry → List FilterMapping → List ListenerEntry → ℕ → List (List ℕ) → List ErrorPage → List Constraint → List (List ℕ) → Option FormLogin → Descriptor
     read_as a1 a2 a3 a4 a5 a6 a7 a8 a9 a10 a11 a12 = record {
-      deny_uncovered = a1; servlets = a2; servlet_mappings = a3; filters = a4; filter_mappings = a5; listeners = a6;
-      session_timeout = a7; welcome_files = a8; error_pages = a9; constraints = a10; roles = a11; login = a12;
+      deny_uncovered = a1;
+      servlets = a2;
+      servlet_mappings = a3;
+      filters = a4;
+      filter_mappings = a5;
+      listeners = a6;
+      session_timeout = a7;
+      welcome_files = a8;
+      error_pages = a9;
+      constraints = a10;
+      roles = a11;
+      login = a12;
     }
 
 -- what holds of the elements together
@@ -136,15 +145,15 @@ elements_agree-Ok d u e =
     bind-Ok (check (not (repeats (filter_names d))) DuplicateName (codes "filter-name")) _ _ f1 (λ v2 c2 c3.
     bind-Ok (check (list_all (λ mapping. is_among (servlet_names d) mapping.servlet_name) d.servlet_mappings) UnknownServlet (codes "servlet-name")) _ _ servlets (λ v4 c4 c5.
     bind-Ok (check (list_all (λ mapping. is_among (filter_names d) mapping.filter_name) d.filter_mappings) UnknownFilter (codes "filter-name")) _ _ filters (λ v6 c6 c7.
-      record {
-        servlets_differ = not-true _ (check-Ok _ DuplicateName (codes "servlet-name") v1 c1);
-        filters_differ = not-true _ (check-Ok _ DuplicateName (codes "filter-name") v2 c2);
-        roles_differ = not-true _ (check-Ok _ DuplicateName (codes "role-name") u1 c3);
-        servlets_declared = check-Ok _ UnknownServlet (codes "servlet-name") v4 c4;
-        patterns_differ = not-true _ (check-Ok _ DuplicatePattern (codes "url-pattern") u2 c5);
-        filters_declared = check-Ok _ UnknownFilter (codes "filter-name") v6 c6;
-        servlets_known = check-Ok _ UnknownServlet (codes "servlet-name") u c7;
-      }))))))
+    record {
+      servlets_differ = not-true _ (check-Ok _ DuplicateName (codes "servlet-name") v1 c1);
+      filters_differ = not-true _ (check-Ok _ DuplicateName (codes "filter-name") v2 c2);
+      roles_differ = not-true _ (check-Ok _ DuplicateName (codes "role-name") u1 c3);
+      servlets_declared = check-Ok _ UnknownServlet (codes "servlet-name") v4 c4;
+      patterns_differ = not-true _ (check-Ok _ DuplicatePattern (codes "url-pattern") u2 c5);
+      filters_declared = check-Ok _ UnknownFilter (codes "filter-name") v6 c6;
+      servlets_known = check-Ok _ UnknownServlet (codes "servlet-name") u c7;
+    }))))))
 
 well_formed : (d : Descriptor) → HasElements d → Agrees d → IsWellFormed d
 well_formed d has agrees = record {
@@ -180,5 +189,5 @@ pub IsWellFormed-descriptor : (members : Members) (d : Descriptor) → descripto
 IsWellFormed-descriptor members d e =
     bind-Ok (web_app members) _ _ e (λ found read e1.
     bind-Ok (elements_agree found) _ _ e1 (λ u agree e2.
-      let same : found ≡ d = cc in
-      subst IsWellFormed same (well_formed found (web_app-Ok members found read) (elements_agree-Ok found u agree))))
+    let same : found ≡ d = cc in
+    subst IsWellFormed same (well_formed found (web_app-Ok members found read) (elements_agree-Ok found u agree))))

@@ -1,5 +1,5 @@
 -- What holds of all that is read.
-use Rattle.std.proofs.Common.{◌≡◌, ℕ, zero, suc, ◌+◌, ◌<◌, ◌≤◌, ℤ, Bool, true, false, cond, List, [], ◌∷◌, length, Option, Some, None, Result, Ok, Err, if◌then◌else◌, not, refl, sym, ap, ◌∙◌, subst, arith, rules, nat_lt}
+use Rattle.std.proofs.Common.{◌≡◌, ℕ, suc, ◌≤◌, ℤ, Bool, true, false, List, [], ◌∷◌, length, Option, Some, None, Result, Ok, Err, if◌then◌else◌, not, refl, sym, ap, ◌∙◌, subst, arith, nat_lt}
 use Rattle.std.specs.List.{All, list_all}
 use Rattle.std.specs.Option.{IfSome}
 use Rattle.std.specs.Result.{IfOk}
@@ -11,7 +11,7 @@ use Rattle.std.proofs.lemmas.Bool.Decides.{nat_tests}
 use Rattle.std.proofs.lemmas.List.Elements.{All-cons}
 use Rattle.toml.specs.Data.{Data, string, integer, float, boolean, datetime, array, table, Members, get_member}
 use Rattle.sv_schema.specs.Fault.{Reads, ◌>>=◌, fault, refuse, check}
-use Rattle.sv_schema.specs.ListOf.{each, items_list, list_items, list_of, sized_items}
+use Rattle.sv_schema.specs.ListOf.{each, items_list, list_items, list_of}
 use Rattle.sv_schema.specs.Table.{optional, optional_or, optional_value, or_else, required, required_value}
 use Rattle.sv_schema.specs.Value.{Reader, table_of, text_of, whole_of}
 use Rattle.sv_schema.specs.declared.fault.FaultCode.{FaultCode}
@@ -82,24 +82,24 @@ module _ {A : Type 0} (P : A → Type 0) where
   pub optional_or-Ok : (other : A) (reads : Reader A) → P other → Yields P reads → (key : List ℕ) (members : Members) (a : A) → optional_or other reads key members ≡ Ok a → P a
   optional_or-Ok other reads p h key members a e =
       bind-Ok (optional reads key members) _ _ e (λ found ef eq.
-        let same : or_else other found ≡ a = cc in
-        subst P same (or_else-holds other found p (optional-Ok reads h key members found ef)))
+      let same : or_else other found ≡ a = cc in
+      subst P same (or_else-holds other found p (optional-Ok reads h key members found ef)))
 
   each-All : (reads : Data → Reads A) → ((value : Data) (a : A) → reads value ≡ Ok a → P a) → (values : List Data) (found : List A) → each reads values ≡ Ok found → All P found
   each-All reads h [] found e = let same : [] ≡ found = cc in subst (All P) same (λ k d l. absurd (omega arith))
   each-All reads h (value ∷ rest) found e =
       bind-Ok (reads value) _ _ e (λ a ea er.
-        bind-Ok (each reads rest) _ _ er (λ others eo eq.
-          let same : a ∷ others ≡ found = cc in
-          subst (All P) same (All-cons P a others (h value a ea) (each-All reads h rest others eo))))
+      bind-Ok (each reads rest) _ _ er (λ others eo eq.
+      let same : a ∷ others ≡ found = cc in
+      subst (All P) same (All-cons P a others (h value a ea) (each-All reads h rest others eo))))
 
 each-length : {A : Type 0} (reads : Data → Reads A) (values : List Data) (found : List A) → each reads values ≡ Ok found → length found ≡ length values
 each-length reads [] found e = let same : [] ≡ found = cc in ap length (sym same)
 each-length reads (value ∷ rest) found e =
     bind-Ok (reads value) _ _ e (λ a ea er.
-      bind-Ok (each reads rest) _ _ er (λ others eo eq.
-        let same : a ∷ others ≡ found = cc in
-        ap length (sym same) ∙ ap suc (each-length reads rest others eo)))
+    bind-Ok (each reads rest) _ _ er (λ others eo eq.
+    let same : a ∷ others ≡ found = cc in
+    ap length (sym same) ∙ ap suc (each-length reads rest others eo)))
 
 sized-at : (other : Bool) (short : Bool) (least most : ℕ) (key : List ℕ) (items found : List Data) → nat_lt most (length items) ≡ other
     → (if other then refuse TooMany key else if short then refuse BadValue key else Ok items) ≡ Ok found → (items ≡ found) × (length items ≤ most)

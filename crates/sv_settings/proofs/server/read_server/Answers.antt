@@ -6,4 +6,4 @@ use Rattle.sv_settings.proofs.server.read_server.Goals as goal
 pub returns-clause-well_formed : goal.returns-clause-well_formed
 returns-clause-well_formed c =
     IfOk-Gives IsWellFormedServer c.read_document.result (server_of c.args.text.now)
-      (document-Ok IsWellFormedServer server server-Ok c.args.text.now) c.read_document.ensures
+    (document-Ok IsWellFormedServer server server-Ok c.args.text.now) c.read_document.ensures
