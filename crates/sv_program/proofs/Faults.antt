@@ -1,5 +1,5 @@
 -- No step of the command `policy` has the fault of wrong arguments.
-use Rattle.std.proofs.Common.{◌≡◌, ◌≢◌, ℕ, List, [], ◌∷◌, Option, Some, None, Result, Ok, Err, refl}
+use Rattle.std.proofs.Common.{◌≡◌, ◌≢◌, ℕ, List, [], ◌∷◌, Option, Some, None, Result, Ok, Err, IfErr, IsErrAnd, refl, sym, ◌∙◌}
 use Rattle.std.specs.Option.{ok_or}
 use Rattle.sv_schema.specs.Fault.{Reads}
 use Rattle.sv_schema.specs.declared.fault.DescriptorFault.{DescriptorFault}
@@ -74,3 +74,7 @@ is_no_usage (Users context found) answer h not = λ same. cc
 is_no_usage User answer h not = λ same. cc
 is_no_usage Method answer h not = λ same. cc
 is_no_usage fault.NoMemory answer h not = λ same. cc
+
+pub handed_on : {A : Type 0} (result : Result A CommandFault) (fault : CommandFault) → IsErrAnd result (λ e. e ≡ fault) → fault ≢ Usage → IfErr result (λ e. e ≢ Usage)
+handed_on (Ok a) fault h not = tt
+handed_on (Err e) fault h not = λ same. not (sym h ∙ same)

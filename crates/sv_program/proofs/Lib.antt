@@ -2,5 +2,4 @@ mod Faults
 mod FirstRequest
 mod ShortLists
 mod Steps
-mod Users
 mod Words
