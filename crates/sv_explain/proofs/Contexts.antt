@@ -1,5 +1,5 @@
 -- The longest context path that leads to a path.
-use Rattle.std.proofs.Common.{◌≡◌, ℕ, ◌<◌, ◌≤◌, ◌+◌, Bool, true, false, cond, ◌&&◌, ◌||◌, not, List, [], ◌∷◌, length, map, take, get_or, ltb, refl, sym, ◌∙◌, ap, arith, inl, inr, Option, Some, None, IsTrue, IfSome, Bor}
+use Rattle.std.proofs.Common.{◌≡◌, ℕ, ◌<◌, ◌+◌, Bool, true, false, cond, ◌&&◌, ◌||◌, not, List, [], ◌∷◌, length, map, take, get_or, ltb, refl, sym, ◌∙◌, ap, arith, inl, inr, Option, Some, None, IsTrue, IfSome, Bor}
 use Rattle.std.specs.List.{Contains, list_any, find}
 use Rattle.std.specs.Option.{option_copied}
 use Rattle.std.proofs.lemmas.Bool.Decides.{nat_tests}
@@ -120,8 +120,8 @@ module _ (path : List ℕ) where
   attained [] h = cc
   attained (context ∷ rest) h =
       attained_at context rest (longest_of rest) _ _ refl refl (attained rest)
-        (λ below. weaken (λ other. serves other && ltb (length context) (length other)) serves (λ other e. (and_parts _ _ e).0) rest (longer_than (length context) rest ∙ below))
-        h
+      (λ below. weaken (λ other. serves other && ltb (length context) (length other)) serves (λ other e. (and_parts _ _ e).0) rest (longer_than (length context) rest ∙ below))
+      h
 
 pub chosen_where_served : (contexts : List (List ℕ)) (path : List ℕ) → list_any (is_chosen contexts path) contexts ≡ list_any (λ context. is_within context path) contexts
 chosen_where_served contexts path =

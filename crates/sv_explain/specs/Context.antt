@@ -1,5 +1,5 @@
 -- Jakarta Servlet 6.0, section 12.1: the context of a request has the longest context path that matches the start of its path.
-use Rattle.std.specs.Prelude.{◌≡◌, ℕ, Bool, ◌&&◌, not, nat_lt, List, length, map, find, Option, is_some, IsTrue, Contains}
+use Rattle.std.specs.Prelude.{◌≡◌, ℕ, Bool, ◌&&◌, not, nat_lt, List, length, map, find, Option, IsTrue, Contains}
 use Rattle.std.specs.List.{list_any}
 use Rattle.sv_mapping.specs.Pattern.{is_within}
 use Rattle.sv_explain.specs.declared.context.ContextPolicy.{ContextPolicy}

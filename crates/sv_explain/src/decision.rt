@@ -62,9 +62,8 @@ impl OwnedDecision {
         ensures { result.now ≡ why_of self.now }
     {
         match self {
-            OwnedDecision::Open(why)
-            | OwnedDecision::Login(why)
-            | OwnedDecision::Denied(why) => why,
+            OwnedDecision::Open(why) | OwnedDecision::Login(why) | OwnedDecision::Denied(why) =>
+                why,
         }
     }
 }

@@ -5,11 +5,10 @@ ghost use Rattle.std.specs.Option.{option_map_or};
 ghost use Rattle.std.specs.Fmt.{decimal};
 ghost use Rattle.sv_explain.specs.Text as spec;
 
+use crate::decision::{OwnedDecision, OwnedWhy};
 use std::fmt;
 use sv_text::Text;
 use sv_uri::fault::PathFault;
-
-use crate::decision::{OwnedDecision, OwnedWhy};
 
 /// What would become of a request.
 #[derive(Debug, Drop)]

@@ -1,13 +1,10 @@
 -- No step of the command `policy` has the fault of wrong arguments.
 use Rattle.std.proofs.Common.{◌≡◌, ◌≢◌, ℕ, List, [], ◌∷◌, Option, Some, None, Result, Ok, Err, IfErr, IsErrAnd, refl, sym, ◌∙◌}
-use Rattle.std.specs.Option.{ok_or}
 use Rattle.sv_schema.specs.Fault.{Reads}
-use Rattle.sv_schema.specs.declared.fault.DescriptorFault.{DescriptorFault}
 use Rattle.sv_settings.specs.Users.{users_of}
 use Rattle.sv_descriptor.specs.Descriptor.{descriptor_of}
 use Rattle.sv_explain.specs.Explanation.{explanation}
 use Rattle.sv_explain.specs.declared.explanation.Explanation.{Explanation}
-use Rattle.sv_explain.specs.declared.context.ContextPolicy.{ContextPolicy}
 use Rattle.sv_explain.specs.declared.fault.ExplainFault.{ExplainFault}
 use Rattle.sv_explain.specs.declared.fault.ExplainFault.TheVariants.{BadMethod, NoSuchUser, NoMemory}
 use Rattle.sv_program.specs.Configuration.{Step, ◌>>=◌, configured_context, configured_contexts, descriptor_in, each, text_of, told, users_in, users_named}

@@ -1,12 +1,11 @@
 -- The words of a command.
-use Rattle.std.proofs.Common.{◌≡◌, ℕ, ◌<◌, ◌≤◌, Bool, true, false, List, [], ◌∷◌, length, map, codes, slice_index_or, arith, refl, sym, ◌∙◌, subst, Option, Some, None, option_to_list, option_copied, Bor}
+use Rattle.std.proofs.Common.{◌≡◌, ℕ, ◌<◌, Bool, true, false, List, [], ◌∷◌, length, map, codes, slice_index_or, arith, refl, sym, ◌∙◌, Option, Some, None, option_to_list, option_copied, Bor}
 use Rattle.std.specs.Str.{bytes_eq}
 use Rattle.std.proofs.lemmas.Bool.{both_ways}
 use Rattle.std.proofs.lemmas.Slice.Eq.{bytes_eq-Decides}
 use Rattle.sv_program.specs.Command.{words_of}
 use Rattle.sv_program.specs.declared.command.Command.{Command}
 use Rattle.sv_program.specs.declared.command.Command.TheVariants.{First, Policy}
-use Rattle.sv_program.specs.declared.question.Question.{Question}
 use Rattle.sv_program.proofs.ShortLists.{one_item, two_items, four_items, five_items}
 
 -- the lengths of the words of a command, and the words that are given

@@ -7,6 +7,7 @@ ghost use Rattle.sv_program.specs.CommandFault.{command_fault};
 ghost use Rattle.sv_program.specs.Configuration as spec;
 ghost use Rattle.sv_program.specs.declared.command_fault.CommandFault.TheVariants.{File};
 
+use crate::command_fault::CommandFault;
 use std::alloc::Global;
 use sv_descriptor::{Descriptor, read_descriptor};
 use sv_explain::ContextPolicy;
@@ -14,8 +15,6 @@ use sv_realm::Realm;
 use sv_schema::ReadFault;
 use sv_settings::{ContextEntry, Server, read_server, read_users};
 use sv_text::{Listed, Text};
-
-use crate::command_fault::CommandFault;
 
 /// A context of a server file, with the texts of the files that it names.
 #[derive(Debug, Drop)]
@@ -32,11 +31,7 @@ pub struct ContextTexts {
 ///
 /// # Errors
 /// [`CommandFault::File`] where the file could not be read, [`CommandFault::Server`], or [`CommandFault::NoMemory`].
-pub fn server_in(
-    alloc: Global,
-    name: &str,
-    text: Option<&Text>,
-) -> Result<Server, CommandFault>
+pub fn server_in(alloc: Global, name: &str, text: Option<&Text>) -> Result<Server, CommandFault>
     ensures { Gives command_fault result (spec.server_in name.now (option_copied text.entry)) }
 {
     let Some(text) = text else {

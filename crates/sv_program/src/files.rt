@@ -2,14 +2,13 @@
 
 ghost use Rattle.std.specs.Prelude.{◌≡◌, map, IfOk};
 
+use crate::configuration::ContextTexts;
 use std::fs;
 use std::io::ErrorKind;
 use std::path::Path;
 use std::rt::Files;
 use sv_settings::ContextEntry;
 use sv_text::{Listed, NoMemory, Text};
-
-use crate::configuration::ContextTexts;
 
 /// The text of a file, none where the file is missing, cannot be read or is not UTF-8.
 pub fn read_text<R: Files + AllocGlobal>(rt: &R, name: &str) -> Result<Option<Text>, NoMemory> {

@@ -22,4 +22,3 @@ pub use question::Question;
 pub use sv_explain::{
     ContextPolicy, ExplainFault, Explanation, HiddenCause, OwnedDecision, OwnedWhy, explain_parts,
 };
-

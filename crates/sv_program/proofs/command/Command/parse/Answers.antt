@@ -1,4 +1,4 @@
-use Rattle.std.proofs.Common.{◌≡◌, ◌∙◌, rules, arith, codes, string_bytes, sym}
+use Rattle.std.proofs.Common.{◌∙◌, rules, arith, codes, string_bytes}
 use Rattle.std.proofs.lemmas.Bool.Decides.{nat_tests}
 use Rattle.sv_program.proofs.ShortLists.{one_item, two_items, four_items, five_items}
 use Rattle.sv_program.proofs.Words.{other, none_named, one_named, two_named, three_named, four_named, five_named, many_named}
