@@ -1,10 +1,9 @@
 //! The program `sv`: its arguments, its standard streams and its exit status.
 #![tactic(auto)]
 
-use std::env;
-use std::io;
 use std::process::ExitCode;
 use std::rt::Env;
+use std::{env, io};
 use sv_program::{Command, CommandFault};
 
 fn main(rt: HostRuntime) -> ExitCode {

@@ -16,3 +16,10 @@ status_of Usage = 2
 status_of Input = 1
 status_of Output = 1
 status_of NoMemory = 3
+
+-- a fault that ends the reading of the input
+abbrev pub IsReadFault : CommandFault → Type 0
+IsReadFault Usage = ⊥
+IsReadFault Input = Unit {0}
+IsReadFault Output = ⊥
+IsReadFault NoMemory = Unit {0}

@@ -1,6 +1,6 @@
 //! The command that the program's arguments name.
 
-ghost use Rattle.std.specs.Prelude.{◌≡◌, IfSome, OnOk, map, string_bytes};
+ghost use Rattle.std.specs.Prelude.{◌≡◌, ◌≢◌, IfErr, IfSome, OnOk, map, string_bytes};
 ghost use Rattle.sv_program.specs.Command.{words_of, RunsCommand};
 
 use crate::command_fault::CommandFault;
@@ -45,7 +45,9 @@ impl Command {
         reader: R,
         writer: &mut W,
     ) -> Result<(), CommandFault>
-        ensures { OnOk result (RunsCommand self (R.remaining reader) (W.contents writer.old) (W.contents writer.new)) }
+        ensures written { OnOk result (RunsCommand self (R.remaining reader) (W.contents writer.old) (W.contents writer.new)) }
+        ensures faults { IfErr result (λ fault. fault ≢ CommandFault.Usage) }
+        ensures untouched { IfErr result (λ fault. fault ≢ CommandFault.Output → writer.new ≡ writer.old) }
     {
         match self {
             Command::First { deny_uncovered } => first(alloc, reader, writer, deny_uncovered),

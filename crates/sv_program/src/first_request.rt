@@ -1,8 +1,9 @@
 //! The command `first`: what the example policy decides for the first request on a stream.
 
-ghost use Rattle.std.specs.Prelude.{◌≡◌, [], ◌∷◌, ◌++◌, take, string_bytes, option_copied, IfOk, OnOk, IfSome};
+ghost use Rattle.std.specs.Prelude.{◌≡◌, ◌≢◌, [], ◌∷◌, ◌++◌, take, string_bytes, option_copied, IfOk, IfErr, OnOk, IfSome};
 ghost use Rattle.std.specs.Io.KnownBytes.{Appends};
 ghost use Rattle.sv_wire.specs.Items.{first_item};
+ghost use Rattle.sv_program.specs.CommandFault.{IsReadFault};
 ghost use Rattle.sv_program.specs.FirstLine.{item_line, message_line, decision_line, refused_line, IsFirstLine, RunsFirst};
 
 use crate::command_fault::CommandFault;
@@ -28,7 +29,9 @@ pub fn first<R: Read + Drop, W: Write>(
     writer: &mut W,
     deny_uncovered: bool,
 ) -> Result<(), CommandFault>
-    ensures { OnOk result (RunsFirst deny_uncovered (R.remaining reader) (W.contents writer.old) (W.contents writer.new)) }
+    ensures written { OnOk result (RunsFirst deny_uncovered (R.remaining reader) (W.contents writer.old) (W.contents writer.new)) }
+    ensures faults { IfErr result (λ fault. fault ≢ CommandFault.Usage) }
+    ensures untouched { IfErr result (λ fault. fault ≢ CommandFault.Output → writer.new ≡ writer.old) }
 {
     let input = read_input(alloc, reader)?;
     let line = first_line(alloc, input.as_slice(), deny_uncovered)?;
@@ -39,7 +42,8 @@ pub fn first<R: Read + Drop, W: Write>(
 }
 
 fn read_input<R: Read + Drop>(alloc: Global, reader: R) -> Result<Vec<u8>, CommandFault>
-    ensures { IfOk result (λ input. IfSome (R.remaining reader) (λ bytes. input.items ≡ take 65536 bytes)) }
+    ensures front { IfOk result (λ input. IfSome (R.remaining reader) (λ bytes. input.items ≡ take 65536 bytes)) }
+    ensures faults { IfErr result IsReadFault }
 {
     let mut input = Vec::new(alloc);
     match reader.take(MAX_INPUT_BYTES).read_to_end(&mut input) {

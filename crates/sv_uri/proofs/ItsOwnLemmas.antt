@@ -1,5 +1,5 @@
 -- A canonical path is its own canonical path.
-use Rattle.std.proofs.Common.{ℕ, ◌≡◌, ◌<◌, true, false, not, ◌||◌, eqb, List, [], ◌∷◌, ◌++◌, map, length, Option, Some, None, Ok, append-nil, sym, refl, ap, subst, ◌∙◌, ⊎_elim, ◌⊎◌, inl, inr, arith}
+use Rattle.std.proofs.Common.{ℕ, ◌≡◌, ◌<◌, true, false, not, ◌||◌, eqb, List, [], ◌∷◌, ◌++◌, map, length, length-append, ltb, Option, Some, None, Ok, append-nil, sym, refl, ap, subst, ◌∙◌, ⊎_elim, ◌⊎◌, inl, inr, arith}
 use Rattle.std.specs.List.{All, AllPass, flat_map, last_or}
 use Rattle.std.specs.Option.{option_map}
 use Rattle.std.specs.Str.{byte}
@@ -11,14 +11,14 @@ use Rattle.std.proofs.lemmas.List.Splits.{length-slice_split}
 use Rattle.sv_uri.specs.declared.path.Canon.{Canon}
 use Rattle.sv_uri.specs.Fault.{first_or}
 use Rattle.sv_uri.specs.Target.{before, behind, between_slashes, visible_query}
-use Rattle.sv_uri.specs.Segment.{is_empty, is_same, name_of, segment_faults}
-use Rattle.sv_uri.specs.DotSegments.{kept, remaining, climbs, is_open, closing}
+use Rattle.sv_uri.specs.Segment.{is_parent, name_of, segment_faults}
+use Rattle.sv_uri.specs.DotSegments.{is_idle, removed_in_front, kept, remaining, climbs, is_open, closing}
 use Rattle.sv_uri.specs.Canonical.{canonical, target_faults, path_text, raw_segments, begins_with_slash}
 use Rattle.sv_uri.specs.Laws.{CanonicalIsItsOwn, is_literal}
 use Rattle.sv_uri.proofs.AnswerLemmas.{answered}
 use Rattle.sv_uri.proofs.TargetLemmas.{holds, slashed, before_none, behind_none, none_in_names, between_slashes-slashed, raw_segments-slash}
 use Rattle.sv_uri.proofs.SegmentLemmas.{IsPlain, IsPlain-nil, All-IsPlain, append_none, when_none, name_of_literal, faultless_literal}
-use Rattle.sv_uri.proofs.DotSegmentLemmas.{IsName, All-remaining, All-IsName-remaining, unremoved, remaining-append, last_or-push}
+use Rattle.sv_uri.proofs.DotSegmentLemmas.{IsName, All-remaining, All-IsName-remaining, unremoved, last_or-push}
 
 -- the segments of the canonical path: the names that are left, and an empty one where the path is left open
 abbrev parts_of : List (List ℕ) → List (List ℕ)
@@ -26,10 +26,10 @@ parts_of names = remaining (kept names) ++ closing names
 
 -- a name that is kept is neither empty nor `.`
 abbrev IsKept : List ℕ → Type 0
-IsKept name = not (is_empty name || is_same name) ≡ true
+IsKept name = not (is_idle name) ≡ true
 
 all_kept : (names : List (List ℕ)) → All IsKept (remaining (kept names))
-all_kept names = All-remaining IsKept (kept names) (filter_passes (λ name. not (is_empty name || is_same name)) names)
+all_kept names = All-remaining IsKept (kept names) (filter_passes (λ name. not (is_idle name)) names)
 
 kept_again : (names : List (List ℕ)) → All IsKept names → kept names ≡ names
 kept_again [] all = refl
@@ -55,40 +55,33 @@ parts_again names =
     (λ no. rw no (rw (append-nil left) once, rw (append-nil left) (cond-false _ _ _ (closed None left refl (all_kept names) (All-IsName-remaining (kept names))))))
     (closing_is names)
 
--- a list with an element has a last one
-last_of : (names : List (List ℕ)) → 0 < length names → (front : List (List ℕ)) × (last : List ℕ) × (names ≡ front ++ last ∷ [])
-last_of [] some = absurd (omega arith)
-last_of (name ∷ []) some = ([], name, refl)
-last_of (name ∷ next ∷ rest) some =
-    let (front, last, same) = last_of (next ∷ rest) (omega arith) in
-    (name ∷ front, last, ap (λ xs. name ∷ xs) same)
+-- where the last segment is a name, some name is left
+left_some : (name : List ℕ) (rest : List (List ℕ)) → is_open (last_or (Some name) rest) ≡ false → 0 < length (remaining (kept (name ∷ rest)))
+left_some name [] ends =
+    let tests : (is_idle name ≡ false) × (is_parent name ≡ false) = or_parts _ _ ends in
+    let itself : kept (name ∷ []) ≡ name ∷ [] = cond-true _ _ _ (not_from_false _ tests.0) in
+    let stays : remaining (name ∷ []) ≡ name ∷ [] = (unremoved (name ∷ []) (All-cons IsName name [] tests.1 (All-nil IsName))).1 in
+    rw (itself, stays) (omega arith)
+left_some name (next ∷ rest) ends =
+    let behind_it = left_some next rest ends in
+    cond_both (not (is_idle name)) (name ∷ kept (next ∷ rest)) (kept (next ∷ rest)) (λ names. 0 < length (remaining names))
+    (λ _. cond_both (is_parent name || ltb 0 (removed_in_front (kept (next ∷ rest)))) _ (name ∷ remaining (kept (next ∷ rest))) (λ names. 0 < length names) (λ _. behind_it) (λ _. omega arith))
+    (λ _. behind_it)
 
-begins_push : (front : List (List ℕ)) (last : List ℕ) → begins_with_slash (slashed (front ++ last ∷ [])) ≡ true
-begins_push [] last = refl
-begins_push (name ∷ front) last = refl
-
--- the last of the names, or the empty name in its place, is a part
-begins_parts : (front : List (List ℕ)) (last : List ℕ) → begins_with_slash (slashed (parts_of (front ++ last ∷ []))) ≡ true
-begins_parts front last =
-    let names = front ++ last ∷ [] in
-    let ends = last_or-push front None last in
-    ⊎_elim
-    (λ (open_end : is_open (Some last) ≡ true).
-    let closing_one : closing names ≡ [] ∷ [] = rw ends (cond-true _ _ _ open_end) in
-    rw closing_one (begins_push (remaining (kept names)) []))
-    (λ (name_end : is_open (Some last) ≡ false).
-    let tests = or_parts _ _ name_end in
-    let closing_none : closing names ≡ [] = rw ends (cond-false _ _ _ name_end) in
-    let kept_last : kept (last ∷ []) ≡ last ∷ [] = cond-true _ _ _ (not_from_false _ tests.0) in
-    let kept_all : kept names ≡ kept front ++ last ∷ [] = filter-append _ front (last ∷ []) ∙ ap (λ xs. kept front ++ xs) kept_last in
-    let stays : remaining (last ∷ []) ≡ last ∷ [] = (unremoved (last ∷ []) (All-cons IsName last [] tests.1 (All-nil IsName))).1 in
-    rw (closing_none, append-nil (remaining (kept names)), kept_all, remaining-append (kept front) (last ∷ []), stays) (begins_push _ last))
-    (cases_Bool (is_open (Some last)))
+begins_some : (parts : List (List ℕ)) → 0 < length parts → begins_with_slash (slashed parts) ≡ true
+begins_some [] some = absurd (omega arith)
+begins_some (part ∷ parts) some = refl
 
 begins : (names : List (List ℕ)) → 0 < length names → begins_with_slash (slashed (parts_of names)) ≡ true
-begins names some =
-    let (front, last, same) = last_of names some in
-    rw same (begins_parts front last)
+begins [] some = absurd (omega arith)
+begins (name ∷ rest) some =
+    let left = remaining (kept (name ∷ rest)) in
+    ⊎_elim
+    (λ (yes : is_open (last_or (Some name) rest) ≡ true). begins_some (left ++ closing (name ∷ rest)) (rw (cond-true _ _ _ yes, length-append left ([] ∷ [])) (omega arith)))
+    (λ no.
+    let some_left = left_some name rest no in
+    begins_some (left ++ closing (name ∷ rest)) (rw (cond-false _ _ _ no, append-nil left) some_left))
+    (cases_Bool (is_open (last_or (Some name) rest)))
 
 -- literal names that are plain are segments without a fault, which name themselves
 faultless_names : (names : List (List ℕ)) → All IsPlain names → All (λ name. holds (byte "%") name ≡ false) names → All (λ name. holds (byte ";") name ≡ false) names → (flat_map segment_faults names ≡ []) × (map name_of names ≡ names)

@@ -1,6 +1,6 @@
 //! Why a request target has no canonical path.
 
-use std::alloc::{AllocError, AllocFailed};
+use std::alloc::AllocError;
 use std::error::Error;
 use std::fmt;
 use sv_text::NoMemory;
@@ -87,7 +87,7 @@ impl From<NoMemory> for CanonFault {
     ghost from_gives = { λ _ e. e ≡ fault.NoMemory };
 
     fn from(_error: NoMemory) -> CanonFault {
-        CanonFault::NoMemory
+        Self::NoMemory
     }
 }
 
@@ -98,6 +98,6 @@ impl From<AllocError> for CanonFault {
     ghost from_gives = { λ _ e. e ≡ fault.NoMemory };
 
     fn from(_error: AllocError) -> CanonFault {
-        CanonFault::NoMemory
+        Self::from(NoMemory)
     }
 }

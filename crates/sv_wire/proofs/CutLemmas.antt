@@ -3,6 +3,7 @@ use Rattle.std.proofs.Common.{◌≡◌, ℕ, zero, suc, ◌<◌, ◌≤◌, Boo
 use Rattle.std.specs.Option.{option_map}
 use Rattle.std.proofs.lemmas.Bool.{le-ltb, lt-ltb, ltb-true, ltb-false, cond-true, cond-false, cases_lt}
 use Rattle.std.proofs.lemmas.List.{take-take, take_all, length-take, take-append-le}
+use Rattle.sv_wire.specs.declared.cut.Cut.{Cut}
 use Rattle.sv_wire.specs.declared.cut.Cut.TheVariants.{Whole, Endless, Unended}
 use Rattle.sv_wire.specs.Cut.{shortest_front, cut_at, cut}
 
@@ -138,40 +139,32 @@ cut_unended-fronts ends limit text is =
     let short : length text ≤ limit = omega (arith, none.1) in
     shortest_front_none-is ends text (ap (shortest_front ends) (sym (take_all limit text short)) ∙ none.0)
 
-module _ (ends : List ℕ → Bool) (limit : ℕ) (text more : List ℕ) where
+module _ (ends : List ℕ → Bool) (limit : ℕ) (text : List ℕ) where
   pub cut-whole : (n : ℕ) → cut ends limit text ≡ Whole n → IsShortestFront ends (take limit text) n
   cut-whole n is = shortest_front-is ends (take limit text) n (Whole-inverse limit text _ n is)
 
-  pub cut_whole-fits : (n : ℕ) → cut ends limit text ≡ Whole n → n ≤ length text
-  cut_whole-fits n is = omega (arith, (cut-whole n is).fits, length-take limit text)
-
-  pub cut_endless-fits : cut ends limit text ≡ Endless → limit ≤ length text
-  cut_endless-fits is = (Endless-inverse limit text _ is).1
-
-  same_front : (k : ℕ) → k ≤ length (take limit text) → take k (take limit (text ++ more)) ≡ take k (take limit text)
-  same_front k within =
+  same_front : (more : List ℕ) (k : ℕ) → k ≤ length (take limit text) → take k (take limit (text ++ more)) ≡ take k (take limit text)
+  same_front more k within =
       let below : k ≤ limit = omega (arith, length-take limit text) in
       let inside : k ≤ length text = omega (arith, length-take limit text) in
       take-take k limit (text ++ more) below ∙ take-append-le k text more inside ∙ sym (take-take k limit text below)
 
-  pub cut_whole-append : (n : ℕ) → cut ends limit text ≡ Whole n → cut ends limit (text ++ more) ≡ Whole n
-  cut_whole-append n is =
+  -- a cut that was made stays as it is, whatever follows
+  pub cut-append : (more : List ℕ) (c : Cut) → cut ends limit text ≡ c → (c ≡ Unended) ⊎ (cut ends limit (text ++ more) ≡ c)
+  cut-append more (Whole n) is =
       let found = cut-whole n is in
-      let fits : n ≤ length (take limit text) = found.fits in
       let there : IsShortestFront ends (take limit (text ++ more)) n = record {
-        fits = omega (arith, length-take limit text, length-take limit (text ++ more), length-append text more);
-        passes = ap ends (same_front n fits) ∙ found.passes;
-        first = λ k below. ap ends (same_front k (omega arith)) ∙ found.first k below;
+        fits = omega (arith, found.fits, length-take limit text, length-take limit (text ++ more), length-append text more);
+        passes = ap ends (same_front more n found.fits) ∙ found.passes;
+        first = λ k below. ap ends (same_front more k (omega (arith, found.fits))) ∙ found.first k below;
       } in
-      ap (cut_at limit (text ++ more)) (shortest_front_some ends (take limit (text ++ more)) n there)
-
-  pub cut_endless-append : cut ends limit text ≡ Endless → cut ends limit (text ++ more) ≡ Endless
-  cut_endless-append is =
+      inr (ap (cut_at limit (text ++ more)) (shortest_front_some ends (take limit (text ++ more)) n there))
+  cut-append more Endless is =
       let none = Endless-inverse limit text _ is in
-      let fits : limit ≤ length text = none.1 in
-      let same : take limit (text ++ more) ≡ take limit text = take-append-le limit text more fits in
-      let long : ltb (length (text ++ more)) limit ≡ false = le-ltb _ _ (omega (arith, length-append text more)) in
-      ap (cut_at limit (text ++ more)) (ap (shortest_front ends) same ∙ none.0) ∙ cond-false _ Unended Endless long
+      let same : take limit (text ++ more) ≡ take limit text = take-append-le limit text more none.1 in
+      let long : ltb (length (text ++ more)) limit ≡ false = le-ltb _ _ (omega (arith, none.1, length-append text more)) in
+      inr (ap (cut_at limit (text ++ more)) (ap (shortest_front ends) same ∙ none.0) ∙ cond-false _ Unended Endless long)
+  cut-append more Unended is = inl refl
 
 -- ---- what a scan of the first bytes up to the limit tells
 

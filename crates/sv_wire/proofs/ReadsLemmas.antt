@@ -3,22 +3,21 @@ use Rattle.std.proofs.Common.{◌≡◌, ℕ, ◌≤◌, Bool, true, false, ◌&
 use Rattle.std.specs.Bool.{MatchBool}
 use Rattle.std.proofs.lemmas.Bool.{MatchBool-at_false, or_parts, or_left, or_right, or_from}
 use Rattle.std.proofs.lemmas.List.{take-append-le, drop-append-le, length-take}
-use Rattle.httparse.specs.Grammar.{RequestHead, ReadsRequest}
 use Rattle.httparse.proofs.GrammarLemmas.{request_unique}
 use Rattle.sv_wire.specs.declared.cut.Cut.{Cut}
 use Rattle.sv_wire.specs.declared.cut.Cut.TheVariants.{Whole, Endless, Unended}
 use Rattle.sv_wire.specs.declared.item.Item.{Item}
 use Rattle.sv_wire.specs.declared.item.Item.TheVariants.{Refuse}
 use Rattle.sv_wire.specs.declared.limits.TheConstants.{MAX_HEAD_LEN}
-use Rattle.sv_wire.specs.declared.wire_fault.WireFault.TheVariants.{BadHead, HeadTooLarge}
+use Rattle.sv_wire.specs.declared.wire_fault.WireFault.TheVariants.{HeadTooLarge}
 use Rattle.sv_wire.specs.EmptyLines.{drop_empty_lines}
 use Rattle.sv_wire.specs.Head.{ends_head, judge}
 use Rattle.sv_wire.specs.Items.{is_last, are_ended}
 use Rattle.sv_wire.specs.Laws.{ReadingsJoin, ReadingsAreUnique, ReadingsSplitAtACut}
 use Rattle.sv_wire.specs.Next.{HoldsText}
-use Rattle.sv_wire.specs.Reads.{IsNoHead, has_too_many_lines, ReadsHead, cut_head, BeginsWith, Begins, Reads}
+use Rattle.sv_wire.specs.Reads.{IsJudged, has_too_many_lines, ReadsHead, cut_head, BeginsWith, Begins, Reads}
 use Rattle.sv_wire.proofs.BoolLemmas.{MatchBool-from_true, MatchBool-from_false}
-use Rattle.sv_wire.proofs.CutLemmas.{cut-whole, cut_whole-fits, cut_endless-fits, cut_whole-append, cut_endless-append}
+use Rattle.sv_wire.proofs.CutLemmas.{Endless-inverse, cut-whole, cut-append}
 use Rattle.sv_wire.proofs.EmptyLinesLemmas.{drop_empty_lines-append, drop_empty_lines_stays}
 
 -- ---- the cut of a head
@@ -33,140 +32,109 @@ ends_head-long (b ∷ []) ends = by_test (eqb 10 b) ends
     by_test false holds = absurd (cc)
 ends_head-long (b ∷ c ∷ text) ends = omega arith
 
--- a head whose end or whose limit is there has two bytes and more
-module _ (stream more : List ℕ) where
-  whole_long : (n : ℕ) → cut_head stream ≡ Whole n → 2 ≤ length stream
-  whole_long n is =
-      let found = cut-whole ends_head MAX_HEAD_LEN stream more n is in
-      omega (arith, ends_head-long (take n (take MAX_HEAD_LEN stream)) found.passes, length-take n (take MAX_HEAD_LEN stream), length-take MAX_HEAD_LEN stream)
-
-  endless_long : cut_head stream ≡ Endless → 2 ≤ length stream
-  endless_long is = omega (arith, cut_endless-fits ends_head MAX_HEAD_LEN stream more is)
-
--- what is cut from a stream is there, and a head has bytes and is within the limit
+-- what is cut from a stream is there
 pub cut_holds : (stream : List ℕ) (c : Cut) → c ≡ cut_head stream → HoldsText stream c
 cut_holds stream (Whole n) is =
-    let found = cut-whole ends_head MAX_HEAD_LEN stream [] n (sym is) in (
-      omega (arith, ends_head-long (take n (take MAX_HEAD_LEN stream)) found.passes, length-take n (take MAX_HEAD_LEN stream)),
-      cut_whole-fits ends_head MAX_HEAD_LEN stream [] n (sym is),
+    let found = cut-whole ends_head MAX_HEAD_LEN stream n (sym is) in
+    let long = ends_head-long (take n (take MAX_HEAD_LEN stream)) found.passes in (
+      omega (arith, long, length-take n (take MAX_HEAD_LEN stream)),
+      omega (arith, found.fits, length-take MAX_HEAD_LEN stream),
       omega (arith, found.fits, length-take MAX_HEAD_LEN stream),
     )
-cut_holds stream Endless is = cut_endless-fits ends_head MAX_HEAD_LEN stream [] (sym is)
+cut_holds stream Endless is = (Endless-inverse MAX_HEAD_LEN stream _ (sym is)).1
 cut_holds stream Unended is = tt
+
+holds_long : (stream : List ℕ) (c : Cut) → HoldsText stream c → (c ≡ Unended) ⊎ (2 ≤ length stream)
+holds_long stream (Whole n) holds = inr (omega (arith, holds.0, holds.1))
+holds_long stream Endless holds = inr (omega (arith, holds))
+holds_long stream Unended holds = inl refl
 
 -- ---- an item's text before more bytes
 
--- where a cut is made, the stream has at least the bytes of the text
-abbrev Fits : Cut → List ℕ → Type 0
-Fits (Whole n) stream = n ≤ length stream
-Fits Endless stream = MAX_HEAD_LEN ≤ length stream
-Fits Unended stream = ⊥
-
--- a cut that was made stays as it is, whatever follows, and empty lines before it do too
-pub record Stays (stream more : List ℕ) (c : Cut) : Type 0 where
+-- what follows the stream changes neither the empty lines that it begins with nor the cut behind them
+pub record Stays (stream more : List ℕ) : Type 0 where
   pub behind : drop_empty_lines (stream ++ more) ≡ drop_empty_lines stream ++ more
-  pub same : cut_head (drop_empty_lines stream ++ more) ≡ c
-  pub fits : Fits c (drop_empty_lines stream)
+  pub same : cut_head (drop_empty_lines stream ++ more) ≡ cut_head (drop_empty_lines stream)
 
-pub stays_whole : (stream more : List ℕ) (n : ℕ) → cut_head (drop_empty_lines stream) ≡ Whole n → Stays stream more (Whole n)
-stays_whole stream more n is = record {
-  behind = drop_empty_lines_stays stream more (whole_long (drop_empty_lines stream) more n is);
-  same = cut_whole-append ends_head MAX_HEAD_LEN (drop_empty_lines stream) more n is;
-  fits = cut_whole-fits ends_head MAX_HEAD_LEN (drop_empty_lines stream) more n is;
-}
+pub settled : (stream more : List ℕ) → (cut_head (drop_empty_lines stream) ≡ Unended) ⊎ Stays stream more
+settled stream more =
+    by_cut (holds_long (drop_empty_lines stream) _ (cut_holds (drop_empty_lines stream) _ refl))
+    (cut-append ends_head MAX_HEAD_LEN (drop_empty_lines stream) more _ refl)
+  where
+    by_cut : (cut_head (drop_empty_lines stream) ≡ Unended) ⊎ (2 ≤ length (drop_empty_lines stream))
+        → (cut_head (drop_empty_lines stream) ≡ Unended) ⊎ (cut_head (drop_empty_lines stream ++ more) ≡ cut_head (drop_empty_lines stream))
+        → (cut_head (drop_empty_lines stream) ≡ Unended) ⊎ Stays stream more
+    by_cut (inl unended) same = inl unended
+    by_cut (inr long) (inl unended) = inl unended
+    by_cut (inr long) (inr same) = inr (record { behind = drop_empty_lines_stays stream more long; same = same })
 
-pub stays_endless : (stream more : List ℕ) → cut_head (drop_empty_lines stream) ≡ Endless → Stays stream more Endless
-stays_endless stream more is = record {
-  behind = drop_empty_lines_stays stream more (endless_long (drop_empty_lines stream) more is);
-  same = cut_endless-append ends_head MAX_HEAD_LEN (drop_empty_lines stream) more is;
-  fits = cut_endless-fits ends_head MAX_HEAD_LEN (drop_empty_lines stream) more is;
-}
-
-BeginsWith-append : (c : Cut) (stream more : List ℕ) (item : Item) (rest : List ℕ) → Fits c stream
+BeginsWith-append : (c : Cut) (stream more : List ℕ) (item : Item) (rest : List ℕ) → HoldsText stream c
     → BeginsWith c stream item rest → BeginsWith c (stream ++ more) item (rest ++ more)
-BeginsWith-append (Whole n) stream more item rest fits begins = (
-  subst (λ text. ReadsHead text item) (sym (take-append-le n stream more fits)) begins.0,
-  ap (λ left. left ++ more) begins.1 ∙ sym (drop-append-le n stream more fits),
+BeginsWith-append (Whole n) stream more item rest holds begins = (
+  subst (λ text. ReadsHead text item) (sym (take-append-le n stream more holds.1)) begins.0,
+  ap (λ left. left ++ more) begins.1 ∙ sym (drop-append-le n stream more holds.1),
 )
-BeginsWith-append Endless stream more item rest fits begins = (
-  begins.0,
-  ap (λ left. left ++ more) begins.1 ∙ sym (drop-append-le MAX_HEAD_LEN stream more fits),
-)
-BeginsWith-append Unended stream more item rest fits begins = absurd begins
+BeginsWith-append Endless stream more item rest holds begins =
+    (begins.0, ap (λ left. left ++ more) begins.1 ∙ sym (drop-append-le MAX_HEAD_LEN stream more holds))
+BeginsWith-append Unended stream more item rest holds begins = absurd begins
 
--- an item's text that begins a longer stream, where its cut is made before the end of the shorter
-BeginsWith-front : (c : Cut) (stream more : List ℕ) (item : Item) (rest : List ℕ) → Fits c stream
+-- an item's text that begins a longer stream, where it is cut before the end of the shorter
+BeginsWith-front : (c : Cut) (stream more : List ℕ) (item : Item) (rest : List ℕ) → HoldsText stream c
     → BeginsWith c (stream ++ more) item rest
     → (behind : List ℕ) × BeginsWith c stream item behind × (rest ≡ behind ++ more)
-BeginsWith-front (Whole n) stream more item rest fits begins = (
+BeginsWith-front (Whole n) stream more item rest holds begins = (
   drop n stream,
-  (subst (λ text. ReadsHead text item) (take-append-le n stream more fits) begins.0, refl),
-  begins.1 ∙ drop-append-le n stream more fits,
+  (subst (λ text. ReadsHead text item) (take-append-le n stream more holds.1) begins.0, refl),
+  begins.1 ∙ drop-append-le n stream more holds.1,
 )
-BeginsWith-front Endless stream more item rest fits begins =
-    (drop MAX_HEAD_LEN stream, (begins.0, refl), begins.1 ∙ drop-append-le MAX_HEAD_LEN stream more fits)
-BeginsWith-front Unended stream more item rest fits begins = absurd begins
+BeginsWith-front Endless stream more item rest holds begins =
+    (drop MAX_HEAD_LEN stream, (begins.0, refl), begins.1 ∙ drop-append-le MAX_HEAD_LEN stream more holds)
+BeginsWith-front Unended stream more item rest holds begins = absurd begins
 
-at_stay : (stream more : List ℕ) (c : Cut) (item : Item) (rest : List ℕ) → Stays stream more c
-    → ◌≡◌ {A = Type 0} (Begins (stream ++ more) item rest) (BeginsWith c (drop_empty_lines stream ++ more) item rest)
-at_stay stream more c item rest stays =
-    ap (λ text. BeginsWith (cut_head text) text item rest) stays.behind
-    ∙ ap (λ k. BeginsWith k (drop_empty_lines stream ++ more) item rest) stays.same
+module _ (stream more : List ℕ) (item : Item) (rest : List ℕ) where
+  at_stay : Stays stream more → (left : List ℕ)
+      → ◌≡◌ {A = Type 0} (BeginsWith (cut_head (drop_empty_lines stream)) (drop_empty_lines stream ++ more) item left)
+      (Begins (stream ++ more) item left)
+  at_stay stays left =
+      ap (λ c. BeginsWith c (drop_empty_lines stream ++ more) item left) (sym stays.same)
+      ∙ ap (λ text. BeginsWith (cut_head text) text item left) (sym stays.behind)
 
-pub Begins-append : (stream more : List ℕ) (item : Item) (rest : List ℕ) → Begins stream item rest
-    → Begins (stream ++ more) item (rest ++ more)
-Begins-append stream more item rest begins = by_cut (cut_head (drop_empty_lines stream)) refl begins
-  where
-    by_cut : (c : Cut) → cut_head (drop_empty_lines stream) ≡ c → BeginsWith c (drop_empty_lines stream) item rest
-        → Begins (stream ++ more) item (rest ++ more)
-    by_cut (Whole n) is begins =
-        let stays = stays_whole stream more n is in
-        subst (λ (X : Type 0). X) (sym (at_stay stream more (Whole n) item (rest ++ more) stays))
-        (BeginsWith-append (Whole n) (drop_empty_lines stream) more item rest stays.fits begins)
-    by_cut Endless is begins =
-        let stays = stays_endless stream more is in
-        subst (λ (X : Type 0). X) (sym (at_stay stream more Endless item (rest ++ more) stays))
-        (BeginsWith-append Endless (drop_empty_lines stream) more item rest stays.fits begins)
-    by_cut Unended is begins = absurd begins
+  pub Begins-append : Begins stream item rest → Begins (stream ++ more) item (rest ++ more)
+  Begins-append begins = by_cut (settled stream more)
+    where
+      by_cut : (cut_head (drop_empty_lines stream) ≡ Unended) ⊎ Stays stream more → Begins (stream ++ more) item (rest ++ more)
+      by_cut (inl unended) = absurd (subst (λ c. BeginsWith c (drop_empty_lines stream) item rest) unended begins)
+      by_cut (inr stays) =
+          subst (λ (X : Type 0). X) (at_stay stays (rest ++ more))
+          (BeginsWith-append _ (drop_empty_lines stream) more item rest (cut_holds (drop_empty_lines stream) _ refl) begins)
 
--- the item that a longer stream begins with: the shorter one begins with it too, or no cut is made in the shorter
-pub Begins-front : (stream more : List ℕ) (item : Item) (rest : List ℕ) → Begins (stream ++ more) item rest
-    → (cut_head (drop_empty_lines stream) ≡ Unended)
-    ⊎ ((behind : List ℕ) × Begins stream item behind × (rest ≡ behind ++ more))
-Begins-front stream more item rest begins = by_cut (cut_head (drop_empty_lines stream)) refl
-  where
-    at_cut : (c : Cut) → Stays stream more c
-        → (behind : List ℕ) × BeginsWith c (drop_empty_lines stream) item behind × (rest ≡ behind ++ more)
-    at_cut c stays = BeginsWith-front c (drop_empty_lines stream) more item rest stays.fits
-        (subst (λ (X : Type 0). X) (at_stay stream more c item rest stays) begins)
-
-    by_cut : (c : Cut) → cut_head (drop_empty_lines stream) ≡ c
-        → (c ≡ Unended) ⊎ ((behind : List ℕ) × BeginsWith c (drop_empty_lines stream) item behind × (rest ≡ behind ++ more))
-    by_cut (Whole n) is = inr (at_cut (Whole n) (stays_whole stream more n is))
-    by_cut Endless is = inr (at_cut Endless (stays_endless stream more is))
-    by_cut Unended is = inl refl
+  -- the item that a longer stream begins with: the shorter one begins with it too, or no cut is made in the shorter
+  pub Begins-front : Begins (stream ++ more) item rest
+      → (cut_head (drop_empty_lines stream) ≡ Unended) ⊎ ((behind : List ℕ) × Begins stream item behind × (rest ≡ behind ++ more))
+  Begins-front begins = by_cut (settled stream more)
+    where
+      by_cut : (cut_head (drop_empty_lines stream) ≡ Unended) ⊎ Stays stream more
+          → (cut_head (drop_empty_lines stream) ≡ Unended) ⊎ ((behind : List ℕ) × Begins stream item behind × (rest ≡ behind ++ more))
+      by_cut (inl unended) = inl unended
+      by_cut (inr stays) =
+          inr (BeginsWith-front _ (drop_empty_lines stream) more item rest (cut_holds (drop_empty_lines stream) _ refl)
+          (subst (λ (X : Type 0). X) (sym (at_stay stays rest)) begins))
 
 -- ---- one item
 
-pub ReadsHead-unique : (text : List ℕ) (item other : Item) → ReadsHead text item → ReadsHead text other → item ≡ other
+IsJudged-unique : (text : List ℕ) (item other : Item) → IsJudged text item → IsJudged text other → item ≡ other
+IsJudged-unique text item other (inl a) (inl b) = a.2 ∙ ap judge (request_unique text a.0 b.0 [] [] a.1 b.1).0 ∙ sym b.2
+IsJudged-unique text item other (inl a) (inr b) = absurd (b.0 a.0 a.1)
+IsJudged-unique text item other (inr a) (inl b) = absurd (a.0 b.0 b.1)
+IsJudged-unique text item other (inr a) (inr b) = a.1 ∙ sym b.1
+
+ReadsHead-unique : (text : List ℕ) (item other : Item) → ReadsHead text item → ReadsHead text other → item ≡ other
 ReadsHead-unique text item other = by_lines (has_too_many_lines text)
   where
-    judged : (a : ((head : RequestHead) × ReadsRequest text head [] × (item ≡ judge head)) ⊎ (IsNoHead text × (item ≡ Refuse BadHead)))
-        (b : ((head : RequestHead) × ReadsRequest text head [] × (other ≡ judge head)) ⊎ (IsNoHead text × (other ≡ Refuse BadHead)))
-        → item ≡ other
-    judged (inl a) (inl b) = a.2 ∙ ap judge (request_unique text a.0 b.0 [] [] a.1 b.1).0 ∙ sym b.2
-    judged (inl a) (inr b) = absurd (b.0 a.0 a.1)
-    judged (inr a) (inl b) = absurd (a.0 b.0 b.1)
-    judged (inr a) (inr b) = a.1 ∙ sym b.1
-
-    by_lines : (t : Bool)
-        → MatchBool t (item ≡ Refuse HeadTooLarge)
-        (((head : RequestHead) × ReadsRequest text head [] × (item ≡ judge head)) ⊎ (IsNoHead text × (item ≡ Refuse BadHead)))
-        → MatchBool t (other ≡ Refuse HeadTooLarge)
-        (((head : RequestHead) × ReadsRequest text head [] × (other ≡ judge head)) ⊎ (IsNoHead text × (other ≡ Refuse BadHead)))
-        → item ≡ other
+    by_lines : (t : Bool) → MatchBool t (item ≡ Refuse HeadTooLarge) (IsJudged text item)
+        → MatchBool t (other ≡ Refuse HeadTooLarge) (IsJudged text other) → item ≡ other
     by_lines true a b = a ∙ sym b
-    by_lines false a b = judged a b
+    by_lines false a b = IsJudged-unique text item other a b
 
 pub Begins-unique : (stream : List ℕ) (item other : Item) (rest left : List ℕ) → Begins stream item rest → Begins stream other left
     → (item ≡ other) × (rest ≡ left)
@@ -301,14 +269,12 @@ splits_after first second item items after rest later begins reads = by_front (B
         (subst (λ text. MatchBool (is_last item) ((items ≡ []) × (rest ≡ [])) (Reads text items rest)) found.2 reads)
 
 pub readings_split_at_a_cut : ReadingsSplitAtACut
-readings_split_at_a_cut first second [] rest reads = by_cut (cut_head (drop_empty_lines first)) refl
+readings_split_at_a_cut first second [] rest reads = by_cut (settled first second)
   where
-    fixed : (c : Cut) → Stays first second c → c ≡ Unended
-    fixed c stays = sym stays.same ∙ ap cut_head (sym stays.behind) ∙ ap cut_head reads.0 ∙ reads.1
-
-    by_cut : (c : Cut) → cut_head (drop_empty_lines first) ≡ c → Splits first second [] rest
-    by_cut (Whole n) is = absurd (cc (fixed (Whole n) (stays_whole first second n is)))
-    by_cut Endless is = absurd (cc (fixed Endless (stays_endless first second is)))
-    by_cut Unended is = splits_later first second [] rest is reads
+    by_cut : (cut_head (drop_empty_lines first) ≡ Unended) ⊎ Stays first second → Splits first second [] rest
+    by_cut (inl unended) = splits_later first second [] rest unended reads
+    by_cut (inr stays) =
+        let unended = sym stays.same ∙ ap cut_head (sym stays.behind ∙ reads.0) ∙ reads.1 in
+        splits_later first second [] rest unended reads
 readings_split_at_a_cut first second (item ∷ items) rest reads =
     splits_after first second item items reads.0 rest (λ behind. readings_split_at_a_cut behind second items rest) reads.1 reads.2

@@ -1,4 +1,4 @@
--- Words on the items of a stream.
+-- Words on the items of a stream, and where it ends (RFC 9112, section 9.3).
 use Rattle.std.specs.Prelude.{Bool, true, false, not, List, [], ◌∷◌, Option, None, Some}
 use Rattle.std.specs.List.{list_any}
 use Rattle.sv_wire.specs.declared.item.Item.{Item}

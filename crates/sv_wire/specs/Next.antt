@@ -7,9 +7,9 @@ use Rattle.sv_wire.specs.declared.reading.Next.{Next}
 use Rattle.sv_wire.specs.declared.reading.Next.TheVariants.{Found, Awaits}
 use Rattle.sv_wire.specs.Reads.{Begins, Rests}
 
--- a stream has the bytes of the text that is cut from it, and a head of at least one byte is within the limit
+-- a stream has the bytes of the text that is cut from it, and a head has two bytes and more, and is within the limit
 abbrev pub HoldsText : List ℕ → Cut → Type 0
-HoldsText stream (Whole len) = (0 < len) × (len ≤ length stream) × (len ≤ MAX_HEAD_LEN)
+HoldsText stream (Whole len) = (1 < len) × (len ≤ length stream) × (len ≤ MAX_HEAD_LEN)
 HoldsText stream Endless = MAX_HEAD_LEN ≤ length stream
 HoldsText stream Unended = Unit {0}
 

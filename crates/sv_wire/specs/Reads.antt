@@ -22,12 +22,14 @@ IsNoHead text = (head : RequestHead) → ¬ (ReadsRequest text head [])
 abbrev pub has_too_many_lines : List ℕ → Bool
 has_too_many_lines text = nat_lt (MAX_FIELD_LINES + 2) (count_by (λ b. b == line_feed) text)
 
+-- the item that the text is: the verdict on the head that it holds, or the refusal of a text that holds none
+abbrev pub IsJudged : List ℕ → Item → Type 0
+IsJudged text item =
+    ((head : RequestHead) × ReadsRequest text head [] × (item ≡ judge head)) ⊎ (IsNoHead text × (item ≡ Refuse BadHead))
+
 -- the item that the whole text of a head is
 abbrev pub ReadsHead : List ℕ → Item → Type 0
-ReadsHead text item =
-    MatchBool (has_too_many_lines text)
-    (item ≡ Refuse HeadTooLarge)
-    (((head : RequestHead) × ReadsRequest text head [] × (item ≡ judge head)) ⊎ (IsNoHead text × (item ≡ Refuse BadHead)))
+ReadsHead text item = MatchBool (has_too_many_lines text) (item ≡ Refuse HeadTooLarge) (IsJudged text item)
 
 -- where the head that a stream begins with ends
 abbrev pub cut_head : List ℕ → Cut

@@ -9,7 +9,7 @@ ghost use Rattle.sv_wire.specs.Next.{HoldsText};
 use crate::limits::MAX_HEAD_LEN;
 
 /// Where the text that a stream begins with ends.
-#[derive(Clone, Copy, Debug)]
+#[derive(Clone, Copy)]
 pub(crate) enum Cut {
     /// Its first end is there, after so many bytes.
     Whole(usize),

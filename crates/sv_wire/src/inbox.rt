@@ -58,9 +58,11 @@ impl Inbox {
     }
 
     /// Reads a piece of the stream: the items that it completes, in order. What no item holds is kept for the next piece.
+    /// No cut of the stream into pieces changes the items.
     ///
-    /// After a refusal, a message that does not keep the connection, or `NoMemory` the inbox is spent. A spent inbox
-    /// answers no items.
+    /// Behind a refusal, or a message that does not keep the connection, nothing is read: the inbox is spent. A spent
+    /// inbox answers no items and stays as it is. `NoMemory` says that a growth was refused: the inbox is spent then too,
+    /// and the items of the piece are lost.
     pub fn feed(&mut self, piece: &[u8]) -> Result<Vec<Item>, NoMemory>
         ensures reads { self.old.spent ≡ false → IfOk result (λ items.
             Reads (self.old.rest ++ piece.now) items.items self.new.rest × (self.new.spent ≡ are_ended items.items)) }
@@ -83,7 +85,7 @@ impl Inbox {
         Ok(reading.items)
     }
 
-    /// Says what the end of the stream means. The inbox is spent afterwards.
+    /// Says what the end of the stream means. The inbox is spent afterwards. It takes no memory.
     pub fn end(&mut self) -> Ended
         ensures ended { result ≡ end_of self.old }
         ensures after { self.new ≡ spent_for_good }

@@ -1,11 +1,8 @@
 use Rattle.std.proofs.Common.{ap, subst, ◌<◌}
 use Rattle.std.specs.Option.{option_copied}
 use Rattle.std.proofs.lemmas.Result.{err_from_is_err_and}
-use Rattle.sv_uri.proofs.AnswerLemmas.{HasRead, HasRead-none, HasRead-more, HasRead-all, first_of_next, size_of_rest, size_of_rest-behind}
+use Rattle.sv_uri.proofs.AnswerLemmas.{HasRead, HasRead-more, first_of_next, size_of_rest, size_of_rest-behind}
 use Rattle.sv_uri.proofs.canonical.walk_of.Goals as goal
-
-pub loop-rest-init : goal.loop-rest-init
-loop-rest-init c = HasRead-none _ _ c.new-walk.ensures
 
 pub returns-in_err-read_name : goal.returns-in_err-read_name
 returns-in_err-read_name c =
@@ -22,6 +19,3 @@ pub loop-rest-preserved : goal.loop-rest-preserved
 loop-rest-preserved c =
     let read = subst (HasRead c.loop-rest.walk c.args.path.now) (ap option_copied c.in-Some.is) c.loop-rest.invariant in
     HasRead-more _ _ _ _ _ _ _ c.cut.ensures.front c.cut.ensures.back c.in_ok-read_name.ensures.0 c.in_ok-read_name.ensures.1 c.in_ok-enter.ensures read
-
-pub returns : goal.returns
-returns c = HasRead-all _ _ _ (ap option_copied c.in_default.is) c.loop-rest.invariant
