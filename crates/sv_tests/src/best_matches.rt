@@ -20,7 +20,7 @@ const ROWS: &str = r#"
 / /foo/bar/* /baz/* /catalog *.bop | /catalog/index.html | /         | /catalog/index.html  | -
 / /foo/bar/* /baz/* /catalog *.bop | /baz                | /baz/*    | /baz                 | -
 
--- section 12.1, rule 1: an exact match is best, wherever it stands in the list
+-- section 12.1: an exact match is best, wherever it stands in the list
 /a /a/*               | /a        | /a        | /a        | -
 /a/* /a               | /a        | /a        | /a        | -
 /* *.b / /a.b         | /a.b      | /a.b      | /a.b      | -
@@ -30,7 +30,7 @@ const ROWS: &str = r#"
 /a/                   | /a        | -         | -         | -
 /a/b                  | /a/b/c    | -         | -         | -
 
--- section 12.1, rule 2: then the longest path prefix, a directory at a time
+-- section 12.1: then the longest path prefix, a directory at a time
 /a/*                  | /a        | /a/*      | /a        | -
 /a/*                  | /a/       | /a/*      | /a        | /
 /a/*                  | /a/b/c    | /a/*      | /a        | /b/c
@@ -46,7 +46,7 @@ const ROWS: &str = r#"
 /*                    | /a/b      | /*        | ""        | /a/b
 /é/*                  | /é/x      | /é/*      | /é        | /x
 
--- section 12.1, rule 3: then the extension of the last segment, behind its last dot
+-- section 12.1: then the extension of the last segment, behind its last dot
 *.jsp /a/*            | /a/b.jsp  | /a/*      | /a        | /b.jsp
 *.jsp /*              | /b.jsp    | /*        | ""        | /b.jsp
 *.jsp                 | /a/b.jsp  | *.jsp     | /a/b.jsp  | -
@@ -61,7 +61,7 @@ const ROWS: &str = r#"
 *.                    | /a        | -         | -         | -
 *.                    | /a.b      | -         | -         | -
 
--- section 12.1, rule 4: then the default pattern, whose servlet path is the whole path
+-- section 12.1: then the default pattern, whose servlet path is the whole path
 /                     | /         | /         | /         | -
 /                     | /a/b      | /         | /a/b      | -
 / *.jsp               | /b.jsp    | *.jsp     | /b.jsp    | -
