@@ -47,7 +47,8 @@ fn main(rt: HostRuntime) -> Result<()> {
     report_feeding(&rt, figures)
 }
 
-/// Measures the reading of a head in one piece and byte by byte, and says whether the second keeps its limit.
+/// Measures the reading of a head in one piece and byte by byte; where figures are wanted it says whether the second keeps
+/// its limit.
 fn report_feeding<R: Clock + Print + AllocGlobal>(rt: &R, figures: bool) -> Result<()> {
     let alloc = rt.alloc();
     let head = HEAD.as_bytes();
@@ -56,12 +57,14 @@ fn report_feeding<R: Clock + Print + AllocGlobal>(rt: &R, figures: bool) -> Resu
     let single = Feeding { alloc, piece: 1 };
     let whole = report(rt, figures, "feed of a 600-byte head", &whole, head)?;
     let single = report(rt, figures, "feed of it byte by byte", &single, head)?;
-    let bound = if single / MOST_TIMES <= whole {
-        "at most"
-    } else {
-        "more than"
-    };
-    println!(rt; "byte by byte takes {bound} {MOST_TIMES} times as long")?;
+    if figures {
+        let bound = if single / MOST_TIMES <= whole {
+            "at most"
+        } else {
+            "more than"
+        };
+        println!(rt; "byte by byte takes {bound} {MOST_TIMES} times as long")?;
+    }
     Ok(())
 }
 
