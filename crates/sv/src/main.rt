@@ -2,7 +2,7 @@
 #![tactic(auto)]
 
 use std::process::ExitCode;
-use std::rt::Env;
+use std::rt::{Env, Files};
 use std::{env, io};
 use sv_program::{Command, CommandFault};
 
@@ -18,11 +18,11 @@ fn main(rt: HostRuntime) -> ExitCode {
 }
 
 /// Runs the command that the arguments name. Arguments that cannot be read name none.
-fn run<R: Env + Input + Print + AllocGlobal>(rt: &R) -> Result<(), CommandFault> {
+fn run<R: Env + Files + Input + Print + AllocGlobal>(rt: &R) -> Result<(), CommandFault> {
     let Ok(arguments) = env::args(rt) else {
         return Err(CommandFault::Usage);
     };
     let arguments: Vec<String> = arguments.skip(1).collect(rt.alloc())?;
     let command = Command::parse(arguments.as_slice()).ok_or(CommandFault::Usage)?;
-    command.run(rt.alloc(), rt.reader(), &mut io::writer(rt))
+    command.run(rt, rt.reader(), &mut io::writer(rt))
 }

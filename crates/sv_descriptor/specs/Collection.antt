@@ -1,0 +1,60 @@
+-- Jakarta Servlet 6.0 section 13.8 (web-resource-collection): patterns and methods.
+use Rattle.std.specs.Prelude.{ℕ, ◌-◌, Bool, not, ◌&&◌, List, [], ◌∷◌, length, codes, if◌then◌else◌, Option, Some, None, is_some, Ok}
+use Rattle.std.specs.List.{list_all}
+use Rattle.http_header.specs.Token.{is_token_byte}
+use Rattle.toml.specs.Data.{Data, Members}
+use Rattle.sv_constraints.specs.declared.constraint.Collection.{Collection}
+use Rattle.sv_constraints.specs.declared.constraint.Methods.{Methods}
+use Rattle.sv_constraints.specs.declared.constraint.Methods.TheVariants.{All, Only, Except}
+use Rattle.sv_schema.specs.Fault.{Reads, refuse, check, ◌>>=◌, ◌>>◌}
+use Rattle.sv_schema.specs.ListOf.{list_items, list_of}
+use Rattle.sv_schema.specs.Table.{required, optional}
+use Rattle.sv_schema.specs.Value.{Reader, is_within, is_text, is_table, text_of, table_of}
+use Rattle.sv_schema.specs.declared.fault.FaultCode.TheVariants.{BothMethodLists, BadValue}
+use Rattle.sv_schema.specs.declared.limits.TheConstants.{MAX_LIST_ITEMS}
+use Rattle.sv_descriptor.specs.Ignored.{element_keys, ignored_text}
+use Rattle.sv_descriptor.specs.Pattern.{patterns}
+use Rattle.sv_descriptor.specs.declared.limits.TheConstants.{MAX_METHOD_BYTES, MAX_PATTERNS_OF_CONSTRAINT}
+
+-- a token (RFC 9110 section 5.6.2)
+abbrev pub is_method : List ℕ → Bool
+is_method text = is_within 1 MAX_METHOD_BYTES text && list_all is_token_byte text
+
+abbrev pub method : List ℕ → List ℕ → Reads (List ℕ)
+method key text = if is_method text then Ok text else refuse BadValue key
+
+abbrev pub methods : Reader (List (List ℕ))
+methods = list_of 1 MAX_LIST_ITEMS is_text (text_of method)
+
+-- a list of omitted methods, which no list of methods may stand beside
+abbrev pub omitted_methods : Bool → Reader (List (List ℕ))
+omitted_methods beside key value = do
+  list_items 0 MAX_LIST_ITEMS is_text key value
+  check (not beside) BothMethodLists key
+  methods key value
+
+abbrev pub covered_methods : Option (List (List ℕ)) → Option (List (List ℕ)) → Methods
+covered_methods (Some listed) omitted = Only listed
+covered_methods None (Some omitted) = Except omitted
+covered_methods None None = All
+
+-- a collection of at most so many patterns
+abbrev pub collection : ℕ → Members → Reads Collection
+collection room table = do
+  element_keys (codes "web-resource-name" ∷ codes "url-pattern" ∷ codes "http-method" ∷ codes "http-method-omission" ∷ []) table
+  optional (text_of ignored_text) (codes "web-resource-name") table
+  its_patterns ← required (patterns 1 room) (codes "url-pattern") table
+  listed ← optional methods (codes "http-method") table
+  omitted ← optional (omitted_methods (is_some listed)) (codes "http-method-omission") table
+  Ok (record { patterns = its_patterns; methods = covered_methods listed omitted })
+
+-- collections that together have at most so many patterns
+abbrev pub collections_within : ℕ → List ℕ → List Data → Reads (List Collection)
+collections_within room key [] = Ok []
+collections_within room key (value ∷ rest) = do
+  its_first ← table_of (collection room) key value
+  others ← collections_within (room - length its_first.patterns) key rest
+  Ok (its_first ∷ others)
+
+abbrev pub collections : Reader (List Collection)
+collections key value = list_items 1 MAX_LIST_ITEMS is_table key value >>= collections_within MAX_PATTERNS_OF_CONSTRAINT key

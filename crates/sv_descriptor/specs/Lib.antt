@@ -1,0 +1,17 @@
+pub mod Pattern
+pub mod Location
+pub mod InitParam
+pub mod Servlet
+pub mod Filter
+pub mod Session
+pub mod WelcomeFile
+pub mod ErrorPage
+pub mod Collection
+pub mod Constraint
+pub mod Role
+pub mod Login
+pub mod Listener
+pub mod Ignored
+pub mod Descriptor
+pub mod Agreement
+pub mod WellFormed

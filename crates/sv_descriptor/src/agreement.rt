@@ -1,0 +1,131 @@
+//! What the elements of a descriptor say of one another.
+
+ghost use Rattle.std.specs.Prelude.{◌≡◌, ◌||◌, ◌++◌, IfOk, OnOk};
+ghost use Rattle.std.specs.List.{flat_map, list_all};
+ghost use Rattle.sv_text.specs.Gives.{Gives};
+ghost use Rattle.sv_descriptor.specs.Agreement as spec;
+ghost use Rattle.sv_schema.specs.Names.{HaveSame};
+ghost use Rattle.sv_descriptor.specs.Servlet.{is_reserved_servlet};
+ghost use Rattle.sv_schema.specs.Fault.{fault};
+ghost use Rattle.sv_schema.specs.Table.{is_among, texts as texts_of};
+
+use crate::descriptor::Descriptor;
+use crate::filter::FilterMapping;
+use crate::servlet::{ServletMapping, is_reserved_servlet};
+use std::alloc::Global;
+use sv_mapping::Pattern;
+use sv_schema::{FaultCode, Names, ReadFault, distinct_names, refuse, repeats};
+use sv_text::{NoMemory, Text};
+
+/// Sees that the elements of a descriptor fit one another.
+///
+/// # Errors
+/// In this order: [`FaultCode::DuplicateName`] for servlets, filters and roles, [`FaultCode::UnknownServlet`] and
+/// [`FaultCode::DuplicatePattern`] for servlet mappings, [`FaultCode::UnknownFilter`] and [`FaultCode::UnknownServlet`] for
+/// filter mappings; or [`ReadFault::NoMemory`].
+pub fn check_agreement(alloc: Global, descriptor: &Descriptor) -> Result<(), ReadFault>
+    ensures { Gives fault result (spec.elements_agree descriptor.now) }
+{
+    let Some(servlets) = distinct_names(alloc, descriptor.servlets.as_slice())? else {
+        return refuse(alloc, FaultCode::DuplicateName, "servlet-name");
+    };
+    let Some(filters) = distinct_names(alloc, descriptor.filters.as_slice())? else {
+        return refuse(alloc, FaultCode::DuplicateName, "filter-name");
+    };
+    if repeats(alloc, descriptor.roles.as_slice())? {
+        return refuse(alloc, FaultCode::DuplicateName, "role-name");
+    }
+    check_servlet_mappings(alloc, &servlets, descriptor)?;
+    check_filter_mappings(alloc, &servlets, &filters, descriptor)
+}
+
+fn check_servlet_mappings(
+    alloc: Global,
+    servlets: &Names<'_>,
+    descriptor: &Descriptor,
+) -> Result<(), ReadFault>
+    requires { HaveSame servlets.now (spec.servlet_names descriptor.now) }
+    ensures { Gives fault result (spec.servlet_mappings_fit descriptor.now) }
+{
+    let mappings = descriptor.servlet_mappings.as_slice();
+    if !are_mapped(servlets, mappings) {
+        return refuse(alloc, FaultCode::UnknownServlet, "servlet-name");
+    }
+    if repeats(alloc, servlet_patterns(alloc, mappings)?.as_slice())? {
+        return refuse(alloc, FaultCode::DuplicatePattern, "url-pattern");
+    }
+    Ok(())
+}
+
+fn are_mapped(servlets: &Names<'_>, mappings: &[ServletMapping]) -> bool
+    ensures { result ≡ list_all (λ mapping. is_among servlets.now mapping.servlet_name) mappings.now }
+{
+    mappings
+        .iter()
+        .all(|mapping| servlets.contains(mapping.servlet_name.as_str()))
+}
+
+fn servlet_patterns(alloc: Global, mappings: &[ServletMapping]) -> Result<Vec<&str>, NoMemory>
+    ensures { IfOk result (λ texts. texts_of texts.items ≡ flat_map (λ mapping. mapping.url_patterns) mappings.now) }
+{
+    let mut texts = Vec::new(alloc);
+    for mapping in mappings {
+        push_patterns(&mut texts, mapping.url_patterns.as_slice())?;
+    }
+    Ok(texts)
+}
+
+fn push_patterns<'a>(texts: &mut Vec<&'a str>, patterns: &'a [Pattern]) -> Result<(), NoMemory>
+    ensures { OnOk result (texts_of texts.new.items ≡ texts_of texts.old.items ++ patterns.now) }
+{
+    for pattern in patterns {
+        texts.push(pattern.text())?;
+    }
+    Ok(())
+}
+
+fn check_filter_mappings(
+    alloc: Global,
+    servlets: &Names<'_>,
+    filters: &Names<'_>,
+    descriptor: &Descriptor,
+) -> Result<(), ReadFault>
+    requires servlets { HaveSame servlets.now (spec.servlet_names descriptor.now) }
+    requires filters { HaveSame filters.now (spec.filter_names descriptor.now) }
+    ensures { Gives fault result (spec.filter_mappings_fit descriptor.now) }
+{
+    let mappings = descriptor.filter_mappings.as_slice();
+    if !have_filters(filters, mappings) {
+        return refuse(alloc, FaultCode::UnknownFilter, "filter-name");
+    }
+    if !have_servlets(servlets, mappings) {
+        return refuse(alloc, FaultCode::UnknownServlet, "servlet-name");
+    }
+    Ok(())
+}
+
+fn have_filters(filters: &Names<'_>, mappings: &[FilterMapping]) -> bool
+    ensures { result ≡ list_all (λ mapping. is_among filters.now mapping.filter_name) mappings.now }
+{
+    mappings
+        .iter()
+        .all(|mapping| filters.contains(mapping.filter_name.as_str()))
+}
+
+fn have_servlets(servlets: &Names<'_>, mappings: &[FilterMapping]) -> bool
+    ensures { result ≡ list_all (λ mapping. list_all (λ name. is_reserved_servlet name || is_among servlets.now name) mapping.servlet_names) mappings.now }
+{
+    mappings.iter().all(|mapping| are_known(servlets, mapping.servlet_names.as_slice()))
+}
+
+fn are_known(servlets: &Names<'_>, names: &[Text]) -> bool
+    ensures { result ≡ list_all (λ name. is_reserved_servlet name || is_among servlets.now name) names.now }
+{
+    names.iter().all(|name| is_known(servlets, name.as_str()))
+}
+
+fn is_known(servlets: &Names<'_>, name: &str) -> bool
+    ensures { result ≡ (is_reserved_servlet name.now || is_among servlets.now name.now) }
+{
+    is_reserved_servlet(name) || servlets.contains(name)
+}

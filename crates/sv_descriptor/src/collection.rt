@@ -1,0 +1,192 @@
+//! The collections of a constraint.
+
+ghost use Rattle.std.specs.Prelude.{◌≡◌, ◌-◌, length, map};
+ghost use Rattle.std.specs.List.{list_all};
+ghost use Rattle.http_header.specs.Token.{is_token_byte};
+ghost use Rattle.sv_text.specs.Gives.{Gives};
+ghost use Rattle.toml.specs.View.{view};
+ghost use Rattle.sv_descriptor.specs.Collection as spec;
+ghost use Rattle.sv_schema.specs.Fault.{fault};
+ghost use Rattle.sv_schema.specs.ListOf.{is_array};
+
+use crate::ignored::{IgnoredText, element_keys};
+use crate::limits::{MAX_METHOD_BYTES, MAX_PATTERNS_OF_CONSTRAINT};
+use crate::pattern::{UrlPattern, UrlPatterns};
+use http_header::is_token_char;
+use std::alloc::Global;
+use sv_constraints::{Collection, Methods};
+use sv_schema::{
+    FaultCode, ListOf, MAX_LIST_ITEMS, ReadFault, Schema, TableOf, TableSchema, TextOf, TextSchema,
+    is_within, list_items, optional, refuse, required,
+};
+use sv_text::{Listed, Text};
+use toml::{Table, Value};
+
+/// The list of a constraint's collections.
+#[derive(Clone, Copy)]
+pub struct Collections;
+
+impl Schema for Collections {
+    type Output = Listed<Collection>;
+
+    ghost fits = { λ _. is_array };
+
+    ghost reads = { λ _. spec.collections };
+
+    fn fits(&self, value: &Value) -> bool {
+        value.is_array()
+    }
+
+    fn read(
+        &self,
+        alloc: Global,
+        key: &str,
+        value: &Value,
+    ) -> Result<Listed<Collection>, ReadFault> {
+        let item = TableOf(CollectionTable {
+            room: MAX_PATTERNS_OF_CONSTRAINT,
+        });
+        let values = list_items(alloc, 1, MAX_LIST_ITEMS, &item, key, value)?;
+        collections_within(alloc, MAX_PATTERNS_OF_CONSTRAINT, key, values)
+    }
+}
+
+fn collections_within(
+    alloc: Global,
+    room: usize,
+    key: &str,
+    values: &[Value],
+) -> Result<Listed<Collection>, ReadFault>
+    ensures { Gives fault result (spec.collections_within room key.now (map view values.now)) }
+{
+    let mut room = room;
+    let mut collections = Vec::with_capacity(alloc, values.len())?;
+    for value in values {
+        let collection = TableOf(CollectionTable { room }).read(alloc, key, value)?;
+        room = room_beside(room, &collection);
+        collections.push(collection)?;
+    }
+    Ok(Listed::from_vec(collections))
+}
+
+/// How many patterns there may be beside those of a collection.
+fn room_beside(room: usize, collection: &Collection) -> usize
+    ensures { result ≡ room - length collection.now.patterns }
+{
+    room.saturating_sub(collection.patterns.as_slice().len())
+}
+
+/// The table of a collection.
+#[derive(Clone, Copy)]
+struct CollectionTable {
+    /// How many patterns the collection may have.
+    room: usize,
+}
+
+impl TableSchema for CollectionTable {
+    type Output = Collection;
+
+    ghost reads = { λ schema. spec.collection schema.room };
+
+    fn read(&self, alloc: Global, table: &Table) -> Result<Collection, ReadFault> {
+        let known = [
+            "web-resource-name",
+            "url-pattern",
+            "http-method",
+            "http-method-omission",
+        ];
+        element_keys(alloc, &known, table)?;
+        let _ = optional(alloc, table, "web-resource-name", &TextOf(IgnoredText))?;
+        let patterns = UrlPatterns {
+            least: 1,
+            most: self.room,
+            item: TextOf(UrlPattern),
+        };
+        let patterns = required(alloc, table, "url-pattern", &patterns)?;
+        let listed = optional(alloc, table, "http-method", &METHODS)?;
+        let omission = OmittedMethods {
+            beside_methods: listed.is_some(),
+        };
+        let omitted = optional(alloc, table, "http-method-omission", &omission)?;
+        Ok(Collection {
+            patterns,
+            methods: covered_methods(listed, omitted),
+        })
+    }
+}
+
+/// The methods that a collection covers: the listed ones, or all but the omitted ones, or all.
+fn covered_methods(listed: Option<Listed<Text>>, omitted: Option<Listed<Text>>) -> Methods
+    ensures { result ≡ spec.covered_methods listed omitted }
+{
+    if let Some(methods) = listed {
+        return Methods::Only(methods);
+    }
+    match omitted {
+        Some(methods) => Methods::Except(methods),
+        None => Methods::All,
+    }
+}
+
+/// A list of methods.
+const METHODS: ListOf<TextOf<Method>> = ListOf {
+    least: 1,
+    most: MAX_LIST_ITEMS,
+    item: TextOf(Method),
+};
+
+/// A list of omitted methods.
+#[derive(Clone, Copy)]
+struct OmittedMethods {
+    /// Whether the collection has a list of methods too, beside which there may be none of omitted ones.
+    beside_methods: bool,
+}
+
+impl Schema for OmittedMethods {
+    type Output = Listed<Text>;
+
+    ghost fits = { λ _. is_array };
+
+    ghost reads = { λ schema. spec.omitted_methods schema.beside_methods };
+
+    fn fits(&self, value: &Value) -> bool {
+        value.is_array()
+    }
+
+    fn read(&self, alloc: Global, key: &str, value: &Value) -> Result<Listed<Text>, ReadFault> {
+        let _ = list_items(alloc, 0, MAX_LIST_ITEMS, &METHODS.item, key, value)?;
+        if self.beside_methods {
+            return refuse(alloc, FaultCode::BothMethodLists, key);
+        }
+        METHODS.read(alloc, key, value)
+    }
+}
+
+/// A method of a request (RFC 9110 section 9.1).
+#[derive(Clone, Copy)]
+struct Method;
+
+impl TextSchema for Method {
+    type Output = Text;
+
+    ghost reads = { λ _. spec.method };
+
+    fn read(&self, alloc: Global, key: &str, text: &str) -> Result<Text, ReadFault> {
+        if !is_method(text) {
+            return refuse(alloc, FaultCode::BadValue, key);
+        }
+        Ok(Text::copy_of(alloc, text)?)
+    }
+}
+
+fn is_method(text: &str) -> bool
+    ensures { result ≡ spec.is_method text.now }
+{
+    is_within(text, 1, MAX_METHOD_BYTES) && is_token_text(text)
+}
+
+fn is_token_text(text: &str) -> bool
+    ensures { result ≡ list_all is_token_byte text.now }
+{
+    text.as_bytes().iter().all(|byte| is_token_char(*byte))
+}

@@ -1,0 +1,79 @@
+//! Error pages.
+
+ghost use Rattle.sv_text.specs.Gives.{Gives};
+ghost use Rattle.sv_descriptor.specs.ErrorPage as spec;
+ghost use Rattle.sv_schema.specs.Fault.{fault};
+
+use crate::ignored::element_keys;
+use crate::limits::{MAX_ERROR_CODE, MIN_ERROR_CODE};
+use crate::location::Location;
+use std::alloc::Global;
+use sv_schema::{
+    FaultCode, Name, NumberBetween, ReadFault, TableSchema, TextOf, WholeOf, optional, refuse,
+    required,
+};
+use sv_text::Text;
+use toml::Table;
+
+/// A page for errors (`error-page`).
+#[derive(Debug, Drop)]
+pub struct ErrorPage {
+    /// The errors that the page is for.
+    pub page_for: PageFor,
+    /// The page's path within the context, with or without a query.
+    pub location: Text,
+}
+
+/// The errors that a page is for.
+#[derive(Debug, Drop)]
+pub enum PageFor {
+    /// Those with this status, from 400 to 599 (`error-code`).
+    Status(u16),
+    /// The faults of this kind (`exception-type`).
+    Exception(Text),
+    /// Those that have no other page.
+    Any,
+}
+
+/// The table of an error page.
+#[derive(Clone, Copy)]
+pub struct ErrorPageTable;
+
+impl TableSchema for ErrorPageTable {
+    type Output = ErrorPage;
+
+    ghost reads = { λ _. spec.error_page };
+
+    fn read(&self, alloc: Global, table: &Table) -> Result<ErrorPage, ReadFault> {
+        element_keys(alloc, &["error-code", "exception-type", "location"], table)?;
+        let status = WholeOf(NumberBetween {
+            least: MIN_ERROR_CODE,
+            most: MAX_ERROR_CODE,
+        });
+        let status = optional(alloc, table, "error-code", &status)?;
+        let exception = optional(alloc, table, "exception-type", &TextOf(Name))?;
+        Ok(ErrorPage {
+            page_for: page_for(alloc, status, exception)?,
+            location: required(alloc, table, "location", &TextOf(Location))?,
+        })
+    }
+}
+
+fn page_for(
+    alloc: Global,
+    status: Option<u16>,
+    exception: Option<Text>,
+) -> Result<PageFor, ReadFault>
+    ensures { Gives fault result (spec.page_for status exception) }
+{
+    let Some(exception) = exception else {
+        return match status {
+            Some(status) => Ok(PageFor::Status(status)),
+            None => Ok(PageFor::Any),
+        };
+    };
+    if status.is_some() {
+        return refuse(alloc, FaultCode::BadValue, "exception-type");
+    }
+    Ok(PageFor::Exception(exception))
+}

@@ -1,0 +1,127 @@
+//! Filters and their mappings.
+
+ghost use Rattle.sv_descriptor.specs.Filter as spec;
+
+use crate::ignored::element_keys;
+use crate::init_param::{InitParam, InitParams};
+use crate::kind::Kind;
+use crate::pattern::{UrlPattern, UrlPatterns};
+use std::alloc::Global;
+use sv_mapping::Pattern;
+use sv_schema::{
+    FaultCode, ListOf, MAX_LIST_ITEMS, Name, Named, ReadFault, TableOf, TableSchema, TextOf,
+    TextSchema, has_key, list_or_empty, refuse, required,
+};
+use sv_text::{Listed, Text};
+use toml::Table;
+
+/// A declared filter (`filter`).
+#[derive(Debug, Drop)]
+pub struct FilterEntry {
+    /// The filter's name.
+    pub filter_name: Text,
+    /// The name of the filter's class.
+    pub filter_class: Text,
+    /// The filter's parameters, in the order of their names' bytes.
+    pub init_params: Listed<InitParam>,
+}
+
+impl Named for FilterEntry {
+    ghost its_name = { λ filter. filter.filter_name };
+
+    fn name(&self) -> &str {
+        self.filter_name.as_str()
+    }
+}
+
+/// The requests that pass a filter (`filter-mapping`): those that one of the patterns or one of the names matches.
+#[derive(Debug, Drop)]
+pub struct FilterMapping {
+    /// The filter's name.
+    pub filter_name: Text,
+    /// The patterns of paths.
+    pub url_patterns: Listed<Pattern>,
+    /// The names of servlets, `*` for every servlet and `default` for the file servlet.
+    pub servlet_names: Listed<Text>,
+    /// The kinds of dispatches. An empty list is for [`Kind::Request`] alone.
+    pub dispatchers: Listed<Kind>,
+}
+
+/// The table of a filter.
+#[derive(Clone, Copy)]
+pub struct FilterTable;
+
+impl TableSchema for FilterTable {
+    type Output = FilterEntry;
+
+    ghost reads = { λ _. spec.filter_entry };
+
+    fn read(&self, alloc: Global, table: &Table) -> Result<FilterEntry, ReadFault> {
+        element_keys(alloc, &["filter-name", "filter-class", "init-param"], table)?;
+        Ok(FilterEntry {
+            filter_name: required(alloc, table, "filter-name", &TextOf(Name))?,
+            filter_class: required(alloc, table, "filter-class", &TextOf(Name))?,
+            init_params: list_or_empty(alloc, table, "init-param", &TableOf(InitParams))?,
+        })
+    }
+}
+
+/// The table of a filter mapping.
+#[derive(Clone, Copy)]
+pub struct FilterMappingTable;
+
+impl TableSchema for FilterMappingTable {
+    type Output = FilterMapping;
+
+    ghost reads = { λ _. spec.filter_mapping };
+
+    fn read(&self, alloc: Global, table: &Table) -> Result<FilterMapping, ReadFault> {
+        let known = ["filter-name", "url-pattern", "servlet-name", "dispatcher"];
+        element_keys(alloc, &known, table)?;
+        let filter_name = required(alloc, table, "filter-name", &TextOf(Name))?;
+        if !has_key(table, "url-pattern") && !has_key(table, "servlet-name") {
+            return refuse(alloc, FaultCode::MissingKey, "url-pattern");
+        }
+        let patterns = UrlPatterns {
+            least: 0,
+            most: MAX_LIST_ITEMS,
+            item: TextOf(UrlPattern),
+        };
+        let names = ListOf {
+            least: 0,
+            most: MAX_LIST_ITEMS,
+            item: TextOf(Name),
+        };
+        let dispatchers = ListOf {
+            least: 0,
+            most: MAX_LIST_ITEMS,
+            item: TextOf(Dispatcher),
+        };
+        Ok(FilterMapping {
+            filter_name,
+            url_patterns: list_or_empty(alloc, table, "url-pattern", &patterns)?,
+            servlet_names: list_or_empty(alloc, table, "servlet-name", &names)?,
+            dispatchers: list_or_empty(alloc, table, "dispatcher", &dispatchers)?,
+        })
+    }
+}
+
+/// The name of a kind of dispatches.
+#[derive(Clone, Copy)]
+struct Dispatcher;
+
+impl TextSchema for Dispatcher {
+    type Output = Kind;
+
+    ghost reads = { λ _. spec.dispatcher };
+
+    fn read(&self, alloc: Global, key: &str, text: &str) -> Result<Kind, ReadFault> {
+        match text {
+            "REQUEST" => Ok(Kind::Request),
+            "FORWARD" => Ok(Kind::Forward),
+            "INCLUDE" => Ok(Kind::Include),
+            "ERROR" => Ok(Kind::Error),
+            _ => refuse(alloc, FaultCode::BadValue, key),
+        }
+    }
+}

@@ -1,0 +1,32 @@
+//! The elements of a descriptor that mean nothing to a container.
+
+ghost use Rattle.sv_text.specs.Gives.{Gives};
+ghost use Rattle.toml.specs.View.{table_view};
+ghost use Rattle.sv_descriptor.specs.Ignored as spec;
+ghost use Rattle.sv_schema.specs.Fault.{fault};
+ghost use Rattle.sv_schema.specs.Table.{texts};
+
+use std::alloc::Global;
+use sv_schema::{ReadFault, TextSchema, only_keys};
+use toml::Table;
+
+/// Sees that an element of a descriptor has no keys but those that are known, and those that every element may have.
+pub fn element_keys(alloc: Global, known: &[&str], table: &Table) -> Result<(), ReadFault>
+    ensures { Gives fault result (spec.element_keys (texts known.now) (table_view table.now)) }
+{
+    only_keys(alloc, known, &["description", "display-name"], table)
+}
+
+/// A text that means nothing to a container.
+#[derive(Clone, Copy)]
+pub struct IgnoredText;
+
+impl TextSchema for IgnoredText {
+    type Output = ();
+
+    ghost reads = { λ _. spec.ignored_text };
+
+    fn read(&self, _alloc: Global, _key: &str, _text: &str) -> Result<(), ReadFault> {
+        Ok(())
+    }
+}

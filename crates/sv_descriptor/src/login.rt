@@ -1,0 +1,70 @@
+//! The login of callers.
+
+ghost use Rattle.sv_descriptor.specs.Login as spec;
+
+use crate::ignored::element_keys;
+use crate::location::Location;
+use std::alloc::Global;
+use sv_schema::{FaultCode, ReadFault, TableOf, TableSchema, TextOf, TextSchema, refuse, required};
+use sv_text::Text;
+use toml::Table;
+
+/// Form based authentication (`login-config`, Jakarta Servlet 6.0 section 13.6.3).
+#[derive(Debug, Drop)]
+pub struct FormLogin {
+    /// The path of the page with the login form, within the context.
+    pub login_page: Text,
+    /// The path of the page for a login that failed, within the context.
+    pub error_page: Text,
+}
+
+/// The table of a login configuration.
+#[derive(Clone, Copy)]
+pub struct LoginTable;
+
+impl TableSchema for LoginTable {
+    type Output = FormLogin;
+
+    ghost reads = { λ _. spec.login_config };
+
+    fn read(&self, alloc: Global, table: &Table) -> Result<FormLogin, ReadFault> {
+        element_keys(alloc, &["auth-method", "form-login-config"], table)?;
+        required(alloc, table, "auth-method", &TextOf(AuthMethod))?;
+        required(alloc, table, "form-login-config", &TableOf(FormLoginTable))
+    }
+}
+
+/// The table of the two pages.
+#[derive(Clone, Copy)]
+struct FormLoginTable;
+
+impl TableSchema for FormLoginTable {
+    type Output = FormLogin;
+
+    ghost reads = { λ _. spec.form_login_config };
+
+    fn read(&self, alloc: Global, table: &Table) -> Result<FormLogin, ReadFault> {
+        element_keys(alloc, &["form-login-page", "form-error-page"], table)?;
+        Ok(FormLogin {
+            login_page: required(alloc, table, "form-login-page", &TextOf(Location))?,
+            error_page: required(alloc, table, "form-error-page", &TextOf(Location))?,
+        })
+    }
+}
+
+/// The name of the one method of authentication.
+#[derive(Clone, Copy)]
+struct AuthMethod;
+
+impl TextSchema for AuthMethod {
+    type Output = ();
+
+    ghost reads = { λ _. spec.auth_method };
+
+    fn read(&self, alloc: Global, key: &str, text: &str) -> Result<(), ReadFault> {
+        if text != "FORM" {
+            return refuse(alloc, FaultCode::BadValue, key);
+        }
+        Ok(())
+    }
+}

@@ -1,0 +1,28 @@
+//! URL patterns.
+
+ghost use Rattle.sv_descriptor.specs.Pattern.{pattern};
+
+use std::alloc::Global;
+use sv_mapping::{Pattern, PatternFault};
+use sv_schema::{FaultCode, ListOf, ReadFault, TextOf, TextSchema, refuse};
+
+/// A URL pattern.
+#[derive(Clone, Copy)]
+pub struct UrlPattern;
+
+impl TextSchema for UrlPattern {
+    type Output = Pattern;
+
+    ghost reads = { λ _. pattern };
+
+    fn read(&self, alloc: Global, key: &str, text: &str) -> Result<Pattern, ReadFault> {
+        match Pattern::parse(alloc, text) {
+            Ok(pattern) => Ok(pattern),
+            Err(PatternFault::BadPattern) => refuse(alloc, FaultCode::BadPattern, key),
+            Err(PatternFault::NoMemory) => Err(ReadFault::NoMemory),
+        }
+    }
+}
+
+/// A list of `least` to `most` URL patterns.
+pub type UrlPatterns = ListOf<TextOf<UrlPattern>>;

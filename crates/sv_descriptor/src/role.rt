@@ -1,0 +1,48 @@
+//! Declared roles.
+
+ghost use Rattle.std.specs.Prelude.{◌≡◌};
+ghost use Rattle.sv_descriptor.specs.Role as spec;
+
+use crate::ignored::element_keys;
+use std::alloc::Global;
+use sv_schema::{FaultCode, Name, ReadFault, TableSchema, TextOf, TextSchema, refuse, required};
+use sv_text::Text;
+use toml::Table;
+
+/// The table of a declared role.
+#[derive(Clone, Copy)]
+pub struct RoleTable;
+
+impl TableSchema for RoleTable {
+    type Output = Text;
+
+    ghost reads = { λ _. spec.security_role };
+
+    fn read(&self, alloc: Global, table: &Table) -> Result<Text, ReadFault> {
+        element_keys(alloc, &["role-name"], table)?;
+        required(alloc, table, "role-name", &TextOf(RoleName))
+    }
+}
+
+/// The name of a declared role.
+#[derive(Clone, Copy)]
+struct RoleName;
+
+impl TextSchema for RoleName {
+    type Output = Text;
+
+    ghost reads = { λ _. spec.role_name };
+
+    fn read(&self, alloc: Global, key: &str, text: &str) -> Result<Text, ReadFault> {
+        if is_reserved_role(text) {
+            return refuse(alloc, FaultCode::ReservedRole, key);
+        }
+        Name.read(alloc, key, text)
+    }
+}
+
+fn is_reserved_role(name: &str) -> bool
+    ensures { result ≡ spec.is_reserved_role name.now }
+{
+    name == "*" || name == "**"
+}

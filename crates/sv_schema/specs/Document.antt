@@ -1,0 +1,14 @@
+-- The table that a text is.
+use Rattle.std.specs.Prelude.{ℕ, List, [], Option, Some, None, Ok}
+use Rattle.toml.specs.Data.{Members}
+use Rattle.toml.specs.Parse.{parse_document}
+use Rattle.sv_schema.specs.Fault.{Reads, refuse, ◌>>=◌}
+use Rattle.sv_schema.specs.declared.fault.FaultCode.TheVariants.{NotToml}
+
+abbrev pub parsed : Option Members → Reads Members
+parsed None = refuse NotToml []
+parsed (Some table) = Ok table
+
+-- what is read of the table that a text is
+abbrev pub document : {A : Type 0} → (Members → Reads A) → List ℕ → Reads A
+document reads text = parsed (parse_document text) >>= reads

@@ -1,0 +1,56 @@
+-- The keys of a table: which are known, and what is read of each.
+use Rattle.std.specs.Prelude.{ℕ, Bool, not, ◌&&◌, List, [], ◌∷◌, map, Option, Some, None, is_some, Ok}
+use Rattle.std.specs.Borrow.{Bor}
+use Rattle.std.specs.List.{find, list_any}
+use Rattle.std.specs.Option.{option_map_or}
+use Rattle.std.specs.Str.{bytes_eq}
+use Rattle.toml.specs.Data.{Data, Members, no_members, member, get_member}
+use Rattle.sv_schema.specs.Fault.{Reads, refuse, ◌>>=◌}
+use Rattle.sv_schema.specs.Value.{Reader}
+use Rattle.sv_schema.specs.declared.fault.FaultCode.TheVariants.{UnknownKey, MissingKey}
+
+-- the keys of a table, in the order of their bytes
+abbrev pub keys : Members → List (List ℕ)
+keys no_members = []
+keys (member key value rest) = key ∷ keys rest
+
+abbrev pub is_among : List (List ℕ) → List ℕ → Bool
+is_among texts text = list_any (λ other. bytes_eq other text) texts
+
+-- the texts that references refer to
+abbrev pub texts : List (Bor (List ℕ)) → List (List ℕ)
+texts references = map (λ text. text.now) references
+
+abbrev pub is_other : List (List ℕ) → List (List ℕ) → List ℕ → Bool
+is_other known ignored key = not (is_among known key) && not (is_among ignored key)
+
+-- the table has no other keys; the first other one is the fault
+abbrev pub only_keys : List (List ℕ) → List (List ℕ) → Members → Reads (Unit {0})
+only_keys known ignored table = option_map_or (refuse UnknownKey) (find (is_other known ignored) (keys table)) (Ok tt)
+
+abbrev pub has_key : List ℕ → Members → Bool
+has_key key table = is_some (get_member key table)
+
+abbrev pub required_value : {A : Type 0} → Reader A → List ℕ → Option Data → Reads A
+required_value reads key None = refuse MissingKey key
+required_value reads key (Some value) = reads key value
+
+-- a key that has to be there
+abbrev pub required : {A : Type 0} → Reader A → List ℕ → Members → Reads A
+required reads key table = required_value reads key (get_member key table)
+
+abbrev pub optional_value : {A : Type 0} → Reader A → List ℕ → Option Data → Reads (Option A)
+optional_value reads key None = Ok None
+optional_value reads key (Some value) = reads key value >>= (λ a. Ok (Some a))
+
+-- a key that may be missing
+abbrev pub optional : {A : Type 0} → Reader A → List ℕ → Members → Reads (Option A)
+optional reads key table = optional_value reads key (get_member key table)
+
+abbrev pub or_else : {A : Type 0} → A → Option A → A
+or_else other None = other
+or_else other (Some a) = a
+
+-- a key that may be missing, where another value stands in its place
+abbrev pub optional_or : {A : Type 0} → A → Reader A → List ℕ → Members → Reads A
+optional_or other reads key table = optional reads key table >>= (λ a. Ok (or_else other a))

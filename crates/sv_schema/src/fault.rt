@@ -1,0 +1,131 @@
+//! The faults of a configuration file.
+
+ghost use Rattle.std.specs.Prelude.{◌≡◌};
+ghost use Rattle.sv_text.specs.Gives.{Gives};
+ghost use Rattle.sv_schema.specs.Fault as spec;
+ghost use Rattle.sv_schema.specs.declared.fault.ReadFault.TheVariants.{NoMemory};
+
+use std::alloc::{AllocError, AllocFailed, Global};
+use std::error::Error;
+use std::fmt;
+use sv_text::{NoMemory as OutOfMemory, Text};
+
+/// Why a configuration file was not read.
+#[derive(Debug, Drop)]
+pub enum ReadFault {
+    /// The file is not one of its format: the first fault in the format's order.
+    Fault(DescriptorFault),
+    /// There was no memory to read the file or to name its fault. Nothing is said of the file.
+    NoMemory,
+}
+
+/// The first fault of a configuration file.
+#[derive(Debug, Drop)]
+pub struct DescriptorFault {
+    /// What is wrong.
+    pub code: FaultCode,
+    /// The bare key at which it is wrong, empty where the text is no TOML.
+    pub key: Text,
+}
+
+/// What can be wrong with a configuration file.
+#[derive(Clone, Copy, Debug, PartialEq, Eq)]
+pub enum FaultCode {
+    /// The text is no TOML.
+    NotToml = 1,
+    /// The table has a key that its format does not know.
+    UnknownKey = 2,
+    /// The table lacks a key.
+    MissingKey = 3,
+    /// The value at the key is of another type.
+    WrongType = 4,
+    /// The text is no URL pattern.
+    BadPattern = 5,
+    /// Two servlet mappings, or one twice, have the same URL pattern.
+    DuplicatePattern = 6,
+    /// No servlet of that name is declared.
+    UnknownServlet = 7,
+    /// No filter of that name is declared.
+    UnknownFilter = 8,
+    /// A web resource collection lists methods and omitted methods.
+    BothMethodLists = 9,
+    /// A declared role has a name with a meaning of its own, `*` or `**`.
+    ReservedRole = 10,
+    /// The session timeout is too long.
+    BadTimeout = 11,
+    /// The value is out of its range or is not one of those that are known.
+    BadValue = 12,
+    /// The name was declared before.
+    DuplicateName = 13,
+    /// The list is longer than its limit.
+    TooMany = 14,
+}
+
+impl FaultCode {
+    ghost use Rattle.sv_schema.specs.Fault.{number};
+
+    /// The number of the code, from 1 to 14.
+    pub fn number(self) -> u8
+        ensures { result ≡ number self }
+    {
+        self as u8
+    }
+}
+
+impl fmt::Display for FaultCode {
+    fn fmt<W: fmt::Write>(&self, f: &mut fmt::Formatter<W>) -> fmt::Result {
+        write!(f, "{self:?}")
+    }
+}
+
+impl fmt::Display for DescriptorFault {
+    fn fmt<W: fmt::Write>(&self, f: &mut fmt::Formatter<W>) -> fmt::Result {
+        write!(f, "{} {}", self.code, self.key)
+    }
+}
+
+impl fmt::Display for ReadFault {
+    fn fmt<W: fmt::Write>(&self, f: &mut fmt::Formatter<W>) -> fmt::Result {
+        match self {
+            ReadFault::Fault(fault) => write!(f, "{fault}"),
+            ReadFault::NoMemory => write!(f, "no memory"),
+        }
+    }
+}
+
+impl Error for ReadFault {}
+
+impl From<OutOfMemory> for ReadFault {
+    ghost from_gives = { λ _ fault. fault ≡ NoMemory };
+
+    fn from(_refused: OutOfMemory) -> ReadFault {
+        ReadFault::NoMemory
+    }
+}
+
+impl From<AllocError> for ReadFault {
+    ghost from_gives = { λ _ fault. fault ≡ NoMemory };
+
+    fn from(_refused: AllocError) -> ReadFault {
+        ReadFault::NoMemory
+    }
+}
+
+impl<T: Drop> From<AllocFailed<T>> for ReadFault {
+    ghost from_gives = { λ _ fault. fault ≡ NoMemory };
+
+    fn from(_refused: AllocFailed<T>) -> ReadFault {
+        ReadFault::NoMemory
+    }
+}
+
+/// Refuses a file for a fault at a key.
+///
+/// # Errors
+/// Always: [`ReadFault::NoMemory`] where there was no memory to name the key, and the fault elsewhere.
+pub fn refuse<T>(alloc: Global, code: FaultCode, key: &str) -> Result<T, ReadFault>
+    ensures { Gives spec.fault result (spec.refuse code key.now) }
+{
+    let key = Text::copy_of(alloc, key)?;
+    Err(ReadFault::Fault(DescriptorFault { code, key }))
+}

@@ -1,0 +1,23 @@
+//! The words in which the format of a configuration file is written: how the value at a key of a TOML table is read, and
+//! which fault is found first.
+#![tactic(auto)]
+
+mod document;
+mod fault;
+mod limits;
+mod list;
+mod names;
+mod schema;
+mod table;
+mod text;
+mod whole;
+
+pub use document::read_document;
+pub use fault::{DescriptorFault, FaultCode, ReadFault, refuse};
+pub use limits::{MAX_LIST_ITEMS, MAX_NAME_BYTES, NO_LIMIT};
+pub use list::{ListOf, list_items};
+pub use names::{Named, Names, distinct_names, repeats};
+pub use schema::{Schema, has_key, list_or_empty, optional, optional_or, required};
+pub use table::{TableOf, TableSchema, only_keys};
+pub use text::{AnyText, HexText, Name, TextOf, TextSchema, is_within};
+pub use whole::{NumberBetween, Truth, WholeOf, WholeSchema};

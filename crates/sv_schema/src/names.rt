@@ -1,0 +1,99 @@
+//! Names that have to differ.
+
+ghost use Rattle.std.specs.Prelude.{◌≡◌, ℕ, List, [], ◌∷◌, map, not, IfOk};
+ghost use Rattle.sv_text.specs.Gives.{GivesAnswer};
+ghost use Rattle.sv_schema.specs.Names as spec;
+ghost use Rattle.sv_schema.specs.Table.{is_among};
+
+use std::alloc::Global;
+use std::collections::BTreeSet;
+use std::marker::Model;
+use sv_text::{NoMemory, Text};
+
+/// What has a name that tells it from others of its kind.
+pub trait Named {
+    ghost its_name: { Self → List ℕ };
+
+    /// The name.
+    fn name(&self) -> &str
+        ensures { result.now ≡ its_name self.now };
+}
+
+impl Named for Text {
+    ghost its_name = { λ text. text };
+
+    fn name(&self) -> &str {
+        self.as_str()
+    }
+}
+
+impl Named for &str {
+    ghost its_name = { λ text. text.now };
+
+    fn name(&self) -> &str {
+        *self
+    }
+}
+
+/// A set of names. Contracts see the list of its names.
+#[derive(Drop)]
+pub struct Names<'a> {
+    set: BTreeSet<&'a str>,
+}
+
+impl<'a> Model for Names<'a> {
+    ghost use Rattle.std.specs.Prelude.{ℕ, List, map};
+
+    ghost Value = { List (List ℕ) };
+
+    ghost view = { λ names. map (λ name. name.now) names.set.keys };
+}
+
+impl<'a> Names<'a> {
+    /// No names.
+    pub fn new(alloc: Global) -> Names<'a>
+        ensures { result ≡ [] }
+    {
+        Names {
+            set: BTreeSet::new(alloc),
+        }
+    }
+
+    /// Whether a name is in the set.
+    pub fn contains(&self, name: &str) -> bool
+        ensures { result ≡ is_among self.now name.now }
+    {
+        self.set.contains(name)
+    }
+
+    /// Enters a name, and answers whether it was not in the set. The set is unchanged after a refusal.
+    pub fn enter(&mut self, name: &'a str) -> Result<bool, NoMemory>
+        ensures new { IfOk result (λ is_new. is_new ≡ not (is_among self.old name.now)) }
+        ensures entered { IfOk result (λ _. spec.HaveSame self.new (name.now ∷ self.old)) }
+    {
+        Ok(self.set.insert(name)?)
+    }
+}
+
+/// The names of a list, or `None` where two of them are equal.
+pub fn distinct_names<'a, N: Named>(
+    alloc: Global,
+    items: &'a [N],
+) -> Result<Option<Names<'a>>, NoMemory>
+    ensures { IfOk result (λ names. spec.AreDistinct names (map N.its_name items.now)) }
+{
+    let mut names = Names::new(alloc);
+    for item in items {
+        if !names.enter(item.name())? {
+            return Ok(None);
+        }
+    }
+    Ok(Some(names))
+}
+
+/// Whether two names of a list are equal.
+pub fn repeats<N: Named>(alloc: Global, items: &[N]) -> Result<bool, NoMemory>
+    ensures { GivesAnswer result (spec.repeats (map N.its_name items.now)) }
+{
+    Ok(distinct_names(alloc, items)?.is_none())
+}

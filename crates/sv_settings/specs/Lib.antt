@@ -1,0 +1,3 @@
+pub mod ContextPath
+pub mod Server
+pub mod Users

@@ -1,0 +1,11 @@
+//! The server file and the users file, read from TOML: the first fault in the format's order, or plain data.
+#![tactic(auto)]
+
+mod context_path;
+mod limits;
+mod server;
+mod users;
+
+pub use limits::{DIGEST_BYTES, MAX_PORT, MAX_SALT_DIGITS, SEED_BYTES};
+pub use server::{ContextEntry, Server, read_server};
+pub use users::read_users;
