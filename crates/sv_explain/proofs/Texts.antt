@@ -59,7 +59,3 @@ within_front context path h =
           let cut : take (length context) ((context ++ 47 ∷ []) ++ drop (length (context ++ 47 ∷ [])) path) ≡ context = rw append_assoc (take-append_seam context _) in
           ap (take (length context)) front ∙ cut
     ]
-
--- what follows the context path, where something does
-pub follows : (context path rest : List ℕ) → path ≡ context ++ rest → rest ≡ drop (length context) path
-follows context path rest h = sym (front_rest path context rest h)

@@ -16,14 +16,15 @@ use Rattle.sv_program.specs.declared.command_fault.CommandFault.TheVariants as f
 use Rattle.sv_program.specs.declared.configuration.ContextTexts.{ContextTexts}
 use Rattle.sv_program.specs.declared.question.Question.{Question}
 
-abbrev pub explain_fault : ExplainFault → CommandFault
-explain_fault BadMethod = fault.Method
-explain_fault NoSuchUser = fault.User
-explain_fault explain.NoMemory = fault.NoMemory
+-- the command's fault where there is no explanation
+abbrev pub fault_of : ExplainFault → CommandFault
+fault_of BadMethod = fault.Method
+fault_of NoSuchUser = fault.User
+fault_of explain.NoMemory = fault.NoMemory
 
 abbrev pub answered : Result Explanation ExplainFault → Step Explanation
 answered (Ok explanation) = Ok explanation
-answered (Err found) = Err (explain_fault found)
+answered (Err found) = Err (fault_of found)
 
 abbrev pub explained : List ContextPolicy → Question → Step Explanation
 explained contexts question =
@@ -46,11 +47,11 @@ line_for file texts question = do
 abbrev pub AreOf : Option (List ℕ) → List ContextTexts → Question → Type 0
 AreOf file texts question = (server : Server) → server_in question.config.now file ≡ Ok server → map (λ text. text.context) texts ≡ server.contexts
 
--- a run that ends well has written the line; one that ends by a fault of its own has found that fault in the texts
+-- a run that ends well has written the line, one whose output fails has it, and any other has found its fault in the texts, unless memory ran out
 abbrev pub EndsBy : Step (List ℕ) → Result (Unit {0}) CommandFault → Option (List ℕ) → Option (List ℕ) → Type 0
 EndsBy line (Ok done) old new = (text : List ℕ) × (line ≡ Ok text) × Appends old new (text ++ 10 ∷ [])
 EndsBy line (Err fault.NoMemory) old new = Unit {0}
-EndsBy line (Err fault.Output) old new = Unit {0}
+EndsBy line (Err fault.Output) old new = (text : List ℕ) × (line ≡ Ok text)
 EndsBy line (Err found) old new = line ≡ Err found
 
 -- the command's run, for some texts of the files

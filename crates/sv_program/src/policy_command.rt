@@ -75,11 +75,11 @@ fn explained(
         question.target.as_bytes(),
         question.user,
     )
-    .map_err(explain_fault)
+    .map_err(fault_of)
 }
 
-fn explain_fault(fault: ExplainFault) -> CommandFault
-    ensures { result ≡ spec.explain_fault fault }
+fn fault_of(fault: ExplainFault) -> CommandFault
+    ensures { result ≡ spec.fault_of fault }
 {
     match fault {
         ExplainFault::BadMethod => CommandFault::Method,

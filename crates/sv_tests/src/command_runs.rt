@@ -1,9 +1,9 @@
 //! Commands of the program, run over readers and writers in memory.
 
 use crate::table::{cell, is_row, stretched};
-use std::alloc::Global;
 use std::io;
 use std::io::{ErrorKind, Read, Write};
+use std::rt::Files;
 use std::test::Fail;
 use sv_program::{Command, CommandFault};
 
@@ -41,7 +41,7 @@ fn a_command_writes_the_line_for_its_input(rt: HostRuntime) -> Result<(), Fail> 
         let input = stretched(alloc, cell(row, 1))?;
         let wanted = stretched(alloc, cell(row, 2))?;
         let mut output = Vec::new(alloc);
-        if let Err(fault) = run(alloc, cell(row, 0), input.as_slice(), &mut output) {
+        if let Err(fault) = run(&rt, cell(row, 0), input.as_slice(), &mut output) {
             let status = fault.status();
             write!(output, "({fault} {status})")?;
         }
@@ -56,11 +56,11 @@ fn a_broken_input_is_told_and_writes_nothing(rt: HostRuntime) -> Result<(), Fail
     for (place, _) in request.iter().enumerate() {
         let mut output = Vec::new(rt.alloc());
         let (front, _) = request.split_at(place);
-        let ended = run(rt.alloc(), "first", Breaking { front }, &mut output);
+        let ended = run(&rt, "first", Breaking { front }, &mut output);
         let Err(fault) = ended else {
             panic!(rt; "no fault after {place} bytes");
         };
-        assert_eq!(rt; fault, CommandFault::Input);
+        assert!(rt; matches!(fault, CommandFault::Input));
         assert!(rt; output.is_empty());
     }
     Ok(())
@@ -71,24 +71,24 @@ fn a_broken_output_is_told(rt: HostRuntime) -> Result<(), Fail> {
     for room in 0..b"none\n".len() {
         let mut output = Filling { room };
         let input: &[u8] = b"";
-        let Err(fault) = run(rt.alloc(), "first", input, &mut output) else {
+        let Err(fault) = run(&rt, "first", input, &mut output) else {
             panic!(rt; "no fault with room for {room} bytes");
         };
-        assert_eq!(rt; fault, CommandFault::Output);
+        assert!(rt; matches!(fault, CommandFault::Output));
     }
     Ok(())
 }
 
 /// Runs the command that the words of a text name.
-fn run<R: Read + Drop, W: Write>(
-    alloc: Global,
+fn run<F: Files + AllocGlobal, R: Read + Drop, W: Write>(
+    rt: &F,
     words: &str,
     reader: R,
     writer: &mut W,
 ) -> Result<(), CommandFault> {
-    let mut arguments = Vec::new(alloc);
+    let mut arguments = Vec::new(rt.alloc());
     for word in words.split_whitespace() {
-        let argument = String::from_str(alloc, word);
+        let argument = String::from_str(rt.alloc(), word);
         let Ok(()) = arguments.push(argument.or(Err(CommandFault::NoMemory))?) else {
             return Err(CommandFault::NoMemory);
         };
@@ -96,7 +96,7 @@ fn run<R: Read + Drop, W: Write>(
     let Some(command) = Command::parse(arguments.as_slice()) else {
         return Err(CommandFault::Usage);
     };
-    command.run(alloc, reader, writer)
+    command.run(rt, reader, writer)
 }
 
 /// A reader that gives some bytes, one a call, and then fails.
