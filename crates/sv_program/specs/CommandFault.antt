@@ -44,16 +44,8 @@ status_of NoMemory = 3
 
 -- the fault, apart from want of memory
 abbrev pub command_fault : CommandFault → Option CommandFault
-command_fault Usage = Some Usage
-command_fault Input = Some Input
-command_fault Output = Some Output
-command_fault (File name) = Some (File name)
-command_fault (Server fault) = Some (Server fault)
-command_fault (Descriptor context fault) = Some (Descriptor context fault)
-command_fault (Users context fault) = Some (Users context fault)
-command_fault User = Some User
-command_fault Method = Some Method
 command_fault NoMemory = None
+command_fault other = Some other
 
 -- a fault that ends the reading of the input
 abbrev pub IsReadFault : CommandFault → Type 0
