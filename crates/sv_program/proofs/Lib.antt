@@ -1,0 +1,2 @@
+mod FirstRequest
+mod ShortLists

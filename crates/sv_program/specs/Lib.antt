@@ -1,0 +1,4 @@
+pub mod Command
+pub mod CommandFault
+pub mod ExamplePolicy
+pub mod FirstLine
