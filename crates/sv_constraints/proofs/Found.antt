@@ -8,14 +8,15 @@ use Rattle.sv_constraints.proofs.Least.{least_number_more, least_where_more, any
 use Rattle.sv_constraints.specs.Covering.{covers, covering, all_patterns}
 use Rattle.sv_constraints.specs.Decision.{Verdict}
 use Rattle.sv_constraints.specs.Findings.{findings_of, with_one, decided}
-use Rattle.sv_constraints.specs.Verdict.{precludes, travels_plain, is_open, admits_caller, verdict, verdict_at}
+use Rattle.sv_constraints.specs.Verdict.{precludes, permits_plain, is_open, admits_caller, verdict, verdict_at}
 use Rattle.sv_constraints.specs.declared.constraint.Constraint.{Constraint}
 use Rattle.sv_constraints.specs.declared.findings.Findings.{Findings}
 use Rattle.sv_constraints.specs.declared.rules.Rules.{Rules}
 
+-- what is found in constraints and one more
 found_more : (rules : Rules) (caller : Option Caller) (members : List Constraint) (c : Constraint) → with_one rules caller c (findings_of rules caller members) ≡ findings_of rules caller (members ++ c ∷ [])
 found_more rules caller members c =
-    cc (least_number_more members c, least_where_more precludes members c, any_more travels_plain members c, least_where_more is_open members c, least_where_more (admits_caller rules caller) members c)
+    cc (least_number_more members c, least_where_more precludes members c, any_more permits_plain members c, least_where_more is_open members c, least_where_more (admits_caller rules caller) members c)
 
 -- the covering constraints among one more
 covering_more : (constraints : List Constraint) (pattern method : List ℕ) (i : ℕ) (c : Constraint) → i < length constraints → c ≡ get_or constraints i c → covering (take (i + 1) constraints) (Some pattern) method ≡ covering (take i constraints) (Some pattern) method ++ cond (covers c pattern method) (c ∷ []) []
@@ -44,6 +45,7 @@ decided_at : (rules : Rules) (caller : Option Caller) (pattern : List ℕ) (memb
 decided_at rules caller pattern members =
     rw (none_number members, some_where precludes members, some_where is_open members, some_where (admits_caller rules caller) members)
 
+-- so what is found in the constraints that cover a request at its best pattern gives the verdict
 pub decided_is_verdict : (constraints : List Constraint) (rules : Rules) (method path : List ℕ) (caller : Option Caller) (pattern : List ℕ) (found : Findings) (decision : Verdict) → Some pattern ≡ best_pattern (all_patterns constraints) path → found ≡ findings_of rules caller (covering constraints (Some pattern) method) → decision ≡ decided rules caller (Some pattern) found → decision ≡ verdict constraints rules method path caller
 decided_is_verdict constraints rules method path caller pattern found decision best is_found is_decided =
     is_decided ∙ ap (decided rules caller (Some pattern)) is_found

@@ -3,7 +3,7 @@ use Rattle.std.specs.Prelude.{ℕ, List, [], ◌∷◌, ◌||◌, not, min, Opti
 use Rattle.std.specs.Bool.{then_some}
 use Rattle.std.specs.List.{list_any}
 use Rattle.sv_realm.specs.declared.caller.Caller.{Caller}
-use Rattle.sv_constraints.specs.Verdict.{least_number, least_where, precludes, travels_plain, is_open, admits_caller, first_case, because, uncovered}
+use Rattle.sv_constraints.specs.Verdict.{least_number, least_where, precludes, permits_plain, is_open, admits_caller, first_case, because, uncovered}
 use Rattle.sv_constraints.specs.Decision.{Verdict, Open, Login, Denied}
 use Rattle.sv_constraints.specs.declared.decision.Cause.TheVariants as cause
 use Rattle.sv_constraints.specs.declared.constraint.Constraint.{Constraint}
@@ -15,7 +15,7 @@ abbrev pub findings_of : Rules → Option Caller → List Constraint → Finding
 findings_of rules caller members = record {
   covering = least_number members;
   precluding = least_where precludes members;
-  travels_plain = list_any travels_plain members;
+  permits_plain = list_any permits_plain members;
   unauthenticated = least_where is_open members;
   admitting = least_where (admits_caller rules caller) members;
 }
@@ -31,7 +31,7 @@ abbrev pub with_one : Rules → Option Caller → Constraint → Findings → Fi
 with_one rules caller constraint found = record {
   covering = lesser found.covering (Some constraint.number);
   precluding = lesser found.precluding (then_some (precludes constraint) constraint.number);
-  travels_plain = found.travels_plain || travels_plain constraint;
+  permits_plain = found.permits_plain || permits_plain constraint;
   unauthenticated = lesser found.unauthenticated (then_some (is_open constraint) constraint.number);
   admitting = lesser found.admitting (then_some (admits_caller rules caller constraint) constraint.number);
 }
@@ -41,7 +41,7 @@ abbrev pub decided : Rules → Option Caller → Option (List ℕ) → Findings 
 decided rules caller pattern found = first_case
     ((is_none found.covering, uncovered rules (because pattern None cause.Uncovered))
     ∷ (is_some found.precluding, Denied (because pattern found.precluding cause.Precluded))
-    ∷ (not found.travels_plain, Denied (because pattern found.covering cause.Transport))
+    ∷ (not found.permits_plain, Denied (because pattern found.covering cause.Transport))
     ∷ (is_some found.unauthenticated, Open (because pattern found.unauthenticated cause.Unauthenticated))
     ∷ (is_none caller, Login (because pattern found.covering cause.NeedsCaller))
     ∷ (is_some found.admitting, Open (because pattern found.admitting cause.Role))

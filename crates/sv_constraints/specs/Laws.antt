@@ -5,7 +5,7 @@ use Rattle.sv_mapping.specs.BestMatch.{best_pattern}
 use Rattle.sv_realm.specs.declared.caller.Caller.{Caller}
 use Rattle.sv_constraints.specs.Covering.{covering, all_patterns}
 use Rattle.sv_constraints.specs.Decision.{Verdict, Open, Login, Denied}
-use Rattle.sv_constraints.specs.Verdict.{least_number, least_where, precludes, travels_plain, is_open, admits_caller, because, uncovered, verdict, verdict_at}
+use Rattle.sv_constraints.specs.Verdict.{least_number, least_where, precludes, permits_plain, is_open, admits_caller, because, uncovered, verdict, verdict_at}
 use Rattle.sv_constraints.specs.declared.constraint.Constraint.{Constraint}
 use Rattle.sv_constraints.specs.declared.decision.Cause.TheVariants.{NoPattern, Uncovered, Precluded, Transport, Unauthenticated, NeedsCaller, Role, NoRole}
 use Rattle.sv_constraints.specs.declared.rules.Rules.{Rules}
@@ -16,7 +16,7 @@ full_cases rules caller pattern members =
     (is_none pattern, Open (because pattern None NoPattern))
     ∷ (matched && length members == 0, uncovered rules (because pattern None Uncovered))
     ∷ (covered && list_any precludes members, Denied (because pattern (least_where precludes members) Precluded))
-    ∷ (permitted && not (list_any travels_plain members), Denied (because pattern (least_number members) Transport))
+    ∷ (unprecluded && not (list_any permits_plain members), Denied (because pattern (least_number members) Transport))
     ∷ (carried && list_any is_open members, Open (because pattern (least_where is_open members) Unauthenticated))
     ∷ (closed && is_none caller, Login (because pattern (least_number members) NeedsCaller))
     ∷ (known && list_any (admits_caller rules caller) members, Open (because pattern (least_where (admits_caller rules caller) members) Role))
@@ -29,11 +29,11 @@ full_cases rules caller pattern members =
     covered : Bool
     covered = matched && not (length members == 0)
 
-    permitted : Bool
-    permitted = covered && not (list_any precludes members)
+    unprecluded : Bool
+    unprecluded = covered && not (list_any precludes members)
 
     carried : Bool
-    carried = permitted && not (not (list_any travels_plain members))
+    carried = unprecluded && not (not (list_any permits_plain members))
 
     closed : Bool
     closed = carried && not (list_any is_open members)

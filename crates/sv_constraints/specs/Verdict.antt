@@ -44,8 +44,8 @@ allows_plain transport.Confidential = false
 abbrev pub precludes : Constraint → Bool
 precludes constraint = names_nobody constraint.auth
 
-abbrev pub travels_plain : Constraint → Bool
-travels_plain constraint = allows_plain constraint.transport
+abbrev pub permits_plain : Constraint → Bool
+permits_plain constraint = allows_plain constraint.transport
 
 abbrev pub is_open : Constraint → Bool
 is_open constraint = is_absent constraint.auth
@@ -72,7 +72,7 @@ cases rules caller pattern members =
     (is_none pattern, Open (because pattern None cause.NoPattern))
     ∷ (length members == 0, uncovered rules (because pattern None cause.Uncovered))
     ∷ (list_any precludes members, Denied (because pattern (least_where precludes members) cause.Precluded))
-    ∷ (not (list_any travels_plain members), Denied (because pattern (least_number members) cause.Transport))
+    ∷ (not (list_any permits_plain members), Denied (because pattern (least_number members) cause.Transport))
     ∷ (list_any is_open members, Open (because pattern (least_where is_open members) cause.Unauthenticated))
     ∷ (is_none caller, Login (because pattern (least_number members) cause.NeedsCaller))
     ∷ (list_any (admits_caller rules caller) members, Open (because pattern (least_where (admits_caller rules caller) members) cause.Role))

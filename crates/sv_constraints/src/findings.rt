@@ -24,7 +24,7 @@ pub struct Findings {
     /// Of those that name no roles.
     pub precluding: Option<u64>,
     /// Whether there are any for which a plain connection will do.
-    pub travels_plain: bool,
+    pub permits_plain: bool,
     /// Of those without an authorization constraint.
     pub unauthenticated: Option<u64>,
     /// Of those that name a role of the caller, or every caller.
@@ -76,7 +76,7 @@ impl Findings {
         Findings {
             covering: None,
             precluding: None,
-            travels_plain: false,
+            permits_plain: false,
             unauthenticated: None,
             admitting: None,
         }
@@ -92,7 +92,7 @@ impl Findings {
         Findings {
             covering: lesser(self.covering, Some(number)),
             precluding: lesser(self.precluding, names_nobody(auth).then_some(number)),
-            travels_plain: self.travels_plain || allows_plain(constraint.transport),
+            permits_plain: self.permits_plain || allows_plain(constraint.transport),
             unauthenticated: lesser(self.unauthenticated, is_absent(auth).then_some(number)),
             admitting: lesser(self.admitting, admitted.then_some(number)),
         }
@@ -141,7 +141,7 @@ impl Findings {
             }
         } else if self.precluding.is_some() {
             Decision::Denied(because(self.precluding, Cause::Precluded))
-        } else if !self.travels_plain {
+        } else if !self.permits_plain {
             Decision::Denied(because(self.covering, Cause::Transport))
         } else if self.unauthenticated.is_some() {
             Decision::Open(because(self.unauthenticated, Cause::Unauthenticated))

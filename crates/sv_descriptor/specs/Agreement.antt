@@ -1,7 +1,7 @@
 -- What the elements of a deployment descriptor say of one another (Jakarta Servlet 6.0 sections 12.2 and 14.4).
 use Rattle.std.specs.Prelude.{ℕ, Bool, not, ◌||◌, List, map, codes}
 use Rattle.std.specs.List.{list_all, flat_map}
-use Rattle.sv_schema.specs.Fault.{Reads, check, ◌>>=◌, ◌>>◌}
+use Rattle.sv_schema.specs.Fault.{Reads, check, ◌>>◌}
 use Rattle.sv_schema.specs.Table.{is_among}
 use Rattle.sv_schema.specs.declared.fault.FaultCode.TheVariants.{DuplicatePattern, UnknownServlet, UnknownFilter, DuplicateName}
 use Rattle.sv_schema.specs.Names.{repeats}

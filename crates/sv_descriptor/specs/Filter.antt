@@ -1,5 +1,5 @@
 -- Jakarta Servlet 6.0 section 14.4 (filter, filter-mapping) and section 6.2.5 (dispatchers).
-use Rattle.std.specs.Prelude.{ℕ, Bool, ◌||◌, List, [], ◌∷◌, codes, if◌then◌else◌, Ok}
+use Rattle.std.specs.Prelude.{ℕ, ◌||◌, List, [], ◌∷◌, codes, if◌then◌else◌, Ok}
 use Rattle.std.specs.Str.{bytes_eq}
 use Rattle.toml.specs.Data.{Members}
 use Rattle.sv_schema.specs.Fault.{Reads, refuse, check, ◌>>=◌, ◌>>◌}

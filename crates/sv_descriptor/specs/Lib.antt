@@ -14,3 +14,4 @@ pub mod Listener
 pub mod Ignored
 pub mod Descriptor
 pub mod Agreement
+pub mod WellFormed

@@ -1,5 +1,5 @@
 -- Jakarta Servlet 6.0 section 14.4 (listener).
-use Rattle.std.specs.Prelude.{List, [], ◌∷◌, codes, Ok}
+use Rattle.std.specs.Prelude.{[], ◌∷◌, codes, Ok}
 use Rattle.toml.specs.Data.{Members}
 use Rattle.sv_schema.specs.Fault.{Reads, ◌>>=◌, ◌>>◌}
 use Rattle.sv_schema.specs.Table.{required}

@@ -1,8 +1,8 @@
 -- Jakarta Servlet 6.0 section 14.4 (security-role): the declared roles.
-use Rattle.std.specs.Prelude.{ℕ, Bool, ◌||◌, List, [], ◌∷◌, codes, if◌then◌else◌, Ok}
+use Rattle.std.specs.Prelude.{ℕ, Bool, ◌||◌, List, [], ◌∷◌, codes, if◌then◌else◌}
 use Rattle.std.specs.Str.{bytes_eq}
 use Rattle.toml.specs.Data.{Members}
-use Rattle.sv_schema.specs.Fault.{Reads, refuse, ◌>>=◌, ◌>>◌}
+use Rattle.sv_schema.specs.Fault.{Reads, refuse, ◌>>◌}
 use Rattle.sv_schema.specs.Table.{required}
 use Rattle.sv_schema.specs.Value.{name, text_of}
 use Rattle.sv_schema.specs.declared.fault.FaultCode.TheVariants.{ReservedRole}

@@ -1,7 +1,7 @@
 -- Jakarta Servlet 6.0 section 14.4 (session-config) and section 7.5 (session timeouts).
 use Rattle.std.specs.Prelude.{ℕ, ℤ, pos, negsuc, int_lt, List, [], ◌∷◌, codes, if◌then◌else◌, Ok}
 use Rattle.toml.specs.Data.{Members}
-use Rattle.sv_schema.specs.Fault.{Reads, refuse, ◌>>=◌, ◌>>◌}
+use Rattle.sv_schema.specs.Fault.{Reads, refuse, ◌>>◌}
 use Rattle.sv_schema.specs.Table.{optional_or}
 use Rattle.sv_schema.specs.Value.{whole_of}
 use Rattle.sv_schema.specs.declared.fault.FaultCode.TheVariants.{BadTimeout}

@@ -1,8 +1,9 @@
 //! The deployment descriptor.
 
-ghost use Rattle.std.specs.Prelude.{[]};
+ghost use Rattle.std.specs.Prelude.{[], IfOk};
 ghost use Rattle.sv_text.specs.Gives.{Gives};
 ghost use Rattle.sv_descriptor.specs.Descriptor.{descriptor, descriptor_of, tables as tables_of, web_app};
+ghost use Rattle.sv_descriptor.specs.WellFormed.{IsWellFormed};
 ghost use Rattle.sv_schema.specs.Fault.{fault};
 ghost use Rattle.sv_schema.specs.Table.{optional_or as or_default};
 ghost use Rattle.toml.specs.View.{table_view};
@@ -57,12 +58,13 @@ pub struct Descriptor {
     pub login: Option<FormLogin>,
 }
 
-/// Reads a deployment descriptor.
+/// Reads a deployment descriptor, which then is well-formed.
 ///
 /// # Errors
 /// The first fault in the format's order, or [`ReadFault::NoMemory`].
 pub fn read_descriptor(alloc: Global, text: &str) -> Result<Descriptor, ReadFault>
     ensures gives { Gives fault result (descriptor_of text.now) }
+    ensures well_formed { IfOk result IsWellFormed }
 {
     read_document(alloc, text, &DescriptorTable)
 }

@@ -1,12 +1,13 @@
 -- The first element of a list that passes a test and that none of those which pass beats, while the list grows at its end.
 use Rattle.std.proofs.Common.{◌≡◌, ℕ, ◌+◌, ◌<◌, ltb, Bool, true, false, cond, not, ◌&&◌, ◌||◌, inl, inr, List, [], ◌∷◌, ◌++◌, length, refl, sym, ◌∙◌, ap, add-zero, zero-add, append-nil, append_assoc, arith, Option, Some, None}
 use Rattle.std.specs.Cmp.{IsStrictWeakOrder}
-use Rattle.std.specs.List.{Contains, find, list_any, position, position_from, position_or_len, slice_get}
+use Rattle.std.specs.List.{Contains, HoldsAt, find, list_any, position, position_from, position_or_len, slice_get}
 use Rattle.std.specs.Option.{IfSome, is_some, option_and_then, option_or, option_map_or}
 use Rattle.std.proofs.lemmas.Bool.{and_cases, and_parts, and_right, both_ways, cases_Bool, false_from_ne_true, ltb-false, ltb-true, not-true, or_from, or_parts}
 use Rattle.std.proofs.lemmas.Iterator.Adapters.{position_from-zero}
 use Rattle.std.proofs.lemmas.List.Elements.{Contains-append_right}
 use Rattle.std.proofs.lemmas.List.Folds.{find_at, list_any-append}
+use Rattle.std.proofs.lemmas.List.Quantifiers.{position-Some}
 use Rattle.std.proofs.lemmas.Option.{slice_get_past}
 
 -- ---- tests on lists
@@ -39,6 +40,13 @@ get-position t xs =
 
 pub position_within : {X : Type 0} (t : X → Bool) (xs : List X) → IfSome (position t xs) (λ i. i < length xs)
 position_within t xs = elim (cases_Bool (ltb (position_or_len t xs) (length xs))) [ inl e ↦ rw e (ltb-true _ _ e) | inr e ↦ rw e tt ]
+
+pub position_holds : {X : Type 0} (t : X → Bool) (P : X → Type 0) (xs : List X) → ((x : X) → t x ≡ true → P x) → IfSome (position t xs) (HoldsAt P xs)
+position_holds t P xs holds = go (position t xs) refl
+  where
+    go : (place : Option ℕ) → position t xs ≡ place → IfSome place (HoldsAt P xs)
+    go None e = tt
+    go (Some i) e = λ d. holds _ (position-Some t xs i d e).1
 
 -- ---- what g makes of the first element that passes, and of its place
 abbrev first : {X Y : Type 0} → (ℕ → X → Y) → (X → Bool) → ℕ → List X → Option Y

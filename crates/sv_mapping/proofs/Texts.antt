@@ -19,7 +19,7 @@ use Rattle.sv_mapping.specs.Pattern.{Root, Default, Extension, Prefix, Exact, fo
 pub same_bytes : (xs ys : List ℕ) → bytes_eq xs ys ≡ true → xs ≡ ys
 same_bytes xs ys h = (bytes_eq-Decides xs ys).0 h
 
-starts : (text front rest : List ℕ) → text ≡ front ++ rest → starts_with eqb text front ≡ true
+pub starts : (text front rest : List ℕ) → text ≡ front ++ rest → starts_with eqb text front ≡ true
 starts text front rest h = (starts_is Decides-eqb text front _ refl).1 rest h
 
 starts_not : (text front : List ℕ) → ((rest : List ℕ) → text ≡ front ++ rest → ⊥) → starts_with eqb text front ≡ false

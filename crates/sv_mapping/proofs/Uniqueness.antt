@@ -36,7 +36,7 @@ text_of-form text =
     ]
 
 -- the text `/` is the default pattern and never exact
-exact_is_no_slash : (text : List ℕ) → form text ≡ Exact (47 ∷ []) → ⊥
+pub exact_is_no_slash : (text : List ℕ) → form text ≡ Exact (47 ∷ []) → ⊥
 unfolding form
 exact_is_no_slash text e =
     let slash : text ≡ 47 ∷ [] = sym (text_of-form text) ∙ ap text_of e in

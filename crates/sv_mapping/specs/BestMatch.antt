@@ -14,9 +14,11 @@ form_rank (Exact text) = (3, 0)
 abbrev pub rank : List ℕ → ℕ × ℕ
 rank pattern = form_rank (form pattern)
 
+-- the first number decides, and then the second
 abbrev pub is_above : ℕ × ℕ → ℕ × ℕ → Bool
 is_above a b = nat_lt b.0 a.0 || (a.0 == b.0 && nat_lt b.1 a.1)
 
+-- the pattern is chosen before the other one where both match
 abbrev pub outranks : List ℕ → List ℕ → Bool
 outranks pattern other = is_above (rank pattern) (rank other)
 

@@ -31,6 +31,7 @@ pub data Form : Type 0 where
   Prefix : List ℕ → Form
   Exact : List ℕ → Form
 
+-- the form of an accepted text
 unfoldable pub form : List ℕ → Form
 form text =
     if bytes_eq text [] then Root

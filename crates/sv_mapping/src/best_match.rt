@@ -1,6 +1,7 @@
 //! The best match among patterns (Jakarta Servlet 6.0, section 12.1).
 
-ghost use Rattle.std.specs.Prelude.{◌≡◌, ◌<◌, ◌&&◌, ℕ, List, ◌++◌, length, true, IfSome, slice_get};
+ghost use Rattle.std.specs.Prelude.{◌≡◌, ◌<◌, ◌&&◌, ℕ, List, ◌++◌, length, true, IfSome, IsTrue, slice_get};
+ghost use Rattle.std.specs.List.{HoldsAt};
 ghost use Rattle.std.specs.Option.{option_and_then, option_copied, option_map_or};
 ghost use Rattle.sv_mapping.specs.BestMatch.{best, best_pattern, outranks};
 ghost use Rattle.sv_mapping.specs.Pattern.{matches};
@@ -13,6 +14,7 @@ use crate::pattern::Pattern;
 pub fn best(patterns: &[Pattern], path: &str) -> Option<usize>
     ensures place { result ≡ best patterns.now path.now }
     ensures within { IfSome result (λ place. place < length patterns.now) }
+    ensures matching { IfSome result (HoldsAt (λ pattern. IsTrue (matches pattern path.now)) patterns.now) }
     ensures text { option_and_then (λ place. slice_get patterns.now place) result ≡ best_pattern patterns.now path.now }
 {
     let mut held = None;

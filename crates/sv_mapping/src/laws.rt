@@ -1,6 +1,7 @@
 //! What holds of the best match: each law is the contract of a function that does nothing.
 
 ghost use Rattle.sv_mapping.specs.BestMatch.{BestExists, BestIsAMatch, BestIsUnique};
+ghost use Rattle.sv_mapping.specs.MatchOrder.{BestIsFirstTried};
 
 /// There is a best match exactly where a pattern matches the path.
 pub fn best_exists()
@@ -15,4 +16,10 @@ pub fn best_is_a_match()
 /// Two patterns of a list that both match a path best have the same text.
 pub fn best_is_unique()
     ensures { BestIsUnique }
+{}
+
+/// The best match is the first pattern that is found by trying the exact pattern for the path, then its prefixes from the
+/// longest to the shortest, then its extension, then the default pattern.
+pub fn best_is_first_tried()
+    ensures { BestIsFirstTried }
 {}

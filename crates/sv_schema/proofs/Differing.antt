@@ -1,12 +1,14 @@
 -- Names that differ, one after another.
-use Rattle.std.proofs.Common.{◌≡◌, ℕ, ◌+◌, ◌<◌, Bool, true, false, List, [], ◌∷◌, ◌++◌, map, length, get_or, take, drop, refl, sym, ap, ◌∙◌, append_assoc}
-use Rattle.std.specs.Prelude.{◌||◌}
+use Rattle.std.proofs.Common.{◌≡◌, ℕ, ◌+◌, ◌<◌, Bool, true, false, List, [], ◌∷◌, ◌++◌, map, length, get_or, take, drop, refl, sym, ap, ◌∙◌, zero, suc, Some, arith}
+use Rattle.std.specs.Prelude.{◌||◌, slice_get}
+use Rattle.std.specs.List.{Contains}
+use Rattle.std.proofs.lemmas.Slice.Eq.{bytes_eq-Decides}
 use Rattle.std.specs.Str.{bytes_eq}
 use Rattle.std.proofs.lemmas.Cmp.{nat_list_eq_equiv}
 use Rattle.std.proofs.lemmas.List.{take_more, take-append-drop, map-append}
 use Rattle.std.proofs.lemmas.List.Folds.{list_any-append}
 use Rattle.sv_schema.specs.Table.{is_among}
-use Rattle.sv_schema.specs.Names.{repeats, HaveSame}
+use Rattle.sv_schema.specs.Names.{repeats, HaveSame, Differ}
 
 is_among-append : (xs ys : List (List ℕ)) (text : List ℕ) → is_among (xs ++ ys) text ≡ (is_among xs text || is_among ys text)
 is_among-append xs ys text = list_any-append (λ other. bytes_eq other text) xs ys
@@ -74,3 +76,37 @@ module _ {X : Type 0} (f : X → List ℕ) (items : List X) where
       ap (λ xs. repeats (map f xs)) (sym (take-append-drop (i + 1) items))
       ∙ ap repeats (map-append f (take (i + 1) items) (drop (i + 1) items))
       ∙ repeats-append (names_before (i + 1)) (map f (drop (i + 1) items)) repeated
+
+found-first : (a b : Bool) → (a || b) ≡ false → (a ≡ false) × (b ≡ false)
+found-first true b h = cc
+found-first false b h = (refl, h)
+
+is_among-slice_get : (texts : List (List ℕ)) (j : ℕ) (text : List ℕ) → slice_get texts j ≡ Some text → is_among texts text ≡ true
+is_among-slice_get [] j text h = cc
+is_among-slice_get (x ∷ rest) zero text h = let same : x ≡ text = cc in rw (same, nat_list_eq_equiv.refl text) refl
+is_among-slice_get (x ∷ rest) (suc j) text h = or-true (bytes_eq x text) (is_among rest text) (is_among-slice_get rest j text h)
+  where
+    or-true : (a b : Bool) → b ≡ true → (a || b) ≡ true
+    or-true true b h = refl
+    or-true false b h = h
+
+-- names of which none repeats
+pub Differ-repeats : (texts : List (List ℕ)) → repeats texts ≡ false → Differ texts
+Differ-repeats [] h i j lt l same = omega arith
+Differ-repeats (x ∷ rest) h zero zero lt l same = omega arith
+Differ-repeats (x ∷ rest) h zero (suc j) lt l same =
+    let (unique, others) = found-first (is_among rest x) (repeats rest) h in
+    let found = is_among-slice_get rest j x (sym same) in cc
+Differ-repeats (x ∷ rest) h (suc i) zero lt l same = omega arith
+Differ-repeats (x ∷ rest) h (suc i) (suc j) lt l same =
+    let (unique, others) = found-first (is_among rest x) (repeats rest) h in
+    Differ-repeats rest others i j (omega arith) (omega arith) same
+
+-- a name that is among others stands at some place
+pub Contains-is_among : (texts : List (List ℕ)) (text : List ℕ) → is_among texts text ≡ true → Contains texts text
+Contains-is_among [] text h = cc
+Contains-is_among (x ∷ rest) text h = at (bytes_eq x text) refl h (Contains-is_among rest text)
+  where
+    at : (b : Bool) → bytes_eq x text ≡ b → (b || is_among rest text) ≡ true → (is_among rest text ≡ true → Contains rest text) → Contains (x ∷ rest) text
+    at true e h later = (0, omega arith, (bytes_eq-Decides x text).0 e)
+    at false e h later = let (k, l, same) = later h in (suc k, omega arith, same)

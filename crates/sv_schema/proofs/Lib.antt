@@ -2,3 +2,5 @@ pub mod Lists
 pub mod Tables
 pub mod Sets
 pub mod Differing
+pub mod Yields
+pub mod HexTexts

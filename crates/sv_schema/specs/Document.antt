@@ -1,5 +1,5 @@
 -- The table that a text is.
-use Rattle.std.specs.Prelude.{ℕ, List, [], Option, Some, None, Result, Ok}
+use Rattle.std.specs.Prelude.{ℕ, List, [], Option, Some, None, Ok}
 use Rattle.toml.specs.Data.{Members}
 use Rattle.toml.specs.Parse.{parse_document}
 use Rattle.sv_schema.specs.Fault.{Reads, refuse, ◌>>=◌}

@@ -1,5 +1,6 @@
 -- The server file: the port, the seed of random words, and the contexts.
-use Rattle.std.specs.Prelude.{ℕ, not, List, [], ◌∷◌, map, codes, Ok}
+use Rattle.std.specs.Prelude.{◌≡◌, ℕ, true, not, List, [], ◌∷◌, length, map, codes, Ok}
+use Rattle.std.specs.List.{All}
 use Rattle.toml.specs.Data.{Members}
 use Rattle.sv_schema.specs.Document.{document}
 use Rattle.sv_schema.specs.Fault.{Reads, check, ◌>>=◌, ◌>>◌}
@@ -8,9 +9,9 @@ use Rattle.sv_schema.specs.Table.{only_keys, required, optional}
 use Rattle.sv_schema.specs.Value.{any_text, hex_text, number_between, is_table, table_of, text_of, whole_of}
 use Rattle.sv_schema.specs.declared.fault.FaultCode.TheVariants.{DuplicateName}
 use Rattle.sv_schema.specs.declared.limits.TheConstants.{NO_LIMIT}
-use Rattle.sv_schema.specs.Names.{repeats}
-use Rattle.sv_settings.specs.ContextPath.{context_path}
-use Rattle.sv_settings.specs.declared.limits.TheConstants.{MAX_PORT, SEED_DIGITS}
+use Rattle.sv_schema.specs.Names.{repeats, Differ}
+use Rattle.sv_settings.specs.ContextPath.{context_path, is_context_path}
+use Rattle.sv_settings.specs.declared.limits.TheConstants.{MAX_PORT, SEED_BYTES, SEED_DIGITS}
 use Rattle.sv_settings.specs.declared.server.ContextEntry.{ContextEntry}
 use Rattle.sv_settings.specs.declared.server.Server.{Server}
 
@@ -38,3 +39,9 @@ server table = do
 -- the server that a text is
 abbrev pub server_of : List ℕ → Reads Server
 server_of = document server
+
+-- what may be rested on
+pub record IsWellFormedServer (s : Server) : Type 0 where
+  pub seed_is_whole : length s.seed ≡ SEED_BYTES
+  pub paths_are_context_paths : All (λ context. is_context_path context.path ≡ true) s.contexts
+  pub paths_differ : Differ (context_paths s.contexts)

@@ -1,6 +1,7 @@
 -- The users file: names, salted digests of passwords, and roles.
-use Rattle.std.specs.Prelude.{ℕ, not, List, [], ◌∷◌, map, codes, Vec, Result, Ok, Err}
+use Rattle.std.specs.Prelude.{◌≡◌, ◌≤◌, ℕ, not, List, [], ◌∷◌, length, map, codes, Vec, Result, Ok, Err}
 use Rattle.std.specs.declared.alloc.Global.{Global}
+use Rattle.std.specs.List.{All}
 use Rattle.toml.specs.Data.{Members}
 use Rattle.sv_realm.specs.declared.user.User.{User}
 use Rattle.sv_schema.specs.Document.{document}
@@ -11,8 +12,8 @@ use Rattle.sv_schema.specs.Value.{name, hex_text, is_text, is_table, table_of, t
 use Rattle.sv_schema.specs.declared.fault.FaultCode.TheVariants.{DuplicateName}
 use Rattle.sv_schema.specs.declared.fault.ReadFault.{ReadFault}
 use Rattle.sv_schema.specs.declared.limits.TheConstants.{MAX_LIST_ITEMS}
-use Rattle.sv_schema.specs.Names.{repeats}
-use Rattle.sv_settings.specs.declared.limits.TheConstants.{DIGEST_DIGITS, MAX_SALT_DIGITS}
+use Rattle.sv_schema.specs.Names.{repeats, Differ}
+use Rattle.sv_settings.specs.declared.limits.TheConstants.{DIGEST_BYTES, DIGEST_DIGITS, MAX_SALT_DIGITS}
 
 abbrev pub user : Members → Reads User
 user table = do
@@ -41,3 +42,9 @@ users_of = document users
 abbrev pub seen : Result (Vec User Global) ReadFault → Result (List User) ReadFault
 seen (Ok users) = Ok users.items
 seen (Err e) = Err e
+
+-- what may be rested on
+pub record AreWellFormedUsers (found : List User) : Type 0 where
+  pub few : length found ≤ MAX_LIST_ITEMS
+  pub digests_are_whole : All (λ user. length user.digest ≡ DIGEST_BYTES) found
+  pub names_differ : Differ (user_names found)

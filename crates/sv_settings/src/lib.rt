@@ -6,6 +6,6 @@ mod limits;
 mod server;
 mod users;
 
-pub use limits::{DIGEST_DIGITS, MAX_PORT, MAX_SALT_DIGITS, SEED_DIGITS};
+pub use limits::{DIGEST_BYTES, MAX_PORT, MAX_SALT_DIGITS, SEED_BYTES};
 pub use server::{ContextEntry, Server, read_server};
 pub use users::read_users;

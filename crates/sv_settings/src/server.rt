@@ -1,5 +1,6 @@
 //! The server file.
 
+ghost use Rattle.std.specs.Prelude.{IfOk};
 ghost use Rattle.sv_text.specs.Gives.{Gives};
 ghost use Rattle.sv_settings.specs.Server as spec;
 ghost use Rattle.sv_schema.specs.Fault.{fault};
@@ -52,6 +53,7 @@ impl Named for ContextEntry {
 /// The first fault in the format's order, or [`ReadFault::NoMemory`].
 pub fn read_server(alloc: Global, text: &str) -> Result<Server, ReadFault>
     ensures gives { Gives fault result (spec.server_of text.now) }
+    ensures well_formed { IfOk result spec.IsWellFormedServer }
 {
     read_document(alloc, text, &ServerTable)
 }

@@ -22,6 +22,7 @@ use toml::Table;
 /// The first fault in the format's order, or [`ReadFault::NoMemory`].
 pub fn read_users(alloc: Global, text: &str) -> Result<Vec<User>, ReadFault>
     ensures gives { Gives fault (spec.seen result) (spec.users_of text.now) }
+    ensures well_formed { IfOk result (λ users. spec.AreWellFormedUsers users.items) }
 {
     let users = read_document(alloc, text, &UsersTable)?;
     Ok(users.into_vec())

@@ -1,8 +1,10 @@
-use Rattle.std.proofs.Common.{[]}
+use Rattle.std.proofs.Common.{◌≡◌, true, []}
+use Rattle.std.proofs.lemmas.Bool.{and_parts}
 use Rattle.std.specs.Option.{option_copied}
 use Rattle.sv_mapping.specs.BestMatch.{is_best}
+use Rattle.sv_mapping.specs.Pattern.{matches}
 use Rattle.sv_mapping.proofs.BestMatches.{best-next, best-whole, best_pattern-next}
-use Rattle.sv_mapping.proofs.FirstBest.{get-position, position_within}
+use Rattle.sv_mapping.proofs.FirstBest.{get-position, position_holds, position_within}
 use Rattle.sv_mapping.proofs.best_match.best.Goals as goal
 use Rattle.sv_mapping.proofs.best_match.best.Goals.{then-takes_over, else-takes_over}
 
@@ -18,6 +20,11 @@ loop-place-preserved c =
 pub returns-clause-within : goal.returns-clause-within
 returns-clause-within c =
     rw (best-whole c.args.patterns.now c.args.path.now c.loop-place.place c.loop-place.best c.loop-place.invariant.1 c.loop-place-test.false) (position_within (is_best c.args.patterns.now c.args.path.now) c.args.patterns.now)
+
+pub returns-clause-matching : goal.returns-clause-matching
+returns-clause-matching c =
+    rw (best-whole c.args.patterns.now c.args.path.now c.loop-place.place c.loop-place.best c.loop-place.invariant.1 c.loop-place-test.false)
+    (position_holds (is_best c.args.patterns.now c.args.path.now) (λ pattern. matches pattern c.args.path.now ≡ true) c.args.patterns.now (λ pattern tops. (and_parts (matches pattern c.args.path.now) _ tops).0))
 
 pub returns-clause-text : goal.returns-clause-text
 returns-clause-text c =

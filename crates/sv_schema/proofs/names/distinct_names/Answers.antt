@@ -1,5 +1,4 @@
-use Rattle.std.proofs.Common.{◌≡◌, Bool, true, false, not, sym, ap, ◌∙◌, refl}
-use Rattle.sv_schema.specs.Table.{is_among}
+use Rattle.std.proofs.Common.{◌≡◌, Bool, true, false, not, sym, refl}
 use Rattle.sv_schema.proofs.Differing.{distinct-more, repeats-found}
 use Rattle.sv_schema.proofs.names.distinct_names.Goals as goal
 

@@ -1,0 +1,31 @@
+//! Request targets, read as canonical paths.
+
+use crate::measure::Work;
+use std::alloc::Global;
+use sv_text::NoMemory;
+use sv_uri::canon;
+use sv_uri::fault::CanonFault;
+
+/// Targets of equal length, which the rounds take in turn.
+pub const TARGETS: [&str; 4] = [
+    "/shop/items/../items/%41bc;v=1/index.html?page=2&sort=price",
+    "/shop//carts/./carts/%42bc;v=2/change.do?item=4&count=seven",
+    "/shop/users/../users/%43bc;v=3/report.js?from=1&until=today",
+    "/blog/2024/../2025/a%20long%20title;v=4/text.html?q=%41%42",
+];
+
+/// Reading the canonical path of a target.
+#[derive(Drop)]
+pub struct Reading {
+    pub alloc: Global,
+}
+
+impl Work for Reading {
+    fn round(&self, place: usize) -> Result<usize, NoMemory> {
+        match canon(self.alloc, TARGETS[place % 4].as_bytes()) {
+            Ok(canon) => Ok(canon.path.as_bytes().len()),
+            Err(CanonFault::Path(_)) => Ok(0),
+            Err(CanonFault::NoMemory) => Err(NoMemory),
+        }
+    }
+}

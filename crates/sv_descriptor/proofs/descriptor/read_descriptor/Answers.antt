@@ -1,0 +1,10 @@
+use Rattle.sv_schema.proofs.Yields.{IfOk-Gives, document-Ok}
+use Rattle.sv_descriptor.specs.Descriptor.{descriptor, descriptor_of}
+use Rattle.sv_descriptor.specs.WellFormed.{IsWellFormed}
+use Rattle.sv_descriptor.proofs.Elements.{IsWellFormed-descriptor}
+use Rattle.sv_descriptor.proofs.descriptor.read_descriptor.Goals as goal
+
+pub returns-clause-well_formed : goal.returns-clause-well_formed
+returns-clause-well_formed c =
+    IfOk-Gives IsWellFormed c.read_document.result (descriptor_of c.args.text.now)
+    (document-Ok IsWellFormed descriptor IsWellFormed-descriptor c.args.text.now) c.read_document.ensures

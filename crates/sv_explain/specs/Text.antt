@@ -1,0 +1,29 @@
+-- The text of an explanation.
+use Rattle.std.specs.Prelude.{ℕ, List, [], ◌++◌, codes, if◌then◌else◌}
+use Rattle.std.specs.Str.{bytes_eq}
+use Rattle.sv_uri.specs.Fault.{fault_name}
+use Rattle.sv_constraints.specs.Decision.{grounds_text}
+use Rattle.sv_explain.specs.Decision.{grounds_of, why_of, word}
+use Rattle.sv_explain.specs.declared.decision.OwnedWhy.{OwnedWhy}
+use Rattle.sv_explain.specs.declared.explanation.Explanation.{Explanation}
+use Rattle.sv_explain.specs.declared.explanation.Explanation.TheVariants.{Refused, Hidden, Decided}
+use Rattle.sv_explain.specs.declared.explanation.HiddenCause.{HiddenCause}
+use Rattle.sv_explain.specs.declared.explanation.HiddenCause.TheVariants.{NoContext, Protected}
+
+-- `pattern=P constraint=N cause=NAME`
+abbrev pub why_text : OwnedWhy → List ℕ
+why_text why = grounds_text (grounds_of why)
+
+abbrev pub hidden_name : HiddenCause → List ℕ
+hidden_name NoContext = codes "NoContext"
+hidden_name Protected = codes "Protected"
+
+-- a context path is shown as it is, that of the root context as `/`
+abbrev pub shown_context : List ℕ → List ℕ
+shown_context path = if bytes_eq path [] then codes "/" else path
+
+abbrev pub explanation_text : Explanation → List ℕ
+explanation_text (Refused fault) = codes "refused cause=" ++ fault_name fault
+explanation_text (Hidden cause) = codes "hidden cause=" ++ hidden_name cause
+explanation_text (Decided context path decision) =
+    word decision ++ codes " context=" ++ shown_context context ++ codes " path=" ++ path ++ codes " " ++ why_text (why_of decision)

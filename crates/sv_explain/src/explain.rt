@@ -1,0 +1,132 @@
+//! The explanation of a request.
+
+ghost use Rattle.std.specs.Prelude.{◌≡◌, IfOk, IsTrue};
+ghost use Rattle.std.specs.Option.{option_copied, option_map};
+ghost use Rattle.sv_text.specs.Gives.{Gives, GivesAnswer};
+ghost use Rattle.sv_mapping.specs.Pattern.{is_within};
+ghost use Rattle.sv_explain.specs.Explanation as spec;
+ghost use Rattle.sv_explain.specs.Fault.{explain_fault};
+
+use crate::context::{ContextPolicy, context_of};
+use crate::context_path::path_within;
+use crate::decision::OwnedDecision;
+use crate::explanation::{Explanation, HiddenCause};
+use crate::fault::ExplainFault;
+use crate::protected::is_protected;
+use http_header::is_token;
+use std::alloc::Global;
+use sv_constraints::{Rules, decide_plain};
+use sv_descriptor::Descriptor;
+use sv_realm::{Caller, Realm};
+use sv_text::{Listed, NoMemory, Text};
+use sv_uri::canon;
+use sv_uri::fault::CanonFault;
+
+/// What would become of a request with this method and this target, from the named user of its context or without a caller.
+///
+/// The target is any bytes, read as a path with an optional query. A method may have any length. In a named user's place no
+/// password is asked for. The work is linear in the contexts, their users and the constraints of the request's context.
+///
+/// # Errors
+/// [`ExplainFault::BadMethod`] before anything is said of the target, [`ExplainFault::NoSuchUser`] where the target has a
+/// context and that context's realm does not have the user, and [`ExplainFault::NoMemory`].
+pub fn explain_parts(
+    alloc: Global,
+    contexts: &[ContextPolicy],
+    method: &str,
+    target: &[u8],
+    user: Option<&str>,
+) -> Result<Explanation, ExplainFault>
+    ensures { Gives explain_fault result (spec.explanation contexts.now method.now target.now (option_copied user.entry)) }
+{
+    if !is_method(method) {
+        return Err(ExplainFault::BadMethod);
+    }
+    let canonical = match canon(alloc, target) {
+        Ok(canonical) => canonical,
+        Err(CanonFault::Path(fault)) => return Ok(Explanation::Refused(fault)),
+        Err(CanonFault::NoMemory) => return Err(ExplainFault::NoMemory),
+    };
+    match context_of(contexts, canonical.path.as_str()) {
+        Some(context) => explain_within(alloc, context, method, canonical.path.as_str(), user),
+        None => Ok(Explanation::Hidden(HiddenCause::NoContext)),
+    }
+}
+
+/// What would become of a request for a path that this context serves.
+fn explain_within(
+    alloc: Global,
+    context: &ContextPolicy,
+    method: &str,
+    path: &str,
+    user: Option<&str>,
+) -> Result<Explanation, ExplainFault>
+    requires { IsTrue (is_within context.now.path path.now) }
+    ensures { Gives explain_fault result (spec.explanation_within context.now method.now path.now (option_copied user.entry)) }
+{
+    let Some(caller) = caller_as(&context.realm, user) else {
+        return Err(ExplainFault::NoSuchUser);
+    };
+    let path = path_within(context.path.as_str(), path);
+    if is_protected(path) {
+        return Ok(Explanation::Hidden(HiddenCause::Protected));
+    }
+    Ok(decided(alloc, context, method, path, caller)?)
+}
+
+/// The caller that a user's name stands for, or no caller where no user is named; none where the realm lacks the user.
+fn caller_as<'a>(realm: &'a Realm, user: Option<&str>) -> Option<Option<&'a Caller>>
+    ensures { option_map option_copied result ≡ spec.caller_as realm.now (option_copied user.entry) }
+{
+    match user {
+        Some(name) => Some(Some(realm.find(name)?)),
+        None => Some(None),
+    }
+}
+
+/// What the constraints of the context decide.
+fn decided(
+    alloc: Global,
+    context: &ContextPolicy,
+    method: &str,
+    path: &str,
+    caller: Option<&Caller>,
+) -> Result<Explanation, NoMemory>
+    ensures { GivesAnswer result (spec.decided context.now method.now path.now (option_copied caller.entry)) }
+{
+    let rules = rules_of(alloc, &context.descriptor)?;
+    let constraints = context.descriptor.constraints.as_slice();
+    let decision = decide_plain(constraints, &rules, method, path, caller);
+    Ok(Explanation::Decided {
+        context: Text::copy_of(alloc, context.path.as_str())?,
+        path: Text::copy_of(alloc, path)?,
+        decision: OwnedDecision::copy_of(alloc, decision)?,
+    })
+}
+
+/// What a descriptor says beside its constraints.
+fn rules_of(alloc: Global, descriptor: &Descriptor) -> Result<Rules, NoMemory>
+    ensures { GivesAnswer result (spec.rules_of descriptor.now) }
+{
+    Ok(Rules {
+        declared: Listed::from_vec(copied_texts(alloc, descriptor.roles.as_slice())?),
+        deny_uncovered: descriptor.deny_uncovered,
+    })
+}
+
+fn copied_texts(alloc: Global, texts: &[Text]) -> Result<Vec<Text>, NoMemory>
+    ensures { IfOk result (λ copies. copies.items ≡ texts.now) }
+{
+    let mut copies = Vec::with_capacity(alloc, texts.len())?;
+    for text in texts {
+        copies.push(Text::copy_of(alloc, text.as_str())?)?;
+    }
+    Ok(copies)
+}
+
+/// Whether the text is a method: a token (RFC 9110, sections 5.6.2 and 9.1).
+fn is_method(text: &str) -> bool
+    ensures { result ≡ spec.is_method text.now }
+{
+    is_token(text.as_bytes())
+}

@@ -1,0 +1,19 @@
+//! Why a request would be decided as it is: its context, its path within it, and what the context's constraints decide
+//! (Jakarta Servlet 6.0, sections 3.5, 10.5 and 13.8).
+#![tactic(auto)]
+
+mod context;
+mod context_path;
+mod decision;
+mod explain;
+mod explanation;
+mod fault;
+mod laws;
+mod protected;
+
+pub use context::ContextPolicy;
+pub use decision::{OwnedDecision, OwnedWhy};
+pub use explain::explain_parts;
+pub use explanation::{Explanation, HiddenCause, shown_context};
+pub use fault::ExplainFault;
+pub use laws::{a_context_is_found_where_one_serves, the_chosen_context_path_is_unique};

@@ -1,0 +1,5 @@
+mod Faults
+mod FirstRequest
+mod ShortLists
+mod Steps
+mod Words

@@ -1,0 +1,62 @@
+-- The lines and exit statuses of faults.
+use Rattle.std.specs.Prelude.{ℕ, List, [], ◌++◌, codes, if◌then◌else◌, Option, Some, None}
+use Rattle.std.specs.Fmt.{decimal}
+use Rattle.std.specs.Str.{bytes_eq}
+use Rattle.sv_schema.specs.Fault.{number}
+use Rattle.sv_schema.specs.declared.fault.DescriptorFault.{DescriptorFault}
+use Rattle.sv_explain.specs.Text.{shown_context}
+use Rattle.sv_program.specs.declared.command_fault.CommandFault.{CommandFault}
+use Rattle.sv_program.specs.declared.command_fault.CommandFault.TheVariants.{Usage, Input, Output, File, Server, Descriptor, Users, User, Method, NoMemory}
+
+-- the key at which a configuration file is wrong, `-` where the whole text is
+abbrev pub key_text : List ℕ → List ℕ
+key_text key = if bytes_eq key [] then codes "-" else key
+
+-- `CODE KEY`
+abbrev pub fault_text : DescriptorFault → List ℕ
+fault_text fault = decimal (number fault.code) ++ codes " " ++ key_text fault.key
+
+-- the line on standard error
+abbrev pub fault_line : CommandFault → List ℕ
+fault_line Usage = codes "sv: usage"
+fault_line Input = codes "sv: file stdin"
+fault_line Output = codes "sv: file stdout"
+fault_line (File name) = codes "sv: file " ++ name
+fault_line (Server fault) = codes "sv: server " ++ fault_text fault
+fault_line (Descriptor context fault) = codes "sv: descriptor " ++ shown_context context ++ codes " " ++ fault_text fault
+fault_line (Users context fault) = codes "sv: users " ++ shown_context context ++ codes " " ++ fault_text fault
+fault_line User = codes "sv: user"
+fault_line Method = codes "sv: method"
+fault_line NoMemory = codes "sv: no memory"
+
+-- the exit status: 1 for a file, 2 for the arguments, 3 for want of memory
+abbrev pub status_of : CommandFault → ℕ
+status_of Usage = 2
+status_of Input = 1
+status_of Output = 1
+status_of (File name) = 1
+status_of (Server fault) = 1
+status_of (Descriptor context fault) = 1
+status_of (Users context fault) = 1
+status_of User = 2
+status_of Method = 2
+status_of NoMemory = 3
+
+-- the fault, apart from want of memory
+abbrev pub command_fault : CommandFault → Option CommandFault
+command_fault Usage = Some Usage
+command_fault Input = Some Input
+command_fault Output = Some Output
+command_fault (File name) = Some (File name)
+command_fault (Server fault) = Some (Server fault)
+command_fault (Descriptor context fault) = Some (Descriptor context fault)
+command_fault (Users context fault) = Some (Users context fault)
+command_fault User = Some User
+command_fault Method = Some Method
+command_fault NoMemory = None
+
+-- a fault that ends the reading of the input
+abbrev pub IsReadFault : CommandFault → Type 0
+IsReadFault Input = Unit {0}
+IsReadFault NoMemory = Unit {0}
+IsReadFault other = ⊥

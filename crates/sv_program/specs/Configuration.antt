@@ -1,0 +1,70 @@
+-- The contexts of a server, by the texts of its files: the server file, and for each context its descriptor and its users file.
+use Rattle.std.specs.Prelude.{ℕ, List, [], ◌∷◌, Option, Some, None, Result, Ok, Err}
+use Rattle.std.specs.Option.{ok_or}
+use Rattle.sv_realm.specs.declared.user.User.{User}
+use Rattle.sv_schema.specs.Fault.{Reads}
+use Rattle.sv_schema.specs.declared.fault.DescriptorFault.{DescriptorFault}
+use Rattle.sv_settings.specs.Server.{server_of}
+use Rattle.sv_settings.specs.Users.{users_of}
+use Rattle.sv_settings.specs.declared.server.Server.{Server}
+use Rattle.sv_descriptor.specs.Descriptor.{descriptor_of}
+use Rattle.sv_descriptor.specs.declared.descriptor.Descriptor.{Descriptor}
+use Rattle.sv_explain.specs.declared.context.ContextPolicy.{ContextPolicy}
+use Rattle.sv_program.specs.declared.command_fault.CommandFault.{CommandFault}
+use Rattle.sv_program.specs.declared.command_fault.CommandFault.TheVariants as fault
+use Rattle.sv_program.specs.declared.configuration.ContextTexts.{ContextTexts}
+
+-- what a step gives, or the fault that ends the command
+abbrev pub Step : Type 0 → Type 0
+Step A = Result A CommandFault
+
+infixl 10 ◌>>=◌
+abbrev pub ◌>>=◌ : {A B : Type 0} → Step A → (A → Step B) → Step B
+Ok a >>= next = next a
+Err fault >>= next = Err fault
+
+-- a step for each, in order
+abbrev pub each : {A B : Type 0} → (A → Step B) → List A → Step (List B)
+each step [] = Ok []
+each step (a ∷ rest) = do
+  b ← step a
+  bs ← each step rest
+  Ok (b ∷ bs)
+
+-- the text of the file of this name, which may not be there
+abbrev pub text_of : List ℕ → Option (List ℕ) → Step (List ℕ)
+text_of name text = ok_or text (fault.File name)
+
+-- what was read of a file, and of which file a fault is
+abbrev pub told : {A : Type 0} → (DescriptorFault → CommandFault) → Reads A → Step A
+told of (Ok a) = Ok a
+told of (Err found) = Err (of found)
+
+abbrev pub server_in : List ℕ → Option (List ℕ) → Step Server
+server_in name file = do
+  text ← text_of name file
+  told fault.Server (server_of text)
+
+abbrev pub descriptor_in : ContextTexts → Step Descriptor
+descriptor_in texts = do
+  text ← text_of texts.context.descriptor texts.descriptor
+  told (fault.Descriptor texts.context.path) (descriptor_of text)
+
+-- the users of a context, none where it names no users file
+abbrev pub users_named : List ℕ → Option (List ℕ) → Option (List ℕ) → Step (List User)
+users_named path None file = Ok []
+users_named path (Some name) file = do
+  text ← text_of name file
+  told (fault.Users path) (users_of text)
+
+abbrev pub users_in : ContextTexts → Step (List User)
+users_in texts = users_named texts.context.path texts.context.users texts.users
+
+abbrev pub configured_context : ContextTexts → Step ContextPolicy
+configured_context texts = do
+  its_descriptor ← descriptor_in texts
+  users ← users_in texts
+  Ok (record { path = texts.context.path; descriptor = its_descriptor; realm = users })
+
+abbrev pub configured_contexts : List ContextTexts → Step (List ContextPolicy)
+configured_contexts = each configured_context

@@ -1,0 +1,61 @@
+-- The line of the command `first`: RFC 9112 reads the request, Jakarta Servlet 6.0 section 3.5 its path, section 13.8 decides.
+use Rattle.std.specs.Prelude.{◌≡◌, ℕ, Bool, List, ◌∷◌, [], ◌++◌, Option, Some, None, Result, Ok, Err, codes, take, IfSome}
+use Rattle.std.specs.Io.KnownBytes.{Appends}
+use Rattle.sv_wire.specs.Reads.{Reads}
+use Rattle.sv_wire.specs.Items.{first_item}
+use Rattle.sv_wire.specs.WireFault as wire_fault
+use Rattle.sv_wire.specs.declared.item.Item.{Item}
+use Rattle.sv_wire.specs.declared.item.Item.TheVariants.{Continue, Refuse}
+use Rattle.sv_wire.specs.declared.item.Item.TheVariants.{Message as IsMessage}
+use Rattle.sv_wire.specs.declared.message.Message.{Message}
+use Rattle.sv_wire.specs.declared.message.Target.{Target}
+use Rattle.sv_wire.specs.declared.message.Target.TheVariants.{Star, Path}
+use Rattle.sv_uri.specs.Canonical.{canonical}
+use Rattle.sv_uri.specs.declared.path.Canon.{Canon}
+use Rattle.sv_uri.specs.declared.fault.PathFault.{PathFault}
+use Rattle.sv_uri.specs.Fault as path_fault
+use Rattle.sv_constraints.specs.Verdict.{verdict}
+use Rattle.sv_constraints.specs.Decision.{decision_text}
+use Rattle.sv_program.specs.ExamplePolicy.{example_constraints, example_rules}
+
+-- a request that is refused before a decision
+abbrev pub refused_line : List ℕ → List ℕ
+refused_line cause = codes "refused cause=" ++ cause
+
+-- the combined verdict on a method at a canonical path, without a caller
+abbrev pub decision_line : List ℕ → List ℕ → Bool → List ℕ
+decision_line method path deny_uncovered =
+    decision_text (verdict example_constraints (example_rules deny_uncovered) method path None)
+
+-- the same for the canonical path of a target, if it has one
+abbrev pub path_line : List ℕ → Result Canon PathFault → Bool → List ℕ
+path_line method (Ok canon) deny_uncovered = decision_line method canon.path deny_uncovered
+path_line method (Err fault) deny_uncovered = refused_line (path_fault.fault_name fault)
+
+abbrev pub target_line : List ℕ → Target → Bool → List ℕ
+target_line method Star deny_uncovered = refused_line (codes "Star")
+target_line method (Path target) deny_uncovered = path_line method (canonical target) deny_uncovered
+
+abbrev pub message_line : Message → Bool → List ℕ
+message_line message deny_uncovered = target_line message.method message.target deny_uncovered
+
+-- the line for the first item that is not a `Continue`, if there is one
+abbrev pub item_line : Option Item → Bool → List ℕ
+item_line (Some (IsMessage message)) deny_uncovered = message_line message deny_uncovered
+item_line (Some (Refuse fault)) deny_uncovered = refused_line (wire_fault.fault_name fault)
+item_line (Some Continue) deny_uncovered = codes "none"
+item_line None deny_uncovered = codes "none"
+
+-- the line for the first item of the stream's reading, which is unique
+abbrev pub IsFirstLine : List ℕ → Bool → List ℕ → Type 0
+IsFirstLine stream deny_uncovered line =
+    (items : List Item) × (rest : List ℕ) × Reads stream items rest × (line ≡ item_line (first_item items) deny_uncovered)
+
+-- the writer's known bytes gain that line and a line feed
+abbrev pub WritesFirstLine : List ℕ → Bool → Option (List ℕ) → Option (List ℕ) → Type 0
+WritesFirstLine stream deny_uncovered old new =
+    (line : List ℕ) × IsFirstLine stream deny_uncovered line × Appends old new (line ++ 10 ∷ [])
+
+-- the command's run: of a reader's known bytes the first 65,536 are read
+abbrev pub RunsFirst : Bool → Option (List ℕ) → Option (List ℕ) → Option (List ℕ) → Type 0
+RunsFirst deny_uncovered stream old new = IfSome stream (λ bytes. WritesFirstLine (take 65536 bytes) deny_uncovered old new)

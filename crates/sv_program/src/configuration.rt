@@ -1,0 +1,115 @@
+//! The contexts of a server, by the texts of its files.
+
+ghost use Rattle.std.specs.Prelude.{Err};
+ghost use Rattle.std.specs.Option.{option_copied};
+ghost use Rattle.sv_text.specs.Gives.{Gives};
+ghost use Rattle.sv_program.specs.CommandFault.{command_fault};
+ghost use Rattle.sv_program.specs.Configuration as spec;
+ghost use Rattle.sv_program.specs.declared.command_fault.CommandFault.TheVariants.{File};
+
+use crate::command_fault::CommandFault;
+use std::alloc::Global;
+use sv_descriptor::{Descriptor, read_descriptor};
+use sv_explain::ContextPolicy;
+use sv_realm::Realm;
+use sv_schema::ReadFault;
+use sv_settings::{ContextEntry, Server, read_server, read_users};
+use sv_text::{Listed, Text};
+
+/// A context of a server file, with the texts of the files that it names.
+#[derive(Debug, Drop)]
+pub struct ContextTexts {
+    /// The context as the server file has it.
+    pub context: ContextEntry,
+    /// The text of the descriptor's file, none where it could not be read.
+    pub descriptor: Option<Text>,
+    /// The text of the users file, none where it could not be read. It is not looked at where the context names no such file.
+    pub users: Option<Text>,
+}
+
+/// The server that the text of the file of this name is.
+///
+/// # Errors
+/// [`CommandFault::File`] where the file could not be read, [`CommandFault::Server`], or [`CommandFault::NoMemory`].
+pub fn server_in(alloc: Global, name: &str, text: Option<&Text>) -> Result<Server, CommandFault>
+    ensures { Gives command_fault result (spec.server_in name.now (option_copied text.entry)) }
+{
+    let Some(text) = text else {
+        return unread(alloc, name);
+    };
+    match read_server(alloc, text.as_str()) {
+        Ok(server) => Ok(server),
+        Err(ReadFault::Fault(fault)) => Err(CommandFault::Server(fault)),
+        Err(ReadFault::NoMemory) => Err(CommandFault::NoMemory),
+    }
+}
+
+/// The contexts that the texts configure, in their order.
+///
+/// # Errors
+/// The first fault: of each context in turn [`CommandFault::File`] or [`CommandFault::Descriptor`], then
+/// [`CommandFault::File`] or [`CommandFault::Users`]; or [`CommandFault::NoMemory`].
+pub fn configured_contexts(
+    alloc: Global,
+    texts: &[ContextTexts],
+) -> Result<Listed<ContextPolicy>, CommandFault>
+    ensures { Gives command_fault result (spec.configured_contexts texts.now) }
+{
+    let mut contexts = Vec::with_capacity(alloc, texts.len())?;
+    for texts in texts {
+        contexts.push(configured_context(alloc, texts)?)?;
+    }
+    Ok(Listed::from_vec(contexts))
+}
+
+fn configured_context(alloc: Global, texts: &ContextTexts) -> Result<ContextPolicy, CommandFault>
+    ensures { Gives command_fault result (spec.configured_context texts.now) }
+{
+    Ok(ContextPolicy {
+        path: Text::copy_of(alloc, texts.context.path.as_str())?,
+        descriptor: descriptor_in(alloc, texts)?,
+        realm: realm_in(alloc, texts)?,
+    })
+}
+
+fn descriptor_in(alloc: Global, texts: &ContextTexts) -> Result<Descriptor, CommandFault>
+    ensures { Gives command_fault result (spec.descriptor_in texts.now) }
+{
+    let Some(text) = &texts.descriptor else {
+        return unread(alloc, texts.context.descriptor.as_str());
+    };
+    match read_descriptor(alloc, text.as_str()) {
+        Ok(descriptor) => Ok(descriptor),
+        Err(ReadFault::Fault(fault)) => Err(CommandFault::Descriptor {
+            context: Text::copy_of(alloc, texts.context.path.as_str())?,
+            fault,
+        }),
+        Err(ReadFault::NoMemory) => Err(CommandFault::NoMemory),
+    }
+}
+
+fn realm_in(alloc: Global, texts: &ContextTexts) -> Result<Realm, CommandFault>
+    ensures { Gives command_fault result (spec.users_in texts.now) }
+{
+    let Some(name) = &texts.context.users else {
+        return Ok(Realm::from_users(alloc, Vec::new(alloc))?);
+    };
+    let Some(text) = &texts.users else {
+        return unread(alloc, name.as_str());
+    };
+    match read_users(alloc, text.as_str()) {
+        Ok(users) => Ok(Realm::from_users(alloc, users)?),
+        Err(ReadFault::Fault(fault)) => Err(CommandFault::Users {
+            context: Text::copy_of(alloc, texts.context.path.as_str())?,
+            fault,
+        }),
+        Err(ReadFault::NoMemory) => Err(CommandFault::NoMemory),
+    }
+}
+
+/// The fault of a file that could not be read.
+fn unread<T>(alloc: Global, name: &str) -> Result<T, CommandFault>
+    ensures { Gives command_fault result (Err (File name.now)) }
+{
+    Err(CommandFault::File(Text::copy_of(alloc, name)?))
+}

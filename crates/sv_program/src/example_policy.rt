@@ -1,0 +1,50 @@
+//! The fixed policy that the command `first` decides by.
+
+ghost use Rattle.std.specs.Prelude.{◌≡◌, IfOk, IsTrue};
+ghost use Rattle.sv_text.specs.Gives.{GivesAnswer};
+ghost use Rattle.sv_mapping.specs.Pattern.{is_pattern};
+ghost use Rattle.sv_program.specs.ExamplePolicy.{constraint_on, example_constraints};
+
+use std::alloc::Global;
+use sv_constraints::{Auth, Collection, Constraint, Methods, Transport};
+use sv_mapping::{Pattern, PatternFault};
+use sv_text::{Listed, NoMemory, Text};
+
+/// The constraints of the example policy: the first asks for the role `manager` everywhere, the second
+/// asks for it below `/pub/`, for GET alone.
+pub fn example_constraints(alloc: Global) -> Result<Vec<Constraint>, NoMemory>
+    ensures { IfOk result (λ policy. policy.items ≡ example_constraints) }
+{
+    let everywhere = constraint_on(alloc, 1, "/*", Methods::All)?;
+    let get = Listed::from_vec(vec![in alloc; Text::copy_of(alloc, "GET")?]?);
+    let public = constraint_on(alloc, 2, "/pub/*", Methods::Only(get))?;
+    Ok(vec![in alloc; everywhere, public]?)
+}
+
+/// The constraint of this number that asks for the role `manager` at one pattern.
+fn constraint_on(
+    alloc: Global,
+    number: u64,
+    pattern: &str,
+    methods: Methods,
+) -> Result<Constraint, NoMemory>
+    requires { IsTrue (is_pattern pattern.now) }
+    ensures { GivesAnswer result (constraint_on number pattern.now methods) }
+{
+    let pattern = match Pattern::parse(alloc, pattern) {
+        Ok(pattern) => pattern,
+        Err(PatternFault::BadPattern) => unreachable!(),
+        Err(PatternFault::NoMemory) => return Err(NoMemory),
+    };
+    let collection = Collection {
+        patterns: Listed::from_vec(vec![in alloc; pattern]?),
+        methods,
+    };
+    let manager = Text::copy_of(alloc, "manager")?;
+    Ok(Constraint {
+        number,
+        collections: Listed::from_vec(vec![in alloc; collection]?),
+        auth: Auth::Roles(Listed::from_vec(vec![in alloc; manager]?)),
+        transport: Transport::Absent,
+    })
+}

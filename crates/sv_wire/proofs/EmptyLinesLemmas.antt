@@ -1,0 +1,46 @@
+-- Empty lines before more bytes.
+use Rattle.std.proofs.Common.{◌≡◌, ℕ, ◌≤◌, Bool, true, false, ◌&&◌, ◌||◌, List, [], ◌∷◌, ◌++◌, length, refl, sym, ◌∙◌, cond, eqb, arith}
+use Rattle.std.proofs.lemmas.Bool.{cond-true, cond-false}
+use Rattle.sv_wire.specs.EmptyLines.{is_of_empty_line, drop_empty_lines}
+
+-- a byte of an empty line stays one where bytes follow
+is_of_empty_line-append : (b : ℕ) (text more : List ℕ) → is_of_empty_line b text ≡ true → is_of_empty_line b (text ++ more) ≡ true
+is_of_empty_line-append b [] more empty = by_test (eqb b 10) (eqb b 13) _ empty
+  where
+    by_test : (x y z : Bool) → (x || (y && false)) ≡ true → (x || (y && z)) ≡ true
+    by_test true y z holds = refl
+    by_test false true z holds = absurd (cc)
+    by_test false false z holds = absurd (cc)
+is_of_empty_line-append b (c ∷ text) more empty = empty
+
+-- only the text behind the empty lines matters to what is dropped before more bytes
+pub drop_empty_lines-append : (text more : List ℕ) → drop_empty_lines (drop_empty_lines text ++ more) ≡ drop_empty_lines (text ++ more)
+drop_empty_lines-append [] more = refl
+drop_empty_lines-append (b ∷ text) more = by_test (drop_empty_lines-append text more) (is_of_empty_line b text) refl
+  where
+    by_test : drop_empty_lines (drop_empty_lines text ++ more) ≡ drop_empty_lines (text ++ more)
+        → (t : Bool) → is_of_empty_line b text ≡ t
+        → drop_empty_lines (cond t (drop_empty_lines text) (b ∷ text) ++ more) ≡ drop_empty_lines (b ∷ text ++ more)
+    by_test later true empty =
+        later ∙ sym (cond-true _ (drop_empty_lines (text ++ more)) (b ∷ (text ++ more)) (is_of_empty_line-append b text more empty))
+    by_test later false full = refl
+
+-- where two bytes and more are behind the empty lines, no empty line begins there whatever follows
+pub drop_empty_lines_stays : (text more : List ℕ) → 2 ≤ length (drop_empty_lines text)
+    → drop_empty_lines (text ++ more) ≡ drop_empty_lines text ++ more
+drop_empty_lines_stays [] more long = absurd (omega arith)
+drop_empty_lines_stays (b ∷ []) more long = by_test (is_of_empty_line b []) long
+  where
+    by_test : (t : Bool) → 2 ≤ length (cond t [] (b ∷ [])) → drop_empty_lines (b ∷ more) ≡ cond t [] (b ∷ []) ++ more
+    by_test true some = absurd (omega arith)
+    by_test false some = absurd (omega arith)
+drop_empty_lines_stays (b ∷ c ∷ text) more long = by_test (drop_empty_lines_stays (c ∷ text) more) (is_of_empty_line b (c ∷ text)) refl long
+  where
+    by_test : (2 ≤ length (drop_empty_lines (c ∷ text)) → drop_empty_lines (c ∷ text ++ more) ≡ drop_empty_lines (c ∷ text) ++ more)
+        → (t : Bool) → is_of_empty_line b (c ∷ text) ≡ t
+        → 2 ≤ length (cond t (drop_empty_lines (c ∷ text)) (b ∷ c ∷ text))
+        → drop_empty_lines (b ∷ c ∷ text ++ more) ≡ cond t (drop_empty_lines (c ∷ text)) (b ∷ c ∷ text) ++ more
+    by_test later true empty some =
+        cond-true _ (drop_empty_lines (c ∷ text ++ more)) (b ∷ c ∷ text ++ more) empty ∙ later some
+    by_test later false full some =
+        cond-false _ (drop_empty_lines (c ∷ text ++ more)) (b ∷ c ∷ text ++ more) full

@@ -1,0 +1,18 @@
+-- The Host field (RFC 9112, section 3.2, and RFC 3986, section 3.2.2). The class of bytes and the limit are this server's own.
+use Rattle.std.specs.Prelude.{ℕ, Bool, ◌&&◌, ◌||◌, List, length, ◌==◌, nat_le, codes, if◌then◌else◌}
+use Rattle.std.specs.List.{list_all, list_any}
+use Rattle.std.specs.Char.{is_ascii_alphanumeric}
+use Rattle.sv_wire.specs.declared.limits.TheConstants.{MAX_HOST_LEN}
+
+-- a letter, a digit, or one of the marks of a host and a port
+abbrev pub is_host_byte : ℕ → Bool
+is_host_byte b = is_ascii_alphanumeric b || list_any (λ mark. mark == b) (codes "-._~%!$&'()*+,;=:[]")
+
+-- whether the value of a Host field is valid. An empty one is.
+abbrev pub is_host : List ℕ → Bool
+is_host value = nat_le (length value) MAX_HOST_LEN && list_all is_host_byte value
+
+-- whether those are the Host fields that a request of that minor version may have: one in 1.1, at most one in 1.0
+abbrev pub accepts_hosts : ℕ → List (List ℕ) → Bool
+accepts_hosts minor hosts =
+    list_all is_host hosts && (if minor == 1 then length hosts == 1 else nat_le (length hosts) 1)

@@ -1,0 +1,13 @@
+pub mod Cut
+pub mod EmptyLines
+pub mod Fields
+pub mod Head
+pub mod Host
+pub mod Inbox
+pub mod Items
+pub mod Laws
+pub mod Persistence
+pub mod Next
+pub mod Reads
+pub mod Spans
+pub mod WireFault

@@ -1,0 +1,32 @@
+//! What an inbox reads from a stream, one after another.
+
+ghost use Rattle.std.specs.Prelude.{◌≡◌};
+
+use crate::message::Message;
+use crate::wire_fault::WireFault;
+
+/// One thing that a stream says.
+#[derive(Debug, Drop)]
+pub enum Item {
+    /// A head whose body is awaited asks for `100 Continue` (RFC 9110, section 10.1.1).
+    Continue,
+    /// A whole request.
+    Message(Message),
+    /// A request is refused. It is the last item of its stream.
+    Refuse(WireFault),
+}
+
+impl Item {
+    ghost use Rattle.sv_wire.specs.Items.{is_last};
+
+    /// Whether nothing is read behind the item.
+    pub(crate) fn is_last(&self) -> bool
+        ensures { result ≡ is_last self.now }
+    {
+        match self {
+            Item::Continue => false,
+            Item::Message(message) => !message.keep,
+            Item::Refuse(_) => true,
+        }
+    }
+}

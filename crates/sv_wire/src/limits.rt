@@ -1,0 +1,10 @@
+//! The limits of what an inbox reads.
+
+/// A head's end lies within so many bytes.
+pub const MAX_HEAD_LEN: usize = 65_536;
+
+/// A head has at most so many field lines.
+pub const MAX_FIELD_LINES: usize = 128;
+
+/// A Host field's value has at most so many bytes.
+pub const MAX_HOST_LEN: usize = 255;

@@ -1,0 +1,29 @@
+//! A request, as the container handles it.
+
+use crate::field::Field;
+use http::Method;
+use sv_text::{Bytes, Listed};
+
+/// A whole request (RFC 9112, section 2).
+#[derive(Debug, Drop)]
+pub struct Message {
+    pub method: Method,
+    pub target: Target,
+    /// The minor version: 0 for `HTTP/1.0`, 1 for `HTTP/1.1`.
+    pub minor: u8,
+    /// The fields in the order of their lines.
+    pub fields: Listed<Field>,
+    pub body: Bytes,
+    /// Whether a further request may follow on the connection (RFC 9112, section 9.3). After a message that says no
+    /// the inbox is spent.
+    pub keep: bool,
+}
+
+/// What a request asks for (RFC 9112, section 3.2).
+#[derive(Debug, Drop)]
+pub enum Target {
+    /// `*`: the server itself.
+    Star,
+    /// A path with its query, as it was sent.
+    Path(Bytes),
+}
