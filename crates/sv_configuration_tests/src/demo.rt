@@ -3,7 +3,7 @@
 use crate::summary::{summary_of_descriptor, summary_of_server, summary_of_users};
 use std::test::Fail;
 use sv_descriptor::{read_descriptor, read_server, read_users};
-use sv_realm::{MAX_USERS, Realm};
+use sv_realm::Realm;
 
 const SERVER: &str = r#"port = 0
 seed = "0000000000000000000000000000000000000000000000000000000000000000"
@@ -151,9 +151,7 @@ fn the_files_of_the_demonstration_are_read(rt: HostRuntime) -> Result<(), Fail> 
 
 #[test]
 fn the_user_of_the_demonstration_has_her_password_alone(rt: HostRuntime) -> Result<(), Fail> {
-    let users = read_users(rt.alloc(), USERS)?;
-    assert!(rt; users.len() <= MAX_USERS);
-    let realm = Realm::from_users(rt.alloc(), users)?;
+    let realm = Realm::from_users(rt.alloc(), read_users(rt.alloc(), USERS)?)?;
     let Some(caller) = realm.check("ann", b"bc") else {
         panic!(rt; "ann is refused");
     };
