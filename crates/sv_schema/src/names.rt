@@ -12,6 +12,7 @@ use sv_text::{NoMemory, Text};
 
 /// What has a name that tells it from others of its kind.
 pub trait Named {
+    // The bytes of the name.
     ghost its_name: { Self → List ℕ };
 
     /// The name.

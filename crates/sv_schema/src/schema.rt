@@ -17,8 +17,10 @@ pub trait Schema {
     /// What a value is read as.
     type Output: Drop;
 
+    // Which values have the type of the schema.
     ghost fits: { Self → Data → Bool };
 
+    // What is read of the value at a key, or its first fault.
     ghost reads: { Self → List ℕ → Data → Reads Self.Output };
 
     /// Whether the value has the type of the schema.

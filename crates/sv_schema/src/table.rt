@@ -18,6 +18,7 @@ pub trait TableSchema {
     /// What a table is read as.
     type Output: Drop;
 
+    // What is read of a table, or its first fault.
     ghost reads: { Self → Members → Reads Self.Output };
 
     /// Reads a table.

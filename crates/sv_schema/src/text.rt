@@ -18,6 +18,7 @@ pub trait TextSchema {
     /// What a text is read as.
     type Output: Drop;
 
+    // What is read of the text at a key, or its fault.
     ghost reads: { Self → List ℕ → List ℕ → Reads Self.Output };
 
     /// Reads the text at a key.

@@ -15,6 +15,7 @@ pub trait WholeSchema {
     /// What a number is read as.
     type Output: Drop;
 
+    // What is read of the number at a key, or its fault.
     ghost reads: { Self → List ℕ → ℤ → Reads Self.Output };
 
     /// Reads the number at a key.

@@ -69,7 +69,10 @@ GET /../x HTTP/1.1\r\nHost: h\r\n\r\n                  | -    | refused cause=Cl
 
 #[test]
 fn the_first_item_of_the_input_gives_the_line(rt: HostRuntime) -> Result<(), Fail> {
-    for row in ROWS.lines().filter(|line| is_row(line)) {
+    for row in ROWS.lines() {
+        if !is_row(row) {
+            continue;
+        }
         let input = stretched(rt.alloc(), cell(row, 0))?;
         let line = first_line(rt.alloc(), input.as_slice(), cell(row, 1) == "deny")?;
         assert_eq!(rt; line.as_str(), cell(row, 2), "{row}");

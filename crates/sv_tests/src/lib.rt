@@ -10,9 +10,13 @@ mod canonical_paths;
 #[cfg(test)]
 mod command_runs;
 #[cfg(test)]
+mod credentials;
+#[cfg(test)]
 mod first_lines;
 #[cfg(test)]
 mod pattern_texts;
+#[cfg(test)]
+mod policy_lines;
 #[cfg(test)]
 mod specification_table;
 #[cfg(test)]

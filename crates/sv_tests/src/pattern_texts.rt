@@ -53,7 +53,10 @@ http://h/           | BadPattern
 
 #[test]
 fn a_pattern_keeps_its_text_and_another_text_is_refused(rt: HostRuntime) -> Result<(), Fail> {
-    for row in ROWS.lines().filter(|line| is_row(line)) {
+    for row in ROWS.lines() {
+        if !is_row(row) {
+            continue;
+        }
         let bytes = stretched(rt.alloc(), cell(row, 0))?;
         let text = std::str::from_utf8(bytes.as_slice())?;
         match Pattern::parse(rt.alloc(), text) {

@@ -94,7 +94,10 @@ foo/bar/                  | /foo/bar/           | 400 | NoSlash        | -
 
 #[test]
 fn each_target_of_the_specification_has_our_stated_answer(rt: HostRuntime) -> Result<(), Fail> {
-    for row in ROWS.lines().filter(|line| is_row(line)) {
+    for row in ROWS.lines() {
+        if !is_row(row) {
+            continue;
+        }
         let read = Reading::of(rt.alloc(), cell(row, 0))?;
         assert_eq!(rt; read.path.as_str(), cell(row, 3), "{row}");
     }
@@ -103,7 +106,10 @@ fn each_target_of_the_specification_has_our_stated_answer(rt: HostRuntime) -> Re
 
 #[test]
 fn a_reason_stands_exactly_where_our_answer_differs_from_the_specification(rt: HostRuntime) {
-    for row in ROWS.lines().filter(|line| is_row(line)) {
+    for row in ROWS.lines() {
+        if !is_row(row) {
+            continue;
+        }
         let agrees = is_standard_answer(cell(row, 3), cell(row, 1), cell(row, 2));
         assert_eq!(rt; agrees, cell(row, 4) == "-", "{row}");
     }

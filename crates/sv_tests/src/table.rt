@@ -5,7 +5,7 @@ use std::test::Fail;
 
 /// Whether a line of a table is a row: it is not empty and no comment, which begins with `--`.
 pub fn is_row(line: &str) -> bool {
-    !line.is_empty() && !line.starts_with("--")
+    !matches!(line.as_bytes(), [] | [b'-', b'-', ..])
 }
 
 /// The cell of a row at a place from 0, without the blanks around it. `""` stands for the empty text.

@@ -165,7 +165,10 @@ a on /x/y GET and /x/* PUT                          | -           | PUT /x/y  | 
 
 #[test]
 fn combined_constraints_decide_by_the_first_case_that_holds(rt: HostRuntime) -> Result<(), Fail> {
-    for row in ROWS.lines().filter(|line| is_row(line)) {
+    for row in ROWS.lines() {
+        if !is_row(row) {
+            continue;
+        }
         let constraints = constraints_of(rt.alloc(), cell(row, 0))?;
         let rules = rules_of(rt.alloc(), cell(row, 1))?;
         let caller = caller_of(rt.alloc(), cell(row, 3))?;
@@ -208,7 +211,10 @@ fn the_example_of_the_specification_is_decided_as_its_table_says(
 ) -> Result<(), Fail> {
     let constraints = constraints_of(rt.alloc(), SPECIFICATION_EXAMPLE)?;
     let rules = rules_of(rt.alloc(), "-")?;
-    for row in SPECIFICATION_ROWS.lines().filter(|line| is_row(line)) {
+    for row in SPECIFICATION_ROWS.lines() {
+        if !is_row(row) {
+            continue;
+        }
         let caller = caller_of(rt.alloc(), cell(row, 1))?;
         let decided = decision_text(rt.alloc(), &constraints, &rules, cell(row, 0), &caller)?;
         assert_eq!(rt; decided.as_str(), cell(row, 2), "{row}");
@@ -232,7 +238,10 @@ fn decision_text(
 /// The constraints that a cell lists, numbered from 1 where they have no number.
 pub fn constraints_of(alloc: Global, cell: &str) -> Result<Vec<Constraint>, Fail> {
     let mut constraints = Vec::new(alloc);
-    for (place, text) in cell.split("; ").filter(|text| !text.is_empty()).enumerate() {
+    for (place, text) in cell.split("; ").enumerate() {
+        if text.is_empty() {
+            continue;
+        }
         constraints.push(constraint_of(alloc, place, text)?)?;
     }
     Ok(constraints)
@@ -322,7 +331,10 @@ fn caller_of(alloc: Global, cell: &str) -> Result<Option<Caller>, NoMemory> {
 /// The texts between commas.
 fn texts_of(alloc: Global, list: &str) -> Result<Listed<Text>, NoMemory> {
     let mut texts = Vec::new(alloc);
-    for text in list.split(',').filter(|text| !text.is_empty()) {
+    for text in list.split(',') {
+        if text.is_empty() {
+            continue;
+        }
         texts.push(Text::copy_of(alloc, text)?)?;
     }
     Ok(Listed::from_vec(texts))

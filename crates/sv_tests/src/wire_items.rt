@@ -1,5 +1,7 @@
 //! Streams of bytes, the items that an inbox reads from them, and what their end means.
 
+ghost use Rattle.std.specs.Prelude.{◌<◌, ◌≤◌, length};
+
 use crate::table::{cell, is_row, stretched, unescaped};
 use std::alloc::{AllocError, Global};
 use std::io::Write;
@@ -167,31 +169,20 @@ G                                                          | ""                 
 #[test]
 fn a_stream_gives_the_same_items_however_it_is_cut(rt: HostRuntime) -> Result<(), Fail> {
     let alloc = rt.alloc();
-    for row in ROWS.lines().filter(|line| is_row(line)) {
+    for row in ROWS.lines() {
+        if !is_row(row) {
+            continue;
+        }
         let stream = unescaped(alloc, cell(row, 0))?;
         let items = unescaped(alloc, cell(row, 1))?;
         for (cut, _) in stream.iter().enumerate() {
-            let (front, back) = stream.split_at(cut);
-            let mut reader = Reader::new(alloc);
-            reader.take(front)?;
-            reader.take(back)?;
-            assert_eq!(rt;
-                reader.items.as_slice(),
-                items.as_slice(),
-                "cut at {cut}: {row}"
-            );
-            assert_eq!(rt; reader.end(), cell(row, 2), "cut at {cut}: {row}");
+            let mut reader = Reader::in_two(alloc, stream.as_slice(), cut)?;
+            let told = reader.tells(items.as_slice(), cell(row, 2));
+            assert!(rt; told, "cut at {cut}: {row}");
         }
-        let mut reader = Reader::new(alloc);
-        for byte in stream.chunks(1) {
-            reader.take(byte)?;
-        }
-        assert_eq!(rt;
-            reader.items.as_slice(),
-            items.as_slice(),
-            "byte by byte: {row}"
-        );
-        assert_eq!(rt; reader.end(), cell(row, 2), "byte by byte: {row}");
+        let mut reader = Reader::in_pieces(alloc, stream.as_slice(), 1)?;
+        let told = reader.tells(items.as_slice(), cell(row, 2));
+        assert!(rt; told, "byte by byte: {row}");
     }
     Ok(())
 }
@@ -234,15 +225,15 @@ const LONG_ROWS: &str = r#"
 #[test]
 fn the_limits_of_a_head_hold_on_both_sides(rt: HostRuntime) -> Result<(), Fail> {
     let alloc = rt.alloc();
-    for row in LONG_ROWS.lines().filter(|line| is_row(line)) {
+    for row in LONG_ROWS.lines() {
+        if !is_row(row) {
+            continue;
+        }
         let stream = stretched(alloc, cell(row, 1))?;
         let length = format!(in alloc; "{}", stream.len())?;
         assert_eq!(rt; length.as_str(), cell(row, 0), "{row}");
         for size in [1, 1000, 65_535, 65_536, 70_000] {
-            let mut reader = Reader::new(alloc);
-            for piece in stream.chunks(size) {
-                reader.take(piece)?;
-            }
+            let mut reader = Reader::in_pieces(alloc, stream.as_slice(), size)?;
             let told = reader.told(alloc)?;
             assert_eq!(rt; told.as_str(), cell(row, 2), "pieces of {size}: {row}");
             assert_eq!(rt; reader.end(), cell(row, 3), "pieces of {size}: {row}");
@@ -281,6 +272,33 @@ impl Reader {
             messages: 0,
             refusal: None,
         }
+    }
+
+    /// Reads a stream that is cut at a place.
+    fn in_two(alloc: Global, stream: &[u8], cut: usize) -> Result<Reader, Fail>
+        requires { cut ≤ length stream.now }
+    {
+        let (front, back) = stream.split_at(cut);
+        let mut reader = Reader::new(alloc);
+        reader.take(front)?;
+        reader.take(back)?;
+        Ok(reader)
+    }
+
+    /// Reads a stream in pieces of a size.
+    fn in_pieces(alloc: Global, stream: &[u8], size: usize) -> Result<Reader, Fail>
+        requires { 0 < size }
+    {
+        let mut reader = Reader::new(alloc);
+        for piece in stream.chunks(size) {
+            reader.take(piece)?;
+        }
+        Ok(reader)
+    }
+
+    /// Whether it has read these items, and its end means that.
+    fn tells(&mut self, items: &[u8], ended: &str) -> bool {
+        self.items.as_slice() == items && self.end() == ended
     }
 
     fn take(&mut self, piece: &[u8]) -> Result<(), Fail> {
