@@ -1,11 +1,4 @@
-//! Heads of requests, read by an inbox.
-
-ghost use Rattle.std.specs.Prelude.{◌<◌};
-
-use crate::measure::Work;
-use std::alloc::Global;
-use sv_text::NoMemory;
-use sv_wire::Inbox;
+//! The head of a request.
 
 /// A head of 600 bytes.
 pub const HEAD: &str =
@@ -22,22 +15,3 @@ pub const HEAD: &str =
     Cache-Control: max-age=0\r\n\r\n";
 
 const _: () = prove!(HEAD.len() == 600);
-
-/// Reading the head in pieces of a size.
-#[derive(Drop)]
-pub struct Feeding {
-    pub alloc: Global,
-    pub piece: usize,
-    ghost not_empty: { 0 < piece },
-}
-
-impl Work for Feeding {
-    fn round(&self, place: usize) -> Result<usize, NoMemory> {
-        let mut inbox = Inbox::new(self.alloc);
-        let mut items = place;
-        for piece in HEAD.as_bytes().chunks(self.piece) {
-            items = items.wrapping_add(inbox.feed(piece)?.len());
-        }
-        Ok(items)
-    }
-}

@@ -4,17 +4,21 @@
 
 ghost use Rattle.std.specs.Prelude.{◌<◌};
 
+mod bodies;
 mod constraints;
 mod descriptors;
+mod feeding;
 mod heads;
 mod measure;
 mod paths;
 mod patterns;
 
 use anyhow::Result;
+use bodies::chunked_request;
 use constraints::Deciding;
 use descriptors::{DecidingByDescriptor, ReadingDescriptor};
-use heads::{Feeding, HEAD};
+use feeding::{Copying, Feeding};
+use heads::HEAD;
 use measure::{PlainLoop, Work, time_of_round};
 use paths::{Reading, TARGETS};
 use patterns::Matching;
@@ -34,6 +38,23 @@ const SLOW_ROUNDS: u32 = 10;
 /// A head that comes byte by byte may take so many times as long as in one piece.
 const MOST_TIMES: u32 = 30;
 
+/// Rounds of a run over a body of 1 MiB whose time is printed.
+const BODY_ROUNDS: u32 = 20;
+
+/// The body comes in pieces of so many bytes.
+const PIECES: [(&str, usize); 4] = [
+    ("feed of it in pieces of 1 byte", 1),
+    ("feed of it in pieces of 100 bytes", 100),
+    ("feed of it in pieces of 10,000 bytes", 10_000),
+    ("feed of it whole", 2_000_000),
+];
+
+/// The slowest cut of the body into pieces may take so many times as long as the fastest.
+const MOST_TIMES_THE_FASTEST: u32 = 40;
+
+/// The fastest cut may take so many times as long as a copy.
+const MOST_TIMES_A_COPY: u32 = 10;
+
 fn main(rt: HostRuntime) -> Result<()> {
     let alloc = rt.alloc();
     let figures = wants_figures(&rt)?;
@@ -52,6 +73,7 @@ fn main(rt: HostRuntime) -> Result<()> {
         texts,
     )?;
     report_feeding(&rt, figures)?;
+    report_body(&rt, figures)?;
     report_descriptor(&rt, figures)
 }
 
@@ -59,21 +81,94 @@ fn main(rt: HostRuntime) -> Result<()> {
 /// its limit.
 fn report_feeding<R: Clock + Print + AllocGlobal>(rt: &R, figures: bool) -> Result<()> {
     let alloc = rt.alloc();
-    let head = HEAD.as_bytes();
-    let piece = head.len();
-    let whole = Feeding { alloc, piece };
-    let single = Feeding { alloc, piece: 1 };
-    let whole = report(rt, figures, "feed of a 600-byte head", &whole, head)?;
-    let single = report(rt, figures, "feed of it byte by byte", &single, head)?;
+    let stream = HEAD.as_bytes();
+    let piece = stream.len();
+    let whole = Feeding {
+        alloc,
+        stream,
+        piece,
+    };
+    let single = Feeding {
+        alloc,
+        stream,
+        piece: 1,
+    };
+    let whole = report(rt, figures, "feed of a 600-byte head", &whole, stream)?;
+    let single = report(rt, figures, "feed of it byte by byte", &single, stream)?;
     if figures {
-        let bound = if single / MOST_TIMES <= whole {
-            "at most"
-        } else {
-            "more than"
-        };
+        let bound = in_words(single, whole, MOST_TIMES);
         println!(rt; "byte by byte takes {bound} {MOST_TIMES} times as long")?;
     }
     Ok(())
+}
+
+/// Measures the reading of a chunked body in pieces of several sizes beside a copy of it; where figures are wanted it
+/// says whether the slowest and the fastest keep their limits.
+fn report_body<R: Clock + Print + AllocGlobal>(rt: &R, figures: bool) -> Result<()> {
+    let alloc = rt.alloc();
+    let bytes = chunked_request(alloc)?;
+    let stream = bytes.as_slice();
+    let copying = Copying { alloc, stream };
+    let copy = report_bytes(
+        rt,
+        figures,
+        "copy of a chunked body of 1 MiB",
+        &copying,
+        stream,
+    )?;
+    let (fastest, slowest) = report_pieces(rt, figures, stream)?;
+    if figures {
+        report_bounds(rt, copy, fastest, slowest)?;
+    }
+    Ok(())
+}
+
+/// Says whether the slowest cut and the fastest keep their limits.
+fn report_bounds<R: Print>(
+    rt: &R,
+    copy: Duration,
+    fastest: Duration,
+    slowest: Duration,
+) -> Result<()> {
+    let times = MOST_TIMES_THE_FASTEST;
+    let bound = in_words(slowest, fastest, times);
+    println!(rt; "the slowest takes {bound} {times} times as long as the fastest")?;
+    let times = MOST_TIMES_A_COPY;
+    let bound = in_words(fastest, copy, times);
+    println!(rt; "the fastest takes {bound} {times} times as long as the copy")?;
+    Ok(())
+}
+
+/// Measures the reading of a stream in pieces of each size, and answers the least time and the greatest.
+fn report_pieces<R: Clock + Print + AllocGlobal>(
+    rt: &R,
+    figures: bool,
+    stream: &[u8],
+) -> Result<(Duration, Duration)> {
+    let alloc = rt.alloc();
+    let (mut fastest, mut slowest) = (Duration::MAX, Duration::ZERO);
+    for (name, piece) in PIECES {
+        let feeding = Feeding {
+            alloc,
+            stream,
+            piece,
+        };
+        let time = report_bytes(rt, figures, name, &feeding, stream)?;
+        fastest = fastest.min(time);
+        slowest = slowest.max(time);
+    }
+    Ok((fastest, slowest))
+}
+
+/// Whether a time is at most so many times another, in words.
+fn in_words(time: Duration, other: Duration, times: u32) -> &'static str
+    requires { 0 < times }
+{
+    if time / times <= other {
+        "at most"
+    } else {
+        "more than"
+    }
 }
 
 /// Measures the reading of the largest list of constraints, and the decision on a request by them.
@@ -127,6 +222,27 @@ fn report_rounds<R: Clock + Print, W: Work>(
     if figures {
         let (nanoseconds, floor) = (time.as_nanos(), plain.as_nanos());
         println!(rt; "{name}: {nanoseconds} ns, plain loop {floor} ns")?;
+    } else {
+        println!(rt; "{name} measured")?;
+    }
+    Ok(time)
+}
+
+/// Measures a piece of work on a long stream, and prints its time for a byte where figures are wanted. It answers the time
+/// of the work.
+fn report_bytes<R: Clock + Print, W: Work>(
+    rt: &R,
+    figures: bool,
+    name: &str,
+    work: &W,
+    stream: &[u8],
+) -> Result<Duration> {
+    let rounds = if figures { BODY_ROUNDS } else { 1 };
+    let time = time_of_round(rt, work, rounds)?;
+    if figures {
+        let hundredths = time.as_nanos().saturating_mul(100) / (stream.len().max(1) as u128);
+        let (whole, part) = (hundredths / 100, hundredths % 100);
+        println!(rt; "{name}: {whole}.{part:02} ns a byte")?;
     } else {
         println!(rt; "{name} measured")?;
     }

@@ -5,6 +5,7 @@ use Rattle.sv_wire.specs.Reads.{Reads}
 use Rattle.sv_wire.specs.Items.{first_item}
 use Rattle.sv_wire.specs.WireFault as wire_fault
 use Rattle.sv_wire.specs.declared.item.Item.{Item}
+use Rattle.sv_wire.specs.declared.owed_head.OwedHead.{OwedHead}
 use Rattle.sv_wire.specs.declared.item.Item.TheVariants.{Continue, Refuse}
 use Rattle.sv_wire.specs.declared.item.Item.TheVariants.{Message as IsMessage}
 use Rattle.sv_wire.specs.declared.message.Message.{Message}
@@ -49,7 +50,7 @@ item_line None deny_uncovered = codes "none"
 -- the line for the first item of the stream's reading, which is unique
 abbrev pub IsFirstLine : List ℕ → Bool → List ℕ → Type 0
 IsFirstLine stream deny_uncovered line =
-    (items : List Item) × (rest : List ℕ) × Reads stream items rest × (line ≡ item_line (first_item items) deny_uncovered)
+    (items : List Item) × (owed : Option OwedHead) × (rest : List ℕ) × Reads None stream items owed rest × (line ≡ item_line (first_item items) deny_uncovered)
 
 -- the writer's known bytes gain that line and a line feed
 abbrev pub WritesFirstLine : List ℕ → Bool → Option (List ℕ) → Option (List ℕ) → Type 0

@@ -32,7 +32,23 @@ PUT /x/../pub/y HTTP/1.1\r\nHost: h\r\n\r\n            | -    | open pattern=/pu
 PUT /%2570ub/x HTTP/1.1\r\nHost: h\r\n\r\n             | -    | login pattern=/* constraint=1 cause=NeedsCaller
 PUT /z?/../pub/x HTTP/1.1\r\nHost: h\r\n\r\n           | -    | login pattern=/* constraint=1 cause=NeedsCaller
 
--- only the first item counts
+-- a body changes nothing
+POST / HTTP/1.1\r\nHost: h\r\nContent-Length: 0\r\n\r\n | -   | login pattern=/* constraint=1 cause=NeedsCaller
+POST /pub/x HTTP/1.1\r\nHost: h\r\nContent-Length: 3\r\n\r\nabc | - | open pattern=/pub/* constraint=- cause=Uncovered
+POST /pub/x HTTP/1.1\r\nHost: h\r\nTransfer-Encoding: chunked\r\n\r\n1\r\na\r\n0\r\n\r\n | deny | denied pattern=/pub/* constraint=- cause=Uncovered
+
+-- the path of an absolute form
+GET http://a/pub/x HTTP/1.1\r\nHost: h\r\n\r\n         | -    | login pattern=/pub/* constraint=2 cause=NeedsCaller
+PUT http://a HTTP/1.1\r\nHost: h\r\n\r\n               | -    | login pattern=/* constraint=1 cause=NeedsCaller
+GET http://a/../x HTTP/1.1\r\nHost: h\r\n\r\n          | -    | refused cause=Climbs
+
+-- the server itself has no path
+OPTIONS * HTTP/1.1\r\nHost: h\r\n\r\n                  | -    | refused cause=Star
+OPTIONS * HTTP/1.0\r\n\r\n                            | deny | refused cause=Star
+
+-- only the first item counts that does not ask for a body
+POST /pub/x HTTP/1.1\r\nHost: h\r\nContent-Length: 1\r\nExpect: 100-continue\r\n\r\nx | - | open pattern=/pub/* constraint=- cause=Uncovered
+POST /pub/x HTTP/1.1\r\nHost: h\r\nContent-Length: 1\r\nExpect: 100-continue\r\n\r\n | - | none
 GET /z HTTP/1.1\r\nHost: h\r\n\r\nx\r\n\r\n            | -    | login pattern=/* constraint=1 cause=NeedsCaller
 \r\n\nPUT /pub/x HTTP/1.0\r\n\r\nGET / HTTP/1.0\r\n\r\n | -   | open pattern=/pub/* constraint=- cause=Uncovered
 GET /%zz HTTP/1.1\r\nHost: h\r\n\r\nGET / HTTP/1.0\r\n\r\n | - | refused cause=BadEscape
@@ -48,8 +64,11 @@ GET / HTTP/1.1\r\n\r                                   | -    | none
 GET / HTTP/1.2\r\nHost: h\r\n\r\n                      | -    | refused cause=BadHead
 PUT /pub/x HTTP/1.1\r\n\r\n                            | deny | refused cause=BadHost
 PUT /pub/x HTTP/1.1\r\nHost: a b\r\n\r\n               | -    | refused cause=BadHost
-POST / HTTP/1.1\r\nHost: h\r\nContent-Length: 0\r\n\r\n | -   | refused cause=BadFraming
-OPTIONS * HTTP/1.1\r\nHost: h\r\n\r\n                  | -    | refused cause=BadTarget
+POST / HTTP/1.1\r\nHost: h\r\nContent-Length: x\r\n\r\n | -   | refused cause=BadFraming
+POST / HTTP/1.1\r\nHost: h\r\nTransfer-Encoding: gzip, chunked\r\n\r\n | - | refused cause=UnknownCoding
+POST / HTTP/1.1\r\nHost: h\r\nContent-Length: 1048577\r\n\r\n | - | refused cause=BodyTooLarge
+POST / HTTP/1.1\r\nHost: h\r\nExpect: x\r\n\r\n          | -    | refused cause=BadExpect
+GET * HTTP/1.1\r\nHost: h\r\n\r\n                      | -    | refused cause=BadTarget
 {65536*x}                                              | -    | refused cause=HeadTooLarge
 GET / HTTP/1.1\r\nHost: h\r\n{128*A: b\r\n}\r\n        | -    | refused cause=HeadTooLarge
 

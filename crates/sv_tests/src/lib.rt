@@ -14,14 +14,22 @@ mod credentials;
 #[cfg(test)]
 mod first_lines;
 #[cfg(test)]
+mod inbox_reader;
+#[cfg(test)]
+mod message_limits;
+#[cfg(test)]
 mod pattern_texts;
 #[cfg(test)]
 mod policy_lines;
+#[cfg(test)]
+mod response_texts;
 #[cfg(test)]
 mod specification_table;
 #[cfg(test)]
 mod table;
 #[cfg(test)]
 mod verdicts;
+#[cfg(test)]
+mod whole_messages;
 #[cfg(test)]
 mod wire_items;

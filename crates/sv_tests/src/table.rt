@@ -69,18 +69,25 @@ fn digit_value(digit: u8) -> u8 {
     }
 }
 
-/// The bytes of a cell with one part that is repeated, written `{COUNT*PART}`.
+/// The bytes of a cell with parts that are repeated, written `{COUNT*PART}`.
 pub fn stretched(alloc: Global, cell: &str) -> Result<Vec<u8>, AllocError> {
     let (front, rest) = cell.split_once('{').unwrap_or((cell, ""));
-    let (repeated, back) = rest.split_once('}').unwrap_or((rest, ""));
-    let (count, part) = repeated.split_once('*').unwrap_or((repeated, ""));
-    let part = unescaped(alloc, part)?;
     let mut bytes = unescaped(alloc, front)?;
-    for _ in 0..count.parse::<u32>().unwrap_or(0) {
-        bytes.extend_from_slice(part.as_slice())?;
+    for piece in rest.split('{') {
+        let (repeated, back) = piece.split_once('}').unwrap_or((piece, ""));
+        let (count, part) = repeated.split_once('*').unwrap_or((repeated, ""));
+        push_times(&mut bytes, count, unescaped(alloc, part)?.as_slice())?;
+        bytes.extend_from_slice(unescaped(alloc, back)?.as_slice())?;
     }
-    bytes.extend_from_slice(unescaped(alloc, back)?.as_slice())?;
     Ok(bytes)
+}
+
+/// Appends a part so many times.
+fn push_times(bytes: &mut Vec<u8>, count: &str, part: &[u8]) -> Result<(), AllocError> {
+    for _ in 0..count.parse::<u32>().unwrap_or(0) {
+        bytes.extend_from_slice(part)?;
+    }
+    Ok(())
 }
 
 #[test]
@@ -93,7 +100,7 @@ fn a_table_is_read_row_by_row(rt: HostRuntime) -> Result<(), Fail> {
     assert_eq!(rt; cell("a b |  c|\"\" | -", 3), "-");
     let bytes = unescaped(rt.alloc(), r"a\r\n\t\\x4\x4a\xFFb")?;
     assert_eq!(rt; bytes.as_slice(), b"a\r\n\t\\x4\x4a\xFFb".as_slice());
-    let bytes = stretched(rt.alloc(), r"a{3*b\n}c")?;
-    assert_eq!(rt; bytes.as_slice(), b"ab\nb\nb\nc".as_slice());
+    let bytes = stretched(rt.alloc(), r"a{3*b\n}c{2*d}")?;
+    assert_eq!(rt; bytes.as_slice(), b"ab\nb\nb\ncdd".as_slice());
     Ok(())
 }

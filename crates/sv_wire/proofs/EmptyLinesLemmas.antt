@@ -1,6 +1,7 @@
 -- Empty lines before more bytes.
-use Rattle.std.proofs.Common.{◌≡◌, ℕ, ◌≤◌, Bool, true, false, ◌&&◌, ◌||◌, List, [], ◌∷◌, ◌++◌, length, refl, sym, ◌∙◌, cond, eqb, arith}
+use Rattle.std.proofs.Common.{◌≡◌, ℕ, ◌≤◌, Bool, true, false, ◌&&◌, ◌||◌, List, [], ◌∷◌, ◌++◌, length, refl, sym, ap, ◌∙◌, cond, eqb, arith, length-append}
 use Rattle.std.proofs.lemmas.Bool.{cond-true, cond-false}
+use Rattle.std.proofs.lemmas.List.{append-nil}
 use Rattle.sv_wire.specs.EmptyLines.{is_of_empty_line, drop_empty_lines}
 
 -- a byte of an empty line stays one where bytes follow
@@ -44,3 +45,38 @@ drop_empty_lines_stays (b ∷ c ∷ text) more long = by_test (drop_empty_lines_
         cond-true _ (drop_empty_lines (c ∷ text ++ more)) (b ∷ c ∷ text ++ more) empty ∙ later some
     by_test later false full some =
         cond-false _ (drop_empty_lines (c ∷ text ++ more)) (b ∷ c ∷ text ++ more) full
+
+pub drop_empty_lines_fits : (text : List ℕ) → length (drop_empty_lines text) ≤ length text
+drop_empty_lines_fits [] = omega arith
+drop_empty_lines_fits (b ∷ text) = by_test (drop_empty_lines_fits text) (is_of_empty_line b text)
+  where
+    by_test : length (drop_empty_lines text) ≤ length text → (t : Bool) → length (cond t (drop_empty_lines text) (b ∷ text)) ≤ length (b ∷ text)
+    by_test later true = omega (arith, later)
+    by_test later false = omega arith
+
+-- a text of which nothing is dropped begins with no empty line
+drop_empty_lines_none : (text : List ℕ) → length text ≤ length (drop_empty_lines text) → drop_empty_lines text ≡ text
+drop_empty_lines_none [] long = refl
+drop_empty_lines_none (b ∷ text) long = by_test (drop_empty_lines_fits text) (is_of_empty_line b text) long
+  where
+    by_test : length (drop_empty_lines text) ≤ length text → (t : Bool) → length (b ∷ text) ≤ length (cond t (drop_empty_lines text) (b ∷ text))
+        → cond t (drop_empty_lines text) (b ∷ text) ≡ b ∷ text
+    by_test fits true some = absurd (omega (arith, fits, some))
+    by_test fits false some = refl
+
+pub drop_empty_lines_twice : (text : List ℕ) → drop_empty_lines (drop_empty_lines text) ≡ drop_empty_lines text
+drop_empty_lines_twice text =
+    ap drop_empty_lines (sym (append-nil (drop_empty_lines text))) ∙ drop_empty_lines-append text [] ∙ ap drop_empty_lines (append-nil text)
+
+-- a front of a text that begins with no empty line does not either
+pub drop_empty_lines_front : (front rest : List ℕ) → drop_empty_lines (front ++ rest) ≡ front ++ rest → drop_empty_lines front ≡ front
+drop_empty_lines_front front rest same =
+    let joined : drop_empty_lines (drop_empty_lines front ++ rest) ≡ front ++ rest = drop_empty_lines-append front rest ∙ same in
+    drop_empty_lines_none front
+    (omega (
+      arith,
+      ap length joined,
+      drop_empty_lines_fits (drop_empty_lines front ++ rest),
+      length-append (drop_empty_lines front) rest,
+      length-append front rest,
+    ))

@@ -1,7 +1,5 @@
-pub mod BoolLemmas
-pub mod CutLemmas
 pub mod EmptyLinesLemmas
-pub mod FieldsLemmas
 pub mod HeadLemmas
-pub mod NextLemmas
+pub mod PendingLemmas
+pub mod ReadingLemmas
 pub mod ReadsLemmas

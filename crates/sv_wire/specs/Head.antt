@@ -1,18 +1,31 @@
 -- The head of a request, and the one verdict on it (RFC 9112, sections 2.1, 3, 5 and 6).
-use Rattle.std.specs.Prelude.{ℕ, Bool, ◌||◌, not, List, [], ◌∷◌, ◌++◌, nat_eq, codes, slice_get, if◌then◌else◌, Option, None, Some}
-use Rattle.std.specs.List.{ends_with, list_any, starts_with}
+use Rattle.std.specs.Prelude.{ℕ, Bool, true, false, ◌&&◌, ◌||◌, not, List, [], ◌∷◌, ◌++◌, ◌==◌, nat_eq, nat_lt, codes, slice_get, if◌then◌else◌, Option, None, Some, is_none}
+use Rattle.std.specs.List.{ends_with}
 use Rattle.httparse.specs.Ascii.{line_feed, carriage_return}
 use Rattle.httparse.specs.Grammar.{RequestHead}
-use Rattle.sv_wire.specs.declared.field.Field.{Field}
-use Rattle.sv_wire.specs.declared.item.Item.{Item}
-use Rattle.sv_wire.specs.declared.item.Item.TheVariants.{Message, Refuse}
-use Rattle.sv_wire.specs.declared.message.Message.{Message as MessageRecord}
+use Rattle.sv_body.specs.declared.framing.Framing.{Framing}
+use Rattle.sv_body.specs.declared.framing.Framing.TheVariants.{Length, Chunked}
+use Rattle.sv_body.specs.declared.limits.TheConstants.{MAX_BODY_LEN}
+use Rattle.sv_head.specs.declared.codings.Codings.{Codings}
+use Rattle.sv_head.specs.declared.codings.Codings.TheVariants as codings
+use Rattle.sv_head.specs.declared.field.Field.{Field}
+use Rattle.sv_head.specs.declared.target.TargetForm.{TargetForm}
+use Rattle.sv_head.specs.declared.target.TargetForm.TheVariants.{Origin, Absolute, Star, Unknown}
+use Rattle.sv_head.specs.Codings.{coding_kind}
+use Rattle.sv_head.specs.Expectation.{asks_to_continue}
+use Rattle.sv_head.specs.Fields.{fields_of, has_field, values_of}
+use Rattle.sv_head.specs.Host.{accepts_hosts, with_hosts}
+use Rattle.sv_head.specs.Length.{content_length}
+use Rattle.sv_head.specs.Persistence.{keeps}
+use Rattle.sv_head.specs.TargetForm.{authority_of, path_of, target_form}
+use Rattle.sv_wire.specs.declared.message.Target.{Target}
 use Rattle.sv_wire.specs.declared.message.Target.TheVariants.{Path}
+use Rattle.sv_wire.specs.declared.message.Target.TheVariants as targets
+use Rattle.sv_wire.specs.declared.owed_head.OwedHead.{OwedHead}
+use Rattle.sv_wire.specs.declared.owed_head.Verdict.{Verdict}
+use Rattle.sv_wire.specs.declared.owed_head.Verdict.TheVariants.{Refused, Expecting, Accepted}
 use Rattle.sv_wire.specs.declared.wire_fault.WireFault.{WireFault}
-use Rattle.sv_wire.specs.declared.wire_fault.WireFault.TheVariants.{BadHost, BadFraming, BadTarget}
-use Rattle.sv_wire.specs.Fields.{is_named, fields_of, values_of}
-use Rattle.sv_wire.specs.Host.{accepts_hosts}
-use Rattle.sv_wire.specs.Persistence.{keeps}
+use Rattle.sv_wire.specs.declared.wire_fault.WireFault.TheVariants.{BadHost, BadFraming, UnknownCoding, BodyTooLarge, BadExpect, BadTarget}
 
 -- whether a text ends as a head does: an empty line, CRLF or LF, behind a line's LF
 abbrev pub ends_head : List ℕ → Bool
@@ -24,42 +37,108 @@ ends_head text =
 abbrev pub when : Bool → WireFault → List WireFault
 when test fault = if test then fault ∷ [] else []
 
--- a target that begins with a slash
-abbrev pub is_origin_form : List ℕ → Bool
-is_origin_form target = starts_with nat_eq target (codes "/")
+-- whether a target is in no form that is served
+abbrev pub is_unknown : TargetForm → Bool
+is_unknown Origin = false
+is_unknown (Absolute len) = false
+is_unknown Star = false
+is_unknown Unknown = true
 
--- whether a field speaks of a body
-abbrev pub is_of_body : Field → Bool
-is_of_body field =
-    is_named (codes "transfer-encoding") field || is_named (codes "content-length") field || is_named (codes "expect") field
+-- whether the fields name codings of the body, and whether they say its length
+abbrev pub has_codings : List Field → Bool
+has_codings fields = has_field (codes "transfer-encoding") fields
 
--- the faults of a head in the order in which they are judged, by its version, its target and its fields
-abbrev pub faults_of : ℕ → List ℕ → List Field → List WireFault
-faults_of minor target fields =
+abbrev pub has_length : List Field → Bool
+has_length fields = has_field (codes "content-length") fields
+
+-- the faults of those codings
+abbrev pub faults_by_kind : Codings → List WireFault
+faults_by_kind codings.Chunked = []
+faults_by_kind codings.Unknown = UnknownCoding ∷ []
+faults_by_kind codings.Bad = BadFraming ∷ []
+
+-- the length that the fields say, and 0 where they say none
+abbrev pub number_or_0 : Option ℕ → ℕ
+number_or_0 None = 0
+number_or_0 (Some number) = number
+
+abbrev pub body_len : List Field → ℕ
+body_len fields = number_or_0 (content_length fields)
+
+-- the faults of a body's framing: codings stand in 1.1 alone, and without a length beside them
+abbrev pub framing_faults : ℕ → List Field → List WireFault
+framing_faults minor fields =
+    if has_codings fields then when (not (minor == 1) || has_length fields) BadFraming ++ faults_by_kind (coding_kind fields)
+    else when (has_length fields && is_none (content_length fields)) BadFraming ++ when (nat_lt MAX_BODY_LEN (body_len fields)) BodyTooLarge
+
+-- whether a request of 1.1 expects anything but `100-continue`
+abbrev pub is_unknown_expectation : ℕ → List Field → Bool
+is_unknown_expectation minor fields = minor == 1 && (has_field (codes "expect") fields && not (asks_to_continue fields))
+
+-- the faults of a head in the order in which they are judged, by its version, the form of its target and its fields
+abbrev pub faults_of : ℕ → TargetForm → List Field → List WireFault
+faults_of minor form fields =
     when (not (accepts_hosts minor (values_of (codes "host") fields))) BadHost
-    ++ when (not (is_origin_form target)) BadTarget
-    ++ when (list_any is_of_body fields) BadFraming
+    ++ when (is_unknown form) BadTarget
+    ++ framing_faults minor fields
+    ++ when (is_unknown_expectation minor fields) BadExpect
 
 -- the first of them
-abbrev pub first_fault : ℕ → List ℕ → List Field → Option WireFault
-first_fault minor target fields = slice_get (faults_of minor target fields) 0
+abbrev pub first_fault : ℕ → TargetForm → List Field → Option WireFault
+first_fault minor form fields = slice_get (faults_of minor form fields) 0
 
--- the request that a head without faults is
-abbrev pub message_of : RequestHead → MessageRecord
-message_of head = record {
-  method = head.method;
-  target = Path head.target;
-  minor = head.minor;
-  fields = fields_of head;
-  body = [];
-  keep = keeps head.minor (fields_of head);
+-- how the end of the body is found
+abbrev pub framing_of : List Field → Framing
+framing_of fields = if has_codings fields then Chunked else Length (body_len fields)
+
+-- whether a body of that framing has a byte, or may have one
+abbrev pub has_body : Framing → Bool
+has_body (Length count) = nat_lt 0 count
+has_body Chunked = true
+
+-- whether `100 Continue` is given before the body
+abbrev pub awaits_continue : ℕ → List Field → Bool
+awaits_continue minor fields = minor == 1 && (asks_to_continue fields && has_body (framing_of fields))
+
+-- what a target in that form asks for
+abbrev pub target_in : TargetForm → List ℕ → Target
+target_in Origin target = Path target
+target_in (Absolute len) target = Path (path_of target)
+target_in Star target = targets.Star
+target_in Unknown target = targets.Star
+
+-- the fields beside a target in that form: the authority of an absolute form takes the place of the host
+abbrev pub fields_beside : TargetForm → List ℕ → List Field → List Field
+fields_beside Origin target fields = fields
+fields_beside (Absolute len) target fields = with_hosts (authority_of target) fields
+fields_beside Star target fields = fields
+fields_beside Unknown target fields = fields
+
+-- the head of a message without faults
+abbrev pub owed_head : TargetForm → RequestHead → List Field → OwedHead
+owed_head form head fields = record {
+  message = record {
+    method = head.method;
+    target = target_in form head.target;
+    minor = head.minor;
+    fields = fields_beside form head.target fields;
+    body = [];
+    keep = keeps head.minor fields;
+  };
+  framing = framing_of fields;
 }
 
--- the refusal for a fault, or else the request
-abbrev pub verdict_of : Option WireFault → MessageRecord → Item
-verdict_of None message = Message message
-verdict_of (Some fault) message = Refuse fault
+-- the refusal for a fault, or else the head, whose body is asked for or not
+abbrev pub verdict_of : Option WireFault → Bool → OwedHead → Verdict
+verdict_of (Some fault) asked owed = Refused fault
+verdict_of None true owed = Expecting owed
+verdict_of None false owed = Accepted owed
+
+-- the verdict on a head whose target has that form and whose fields are those
+abbrev pub verdict_on : TargetForm → RequestHead → List Field → Verdict
+verdict_on form head fields =
+    verdict_of (first_fault head.minor form fields) (awaits_continue head.minor fields) (owed_head form head fields)
 
 -- the verdict on a head
-abbrev pub judge : RequestHead → Item
-judge head = verdict_of (first_fault head.minor head.target (fields_of head)) (message_of head)
+abbrev pub judge : RequestHead → Verdict
+judge head = verdict_on (target_form head.method head.target) head (fields_of head)

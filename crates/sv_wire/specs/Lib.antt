@@ -1,13 +1,12 @@
-pub mod Cut
 pub mod EmptyLines
-pub mod Fields
 pub mod Head
-pub mod Host
 pub mod Inbox
 pub mod Items
 pub mod Laws
-pub mod Persistence
 pub mod Next
+pub mod Pending
 pub mod Reads
+pub mod ResponseText
 pub mod Spans
+pub mod State
 pub mod WireFault

@@ -1,24 +1,72 @@
 -- What comes next in a stream, and what a whole stream was read as, as the code says it (RFC 9112, section 2.2).
-use Rattle.std.specs.Prelude.{ℕ, ◌<◌, ◌≤◌, List, [], length, drop, Option, None, Some}
-use Rattle.sv_wire.specs.declared.cut.Cut.{Cut}
-use Rattle.sv_wire.specs.declared.cut.Cut.TheVariants.{Whole, Endless, Unended}
+use Rattle.std.specs.Prelude.{◌≡◌, ℕ, ◌+◌, ◌-◌, ◌*◌, ◌<◌, ◌≤◌, Bool, true, false, List, [], ◌++◌, length, take, drop, Option, None, Some}
+use Rattle.sv_body.specs.declared.cut.Cut.{Cut}
+use Rattle.sv_body.specs.declared.cut.Cut.TheVariants.{Whole, Endless, Unended}
 use Rattle.sv_wire.specs.declared.limits.TheConstants.{MAX_HEAD_LEN}
+use Rattle.sv_wire.specs.declared.owed_head.OwedHead.{OwedHead}
+use Rattle.sv_wire.specs.declared.owed_head.Verdict.{Verdict}
+use Rattle.sv_wire.specs.declared.pending.Pending.{Pending}
 use Rattle.sv_wire.specs.declared.reading.Next.{Next}
-use Rattle.sv_wire.specs.declared.reading.Next.TheVariants.{Found, Awaits}
-use Rattle.sv_wire.specs.Reads.{Begins, Rests}
+use Rattle.sv_wire.specs.declared.reading.Next.TheVariants.{Found, AwaitsHead, AwaitsBody}
+use Rattle.sv_wire.specs.declared.reading.Rest.{Rest}
+use Rattle.sv_wire.specs.declared.reading.Rest.TheVariants.{Ended, Head, Body}
+use Rattle.sv_wire.specs.EmptyLines.{drop_empty_lines}
+use Rattle.sv_wire.specs.Pending.{owed_by, rest_of, AreSound, IsSound}
+use Rattle.sv_wire.specs.Reads.{Start, gives, awaits, cut_head, ReadsHead, text_of, Starts}
 
--- a stream has the bytes of the text that is cut from it, and a head has two bytes and more, and is within the limit
+-- a text has the bytes of the head that is cut from it, and a head of at least two bytes is within the limit
 abbrev pub HoldsText : List ℕ → Cut → Type 0
 HoldsText stream (Whole len) = (1 < len) × (len ≤ length stream) × (len ≤ MAX_HEAD_LEN)
 HoldsText stream Endless = MAX_HEAD_LEN ≤ length stream
 HoldsText stream Unended = Unit {0}
 
--- the stream begins with the item, behind which stands what follows so many bytes; or its rest is what follows them
-abbrev pub ComesNext : List ℕ → Next → Type 0
-ComesNext stream (Found item len) = (0 < len) × (len ≤ length stream) × Begins stream item (drop len stream)
-ComesNext stream (Awaits len) = (len ≤ length stream) × Rests stream (drop len stream)
+-- how much is to be read where a body is pending or none is, and so many bytes are left: an item takes bytes or a body
+abbrev pub weight : Option Pending → ℕ → ℕ
+weight None count = 2 * count
+weight (Some pending) count = 2 * count + 1
 
--- the rest that begins at a place of the stream, and nothing where there is none
-abbrev pub rest_from : List ℕ → Option ℕ → List ℕ
-rest_from stream None = []
-rest_from stream (Some at) = drop at stream
+-- what the stream begins with behind what has come
+abbrev pub StartsNext : Option Pending → List ℕ → Start → Type 0
+StartsNext body stream start = Starts (owed_by body) (text_of (owed_by body) (rest_of body ++ stream)) start
+
+-- what comes next at a place of the stream
+abbrev pub ComesNext : Option Pending → List ℕ → ℕ → Next → Type 0
+ComesNext body stream at (Found item next end) =
+    (at ≤ end) × (end ≤ length stream) × AreSound next
+    × (weight next (length stream - end) < weight body (length stream - at))
+    × StartsNext body (drop at stream) (gives item (owed_by next) (rest_of next ++ drop end stream))
+ComesNext body stream at (AwaitsHead start) =
+    (start ≤ length stream) × (cut_head (drop start stream) ≡ Unended) × (owed_by body ≡ None)
+    × (drop start stream ≡ text_of (owed_by body) (rest_of body ++ drop at stream)) × StartsNext body (drop at stream) awaits
+ComesNext body stream at (AwaitsBody pending) =
+    IsSound pending × (owed_by (Some pending) ≡ owed_by body)
+    × (rest_of (Some pending) ≡ text_of (owed_by body) (rest_of body ++ drop at stream)) × StartsNext body (drop at stream) awaits
+
+-- a head stands between the places, on which the verdict is that, and no empty line before it
+pub record IsHeadAt (stream : List ℕ) (start end : ℕ) (verdict : Verdict) : Type 0 where
+  pub behind : drop_empty_lines (drop start stream) ≡ drop start stream
+  pub whole : cut_head (drop start stream) ≡ Whole (end - start)
+  pub some : start < end
+  pub reads : ReadsHead (take (end - start) (drop start stream)) verdict
+
+-- what is owed, and the bytes that no item holds, behind the items of a stream
+abbrev pub owed_behind : Rest → Option OwedHead
+owed_behind Ended = None
+owed_behind (Head at) = None
+owed_behind (Body pending) = owed_by (Some pending)
+
+abbrev pub bytes_behind : List ℕ → Rest → List ℕ
+bytes_behind stream Ended = []
+bytes_behind stream (Head at) = drop at stream
+bytes_behind stream (Body pending) = rest_of (Some pending)
+
+abbrev pub is_ended : Rest → Bool
+is_ended Ended = true
+is_ended (Head at) = false
+is_ended (Body pending) = false
+
+-- a head that is awaited begins within the stream and has no end yet, and a body that is awaited is that of its head
+abbrev pub IsSoundRest : List ℕ → Rest → Type 0
+IsSoundRest stream Ended = Unit {0}
+IsSoundRest stream (Head at) = (at ≤ length stream) × (cut_head (drop at stream) ≡ Unended)
+IsSoundRest stream (Body pending) = IsSound pending

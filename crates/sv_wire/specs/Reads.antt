@@ -1,18 +1,32 @@
--- The reading of a stream of bytes as items (RFC 9112, sections 2 and 9.3).
-use Rattle.std.specs.Prelude.{◌≡◌, ℕ, ◌+◌, Bool, ◌⊎◌, List, [], ◌∷◌, take, drop, ◌==◌, nat_lt, count_by}
+-- The reading of a stream of bytes as items (RFC 9112, sections 2, 6 and 9.3).
+use Rattle.std.specs.Prelude.{◌≡◌, ℕ, ◌+◌, Bool, ◌⊎◌, List, [], ◌∷◌, take, drop, ◌==◌, nat_lt, count_by, Option, None, Some}
 use Rattle.std.specs.Bool.{MatchBool}
 use Rattle.httparse.specs.Ascii.{line_feed}
 use Rattle.httparse.specs.Grammar.{RequestHead, ReadsRequest}
-use Rattle.sv_wire.specs.declared.cut.Cut.{Cut}
-use Rattle.sv_wire.specs.declared.cut.Cut.TheVariants.{Whole, Endless, Unended}
+use Rattle.sv_body.specs.declared.cut.Cut.{Cut}
+use Rattle.sv_body.specs.declared.cut.Cut.TheVariants.{Whole, Endless, Unended}
+use Rattle.sv_body.specs.Body.{ReadsBody}
+use Rattle.sv_body.specs.Chunks.{Body, unfinished, complete, broken}
+use Rattle.sv_body.specs.Cut.{cut}
 use Rattle.sv_wire.specs.declared.item.Item.{Item}
-use Rattle.sv_wire.specs.declared.item.Item.TheVariants.{Refuse}
+use Rattle.sv_wire.specs.declared.item.Item.TheVariants.{Continue, Message, Refuse}
 use Rattle.sv_wire.specs.declared.limits.TheConstants.{MAX_HEAD_LEN, MAX_FIELD_LINES}
+use Rattle.sv_wire.specs.declared.message.Message.{Message as MessageRecord}
+use Rattle.sv_wire.specs.declared.owed_head.OwedHead.{OwedHead}
+use Rattle.sv_wire.specs.declared.owed_head.Verdict.{Verdict}
+use Rattle.sv_wire.specs.declared.owed_head.Verdict.TheVariants.{Refused, Expecting, Accepted}
 use Rattle.sv_wire.specs.declared.wire_fault.WireFault.TheVariants.{BadHead, HeadTooLarge}
-use Rattle.sv_wire.specs.Cut.{cut}
 use Rattle.sv_wire.specs.EmptyLines.{drop_empty_lines}
 use Rattle.sv_wire.specs.Head.{ends_head, judge}
 use Rattle.sv_wire.specs.Items.{is_last}
+use Rattle.sv_wire.specs.WireFault.{fault_of}
+
+-- what a text begins with
+pub data Start : Type 0 where
+  -- an item, the head that is owed behind it, and what follows
+  gives : Item → Option OwedHead → List ℕ → Start
+  -- no item's text
+  awaits : Start
 
 -- no request's head is the whole text
 abbrev pub IsNoHead : List ℕ → Type 0
@@ -22,37 +36,59 @@ IsNoHead text = (head : RequestHead) → ¬ (ReadsRequest text head [])
 abbrev pub has_too_many_lines : List ℕ → Bool
 has_too_many_lines text = nat_lt (MAX_FIELD_LINES + 2) (count_by (λ b. b == line_feed) text)
 
--- the item that the text is: the verdict on the head that it holds, or the refusal of a text that holds none
-abbrev pub IsJudged : List ℕ → Item → Type 0
-IsJudged text item =
-    ((head : RequestHead) × ReadsRequest text head [] × (item ≡ judge head)) ⊎ (IsNoHead text × (item ≡ Refuse BadHead))
+-- the verdict on the text: that on the head that it holds, or the refusal of a text that holds none
+abbrev pub IsJudged : List ℕ → Verdict → Type 0
+IsJudged text verdict =
+    ((head : RequestHead) × ReadsRequest text head [] × (verdict ≡ judge head)) ⊎ (IsNoHead text × (verdict ≡ Refused BadHead))
 
--- the item that the whole text of a head is
-abbrev pub ReadsHead : List ℕ → Item → Type 0
-ReadsHead text item = MatchBool (has_too_many_lines text) (item ≡ Refuse HeadTooLarge) (IsJudged text item)
+-- the verdict on the whole text of a head
+abbrev pub ReadsHead : List ℕ → Verdict → Type 0
+ReadsHead text verdict = MatchBool (has_too_many_lines text) (verdict ≡ Refused HeadTooLarge) (IsJudged text verdict)
 
--- where the head that a stream begins with ends
+-- where the head that a text begins with ends
 abbrev pub cut_head : List ℕ → Cut
-cut_head stream = cut ends_head MAX_HEAD_LEN stream
+cut_head text = cut ends_head MAX_HEAD_LEN text
 
--- by where its head ends, the stream begins with the item's text, and the rest follows it
-abbrev pub BeginsWith : Cut → List ℕ → Item → List ℕ → Type 0
-BeginsWith (Whole len) stream item rest = ReadsHead (take len stream) item × (rest ≡ drop len stream)
-BeginsWith Endless stream item rest = (item ≡ Refuse HeadTooLarge) × (rest ≡ drop MAX_HEAD_LEN stream)
-BeginsWith Unended stream item rest = ⊥
+-- a message with its body
+abbrev pub with_body : List ℕ → MessageRecord → MessageRecord
+with_body bytes message = record message { body = bytes }
 
--- the stream begins with empty lines and the item's text, and the rest follows them
-abbrev pub Begins : List ℕ → Item → List ℕ → Type 0
-Begins stream item rest =
-    BeginsWith (cut_head (drop_empty_lines stream)) (drop_empty_lines stream) item rest
+-- what the text begins with behind a head, by what is read of its body
+abbrev pub after_body : OwedHead → Body → Start
+after_body owed unfinished = awaits
+after_body owed (complete bytes rest) = gives (Message (with_body bytes owed.message)) None rest
+after_body owed (broken fault rest) = gives (Refuse (fault_of fault)) None rest
 
--- the stream is empty lines and the rest, and with the rest neither an item's text nor an empty line begins
-abbrev pub Rests : List ℕ → List ℕ → Type 0
-Rests stream rest = (drop_empty_lines stream ≡ rest) × (cut_head rest ≡ Unended)
+-- the text begins with the body of a head
+abbrev pub StartsBody : OwedHead → List ℕ → Start → Type 0
+StartsBody owed text start = (body : Body) × ReadsBody owed.framing text body × (start ≡ after_body owed body)
 
--- the stream is the texts of the items in order, and a rest that awaits more bytes. Behind a last item nothing is read.
-abbrev pub Reads : List ℕ → List Item → List ℕ → Type 0
-Reads stream [] rest = Rests stream rest
-Reads stream (item ∷ items) rest =
-    (behind : List ℕ) × Begins stream item behind
-    × MatchBool (is_last item) ((items ≡ []) × (rest ≡ [])) (Reads behind items rest)
+-- the text stands behind a head, on which the verdict is that
+abbrev pub StartsBehind : Verdict → List ℕ → Start → Type 0
+StartsBehind (Refused fault) text start = start ≡ gives (Refuse fault) None text
+StartsBehind (Expecting owed) text start = start ≡ gives Continue (Some owed) text
+StartsBehind (Accepted owed) text start = StartsBody owed text start
+
+-- the text begins with a head that ends there
+abbrev pub StartsAt : Cut → List ℕ → Start → Type 0
+StartsAt (Whole len) text start = (verdict : Verdict) × ReadsHead (take len text) verdict × StartsBehind verdict (drop len text) start
+StartsAt Endless text start = start ≡ gives (Refuse HeadTooLarge) None (drop MAX_HEAD_LEN text)
+StartsAt Unended text start = start ≡ awaits
+
+-- the stream without what is ignored: empty lines, where the next text is a head
+abbrev pub text_of : Option OwedHead → List ℕ → List ℕ
+text_of None stream = drop_empty_lines stream
+text_of (Some owed) stream = stream
+
+-- what the text begins with, where that head is owed or none is
+abbrev pub Starts : Option OwedHead → List ℕ → Start → Type 0
+Starts None text start = StartsAt (cut_head text) text start
+Starts (Some owed) text start = StartsBody owed text start
+
+-- where that head is owed, the stream is the texts of the items in order, and a rest with which no item's text begins;
+-- `left` is owed then. Behind a last item nothing is read.
+abbrev pub Reads : Option OwedHead → List ℕ → List Item → Option OwedHead → List ℕ → Type 0
+Reads owed stream [] left rest = (left ≡ owed) × (rest ≡ text_of owed stream) × Starts owed rest awaits
+Reads owed stream (item ∷ items) left rest =
+    (next : Option OwedHead) × (behind : List ℕ) × Starts owed (text_of owed stream) (gives item next behind)
+    × MatchBool (is_last item) ((items ≡ []) × (left ≡ None) × (rest ≡ [])) (Reads next behind items left rest)

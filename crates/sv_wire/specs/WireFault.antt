@@ -1,5 +1,7 @@
 -- The names of the faults, and the statuses that answer them (RFC 9110, section 15, and RFC 6585, section 5).
 use Rattle.std.specs.Prelude.{ℕ, List, codes}
+use Rattle.sv_body.specs.declared.body_fault.BodyFault.{BodyFault}
+use Rattle.sv_body.specs.declared.body_fault.BodyFault.TheVariants.{BadChunk, TooLarge, TrailerTooLarge}
 use Rattle.sv_wire.specs.declared.wire_fault.WireFault.{WireFault}
 use Rattle.sv_wire.specs.declared.wire_fault.WireFault.TheVariants.{BadHead, BadHost, BadFraming, UnknownCoding, HeadTooLarge, BodyTooLarge, BadExpect, BadTarget}
 
@@ -24,3 +26,9 @@ fault_status HeadTooLarge = 431
 fault_status BodyTooLarge = 413
 fault_status BadExpect = 417
 fault_status BadTarget = 400
+
+-- the fault of a message whose body has that fault
+abbrev pub fault_of : BodyFault → WireFault
+fault_of BadChunk = BadFraming
+fault_of TooLarge = BodyTooLarge
+fault_of TrailerTooLarge = HeadTooLarge

@@ -1,23 +1,13 @@
-//! Where a text ends that has an end mark and a limit.
+//! Where a head ends.
 
 ghost use Rattle.std.specs.Prelude.{◌≡◌, ℕ, ◌<◌, false, take};
-ghost use Rattle.sv_wire.specs.Cut.{shortest_front};
+ghost use Rattle.sv_body.specs.Cut.{shortest_front};
 ghost use Rattle.sv_wire.specs.Head.{ends_head};
 ghost use Rattle.sv_wire.specs.Reads.{cut_head};
 ghost use Rattle.sv_wire.specs.Next.{HoldsText};
 
 use crate::limits::MAX_HEAD_LEN;
-
-/// Where the text that a stream begins with ends.
-#[derive(Clone, Copy)]
-pub(crate) enum Cut {
-    /// Its first end is there, after so many bytes.
-    Whole(usize),
-    /// The limit is there, and no end within it.
-    Endless,
-    /// No end is there yet.
-    Unended,
-}
+use sv_body::Cut;
 
 /// Where the head ends that the stream begins with. No front of fewer than `from` bytes ends it.
 pub(crate) fn cut_head(stream: &[u8], from: usize) -> Cut

@@ -1,44 +1,47 @@
 //! The head of a request, and the verdict on it.
 
-ghost use Rattle.std.specs.Prelude.{◌≡◌, ◌≤◌, ◌++◌, [], Option, length, take, map, codes, All, IfOk, count_by};
-ghost use Rattle.std.specs.List.{list_any};
+ghost use Rattle.std.specs.Prelude.{◌≡◌, ◌≤◌, length, map, All, IfOk, OnOk, slice_get};
 ghost use Rattle.http_header.specs.Token.{IsToken};
 ghost use Rattle.httparse.specs.Grammar.{RequestHead};
+ghost use Rattle.sv_head.specs.TargetForm.{FitsForm, with_slash};
 ghost use Rattle.sv_text.specs.Gives.{GivesAnswer};
-ghost use Rattle.sv_wire.specs.Head.{first_fault, is_origin_form, is_of_body, judge};
+ghost use Rattle.sv_wire.specs.Head.{awaits_continue, faults_by_kind, fields_beside, first_fault, framing_faults, framing_of, has_codings, has_length, is_unknown_expectation, judge, target_in};
+ghost use Rattle.sv_wire.specs.declared.message.Target.TheVariants.{Path};
 ghost use Rattle.sv_wire.specs.Reads.{ReadsHead, has_too_many_lines};
 ghost use Rattle.sv_wire.specs.Spans.{field_at, IsFieldAt, AreHeadSpans, ShowHead};
 
-use crate::field::Field;
-use crate::host::accepts_hosts;
-use crate::item::Item;
 use crate::limits::{MAX_FIELD_LINES, MAX_HEAD_LEN};
 use crate::message::{Message, Target};
-use crate::persistence::keeps;
+use crate::owed_head::{OwedHead, Verdict, has_body};
 use crate::wire_fault::WireFault;
 use http::Method;
 use http::method::MethodError;
 use httparse::Status;
 use httparse::spans::{EMPTY_HEADER_SPAN, HeaderSpan, RequestSpans, parse_request};
 use std::alloc::Global;
+use sv_body::{Framing, MAX_BODY_LEN};
+use sv_head::{
+    Codings, Field, SCHEME_LEN, TargetForm, accepts_hosts, asks_to_continue, coding_kind,
+    content_length, has_field, keeps, replace_hosts, target_form,
+};
 use sv_text::{Bytes, Listed, NoMemory};
 
 /// Reads the whole text of a head, which is no longer than a head may be.
-pub(crate) fn read_head(alloc: Global, text: &[u8]) -> Result<Item, NoMemory>
+pub(crate) fn read_head(alloc: Global, text: &[u8]) -> Result<Verdict, NoMemory>
     requires { length text.now ≤ MAX_HEAD_LEN }
     ensures { IfOk result (ReadsHead text.now) }
 {
     if has_too_many_lines(text) {
-        return Ok(Item::Refuse(WireFault::HeadTooLarge));
+        return Ok(Verdict::Refused(WireFault::HeadTooLarge));
     }
     let mut spans = [EMPTY_HEADER_SPAN; MAX_FIELD_LINES];
     match parse_request(text, &mut spans) {
         Ok(Status::Complete(head)) if head.len == text.len() => {
             judge(alloc, text, &head, &spans[..head.headers])
         }
-        Ok(Status::Complete(_)) => Ok(Item::Refuse(WireFault::BadHead)),
-        Ok(Status::Partial) => Ok(Item::Refuse(WireFault::BadHead)),
-        Err(_) => Ok(Item::Refuse(WireFault::BadHead)),
+        Ok(Status::Complete(_)) => Ok(Verdict::Refused(WireFault::BadHead)),
+        Ok(Status::Partial) => Ok(Verdict::Refused(WireFault::BadHead)),
+        Err(_) => Ok(Verdict::Refused(WireFault::BadHead)),
     }
 }
 
@@ -55,54 +58,166 @@ fn judge(
     text: &[u8],
     head: &RequestSpans,
     spans: &[HeaderSpan],
-) -> Result<Item, NoMemory>
+) -> Result<Verdict, NoMemory>
     requires { AreHeadSpans text.now spans.now head.now }
     ensures { (whole : RequestHead) → ShowHead text.now spans.now head.now whole
         → GivesAnswer result (judge whole) }
 {
-    let fields = read_fields(alloc, text, spans)?;
+    let mut fields = read_fields(alloc, text, spans)?;
+    let method = head.method.of(text);
     let target = head.path.of(text);
-    if let Some(fault) = first_fault(head.version, target, &fields) {
-        return Ok(Item::Refuse(fault));
+    let form = target_form(method, target);
+    if let Some(fault) = first_fault(head.version, form, &fields) {
+        return Ok(Verdict::Refused(fault));
     }
-    Ok(Item::Message(Message {
-        method: read_method(alloc, head.method.of(text))?,
-        target: Target::Path(Bytes::from_vec(Vec::from_slice(alloc, target)?)),
+    let framing = framing_of(&fields);
+    let keep = keeps(head.version, &fields);
+    let is_asked = awaits_continue(head.version, &fields);
+    set_hosts(alloc, form, target, &mut fields)?;
+    let message = Message {
+        method: read_method(alloc, method)?,
+        target: read_target(alloc, form, target)?,
         minor: head.version,
-        keep: keeps(head.version, &fields),
         fields: Listed::from_vec(fields),
         body: Bytes::from_vec(Vec::new(alloc)),
-    }))
+        keep,
+    };
+    let owed = OwedHead { message, framing };
+    Ok(if is_asked {
+        Verdict::Expecting(owed)
+    } else {
+        Verdict::Accepted(owed)
+    })
 }
 
 /// The first fault of a head, in the order in which they are judged.
-fn first_fault(minor: u8, target: &[u8], fields: &[Field]) -> Option<WireFault>
-    ensures { result ≡ first_fault minor target.now fields.now }
+fn first_fault(minor: u8, form: TargetForm, fields: &[Field]) -> Option<WireFault>
+    ensures { result ≡ first_fault minor form fields.now }
 {
     if !accepts_hosts(minor, fields) {
-        Some(WireFault::BadHost)
-    } else if !target.starts_with(b"/") {
-        Some(WireFault::BadTarget)
-    } else if has_body_field(fields) {
-        Some(WireFault::BadFraming)
-    } else {
-        None
+        return Some(WireFault::BadHost);
+    }
+    if form == TargetForm::Unknown {
+        return Some(WireFault::BadTarget);
+    }
+    if let Some(fault) = framing_fault(minor, fields) {
+        return Some(fault);
+    }
+    if is_unknown_expectation(minor, fields) {
+        return Some(WireFault::BadExpect);
+    }
+    None
+}
+
+/// The first fault of a body's framing.
+fn framing_fault(minor: u8, fields: &[Field]) -> Option<WireFault>
+    ensures { result ≡ slice_get (framing_faults minor fields.now) 0 }
+{
+    if has_codings(fields) {
+        if minor != 1 || has_length(fields) {
+            return Some(WireFault::BadFraming);
+        }
+        return fault_by_kind(coding_kind(fields));
+    }
+    match content_length(fields) {
+        Some(len) if len > MAX_BODY_LEN => Some(WireFault::BodyTooLarge),
+        None if has_length(fields) => Some(WireFault::BadFraming),
+        _ => None,
     }
 }
 
-/// Whether a field speaks of a body.
-fn has_body_field(fields: &[Field]) -> bool
-    ensures { result ≡ list_any is_of_body fields.now }
+/// The fault of codings of that kind.
+fn fault_by_kind(kind: Codings) -> Option<WireFault>
+    ensures { result ≡ slice_get (faults_by_kind kind) 0 }
 {
-    fields.iter().any(|field| is_of_body(field))
+    match kind {
+        Codings::Chunked => None,
+        Codings::Unknown => Some(WireFault::UnknownCoding),
+        Codings::Bad => Some(WireFault::BadFraming),
+    }
 }
 
-fn is_of_body(field: &Field) -> bool
-    ensures { result ≡ is_of_body field.now }
+fn has_codings(fields: &[Field]) -> bool
+    ensures { result ≡ has_codings fields.now }
 {
-    field.is_named("transfer-encoding")
-        || field.is_named("content-length")
-        || field.is_named("expect")
+    has_field("transfer-encoding", fields)
+}
+
+fn has_length(fields: &[Field]) -> bool
+    ensures { result ≡ has_length fields.now }
+{
+    has_field("content-length", fields)
+}
+
+/// Whether a request of 1.1 expects anything but `100-continue`.
+fn is_unknown_expectation(minor: u8, fields: &[Field]) -> bool
+    ensures { result ≡ is_unknown_expectation minor fields.now }
+{
+    minor == 1 && has_field("expect", fields) && !asks_to_continue(fields)
+}
+
+/// Whether `100 Continue` is given before the body.
+fn awaits_continue(minor: u8, fields: &[Field]) -> bool
+    ensures { result ≡ awaits_continue minor fields.now }
+{
+    minor == 1 && asks_to_continue(fields) && has_body(framing_of(fields))
+}
+
+/// How the end of the body is found.
+fn framing_of(fields: &[Field]) -> Framing
+    ensures { result ≡ framing_of fields.now }
+{
+    if has_codings(fields) {
+        return Framing::Chunked;
+    }
+    match content_length(fields) {
+        Some(len) => Framing::Length(len),
+        None => Framing::Length(0),
+    }
+}
+
+/// Sets the authority of an absolute form in the place of the host.
+fn set_hosts(
+    alloc: Global,
+    form: TargetForm,
+    target: &[u8],
+    fields: &mut Vec<Field>,
+) -> Result<(), NoMemory>
+    requires { FitsForm form target.now }
+    ensures { OnOk result (fields.new.items ≡ fields_beside form target.now fields.old.items) }
+{
+    match form {
+        TargetForm::Absolute(len) => replace_hosts(
+            alloc,
+            fields,
+            &target[SCHEME_LEN..SCHEME_LEN + len],
+        ),
+        TargetForm::Origin | TargetForm::Star | TargetForm::Unknown => Ok(()),
+    }
+}
+
+/// Copies what a target in that form asks for.
+fn read_target(alloc: Global, form: TargetForm, target: &[u8]) -> Result<Target, NoMemory>
+    requires { FitsForm form target.now }
+    ensures { GivesAnswer result (target_in form target.now) }
+{
+    match form {
+        TargetForm::Origin => Ok(Target::Path(Bytes::from_vec(Vec::from_slice(alloc, target)?))),
+        TargetForm::Absolute(len) => read_path(alloc, &target[SCHEME_LEN + len..]),
+        TargetForm::Star | TargetForm::Unknown => Ok(Target::Star),
+    }
+}
+
+/// Copies the path behind an authority. An empty path is a slash.
+fn read_path(alloc: Global, behind: &[u8]) -> Result<Target, NoMemory>
+    ensures { GivesAnswer result (Path (with_slash behind.now)) }
+{
+    let mut path = Vec::new(alloc);
+    if !behind.starts_with(b"/") {
+        path.push(b'/')?;
+    }
+    path.extend_from_slice(behind)?;
+    Ok(Target::Path(Bytes::from_vec(path)))
 }
 
 /// Copies the fields that the spans show in the text.

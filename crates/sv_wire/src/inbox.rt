@@ -1,12 +1,16 @@
 //! The inbox of a connection: bytes in, items out.
 
-ghost use Rattle.std.specs.Prelude.{◌≡◌, ◌≤◌, true, false, [], ◌++◌, drop, vec_len, IfOk, IsOkAnd, OnErr};
+ghost use Rattle.std.specs.Prelude.{◌≡◌, ◌≤◌, true, false, None, Some, [], ◌++◌, drop, vec_len, IfOk, IsOkAnd, OnErr};
 ghost use Rattle.sv_wire.specs.Inbox.{nothing_held, spent_for_good, end_of};
 ghost use Rattle.sv_wire.specs.Items.{are_ended};
-ghost use Rattle.sv_wire.specs.Reads.{Reads};
+ghost use Rattle.sv_wire.specs.Pending.{IsSound, owed_by, rest_of};
+ghost use Rattle.sv_wire.specs.Reads.{Reads, cut_head};
+ghost use Rattle.sv_wire.specs.State.{held_of, IsSoundState, ReadsTo};
+ghost use Rattle.sv_body.specs.declared.cut.Cut.TheVariants.{Unended};
 
 use crate::item::Item;
-use crate::reading::read_items;
+use crate::pending::Pending;
+use crate::reading::{Reading, Rest, read_items};
 use std::alloc::Global;
 use std::marker::Model;
 use std::mem;
@@ -23,26 +27,37 @@ pub enum Ended {
     Spent,
 }
 
+/// What an inbox awaits.
+#[derive(Drop)]
+pub(crate) enum State {
+    /// Nothing more.
+    Spent,
+    /// A head, of which those bytes have come.
+    Head(Vec<u8>),
+    /// A body.
+    Body(Pending),
+}
+
 /// Reads the items of one stream of bytes, which comes in pieces (RFC 9112, section 2.2).
 ///
-/// Contracts see whether it is spent, and the bytes that no item holds yet.
+/// Contracts see whether it is spent, the head whose `100 Continue` was given and whose body is awaited, and the bytes
+/// that no item holds yet. Of a body it holds the decoded bytes, and of its chunks no more than one size line or
+/// trailer section.
 #[derive(Drop)]
 pub struct Inbox {
     alloc: Global,
-    spent: bool,
-    rest: Vec<u8>,
+    state: State,
 }
 
 impl Model for Inbox {
-    ghost use Rattle.std.specs.Prelude.{◌≡◌, true, false, []};
     ghost use Rattle.sv_wire.specs.Inbox.{Held};
-    ghost use Rattle.sv_wire.specs.Reads.{Rests};
+    ghost use Rattle.sv_wire.specs.State.{held_of, IsSoundState};
 
     ghost Value = { Held };
 
-    ghost view = { λ inbox. record { spent = inbox.spent; rest = inbox.rest.items } };
+    ghost view = { λ inbox. held_of inbox.state };
 
-    ghost invariant = { λ inbox. (inbox.spent ≡ true → inbox.rest.items ≡ []) × (inbox.spent ≡ false → Rests inbox.rest.items inbox.rest.items) };
+    ghost invariant = { λ inbox. IsSoundState inbox.state };
 }
 
 impl Inbox {
@@ -52,8 +67,7 @@ impl Inbox {
     {
         Inbox {
             alloc,
-            spent: false,
-            rest: Vec::new(alloc),
+            state: State::Head(Vec::new(alloc)),
         }
     }
 
@@ -65,41 +79,86 @@ impl Inbox {
     /// and the items of the piece are lost.
     pub fn feed(&mut self, piece: &[u8]) -> Result<Vec<Item>, NoMemory>
         ensures reads { self.old.spent ≡ false → IfOk result (λ items.
-            Reads (self.old.rest ++ piece.now) items.items self.new.rest × (self.new.spent ≡ are_ended items.items)) }
+            Reads self.old.owed (self.old.rest ++ piece.now) items.items self.new.owed self.new.rest
+            × (self.new.spent ≡ are_ended items.items)) }
         ensures no_memory { OnErr result (self.new ≡ spent_for_good) }
         ensures spent { self.old.spent ≡ true → IsOkAnd result (λ items. items.items ≡ []) × (self.new ≡ self.old) }
     {
-        if self.spent {
-            return Ok(Vec::new(self.alloc));
+        match mem::replace(&mut self.state, State::Spent) {
+            State::Spent => Ok(Vec::new(self.alloc)),
+            State::Head(held) => {
+                let (items, state) = read_on(self.alloc, held, piece)?;
+                self.state = state;
+                Ok(items)
+            }
+            State::Body(pending) => {
+                let (items, state) = read_behind(self.alloc, pending, piece)?;
+                self.state = state;
+                Ok(items)
+            }
         }
-        self.spent = true;
-        let mut stream = mem::replace(&mut self.rest, Vec::new(self.alloc));
-        let held = stream.len();
-        stream.extend_from_slice(piece)?;
-        let reading = read_items(self.alloc, &stream, held + 1)?;
-        if let Some(at) = reading.rest {
-            drop_front(&mut stream, at);
-            self.rest = stream;
-            self.spent = false;
-        }
-        Ok(reading.items)
     }
 
-    /// Says what the end of the stream means. The inbox is spent afterwards. It takes no memory.
+    /// Says what the end of the stream means. The inbox is spent afterwards.
     pub fn end(&mut self) -> Ended
         ensures ended { result ≡ end_of self.old }
         ensures after { self.new ≡ spent_for_good }
     {
-        let ended = if self.spent {
-            Ended::Spent
-        } else if self.rest.is_empty() {
-            Ended::Clean
-        } else {
-            Ended::Truncated
-        };
-        self.spent = true;
-        self.rest.clear();
+        let ended = end_of(&self.state);
+        self.state = State::Spent;
         ended
+    }
+}
+
+/// What the end of the stream means for what is awaited.
+fn end_of(state: &State) -> Ended
+    requires { IsSoundState state.now }
+    ensures { result ≡ end_of (held_of state.now) }
+{
+    match state {
+        State::Spent => Ended::Spent,
+        State::Head(held) if held.is_empty() => Ended::Clean,
+        State::Head(_) => Ended::Truncated,
+        State::Body(_) => Ended::Truncated,
+    }
+}
+
+/// Reads a piece behind the bytes of a head.
+fn read_on(alloc: Global, held: Vec<u8>, piece: &[u8]) -> Result<(Vec<Item>, State), NoMemory>
+    requires { cut_head held.items ≡ Unended }
+    ensures { IfOk result (λ read. ReadsTo None (held.items ++ piece.now) read.0.items read.1) }
+{
+    let mut stream = held;
+    let from = stream.len() + 1;
+    stream.extend_from_slice(piece)?;
+    let Reading { items, rest } = read_items(alloc, None, &stream, from)?;
+    match rest {
+        Rest::Ended => Ok((items, State::Spent)),
+        Rest::Head(at) => {
+            drop_front(&mut stream, at);
+            Ok((items, State::Head(stream)))
+        }
+        Rest::Body(pending) => Ok((items, State::Body(pending))),
+    }
+}
+
+/// Reads a piece that goes on with a body.
+fn read_behind(
+    alloc: Global,
+    pending: Pending,
+    piece: &[u8],
+) -> Result<(Vec<Item>, State), NoMemory>
+    requires { IsSound pending }
+    ensures { IfOk result (λ read. ReadsTo (owed_by (Some pending)) (rest_of (Some pending) ++ piece.now) read.0.items read.1) }
+{
+    let Reading { items, rest } = read_items(alloc, Some(pending), piece, 0)?;
+    match rest {
+        Rest::Ended => Ok((items, State::Spent)),
+        Rest::Head(at) => {
+            let held = Vec::from_slice(alloc, &piece[at..])?;
+            Ok((items, State::Head(held)))
+        }
+        Rest::Body(pending) => Ok((items, State::Body(pending))),
     }
 }
 

@@ -5,6 +5,3 @@ pub const MAX_HEAD_LEN: usize = 65_536;
 
 /// A head has at most so many field lines.
 pub const MAX_FIELD_LINES: usize = 128;
-
-/// A Host field's value has at most so many bytes.
-pub const MAX_HOST_LEN: usize = 255;

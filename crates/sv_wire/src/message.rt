@@ -1,7 +1,10 @@
 //! A request, as the container handles it.
 
-use crate::field::Field;
+ghost use Rattle.std.specs.Prelude.{◌≡◌};
+ghost use Rattle.sv_wire.specs.Reads.{with_body};
+
 use http::Method;
+use sv_head::Field;
 use sv_text::{Bytes, Listed};
 
 /// A whole request (RFC 9112, section 2).
@@ -17,6 +20,15 @@ pub struct Message {
     /// Whether a further request may follow on the connection (RFC 9112, section 9.3). After a message that says no
     /// the inbox is spent.
     pub keep: bool,
+}
+
+impl Message {
+    /// The message with that body.
+    pub(crate) fn with_body(self, body: Bytes) -> Message
+        ensures { result ≡ with_body body self }
+    {
+        Message { body, ..self }
+    }
 }
 
 /// What a request asks for (RFC 9112, section 3.2).

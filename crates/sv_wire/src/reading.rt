@@ -1,76 +1,195 @@
 //! The items of a stream, one after another.
 
-ghost use Rattle.std.specs.Prelude.{◌≡◌, ℕ, ◌<◌, ◌≤◌, true, false, ◌++◌, ◌∷◌, [], length, take, drop, IfOk, IfSome, is_none};
+ghost use Rattle.std.specs.Prelude.{◌≡◌, ℕ, ◌<◌, ◌≤◌, false, None, Some, ◌++◌, length, take, drop, IfOk};
 ghost use Rattle.sv_wire.specs.Head.{ends_head};
 ghost use Rattle.sv_wire.specs.Items.{are_ended};
-ghost use Rattle.sv_wire.specs.Next.{ComesNext, rest_from};
+ghost use Rattle.sv_wire.specs.Next.{ComesNext, IsHeadAt, IsSoundRest, bytes_behind, is_ended, owed_behind};
+ghost use Rattle.sv_wire.specs.Pending.{AreSound, IsSound, owed_by, rest_of};
 ghost use Rattle.sv_wire.specs.Reads.{Reads};
 
-use crate::cut::{Cut, cut_head};
+use crate::cut::cut_head;
 use crate::empty_lines::behind_empty_lines;
 use crate::head::read_head;
 use crate::item::Item;
 use crate::limits::MAX_HEAD_LEN;
+use crate::owed_head::Verdict;
+use crate::pending::Pending;
 use crate::wire_fault::WireFault;
 use std::alloc::Global;
+use sv_body::{Cut, Progress};
 use sv_text::NoMemory;
 
 /// What comes next in a stream.
 #[derive(Drop)]
 enum Next {
-    /// An item, which ends after so many bytes.
-    Found(Item, usize),
-    /// No item yet. What is awaited begins after so many bytes.
-    Awaits(usize),
+    /// An item, the body that is asked for behind it, and the place where the item ends.
+    Found(Item, Option<Pending>, usize),
+    /// No item yet. A head is awaited, which begins at that place.
+    AwaitsHead(usize),
+    /// No item yet. A body is awaited.
+    AwaitsBody(Pending),
+}
+
+/// What follows the items of a stream.
+#[derive(Drop)]
+pub(crate) enum Rest {
+    /// The last item ends the stream.
+    Ended,
+    /// A head is awaited, which begins at that place.
+    Head(usize),
+    /// A body is awaited.
+    Body(Pending),
 }
 
 /// What a stream was read as.
 #[derive(Drop)]
 pub(crate) struct Reading {
     pub(crate) items: Vec<Item>,
-    /// Where the rest begins that awaits more bytes, unless the last item ends the stream.
-    pub(crate) rest: Option<usize>,
+    pub(crate) rest: Rest,
 }
 
-/// Reads what a stream begins with. No front of fewer than `from` bytes ends a head.
-fn next_item(alloc: Global, stream: &[u8], from: usize) -> Result<Next, NoMemory>
-    requires { (k : ℕ) → k < from → ends_head (take k stream.now) ≡ false }
-    ensures { IfOk result (ComesNext stream.now) }
-{
-    let head = behind_empty_lines(stream);
-    let at = stream.len() - head.len();
-    match cut_head(head, if at == 0 { from } else { 0 }) {
-        Cut::Whole(len) => Ok(Next::Found(read_head(alloc, &head[..len])?, at + len)),
-        Cut::Endless => Ok(Next::Found(Item::Refuse(WireFault::HeadTooLarge), at + MAX_HEAD_LEN)),
-        Cut::Unended => Ok(Next::Awaits(at)),
-    }
-}
-
-/// Reads the items of a stream. No front of fewer than `from` bytes ends a head.
-pub(crate) fn read_items(alloc: Global, stream: &[u8], mut from: usize) -> Result<Reading, NoMemory>
-    requires { (k : ℕ) → k < from → ends_head (take k stream.now) ≡ false }
-    ensures { IfOk result (λ reading.
-        Reads stream.now reading.items.items (rest_from stream.now reading.rest)
-        × (are_ended reading.items.items ≡ is_none reading.rest)
-        × IfSome reading.rest (λ at. at ≤ length stream.now)) }
+/// Reads the items of a stream, which begins with a body if one is pending. No front of fewer than `from` bytes ends a
+/// head.
+pub(crate) fn read_items(
+    alloc: Global,
+    pending: Option<Pending>,
+    stream: &[u8],
+    mut from: usize,
+) -> Result<Reading, NoMemory>
+    requires sound { AreSound pending }
+    requires before { (k : ℕ) → k < from → ends_head (take k stream.now) ≡ false }
+    ensures reads { IfOk result (λ reading.
+        Reads (owed_by pending) (rest_of pending ++ stream.now) reading.items.items (owed_behind reading.rest) (bytes_behind stream.now reading.rest)) }
+    ensures ended { IfOk result (λ reading. are_ended reading.items.items ≡ is_ended reading.rest) }
+    ensures rest { IfOk result (λ reading. IsSoundRest stream.now reading.rest) }
 {
     let mut items = Vec::new(alloc);
+    let mut body = pending;
     let mut at = 0;
     loop {
-        match next_item(alloc, &stream[at..], from)? {
-            Next::Awaits(len) => {
-                let rest = Some(at + len);
-                return Ok(Reading { items, rest });
-            }
-            Next::Found(item, len) => {
+        match next_item(alloc, body, stream, at, from)? {
+            Next::AwaitsHead(start) => return Ok(Reading {
+                items,
+                rest: Rest::Head(start),
+            }),
+            Next::AwaitsBody(pending) => return Ok(Reading {
+                items,
+                rest: Rest::Body(pending),
+            }),
+            Next::Found(item, next, end) => {
                 let is_last = item.is_last();
                 items.push(item)?;
                 if is_last {
-                    return Ok(Reading { items, rest: None });
+                    return Ok(Reading {
+                        items,
+                        rest: Rest::Ended,
+                    });
                 }
-                at += len;
+                body = next;
+                at = end;
                 from = 0;
             }
+        }
+    }
+}
+
+/// Reads what comes next at a place. No front of fewer than `from` bytes behind it ends a head.
+fn next_item(
+    alloc: Global,
+    body: Option<Pending>,
+    stream: &[u8],
+    at: usize,
+    from: usize,
+) -> Result<Next, NoMemory>
+    requires within { at ≤ length stream.now }
+    requires sound { AreSound body }
+    requires before { (k : ℕ) → k < from → ends_head (take k (drop at stream.now)) ≡ false }
+    ensures { IfOk result (ComesNext body stream.now at) }
+{
+    match body {
+        Some(pending) => next_in_body(pending, stream, at),
+        None => next_in_head(alloc, stream, at, from),
+    }
+}
+
+/// Reads the head that begins at a place behind empty lines, and its body if it is not asked for. No front of fewer than
+/// `from` bytes behind the place ends a head.
+fn next_in_head(alloc: Global, stream: &[u8], at: usize, from: usize) -> Result<Next, NoMemory>
+    requires within { at ≤ length stream.now }
+    requires before { (k : ℕ) → k < from → ends_head (take k (drop at stream.now)) ≡ false }
+    ensures { IfOk result (ComesNext None stream.now at) }
+{
+    let head = behind_empty_lines(&stream[at..]);
+    let start = stream.len() - head.len();
+    match cut_head(head, if start == at { from } else { 0 }) {
+        Cut::Whole(len) => next_behind(
+            alloc,
+            read_head(alloc, &head[..len])?,
+            stream,
+            start,
+            start + len,
+        ),
+        Cut::Endless => Ok(Next::Found(
+            Item::Refuse(WireFault::HeadTooLarge),
+            None,
+            start + MAX_HEAD_LEN,
+        )),
+        Cut::Unended => Ok(Next::AwaitsHead(start)),
+    }
+}
+
+/// Reads what stands behind a head, which begins and ends at those places, by the verdict on it.
+fn next_behind(
+    alloc: Global,
+    verdict: Verdict,
+    stream: &[u8],
+    start: usize,
+    end: usize,
+) -> Result<Next, NoMemory>
+    requires order { start ≤ end }
+    requires within { end ≤ length stream.now }
+    requires head { IsHeadAt stream.now start end verdict }
+    ensures { IfOk result (ComesNext None stream.now start) }
+{
+    match verdict {
+        Verdict::Refused(fault) => Ok(Next::Found(Item::Refuse(fault), None, end)),
+        Verdict::Expecting(owed) => {
+            let pending = Pending::asked(alloc, owed);
+            Ok(Next::Found(Item::Continue, Some(pending), end))
+        }
+        Verdict::Accepted(owed) => {
+            let pending = Pending::behind(alloc, owed, &stream[start..end]);
+            next_in_body(pending, stream, end)
+        }
+    }
+}
+
+/// Reads the body that goes on at a place.
+fn next_in_body(pending: Pending, stream: &[u8], at: usize) -> Result<Next, NoMemory>
+    requires within { at ≤ length stream.now }
+    requires sound { IsSound pending }
+    ensures { IfOk result (ComesNext (Some pending) stream.now at) }
+{
+    let Pending {
+        owed,
+        is_asked,
+        head,
+        reader,
+    } = pending;
+    match reader.read(&stream[at..])? {
+        Progress::Awaits(reader) => Ok(Next::AwaitsBody(Pending {
+            owed,
+            is_asked,
+            head,
+            reader,
+        })),
+        Progress::Complete(body, len) => {
+            let message = owed.message.with_body(body);
+            Ok(Next::Found(Item::Message(message), None, at + len))
+        }
+        Progress::Broken(fault, len) => {
+            let fault = WireFault::of_body(fault);
+            Ok(Next::Found(Item::Refuse(fault), None, at + len))
         }
     }
 }

@@ -1,9 +1,10 @@
 //! Why a message is refused.
 
 ghost use Rattle.std.specs.Prelude.{◌≡◌, Some};
-ghost use Rattle.sv_wire.specs.WireFault.{fault_name, fault_status};
+ghost use Rattle.sv_wire.specs.WireFault.{fault_name, fault_of, fault_status};
 
 use std::fmt;
+use sv_body::BodyFault;
 
 /// Why a message is refused. A refusal is the last item of a stream: nothing behind it is read.
 #[derive(Clone, Copy, Debug, PartialEq, Eq)]
@@ -27,6 +28,17 @@ pub enum WireFault {
 }
 
 impl WireFault {
+    /// The fault of a message whose body has that fault.
+    pub(crate) fn of_body(fault: BodyFault) -> WireFault
+        ensures { result ≡ fault_of fault }
+    {
+        match fault {
+            BodyFault::BadChunk => WireFault::BadFraming,
+            BodyFault::TooLarge => WireFault::BodyTooLarge,
+            BodyFault::TrailerTooLarge => WireFault::HeadTooLarge,
+        }
+    }
+
     /// The status of the answer to a message that is refused for this fault.
     pub fn status(self) -> u16
         ensures { result ≡ fault_status self }

@@ -1,6 +1,6 @@
 use Rattle.sv_wire.specs.Head.{ends_head}
 use Rattle.sv_wire.specs.declared.limits.TheConstants.{MAX_HEAD_LEN}
-use Rattle.sv_wire.proofs.CutLemmas.{fronts_of_front, cut_found, cut_unended, cut_endless}
+use Rattle.sv_body.proofs.CutLemmas.{fronts_of_front, cut_found, cut_unended, cut_endless}
 use Rattle.sv_wire.proofs.ReadsLemmas.{cut_holds}
 use Rattle.sv_wire.proofs.cut.cut_head.Goals as goal
 

@@ -1,7 +1,7 @@
 use Rattle.std.proofs.Common.{sym, arith}
 use borrow.Author.Count.{below_more}
 use Rattle.sv_wire.specs.Head.{ends_head}
-use Rattle.sv_wire.proofs.CutLemmas.{shortest_front_some, shortest_front_none}
+use Rattle.sv_body.proofs.CutLemmas.{shortest_front_some, shortest_front_none}
 use Rattle.sv_wire.proofs.cut.head_len.Goals as goal
 
 pub returns-then-ends_head : goal.returns-then-ends_head

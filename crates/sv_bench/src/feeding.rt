@@ -1,0 +1,43 @@
+//! Streams that an inbox reads, and that are copied.
+
+ghost use Rattle.std.specs.Prelude.{◌<◌};
+
+use crate::measure::Work;
+use std::alloc::Global;
+use sv_text::NoMemory;
+use sv_wire::Inbox;
+
+/// Feeding a stream to an inbox in pieces of a size.
+#[derive(Drop)]
+pub struct Feeding<'a> {
+    pub alloc: Global,
+    pub stream: &'a [u8],
+    pub piece: usize,
+    ghost not_empty: { 0 < piece },
+}
+
+impl Work for Feeding<'_> {
+    fn round(&self, place: usize) -> Result<usize, NoMemory> {
+        let mut inbox = Inbox::new(self.alloc);
+        let mut items = place;
+        for piece in self.stream.chunks(self.piece) {
+            items = items.wrapping_add(inbox.feed(piece)?.len());
+        }
+        Ok(items)
+    }
+}
+
+/// Copying a stream.
+#[derive(Drop)]
+pub struct Copying<'a> {
+    pub alloc: Global,
+    pub stream: &'a [u8],
+}
+
+impl Work for Copying<'_> {
+    fn round(&self, place: usize) -> Result<usize, NoMemory> {
+        let copy = self.stream.to_vec(self.alloc)?;
+        let last = copy.last().copied().unwrap_or(0);
+        Ok(place.wrapping_add(last as usize))
+    }
+}

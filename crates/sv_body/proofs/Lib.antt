@@ -1,0 +1,8 @@
+pub mod BodyLemmas
+pub mod BoolLemmas
+pub mod CutLemmas
+pub mod ListLemmas
+pub mod MachineLemmas
+pub mod OpenLemmas
+pub mod TextLemmas
+pub mod Walks

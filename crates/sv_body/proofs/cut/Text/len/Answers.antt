@@ -1,0 +1,21 @@
+use Rattle.std.proofs.Common.{sym, arith}
+use borrow.Author.Count.{below_more}
+use Rattle.sv_body.specs.Chunks.{ends_text}
+use Rattle.sv_body.proofs.CutLemmas.{shortest_front_some, shortest_front_none}
+use Rattle.sv_body.proofs.cut.Text.len.Goals as goal
+
+pub returns-then-is_ended : goal.returns-then-is_ended
+returns-then-is_ended c =
+    sym (shortest_front_some (ends_text c.args.self) c.args.bytes.now c.loop-len.len
+    (record { fits = omega arith; passes = sym c.if-is_ended.ensures; first = c.loop-len.invariant }))
+
+pub loop-len-preserved : goal.loop-len-preserved
+loop-len-preserved c = below_more _ _ c.loop-len.invariant (sym c.if-is_ended.ensures)
+
+pub returns : goal.returns
+returns c = sym (shortest_front_none (ends_text c.args.self) c.args.bytes.now (λ k within. c.loop-len.invariant k (omega arith)))
+
+pub returns-else-is_ended : goal.returns-else-is_ended
+returns-else-is_ended c =
+    sym (shortest_front_none (ends_text c.args.self) c.args.bytes.now
+    (λ k within. below_more _ _ c.loop-len.invariant (sym c.if-is_ended.ensures) k (omega arith)))

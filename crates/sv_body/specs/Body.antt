@@ -1,0 +1,24 @@
+-- The body of a message by its framing (RFC 9112, section 6).
+use Rattle.std.specs.Prelude.{◌≡◌, ℕ, List, [], ◌++◌, length, take, drop, nat_lt, if◌then◌else◌}
+use Rattle.sv_body.specs.declared.framing.Framing.{Framing}
+use Rattle.sv_body.specs.declared.framing.Framing.TheVariants.{Length, Chunked}
+use Rattle.sv_body.specs.Chunks.{Body, unfinished, complete, ReadsChunks}
+
+-- what contracts see of a body that is being read: its framing, and the bytes that have come, as they came
+pub record Awaited : Type 0 where
+  pub framing : Framing
+  pub came : List ℕ
+
+-- before the first byte
+abbrev pub nothing_came : Framing → Awaited
+nothing_came framing = record { framing = framing; came = [] }
+
+-- what is read of a body of which those bytes are read and so many are awaited
+abbrev pub read_length : List ℕ → ℕ → List ℕ → Body
+read_length bytes count text =
+    if nat_lt (length text) count then unfinished else complete (bytes ++ take count text) (drop count text)
+
+-- what is read of the body that the text begins with
+abbrev pub ReadsBody : Framing → List ℕ → Body → Type 0
+ReadsBody (Length count) text body = body ≡ read_length [] count text
+ReadsBody Chunked text body = (chunks : List (List ℕ)) × ReadsChunks [] text chunks body

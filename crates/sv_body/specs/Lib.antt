@@ -1,0 +1,5 @@
+pub mod Body
+pub mod Chunks
+pub mod Cut
+pub mod Machine
+pub mod Progress

@@ -1,0 +1,82 @@
+//! A reader of one body.
+
+ghost use Rattle.std.specs.Prelude.{◌≡◌, [], IfOk};
+ghost use Rattle.sv_body.specs.Body.{nothing_came};
+
+use crate::body_fault::BodyFault;
+use crate::framing::Framing;
+use crate::history::{History, Piece};
+use crate::machine::{Machine, Stop};
+use std::alloc::Global;
+use std::marker::Model;
+use sv_text::{Bytes, NoMemory};
+
+/// Reads one body, which comes in pieces (RFC 9112, section 6). Beside the bytes of the body it holds numbers and one
+/// size line or trailer section that is not whole.
+///
+/// Contracts see its framing, and the bytes that have come, as they came.
+#[derive(Drop)]
+pub struct BodyReader {
+    framing: Framing,
+    machine: Machine,
+    came: History,
+}
+
+/// What a reader makes of a piece.
+#[derive(Drop)]
+pub enum Progress {
+    /// The body is not whole. The reader goes on with the next piece.
+    Awaits(BodyReader),
+    /// The body, which ends after so many bytes of the piece.
+    Complete(Bytes, usize),
+    /// A fault, which shows after so many bytes of the piece.
+    Broken(BodyFault, usize),
+}
+
+impl Model for BodyReader {
+    ghost use Rattle.std.specs.Prelude.{ℕ, List, ◌++◌};
+    ghost use Rattle.sv_body.specs.Body.{Awaited, ReadsBody};
+    ghost use Rattle.sv_body.specs.Chunks.{Body};
+    ghost use Rattle.sv_body.specs.Machine.{IsFit, Continues};
+
+    ghost Value = { Awaited };
+
+    ghost view = { λ reader. record { framing = reader.framing; came = reader.came.bytes } };
+
+    ghost invariant = { λ reader. IsFit reader.machine × ((more : List ℕ) (body : Body) → Continues reader.machine more body → ReadsBody reader.framing (reader.came.bytes ++ more) body) };
+}
+
+impl BodyReader {
+    ghost use Rattle.sv_body.specs.Progress.{ReadsOn};
+
+    /// A reader before the first byte of a body. It takes no memory.
+    pub fn new(alloc: Global, framing: Framing) -> BodyReader
+        ensures { result ≡ nothing_came framing }
+    {
+        BodyReader {
+            framing,
+            machine: Machine::new(alloc, framing),
+            came: History::new(),
+        }
+    }
+
+    /// Reads a piece of the stream up to the end of the body, if it is there.
+    pub fn read(self, piece: &[u8]) -> Result<Progress, NoMemory>
+        ensures { IfOk result (ReadsOn self piece.now) }
+    {
+        let BodyReader {
+            framing,
+            mut machine,
+            came,
+        } = self;
+        Ok(match machine.run(piece)? {
+            Stop::Awaits => Progress::Awaits(BodyReader {
+                framing,
+                machine,
+                came: came.and(&Piece { bytes: piece }),
+            }),
+            Stop::Complete(at) => Progress::Complete(Bytes::from_vec(machine.body), at),
+            Stop::Broken(fault, at) => Progress::Broken(fault, at),
+        })
+    }
+}

@@ -1,0 +1,3 @@
+pub mod FieldsLemmas
+pub mod PartsLemmas
+pub mod HostLemmas

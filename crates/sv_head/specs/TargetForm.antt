@@ -1,0 +1,56 @@
+-- The forms of a request's target (RFC 9112, section 3.2).
+use Rattle.std.specs.Prelude.{◌≡◌, ℕ, ◌+◌, ◌≤◌, Bool, true, ◌&&◌, ◌||◌, List, ◌++◌, length, take, drop, ◌==◌, nat_eq, nat_lt, bytes_eq, codes, if◌then◌else◌, ⊤}
+use Rattle.std.specs.List.{starts_with, position_or_len}
+use Rattle.http_header.specs.Token.{lowercase}
+use Rattle.sv_head.specs.declared.target.TargetForm.{TargetForm}
+use Rattle.sv_head.specs.declared.target.TargetForm.TheVariants.{Origin, Absolute, Star, Unknown}
+use Rattle.sv_head.specs.declared.target.TheConstants.{SCHEME_LEN}
+use Rattle.sv_head.specs.Host.{is_host}
+
+-- a path begins with a slash
+abbrev pub is_path : List ℕ → Bool
+is_path target = starts_with nat_eq target (codes "/")
+
+-- an authority ends before the first slash or question mark
+abbrev pub is_behind_authority : ℕ → Bool
+is_behind_authority b = b == 47 || b == 63
+
+-- whether a target begins with the scheme, in any case
+abbrev pub has_scheme : List ℕ → Bool
+has_scheme target = bytes_eq (lowercase (take SCHEME_LEN target)) (codes "http://")
+
+-- how long the authority is in what stands behind the scheme
+abbrev pub authority_len : List ℕ → ℕ
+authority_len behind = position_or_len is_behind_authority behind
+
+-- the authority of an absolute form
+abbrev pub authority_of : List ℕ → List ℕ
+authority_of target = take (authority_len (drop SCHEME_LEN target)) (drop SCHEME_LEN target)
+
+-- a path and a query with a slash before an empty path
+abbrev pub with_slash : List ℕ → List ℕ
+with_slash path = if is_path path then path else codes "/" ++ path
+
+-- the path of an absolute form, and its query
+abbrev pub path_of : List ℕ → List ℕ
+path_of target = with_slash (drop (authority_len (drop SCHEME_LEN target)) (drop SCHEME_LEN target))
+
+-- an authority is a host that is not empty
+abbrev pub is_authority : List ℕ → Bool
+is_authority text = nat_lt 0 (length text) && is_host text
+
+-- the form of a target, by the request's method
+abbrev pub target_form : List ℕ → List ℕ → TargetForm
+target_form method target =
+    if is_path target then Origin
+    else if has_scheme target && is_authority (authority_of target) then Absolute (authority_len (drop SCHEME_LEN target))
+    else if bytes_eq target (codes "*") && bytes_eq method (codes "OPTIONS") then Star
+    else Unknown
+
+-- the authority of an absolute form is there, and it is a host
+abbrev pub FitsForm : TargetForm → List ℕ → Type 0
+FitsForm Origin target = ⊤
+FitsForm (Absolute len) target =
+    (len ≡ authority_len (drop SCHEME_LEN target)) × (SCHEME_LEN + len ≤ length target) × (is_host (authority_of target) ≡ true)
+FitsForm Star target = ⊤
+FitsForm Unknown target = ⊤

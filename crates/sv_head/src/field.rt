@@ -1,0 +1,79 @@
+//! One field of a message.
+
+ghost use Rattle.std.specs.Prelude.{◌≡◌, true, OnOk};
+ghost use Rattle.http_header.specs.FieldName.{IsFieldName};
+ghost use Rattle.http_header.specs.FieldValue.{IsFieldValue, plain_value};
+ghost use Rattle.http_header.specs.Token.{lowercase};
+ghost use Rattle.sv_head.specs.Fields.{has_field};
+ghost use Rattle.sv_text.specs.Gives.{GivesAnswer};
+
+use http_header::{HeaderName, HeaderNameError, HeaderValue, HeaderValueError};
+use std::alloc::Global;
+use sv_text::NoMemory;
+
+/// One field of a message (RFC 9110, section 5): its name in lower case, and its value without the blanks around it.
+#[derive(Debug, Drop)]
+pub struct Field {
+    pub name: HeaderName,
+    pub value: HeaderValue,
+}
+
+impl Field {
+    ghost use Rattle.sv_head.specs.Fields.{is_named};
+    ghost use Rattle.sv_head.specs.Host.{is_host, with_host};
+
+    /// Copies a field, whose name and value are valid.
+    pub fn copy_of(alloc: Global, name: &[u8], value: &[u8]) -> Result<Field, NoMemory>
+        requires name { IsFieldName name.now }
+        requires value { IsFieldValue value.now }
+        ensures { GivesAnswer result (record { name = lowercase name.now; value = plain_value value.now }) }
+    {
+        let name = match HeaderName::from_bytes(alloc, name) {
+            Ok(name) => name,
+            Err(HeaderNameError::OutOfMemory) => return Err(NoMemory),
+            Err(HeaderNameError::Invalid) => unreachable!(),
+        };
+        match HeaderValue::from_bytes(alloc, value) {
+            Ok(value) => Ok(Field { name, value }),
+            Err(HeaderValueError::OutOfMemory) => Err(NoMemory),
+            Err(HeaderValueError::Invalid) => unreachable!(),
+        }
+    }
+
+    /// Whether the field has that name, which is in lower case.
+    pub fn is_named(&self, name: &str) -> bool
+        ensures { result ≡ is_named name.now self.now }
+    {
+        self.name.as_str() == name
+    }
+
+    /// Gives a Host field that host in place of what it says. Another field stays as it is.
+    pub(crate) fn take_host(&mut self, alloc: Global, host: &[u8]) -> Result<(), NoMemory>
+        requires { is_host host.now ≡ true }
+        ensures { OnOk result (self.new ≡ with_host host.now self.old) }
+    {
+        if self.is_named("host") {
+            self.value = read_host(alloc, host)?;
+        }
+        Ok(())
+    }
+}
+
+/// Copies a host, which is a valid value.
+fn read_host(alloc: Global, host: &[u8]) -> Result<HeaderValue, NoMemory>
+    requires { IsFieldValue host.now }
+    ensures { GivesAnswer result (plain_value host.now) }
+{
+    match HeaderValue::from_bytes(alloc, host) {
+        Ok(value) => Ok(value),
+        Err(HeaderValueError::OutOfMemory) => Err(NoMemory),
+        Err(HeaderValueError::Invalid) => unreachable!(),
+    }
+}
+
+/// Whether there is a field of that name, which is in lower case.
+pub fn has_field(name: &str, fields: &[Field]) -> bool
+    ensures { result ≡ has_field name.now fields.now }
+{
+    fields.iter().any(|field| field.is_named(name))
+}

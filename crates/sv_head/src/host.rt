@@ -1,0 +1,66 @@
+//! The Host fields of a request.
+
+ghost use Rattle.std.specs.Prelude.{◌≡◌, true, codes, length, OnOk};
+ghost use Rattle.std.specs.List.{list_all, filter};
+ghost use Rattle.sv_head.specs.Fields.{values_of, is_named};
+ghost use Rattle.sv_head.specs.Host.{is_host_byte, is_host, accepts_hosts, with_hosts};
+
+use crate::field::Field;
+use crate::limits::MAX_HOST_LEN;
+use std::alloc::Global;
+use sv_text::NoMemory;
+
+/// Whether those are the fields of a request with the Host fields that its version asks for (RFC 9112, section 3.2).
+pub fn accepts_hosts(minor: u8, fields: &[Field]) -> bool
+    ensures { result ≡ accepts_hosts minor (values_of (codes "host") fields.now) }
+{
+    let count = host_count(fields);
+    are_hosts_valid(fields) && if minor == 1 { count == 1 } else { count <= 1 }
+}
+
+/// Gives each Host field that host in place of what it says (RFC 9112, section 3.2.2). After `NoMemory` some have it.
+pub fn replace_hosts(alloc: Global, fields: &mut [Field], host: &[u8]) -> Result<(), NoMemory>
+    requires { is_host host.now ≡ true }
+    ensures { OnOk result (fields.new ≡ with_hosts host.now fields.old) }
+{
+    for field in fields {
+        field.take_host(alloc, host)?;
+    }
+    Ok(())
+}
+
+/// How many Host fields there are.
+fn host_count(fields: &[Field]) -> usize
+    ensures { result ≡ length (values_of (codes "host") fields.now) }
+{
+    fields.iter().filter(|field| field.is_named("host")).count()
+}
+
+/// Whether the value of each Host field is valid.
+fn are_hosts_valid(fields: &[Field]) -> bool
+    ensures { result ≡ list_all (λ field. is_host field.value.bytes) (filter (is_named (codes "host")) fields.now) }
+{
+    fields
+        .iter()
+        .filter(|field| field.is_named("host"))
+        .all(|field| is_host(field.value.as_bytes()))
+}
+
+/// Whether the value of a Host field is valid.
+pub(crate) fn is_host(value: &[u8]) -> bool
+    ensures { result ≡ is_host value.now }
+{
+    value.len() <= MAX_HOST_LEN && are_host_bytes(value)
+}
+
+fn are_host_bytes(value: &[u8]) -> bool
+    ensures { result ≡ list_all is_host_byte value.now }
+{
+    value.iter().all(|b| is_host_byte(*b))
+}
+
+fn is_host_byte(b: u8) -> bool
+    ensures { result ≡ is_host_byte b }
+{
+    b.is_ascii_alphanumeric() || b"-._~%!$&'()*+,;=:[]".contains(&b)
+}

@@ -1,0 +1,21 @@
+//! What the target and the fields of a request's head say.
+#![tactic(auto)]
+
+mod codings;
+mod expectation;
+mod field;
+mod host;
+mod length;
+mod limits;
+mod members;
+mod persistence;
+mod target;
+
+pub use codings::{Codings, coding_kind};
+pub use expectation::asks_to_continue;
+pub use field::{Field, has_field};
+pub use host::{accepts_hosts, replace_hosts};
+pub use length::content_length;
+pub use limits::{MAX_HOST_LEN, MAX_LENGTH_DIGITS};
+pub use persistence::keeps;
+pub use target::{SCHEME_LEN, TargetForm, target_form};

@@ -1,0 +1,89 @@
+-- The text of a response (RFC 9112, sections 4, 5 and 9.6; RFC 9110, sections 6.6.1, 8.6, 9.3.2 and 15.3.5; RFC 6265, section 4.1).
+use Rattle.std.specs.Prelude.{◌≡◌, ℕ, ◌==◌, min, Bool, not, List, [], ◌++◌, length, codes, decimal, unwrap_or, Option, Some, None, if◌then◌else◌}
+use Rattle.std.specs.List.{flat_map}
+use Rattle.http.specs.StatusCode.{code_digits, reason_phrase}
+use Rattle.httpdate.specs.Date.{date_text, unix_secs}
+use Rattle.httpdate.specs.declared.date.HttpDate.{HttpDate}
+use Rattle.sv_head.specs.declared.field.Field.{Field}
+use Rattle.sv_wire.specs.declared.response.After.{After}
+use Rattle.sv_wire.specs.declared.response.After.TheVariants.{Keep, Close}
+use Rattle.sv_wire.specs.declared.response.Cookie.{Cookie}
+use Rattle.sv_wire.specs.declared.response.Part.{Part}
+use Rattle.sv_wire.specs.declared.response.Part.TheVariants.{Whole, HeadOnly}
+use Rattle.sv_wire.specs.declared.response.Response.{Response}
+use Rattle.sv_wire.specs.declared.response_text.TheConstants.{LAST_SECOND, NO_CONTENT}
+
+-- the date shows the moment, or the last second of the year 9999 where the moment lies behind it
+abbrev pub IsDateAt : ℕ → HttpDate → Type 0
+IsDateAt moment date = unix_secs date ≡ min moment LAST_SECOND
+
+-- the end of a line
+abbrev pub line_end : List ℕ
+line_end = codes "\r\n"
+
+-- the phrase of a status, empty where it has none
+unfoldable pub phrase_of : ℕ → List ℕ
+phrase_of status = unwrap_or (reason_phrase status) []
+
+-- the version, the status, and its phrase
+abbrev pub status_line : ℕ → List ℕ
+status_line status = codes "HTTP/1.1 " ++ code_digits status ++ codes " " ++ phrase_of status ++ line_end
+
+-- a field: its name and its value
+abbrev pub field_line : List ℕ → List ℕ → List ℕ
+field_line name value = name ++ codes ": " ++ value ++ line_end
+
+-- a line for each field, in order
+abbrev pub field_lines : List Field → List ℕ
+field_lines fields = flat_map (λ field. field_line field.name field.value.bytes) fields
+
+-- the line that sets the session cookie
+abbrev pub cookie_line : Cookie → List ℕ
+cookie_line cookie =
+    codes "set-cookie: JSESSIONID=" ++ cookie.id ++ codes "; Path=" ++ cookie.path ++ codes "; HttpOnly" ++ line_end
+
+-- that line where there is a cookie
+abbrev pub cookie_lines : Option Cookie → List ℕ
+cookie_lines None = []
+cookie_lines (Some cookie) = cookie_line cookie
+
+-- whether a response of that status has content
+abbrev pub allows_content : ℕ → Bool
+allows_content status = not (status == NO_CONTENT)
+
+-- the length of the body, whether it is sent or left out, except where there is no content
+abbrev pub length_lines : Response → List ℕ
+length_lines response =
+    if allows_content response.status then field_line (codes "content-length") (decimal (length response.body)) else []
+
+-- the line that says that the connection closes, where it does
+abbrev pub connection_lines : After → List ℕ
+connection_lines Keep = []
+connection_lines Close = field_line (codes "connection") (codes "close")
+
+-- the lines before the body, with the empty one that ends them
+unfoldable pub response_head : Response → After → HttpDate → List ℕ
+response_head response after date =
+    status_line response.status
+    ++ field_line (codes "date") (date_text date)
+    ++ field_lines response.fields
+    ++ cookie_lines response.cookie
+    ++ length_lines response
+    ++ connection_lines after
+    ++ line_end
+
+-- the body, unless the head alone is written or there is no content
+abbrev pub sent_body : Part → Response → List ℕ
+sent_body HeadOnly response = []
+sent_body Whole response = if allows_content response.status then response.body else []
+
+-- the whole text
+abbrev pub response_text : Response → Part → After → HttpDate → List ℕ
+response_text response part after date = response_head response after date ++ sent_body part response
+
+-- a moment has one text, whichever date shows it
+abbrev pub ResponseTextsAreUnique : Type 0
+ResponseTextsAreUnique =
+    (response : Response) (part : Part) (after : After) (moment : ℕ) (first second : HttpDate)
+    → IsDateAt moment first → IsDateAt moment second
+    → response_text response part after first ≡ response_text response part after second

@@ -1,0 +1,35 @@
+//! A head whose body is awaited, and the verdict on a head.
+
+ghost use Rattle.std.specs.Prelude.{◌≡◌};
+ghost use Rattle.sv_wire.specs.Head.{has_body};
+
+use crate::message::Message;
+use crate::wire_fault::WireFault;
+use sv_body::Framing;
+
+/// A head whose body is awaited: the message without its body, and how its end is found (RFC 9112, section 6).
+#[derive(Debug, Drop)]
+pub struct OwedHead {
+    pub message: Message,
+    pub framing: Framing,
+}
+
+/// The verdict on a head.
+#[derive(Drop)]
+pub(crate) enum Verdict {
+    Refused(WireFault),
+    /// It asks for `100 Continue` before its body is sent.
+    Expecting(OwedHead),
+    /// Its body follows, which may be empty.
+    Accepted(OwedHead),
+}
+
+/// Whether a body of that framing has a byte, or may have one.
+pub(crate) fn has_body(framing: Framing) -> bool
+    ensures { result ≡ has_body framing }
+{
+    match framing {
+        Framing::Length(count) => count > 0,
+        Framing::Chunked => true,
+    }
+}

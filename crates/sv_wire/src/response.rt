@@ -1,0 +1,55 @@
+//! A response, as the container answers it.
+
+ghost use Rattle.std.specs.Prelude.{◌↔◌, IsTrue};
+ghost use Rattle.http.specs.StatusCode.{IsStatusCode};
+
+use sv_head::Field;
+use sv_text::{Bytes, Listed, Text};
+
+/// A response whose body is whole (RFC 9110, section 6).
+#[derive(Debug, Drop)]
+pub struct Response {
+    /// The status code. A response is written where it is from 100 to 999.
+    pub status: u16,
+    /// The fields in the order of their lines, without those that [`write_response`](crate::write_response) adds.
+    pub fields: Listed<Field>,
+    /// The session cookie that is set, where one is.
+    pub cookie: Option<Cookie>,
+    pub body: Bytes,
+}
+
+/// A session cookie, as a response sets it (RFC 6265, section 4.1; Jakarta Servlet 6.0, section 7.1.1).
+#[derive(Debug, Drop)]
+pub struct Cookie {
+    /// The session's id.
+    pub id: Text,
+    /// The path below which the cookie is sent back, as it stands in the line.
+    pub path: Text,
+}
+
+/// How much of a response's text is written.
+#[derive(Clone, Copy, Debug, PartialEq, Eq)]
+pub enum Part {
+    /// The head and the body.
+    Whole,
+    /// The head alone, as in the answer to HEAD (RFC 9110, section 9.3.2).
+    HeadOnly,
+}
+
+/// What becomes of the connection after a response (RFC 9112, section 9.6).
+#[derive(Clone, Copy, Debug, PartialEq, Eq)]
+pub enum After {
+    /// A further response may follow.
+    Keep,
+    /// The response is the last one.
+    Close,
+}
+
+impl Response {
+    /// Whether the status is from 100 to 999, which [`write_response`](crate::write_response) wants.
+    pub fn has_status_code(&self) -> bool
+        ensures { IsTrue result ↔ IsStatusCode self.now.status }
+    {
+        (100..1000).contains(&self.status)
+    }
+}

@@ -1,0 +1,188 @@
+//! The text of a response.
+
+ghost use Rattle.std.specs.Prelude.{◌≡◌, ◌++◌, vec_capacity, IfOk, OnOk, OnErr};
+ghost use Rattle.http.specs.StatusCode.{IsStatusCode};
+ghost use Rattle.httpdate.specs.declared.date.HttpDate.{HttpDate as Date};
+ghost use Rattle.sv_wire.specs.ResponseText.{IsDateAt, ResponseTextsAreUnique, allows_content, connection_lines, cookie_line, cookie_lines, field_line, field_lines, length_lines, phrase_of, response_head, response_text, sent_body, status_line};
+
+use crate::response::{After, Cookie, Part, Response};
+use http::StatusCode;
+use httpdate::HttpDate;
+use itoa::Buffer;
+use std::alloc::{AllocError, Global};
+use sv_head::Field;
+use sv_text::NoMemory;
+
+/// The last second that a date can show: `Fri, 31 Dec 9999 23:59:59 GMT`.
+const LAST_SECOND: u64 = 253_402_300_799;
+
+/// The status of a response that has no content (RFC 9110, section 15.3.5).
+const NO_CONTENT: u16 = 204;
+
+const CRLF: &[u8] = b"\r\n";
+
+/// Appends the text of a response to the output (RFC 9112, sections 4 and 5). Its status is from 100 to 999, which
+/// [`Response::has_status_code`] tests.
+///
+/// The lines are: the status line; `date`; the response's fields in order; `set-cookie` where there is a cookie;
+/// `content-length`, except with 204; `connection: close` where the connection closes. An empty line and the body
+/// follow. With [`Part::HeadOnly`] the body is left out and its length stated; with 204 there is neither.
+///
+/// The moment is in seconds since 1970; behind the year 9999 each counts as that year's last second. The output grows
+/// before the first byte is written: after [`NoMemory`] it is as it was.
+pub fn write_response(
+    response: &Response,
+    part: Part,
+    after: After,
+    moment: u64,
+    output: &mut Vec<u8>,
+) -> Result<(), NoMemory>
+    requires { IsStatusCode response.now.status }
+    ensures text { OnOk result ((date : Date) × IsDateAt moment date
+        × (output.new.items ≡ output.old.items ++ response_text response.now part after date)) }
+    ensures no_memory { OnErr result (output.new.items ≡ output.old.items) }
+    ensures room { OnErr result (vec_capacity output.new ≡ vec_capacity output.old) }
+{
+    let head = head_of(*output.allocator(), response, after, date_at(moment))?;
+    append_both(output, &head, sent_body(response, part))?;
+    Ok(())
+}
+
+/// The law that a response has one text for a part, for what comes after and for a moment: whichever date shows the
+/// moment, the text is the same.
+pub fn response_texts_are_unique()
+    ensures { ResponseTextsAreUnique }
+{}
+
+#[tactic(auto, unfolding(crate::specs::ResponseText::response_head))]
+fn head_of(
+    alloc: Global,
+    response: &Response,
+    after: After,
+    date: HttpDate,
+) -> Result<Vec<u8>, AllocError>
+    requires { IsStatusCode response.now.status }
+    ensures { IfOk result (λ head. head.items ≡ response_head response.now after date) }
+{
+    let mut head = Vec::new(alloc);
+    push_status_line(&mut head, response.status)?;
+    push_field_line(&mut head, b"date", &date.to_bytes())?;
+    push_field_lines(&mut head, response.fields.as_slice())?;
+    push_cookie_lines(&mut head, &response.cookie)?;
+    push_length_lines(&mut head, response)?;
+    push_connection_lines(&mut head, after)?;
+    head.extend_from_slice(CRLF)?;
+    Ok(head)
+}
+
+// Appends both texts, or neither.
+fn append_both(output: &mut Vec<u8>, first: &[u8], second: &[u8]) -> Result<(), AllocError>
+    ensures ok { OnOk result (output.new.items ≡ output.old.items ++ first.now ++ second.now) }
+    ensures err { OnErr result (output.new.items ≡ output.old.items) }
+    ensures room { OnErr result (vec_capacity output.new ≡ vec_capacity output.old) }
+{
+    output.reserve(first.len() + second.len())?;
+    output.extend_from_slice(first).unwrap();
+    output.extend_from_slice(second).unwrap();
+    Ok(())
+}
+
+fn date_at(moment: u64) -> HttpDate
+    ensures { IsDateAt moment result }
+{
+    HttpDate::from_unix_secs(moment.min(LAST_SECOND)).unwrap()
+}
+
+fn push_status_line(head: &mut Vec<u8>, status: u16) -> Result<(), AllocError>
+    requires { IsStatusCode status }
+    ensures { OnOk result (head.new.items ≡ head.old.items ++ status_line status) }
+{
+    let code = StatusCode::from_u16(status).unwrap();
+    head.extend_from_slice(b"HTTP/1.1 ")?;
+    head.extend_from_slice(code.as_str().as_bytes())?;
+    head.extend_from_slice(b" ")?;
+    head.extend_from_slice(phrase_of(code))?;
+    head.extend_from_slice(CRLF)?;
+    Ok(())
+}
+
+#[tactic(auto, unfolding(crate::specs::ResponseText::phrase_of))]
+fn phrase_of(code: StatusCode) -> &'static [u8]
+    ensures { result.now ≡ phrase_of code }
+{
+    code.canonical_reason().unwrap_or("").as_bytes()
+}
+
+fn push_field_line(head: &mut Vec<u8>, name: &[u8], value: &[u8]) -> Result<(), AllocError>
+    ensures { OnOk result (head.new.items ≡ head.old.items ++ field_line name.now value.now) }
+{
+    head.extend_from_slice(name)?;
+    head.extend_from_slice(b": ")?;
+    head.extend_from_slice(value)?;
+    head.extend_from_slice(CRLF)?;
+    Ok(())
+}
+
+fn push_field_lines(head: &mut Vec<u8>, fields: &[Field]) -> Result<(), AllocError>
+    ensures { OnOk result (head.new.items ≡ head.old.items ++ field_lines fields.now) }
+{
+    for field in fields {
+        push_field_line(head, field.name.as_bytes(), field.value.as_bytes())?;
+    }
+    Ok(())
+}
+
+fn push_cookie_lines(head: &mut Vec<u8>, cookie: &Option<Cookie>) -> Result<(), AllocError>
+    ensures { OnOk result (head.new.items ≡ head.old.items ++ cookie_lines cookie.now) }
+{
+    match cookie {
+        Some(cookie) => push_cookie_line(head, cookie),
+        None => Ok(()),
+    }
+}
+
+fn push_cookie_line(head: &mut Vec<u8>, cookie: &Cookie) -> Result<(), AllocError>
+    ensures { OnOk result (head.new.items ≡ head.old.items ++ cookie_line cookie.now) }
+{
+    head.extend_from_slice(b"set-cookie: JSESSIONID=")?;
+    head.extend_from_slice(cookie.id.as_bytes())?;
+    head.extend_from_slice(b"; Path=")?;
+    head.extend_from_slice(cookie.path.as_bytes())?;
+    head.extend_from_slice(b"; HttpOnly\r\n")?;
+    Ok(())
+}
+
+fn push_length_lines(head: &mut Vec<u8>, response: &Response) -> Result<(), AllocError>
+    ensures { OnOk result (head.new.items ≡ head.old.items ++ length_lines response.now) }
+{
+    if allows_content(response.status) {
+        let mut buffer = Buffer::new();
+        let length = buffer.format(response.body.as_slice().len());
+        push_field_line(head, b"content-length", length.as_bytes())?;
+    }
+    Ok(())
+}
+
+fn push_connection_lines(head: &mut Vec<u8>, after: After) -> Result<(), AllocError>
+    ensures { OnOk result (head.new.items ≡ head.old.items ++ connection_lines after) }
+{
+    match after {
+        After::Keep => Ok(()),
+        After::Close => push_field_line(head, b"connection", b"close"),
+    }
+}
+
+fn sent_body(response: &Response, part: Part) -> &[u8]
+    ensures { result.now ≡ sent_body part response.now }
+{
+    match part {
+        Part::Whole if allows_content(response.status) => response.body.as_slice(),
+        _ => &[],
+    }
+}
+
+fn allows_content(status: u16) -> bool
+    ensures { result ≡ allows_content status }
+{
+    status != NO_CONTENT
+}
