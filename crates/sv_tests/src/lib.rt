@@ -8,6 +8,8 @@ mod best_matches;
 #[cfg(test)]
 mod canonical_paths;
 #[cfg(test)]
+mod chunked_bodies;
+#[cfg(test)]
 mod command_runs;
 #[cfg(test)]
 mod credentials;

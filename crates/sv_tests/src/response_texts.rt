@@ -5,7 +5,7 @@ use http::{HeaderName, HeaderValue};
 use std::alloc::Global;
 use std::test::Fail;
 use sv_text::{Bytes, Listed, NoMemory, Text};
-use sv_wire::{After, Cookie, Field, Part, Response, write_response};
+use sv_wire::{Cookie, Field, Response, write_response};
 
 /// Status, fields with `\n` between them, session cookie, body, how it is written and when, text.
 const ROWS: &str = r#"
@@ -209,19 +209,11 @@ fn empty_head(alloc: Global, status: &str, moment: &str) -> Result<Vec<u8>, Fail
 fn written(alloc: Global, response: &Response, manner: &str) -> Result<Vec<u8>, Fail> {
     let (part, rest) = manner.split_once(' ').unwrap_or((manner, ""));
     let (after, moment) = rest.split_once(' ').unwrap_or((rest, ""));
-    let part = if part == "head" {
-        Part::HeadOnly
-    } else {
-        Part::Whole
-    };
-    let after = if after == "close" {
-        After::Close
-    } else {
-        After::Keep
-    };
+    let head_only = part == "head";
+    let keep = after == "keep";
     let mut output = b"before ".to_vec(alloc)?;
     if response.has_status_code() {
-        write_response(response, part, after, moment.parse::<u64>()?, &mut output)?;
+        write_response(response, head_only, keep, moment.parse::<u64>()?, &mut output)?;
     }
     Ok(output)
 }

@@ -1,15 +1,11 @@
 -- The text of a response (RFC 9112, sections 4, 5 and 9.6; RFC 9110, sections 6.6.1, 8.6, 9.3.2 and 15.3.5; RFC 6265, section 4.1).
-use Rattle.std.specs.Prelude.{◌≡◌, ℕ, ◌==◌, min, Bool, not, List, [], ◌++◌, length, codes, decimal, unwrap_or, Option, Some, None, if◌then◌else◌}
+use Rattle.std.specs.Prelude.{◌≡◌, ℕ, ◌==◌, min, Bool, ◌||◌, not, List, [], ◌++◌, length, codes, decimal, unwrap_or, Option, Some, None, if◌then◌else◌}
 use Rattle.std.specs.List.{flat_map}
 use Rattle.http.specs.StatusCode.{code_digits, reason_phrase}
 use Rattle.httpdate.specs.Date.{date_text, unix_secs}
 use Rattle.httpdate.specs.declared.date.HttpDate.{HttpDate}
 use Rattle.sv_head.specs.declared.field.Field.{Field}
-use Rattle.sv_wire.specs.declared.response.After.{After}
-use Rattle.sv_wire.specs.declared.response.After.TheVariants.{Keep, Close}
 use Rattle.sv_wire.specs.declared.response.Cookie.{Cookie}
-use Rattle.sv_wire.specs.declared.response.Part.{Part}
-use Rattle.sv_wire.specs.declared.response.Part.TheVariants.{Whole, HeadOnly}
 use Rattle.sv_wire.specs.declared.response.Response.{Response}
 use Rattle.sv_wire.specs.declared.response_text.TheConstants.{LAST_SECOND, NO_CONTENT}
 
@@ -56,34 +52,32 @@ abbrev pub length_lines : Response → List ℕ
 length_lines response =
     if allows_content response.status then field_line (codes "content-length") (decimal (length response.body)) else []
 
--- the line that says that the connection closes, where it does
-abbrev pub connection_lines : After → List ℕ
-connection_lines Keep = []
-connection_lines Close = field_line (codes "connection") (codes "close")
+-- the line that says that the connection closes, where it is not kept
+abbrev pub connection_lines : Bool → List ℕ
+connection_lines keep = if keep then [] else field_line (codes "connection") (codes "close")
 
 -- the lines before the body, with the empty one that ends them
-unfoldable pub response_head : Response → After → HttpDate → List ℕ
-response_head response after date =
+unfoldable pub response_head : Response → Bool → HttpDate → List ℕ
+response_head response keep date =
     status_line response.status
     ++ field_line (codes "date") (date_text date)
     ++ field_lines response.fields
     ++ cookie_lines response.cookie
     ++ length_lines response
-    ++ connection_lines after
+    ++ connection_lines keep
     ++ line_end
 
 -- the body, unless the head alone is written or there is no content
-abbrev pub sent_body : Part → Response → List ℕ
-sent_body HeadOnly response = []
-sent_body Whole response = if allows_content response.status then response.body else []
+abbrev pub sent_body : Bool → Response → List ℕ
+sent_body head_only response = if head_only || not (allows_content response.status) then [] else response.body
 
 -- the whole text
-abbrev pub response_text : Response → Part → After → HttpDate → List ℕ
-response_text response part after date = response_head response after date ++ sent_body part response
+abbrev pub response_text : Response → Bool → Bool → HttpDate → List ℕ
+response_text response head_only keep date = response_head response keep date ++ sent_body head_only response
 
 -- a moment has one text, whichever date shows it
 abbrev pub ResponseTextsAreUnique : Type 0
 ResponseTextsAreUnique =
-    (response : Response) (part : Part) (after : After) (moment : ℕ) (first second : HttpDate)
+    (response : Response) (head_only keep : Bool) (moment : ℕ) (first second : HttpDate)
     → IsDateAt moment first → IsDateAt moment second
-    → response_text response part after first ≡ response_text response part after second
+    → response_text response head_only keep first ≡ response_text response head_only keep second

@@ -22,7 +22,7 @@ pub use laws::{readings_are_unique, readings_join, readings_split_at_a_cut};
 pub use limits::{MAX_FIELD_LINES, MAX_HEAD_LEN};
 pub use message::{Message, Target};
 pub use owed_head::OwedHead;
-pub use response::{After, Cookie, Part, Response};
+pub use response::{Cookie, Response};
 pub use response_text::{response_texts_are_unique, write_response};
 pub use sv_body::{Framing, MAX_BODY_LEN, MAX_SIZE_LINE_LEN, MAX_TRAILER_LEN};
 pub use sv_head::{Field, MAX_HOST_LEN};

@@ -27,24 +27,6 @@ pub struct Cookie {
     pub path: Text,
 }
 
-/// How much of a response's text is written.
-#[derive(Clone, Copy, Debug, PartialEq, Eq)]
-pub enum Part {
-    /// The head and the body.
-    Whole,
-    /// The head alone, as in the answer to HEAD (RFC 9110, section 9.3.2).
-    HeadOnly,
-}
-
-/// What becomes of the connection after a response (RFC 9112, section 9.6).
-#[derive(Clone, Copy, Debug, PartialEq, Eq)]
-pub enum After {
-    /// A further response may follow.
-    Keep,
-    /// The response is the last one.
-    Close,
-}
-
 impl Response {
     /// Whether the status is from 100 to 999, which [`write_response`](crate::write_response) wants.
     pub fn has_status_code(&self) -> bool

@@ -5,7 +5,7 @@ ghost use Rattle.http.specs.StatusCode.{IsStatusCode};
 ghost use Rattle.httpdate.specs.declared.date.HttpDate.{HttpDate as Date};
 ghost use Rattle.sv_wire.specs.ResponseText.{IsDateAt, ResponseTextsAreUnique, allows_content, connection_lines, cookie_line, cookie_lines, field_line, field_lines, length_lines, phrase_of, response_head, response_text, sent_body, status_line};
 
-use crate::response::{After, Cookie, Part, Response};
+use crate::response::{Cookie, Response};
 use http::StatusCode;
 use httpdate::HttpDate;
 use itoa::Buffer;
@@ -25,31 +25,31 @@ const CRLF: &[u8] = b"\r\n";
 /// [`Response::has_status_code`] tests.
 ///
 /// The lines are: the status line; `date`; the response's fields in order; `set-cookie` where there is a cookie;
-/// `content-length`, except with 204; `connection: close` where the connection closes. An empty line and the body
-/// follow. With [`Part::HeadOnly`] the body is left out and its length stated; with 204 there is neither.
+/// `content-length`, except with 204; `connection: close` unless `keep` says that a further response may follow
+/// (RFC 9112, section 9.6). An empty line and the body follow. With `head_only`, as in the answer to HEAD (RFC 9110,
+/// section 9.3.2), the body is left out and its length stated; with 204 there is neither.
 ///
 /// The moment is in seconds since 1970; behind the year 9999 each counts as that year's last second. The output grows
 /// before the first byte is written: after [`NoMemory`] it is as it was.
 pub fn write_response(
     response: &Response,
-    part: Part,
-    after: After,
+    head_only: bool,
+    keep: bool,
     moment: u64,
     output: &mut Vec<u8>,
 ) -> Result<(), NoMemory>
     requires { IsStatusCode response.now.status }
     ensures text { OnOk result ((date : Date) × IsDateAt moment date
-        × (output.new.items ≡ output.old.items ++ response_text response.now part after date)) }
+        × (output.new.items ≡ output.old.items ++ response_text response.now head_only keep date)) }
     ensures no_memory { OnErr result (output.new.items ≡ output.old.items) }
     ensures room { OnErr result (vec_capacity output.new ≡ vec_capacity output.old) }
 {
-    let head = head_of(*output.allocator(), response, after, date_at(moment))?;
-    append_both(output, &head, sent_body(response, part))?;
+    let head = head_of(*output.allocator(), response, keep, date_at(moment))?;
+    append_both(output, &head, sent_body(response, head_only))?;
     Ok(())
 }
 
-/// The law that a response has one text for a part, for what comes after and for a moment: whichever date shows the
-/// moment, the text is the same.
+/// The law that a response has one text at a moment: whichever date shows the moment, the text is the same.
 pub fn response_texts_are_unique()
     ensures { ResponseTextsAreUnique }
 {}
@@ -58,11 +58,11 @@ pub fn response_texts_are_unique()
 fn head_of(
     alloc: Global,
     response: &Response,
-    after: After,
+    keep: bool,
     date: HttpDate,
 ) -> Result<Vec<u8>, AllocError>
     requires { IsStatusCode response.now.status }
-    ensures { IfOk result (λ head. head.items ≡ response_head response.now after date) }
+    ensures { IfOk result (λ head. head.items ≡ response_head response.now keep date) }
 {
     let mut head = Vec::new(alloc);
     push_status_line(&mut head, response.status)?;
@@ -70,7 +70,7 @@ fn head_of(
     push_field_lines(&mut head, response.fields.as_slice())?;
     push_cookie_lines(&mut head, &response.cookie)?;
     push_length_lines(&mut head, response)?;
-    push_connection_lines(&mut head, after)?;
+    push_connection_lines(&mut head, keep)?;
     head.extend_from_slice(CRLF)?;
     Ok(head)
 }
@@ -163,22 +163,22 @@ fn push_length_lines(head: &mut Vec<u8>, response: &Response) -> Result<(), Allo
     Ok(())
 }
 
-fn push_connection_lines(head: &mut Vec<u8>, after: After) -> Result<(), AllocError>
-    ensures { OnOk result (head.new.items ≡ head.old.items ++ connection_lines after) }
+fn push_connection_lines(head: &mut Vec<u8>, keep: bool) -> Result<(), AllocError>
+    ensures { OnOk result (head.new.items ≡ head.old.items ++ connection_lines keep) }
 {
-    match after {
-        After::Keep => Ok(()),
-        After::Close => push_field_line(head, b"connection", b"close"),
+    if !keep {
+        push_field_line(head, b"connection", b"close")?;
     }
+    Ok(())
 }
 
-fn sent_body(response: &Response, part: Part) -> &[u8]
-    ensures { result.now ≡ sent_body part response.now }
+fn sent_body(response: &Response, head_only: bool) -> &[u8]
+    ensures { result.now ≡ sent_body head_only response.now }
 {
-    match part {
-        Part::Whole if allows_content(response.status) => response.body.as_slice(),
-        _ => &[],
+    if head_only || !allows_content(response.status) {
+        return &[];
     }
+    response.body.as_slice()
 }
 
 fn allows_content(status: u16) -> bool

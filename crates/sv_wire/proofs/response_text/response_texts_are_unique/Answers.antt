@@ -5,5 +5,5 @@ use Rattle.sv_wire.proofs.response_text.response_texts_are_unique.Goals as goal
 
 pub returns : goal.returns
 unfolding response_head
-returns c response part after moment first second is_first is_second =
+returns c response head_only keep moment first second is_first is_second =
     rw (unix_secs_injective first second (is_first ∙ sym is_second))
