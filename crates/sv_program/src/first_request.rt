@@ -1,7 +1,6 @@
 //! The command `first`: what the example policy decides for the first request on a stream.
 
-ghost use Rattle.std.specs.Prelude.{◌≡◌, ◌≢◌, [], ◌∷◌, ◌++◌, take, string_bytes, option_copied, IfOk, IfErr, OnOk, IfSome};
-ghost use Rattle.std.specs.Io.KnownBytes.{Appends};
+ghost use Rattle.std.specs.Prelude.{◌≡◌, ◌≢◌, take, string_bytes, option_copied, IfOk, IfErr, OnOk, IfSome};
 ghost use Rattle.sv_wire.specs.Items.{first_item};
 ghost use Rattle.sv_program.specs.CommandFault.{IsReadFault};
 ghost use Rattle.sv_program.specs.FirstLine.{item_line, message_line, decision_line, refused_line, IsFirstLine, RunsFirst};
@@ -9,9 +8,9 @@ ghost use Rattle.sv_program.specs.FirstLine.{item_line, message_line, decision_l
 use crate::command_fault::CommandFault;
 use crate::example_policy::example_constraints;
 use crate::limits::MAX_INPUT_BYTES;
+use crate::output::write_line;
 use std::alloc::Global;
 use std::fmt::Display;
-use std::io;
 use std::io::{ErrorKind, Read, Write};
 use sv_constraints::{Rules, decide_plain};
 use sv_text::{Listed, NoMemory};
@@ -125,11 +124,4 @@ fn refused_line<D: Display>(alloc: Global, cause: &D) -> Result<String, NoMemory
     ensures { IfSome (D.output cause.now) (λ name. IfOk result (λ line. string_bytes line ≡ refused_line name)) }
 {
     Ok(format!(in alloc; "refused cause={cause}")?)
-}
-
-fn write_line<W: Write>(writer: &mut W, line: &str) -> io::Result<()>
-    ensures { OnOk result (Appends (W.contents writer.old) (W.contents writer.new) (line.now ++ 10 ∷ [])) }
-{
-    writer.writeln(line)?;
-    writer.flush()
 }
