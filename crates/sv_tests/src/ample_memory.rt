@@ -1,6 +1,8 @@
 //! Each call that may be refused memory, with memory at hand.
 
 use std::test::Fail;
+use sv_body::{BodyReader, Framing, Progress};
+use sv_head::{Field, replace_hosts};
 use sv_mapping::Pattern;
 use sv_program::first_line;
 use sv_text::Text;
@@ -22,6 +24,19 @@ fn want_of_memory_is_not_the_answer_with_ample_memory(rt: HostRuntime) -> Result
 
     let pattern = Pattern::parse(rt.alloc(), "/a/*")?;
     assert_eq!(rt; pattern.text(), "/a/*");
+
+    let mut fields = [Field::copy_of(rt.alloc(), b"HOST", b"h")?];
+    assert_eq!(rt; fields[0].name.as_str(), "host");
+    assert_eq!(rt; fields[0].value.as_bytes(), b"h".as_slice());
+    replace_hosts(rt.alloc(), &mut fields, b"other")?;
+    assert_eq!(rt; fields[0].value.as_bytes(), b"other".as_slice());
+
+    let reader = BodyReader::new(rt.alloc(), Framing::Length(2));
+    let Progress::Complete(body, len) = reader.read(b"abc")? else {
+        panic!(rt; "the body is missing");
+    };
+    assert_eq!(rt; body.as_slice(), b"ab".as_slice());
+    assert_eq!(rt; len, 2);
 
     let items = Inbox::new(rt.alloc()).feed(b"GET /a HTTP/1.0\r\n\r\n")?;
     let Some(Item::Message(message)) = items.first() else {
