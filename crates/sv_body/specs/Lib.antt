@@ -3,3 +3,4 @@ pub mod Chunks
 pub mod Cut
 pub mod Machine
 pub mod Progress
+pub mod Storage

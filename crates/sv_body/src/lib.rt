@@ -7,6 +7,7 @@ mod chunk_size;
 mod cut;
 mod framing;
 mod history;
+mod laws;
 mod limits;
 mod machine;
 
@@ -15,4 +16,5 @@ pub use body_reader::{BodyReader, Progress};
 pub use cut::Cut;
 pub use framing::Framing;
 pub use history::{History, Piece};
+pub use laws::open_texts_are_short;
 pub use limits::{MAX_BODY_LEN, MAX_SIZE_LINE_LEN, MAX_TRAILER_LEN};

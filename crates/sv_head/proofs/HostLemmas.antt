@@ -1,5 +1,5 @@
 -- The bytes of a host are those of a value.
-use Rattle.std.proofs.Common.{◌≡◌, ℕ, zero, suc, ◌+◌, ◌<◌, ◌≤◌, Bool, true, false, ◌&&◌, ◌||◌, not, ◌⊎◌, List, [], ◌∷◌, ◌++◌, length, get_or, set, take, drop, map, ◌∙◌, refl, ap, subst, inl, inr, eqb, leb, codes, arith}
+use Rattle.std.proofs.Common.{◌≡◌, ℕ, zero, suc, ◌+◌, ◌<◌, ◌≤◌, Bool, true, ◌||◌, not, ◌⊎◌, List, [], ◌∷◌, ◌++◌, length, get_or, set, take, drop, map, ◌∙◌, refl, ap, subst, inl, inr, eqb, leb, codes, arith}
 use Rattle.std.specs.List.{list_all, list_any}
 use Rattle.std.specs.Char.{is_ascii_alphanumeric}
 use Rattle.std.specs.Int.{is_in_range}

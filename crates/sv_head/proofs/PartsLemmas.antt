@@ -1,9 +1,9 @@
 -- What was seen of the parts of a list, and what the list says.
-use Rattle.std.proofs.Common.{◌≡◌, ℕ, ◌+◌, ◌*◌, ◌^◌, ◌<◌, ◌==◌, Bool, true, false, ◌&&◌, not, List, [], ◌∷◌, ◌++◌, length, map, Option, None, Some, refl, sym, ap, ◌∙◌, cond, eqb, ltb, leb, codes, arith, take, get_or}
+use Rattle.std.proofs.Common.{◌≡◌, ℕ, ◌+◌, ◌*◌, ◌^◌, ◌<◌, ◌==◌, Bool, true, false, ◌&&◌, not, List, [], ◌∷◌, ◌++◌, length, map, Option, None, Some, refl, sym, ap, ◌∙◌, cond, eqb, ltb, leb, arith, take, get_or}
 use Rattle.std.specs.List.{filter, flat_map, fold, list_all}
 use Rattle.std.specs.Str.Parse.{digits_value, AllDigits}
 use Rattle.std.specs.Char.{is_ascii_digit, digit_value}
-use Rattle.std.proofs.lemmas.Bool.{and_parts, or_cases, eq-eqb, ne_eqb, eqb-true, leb-true}
+use Rattle.std.proofs.lemmas.Bool.{and_parts, eq-eqb, ne_eqb, leb-true}
 use Rattle.std.proofs.lemmas.List.{append_assoc}
 use Rattle.std.proofs.lemmas.List.Sums.{AllPass-from_list_all}
 use Rattle.std.proofs.lemmas.Int.Digits.{digits_value_more}
@@ -18,7 +18,7 @@ use Rattle.sv_head.specs.declared.field.Field.{Field}
 use Rattle.sv_head.specs.declared.length.Lengths.{Lengths}
 use Rattle.sv_head.specs.declared.length.Lengths.TheVariants as lengths
 use Rattle.sv_head.specs.Codings.{plain_part, codings_in, is_chunked, ends_chunked, kind_of}
-use Rattle.sv_head.specs.Fields.{is_named, values_of, parts_of, parts_by_name}
+use Rattle.sv_head.specs.Fields.{is_named, parts_of, parts_by_name}
 use Rattle.sv_head.specs.Length.{is_length, is_number, the_length}
 use Rattle.sv_head.specs.Lengths.{length_of, next_length, length_with}
 use Rattle.sv_head.specs.Seen.{next_seen, seen_with}

@@ -10,7 +10,7 @@ use Rattle.std.proofs.lemmas.Str.{IsUtf8-nil, IsUtf8-from_is_utf8, is_utf8-from_
 use Rattle.percent_encoding.specs.Percent.{percent_decode}
 use Rattle.percent_encoding.proofs.PercentLemmas.{percent_decode-nil, percent_decode_not_percent}
 use Rattle.sv_uri.specs.declared.fault.PathFault.{PathFault}
-use Rattle.sv_uri.specs.Fault.{when}
+use Rattle.sv_text.specs.Faults.{when}
 use Rattle.sv_uri.specs.Segment.{name_of, is_control, is_empty, is_same, is_parent, has_bad_escape, name_faults, segment_faults}
 use Rattle.sv_uri.proofs.TargetLemmas.{holds, before_none, behind_none, none_All}
 

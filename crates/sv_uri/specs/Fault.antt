@@ -1,13 +1,9 @@
 -- The faults of a request target and their order: Jakarta Servlet 6.0, section 3.5.2 (the sequences to refuse).
-use Rattle.std.specs.Prelude.{ℕ, Bool, List, [], ◌∷◌, Option, Some, None, Result, Ok, Err, if◌then◌else◌, codes}
+use Rattle.std.specs.Prelude.{ℕ, List, [], ◌∷◌, Option, Some, None, Result, Ok, Err, codes}
 use Rattle.sv_uri.specs.declared.fault.PathFault.{PathFault}
 use Rattle.sv_uri.specs.declared.fault.PathFault.TheVariants.{Fragment, NoSlash, BadEscape, EncodedSlash, Backslash, Control, NotUtf8, DotSegment, EmptyParameter, Climbs}
 use Rattle.sv_uri.specs.declared.fault.CanonFault.{CanonFault}
 use Rattle.sv_uri.specs.declared.fault.CanonFault.TheVariants.{Path, NoMemory}
-
--- the fault, where the test holds
-abbrev pub when : Bool → PathFault → List PathFault
-when test fault = if test then fault ∷ [] else []
 
 -- the first of the faults, or else the answer
 abbrev pub first_or : {A : Type 0} → List PathFault → A → Result A PathFault

@@ -10,7 +10,8 @@ use Rattle.sv_uri.specs.declared.fault.PathFault.TheVariants.{BadEscape, Encoded
 use Rattle.std.specs.Cow.{cow_slice_items}
 use Rattle.std.specs.declared.borrow.CowSlice.{CowSlice}
 use Rattle.sv_uri.specs.declared.fault.CanonFault.{CanonFault}
-use Rattle.sv_uri.specs.Fault.{when, first, path_fault}
+use Rattle.sv_text.specs.Faults.{when}
+use Rattle.sv_uri.specs.Fault.{first, path_fault}
 use Rattle.sv_uri.specs.Target.{before, behind}
 
 -- the segment without its parameter

@@ -1,5 +1,5 @@
 -- A body that is being read, and what its stream begins with.
-use Rattle.std.proofs.Common.{◌≡◌, ℕ, ◌+◌, ◌-◌, ◌<◌, ◌≤◌, Bool, true, false, ◌⊎◌, List, [], ◌∷◌, ◌++◌, length, take, drop, None, Some, refl, sym, ap, ◌∙◌, subst, inl, inr, cond, arith, Result, Ok, Err}
+use Rattle.std.proofs.Common.{◌≡◌, ℕ, ◌+◌, ◌-◌, ◌≤◌, Bool, true, false, ◌⊎◌, List, [], ◌++◌, length, take, drop, None, Some, refl, sym, ap, ◌∙◌, subst, inl, inr, cond, arith, Result, Ok, Err}
 use Rattle.std.specs.Bool.{MatchBool}
 use Rattle.std.specs.Result.{IfOk}
 use Rattle.std.proofs.lemmas.List.{append_assoc, append-nil, take-append-le, drop-append-le, length-take, length-drop, take_all, drop_all, drop-drop, take-append-drop, take-take}
@@ -30,9 +30,7 @@ use Rattle.sv_wire.specs.Pending.{IsHeadOf, owed_by, rest_of, IsSound, Begins}
 use Rattle.sv_wire.specs.Reads.{Start, gives, awaits, ReadsHead, cut_head, with_body, after_body, StartsBody, StartsBehind, StartsAt, text_of, Starts}
 use Rattle.sv_wire.specs.WireFault.{fault_of}
 use Rattle.sv_wire.proofs.EmptyLinesLemmas.{drop_empty_lines_twice, drop_empty_lines_front}
-use Rattle.sv_wire.specs.declared.inbox.Ended.TheVariants.{Truncated}
-use Rattle.sv_wire.specs.Inbox.{end_within}
-use Rattle.sv_wire.proofs.ReadsLemmas.{IsSettled, settled, cut_holds}
+use Rattle.sv_wire.proofs.ReadsLemmas.{IsSettled, settled}
 
 -- ---- a body behind what has come
 

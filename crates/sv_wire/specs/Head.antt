@@ -18,6 +18,7 @@ use Rattle.sv_head.specs.Host.{accepts_hosts, with_hosts}
 use Rattle.sv_head.specs.Length.{content_length}
 use Rattle.sv_head.specs.Persistence.{keeps}
 use Rattle.sv_head.specs.TargetForm.{authority_of, path_of, target_form}
+use Rattle.sv_text.specs.Faults.{when}
 use Rattle.sv_wire.specs.declared.message.Target.{Target}
 use Rattle.sv_wire.specs.declared.message.Target.TheVariants.{Path}
 use Rattle.sv_wire.specs.declared.message.Target.TheVariants as targets
@@ -32,10 +33,6 @@ abbrev pub ends_head : List ℕ → Bool
 ends_head text =
     ends_with nat_eq text (line_feed ∷ line_feed ∷ [])
     || ends_with nat_eq text (line_feed ∷ carriage_return ∷ line_feed ∷ [])
-
--- a list of the fault where the test holds, else of none
-abbrev pub when : Bool → WireFault → List WireFault
-when test fault = if test then fault ∷ [] else []
 
 -- whether a target is in no form that is served
 abbrev pub is_unknown : TargetForm → Bool

@@ -1,9 +1,11 @@
--- The laws of the reading of a stream: together they say that no cut of the stream into pieces matters.
-use Rattle.std.specs.Prelude.{◌≡◌, ℕ, true, false, ◌⊎◌, List, ◌++◌, Option}
+-- The laws of the reading of a stream: three say together that no cut of the stream into pieces matters, one what is stored.
+use Rattle.std.specs.Prelude.{◌≡◌, ℕ, ◌<◌, true, false, ◌⊎◌, List, ◌++◌, length, Option}
+use Rattle.sv_body.specs.declared.cut.Cut.TheVariants.{Unended}
 use Rattle.sv_wire.specs.declared.item.Item.{Item}
+use Rattle.sv_wire.specs.declared.limits.TheConstants.{MAX_HEAD_LEN}
 use Rattle.sv_wire.specs.declared.owed_head.OwedHead.{OwedHead}
 use Rattle.sv_wire.specs.Items.{are_ended}
-use Rattle.sv_wire.specs.Reads.{Reads}
+use Rattle.sv_wire.specs.Reads.{Reads, cut_head}
 
 -- a reading goes on with the reading of its rest and what follows, unless it has ended
 abbrev pub ReadingsJoin : Type 0
@@ -33,3 +35,7 @@ ReadingsSplitAtACut =
     ⊎ ((front : List Item) × (more : List Item) × (next : Option OwedHead) × (between : List ℕ)
     × (items ≡ front ++ more) × (are_ended front ≡ false)
     × Reads owed first front next between × Reads next (between ++ second) more left rest)
+
+-- a head that has no end yet is shorter than a head may be
+abbrev pub OpenHeadsAreShort : Type 0
+OpenHeadsAreShort = (held : List ℕ) → cut_head held ≡ Unended → length held < MAX_HEAD_LEN

@@ -1,4 +1,4 @@
-use Rattle.std.proofs.Common.{◌≡◌, codes, sym, ap, ◌∙◌}
+use Rattle.std.proofs.Common.{codes, sym, ap, ◌∙◌}
 use Rattle.sv_head.specs.Fields.{parts_by_name}
 use Rattle.sv_head.proofs.PartsLemmas.{kind_seen, kind_is_seen}
 use Rattle.sv_head.proofs.codings.coding_kind.Goals as goal

@@ -1,4 +1,4 @@
-use Rattle.std.proofs.Common.{◌≡◌, codes, sym, ap, ◌∙◌}
+use Rattle.std.proofs.Common.{codes, sym, ap, ◌∙◌}
 use Rattle.sv_head.specs.Fields.{parts_by_name}
 use Rattle.sv_head.proofs.PartsLemmas.{length_seen, length_is_seen}
 use Rattle.sv_head.proofs.length.content_length.Goals as goal

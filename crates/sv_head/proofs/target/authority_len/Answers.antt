@@ -1,4 +1,4 @@
-use Rattle.std.proofs.Common.{length, sym, ◌∙◌, arith}
+use Rattle.std.proofs.Common.{length, sym, arith}
 use Rattle.std.proofs.lemmas.List.Sums.{position_or_len_is}
 use Rattle.sv_head.specs.TargetForm.{is_behind_authority}
 use Rattle.sv_head.proofs.target.authority_len.Goals as goal
