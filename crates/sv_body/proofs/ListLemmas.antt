@@ -10,7 +10,3 @@ pub drop_behind : (xs ys : List ℕ) (k n : ℕ) → k ≡ length xs + n → dro
 drop_behind [] ys k n is = let same : k ≡ n = omega arith in rw same
 drop_behind (x ∷ xs) ys zero n is = absurd (omega arith)
 drop_behind (x ∷ xs) ys (suc k) n is = drop_behind xs ys k n (omega arith)
-
-pub no_bytes : (xs : List ℕ) → length xs ≡ 0 → xs ≡ []
-no_bytes [] none = refl
-no_bytes (x ∷ xs) none = absurd (omega arith)

@@ -118,23 +118,25 @@ module _ (bytes text : List ℕ) (count here : ℕ) (taken : here ≡ min count 
       subst (λ t. GoesOn bytes (read_data count t) body) (sym parts)
       (data_on bytes (take here text) (drop here text ++ more) count (count - here) body (omega (arith, taken, length-take here text)) reads)
 
-  pub data_moves : here < count → 0 < length text → 0 < count → length bytes + count ≤ MAX_BODY_LEN
-      → (0 < here) × (here ≤ length text) × FitsStage (Data (count - here)) [] (bytes ++ take here text)
-      × ((more : List ℕ) (body : Body) → Resumes (Data (count - here)) (bytes ++ take here text) ([] ++ (drop here text ++ more)) body
+  pub data_awaits : here < count → 0 < count → length bytes + count ≤ MAX_BODY_LEN
+      → FitsStage (Data (count - here)) [] (bytes ++ take here text)
+      × Resumes (Data (count - here)) (bytes ++ take here text) ([] ++ []) unfinished
+      × ((more : List ℕ) (body : Body) → Resumes (Data (count - here)) (bytes ++ take here text) ([] ++ more) body
       → Resumes (Data count) bytes ([] ++ (text ++ more)) body)
-  data_moves short some counts fits = (
-    omega (arith, taken, some, counts),
-    omega (arith, taken),
-    (refl, omega (arith, short), omega (arith, fits, taken, short, length-append bytes (take here text), length-take here text)),
-    data_front,
-  )
+  data_awaits short counts fits =
+      let all : take here text ≡ text = take_all here text (omega (arith, taken, short)) in
+      rw all (
+        (refl, omega (arith, short), omega (arith, fits, taken, short, length-append bytes text)),
+        subst (λ part. GoesOn (bytes ++ text) part unfinished) (sym (read_data_short (count - here) [] (omega (arith, short)))) refl,
+        λ more body reads. data_on bytes text more count (count - here) body (omega (arith, taken, short)) reads,
+      )
 
-  pub data_ends : (here < count → ⊥) → 0 < length text → 0 < count → length bytes + count ≤ MAX_BODY_LEN
+  pub data_ends : (here < count → ⊥) → 0 < count → length bytes + count ≤ MAX_BODY_LEN
       → (0 < here) × (here ≤ length text) × FitsStage DataEnd [] (bytes ++ take here text)
       × ((more : List ℕ) (body : Body) → Resumes DataEnd (bytes ++ take here text) ([] ++ (drop here text ++ more)) body
       → Resumes (Data count) bytes ([] ++ (text ++ more)) body)
-  data_ends long some counts fits = (
-    omega (arith, taken, some, counts),
+  data_ends long counts fits = (
+    omega (arith, taken, long, counts),
     omega (arith, taken),
     (omega arith, omega (arith, fits, taken, length-append bytes (take here text), length-take here text)),
     λ more body reads. data_front more body
@@ -143,15 +145,6 @@ module _ (bytes text : List ℕ) (count here : ℕ) (taken : here ≡ min count 
     where
       whole : (more : List ℕ) → 0 ≡ count - here
       whole more = omega (arith, long, taken)
-
-pub data_awaits : (bytes : List ℕ) (count : ℕ) → 0 < count → length bytes + count ≤ MAX_BODY_LEN
-    → FitsStage (Data count) [] bytes × Resumes (Data count) bytes ([] ++ []) unfinished
-    × ((more : List ℕ) (body : Body) → Resumes (Data count) bytes ([] ++ more) body → Resumes (Data count) bytes ([] ++ ([] ++ more)) body)
-data_awaits bytes count some fits = (
-  (refl, some, fits),
-  subst (λ part. GoesOn bytes part unfinished) (sym (read_data_short count [] (omega (arith, some)))) refl,
-  λ more body reads. reads,
-)
 
 -- the CRLF behind a chunk's bytes
 module _ (bytes held text after : List ℕ) (here : ℕ) (taken : here ≡ min (length text) (2 - length held))

@@ -1,6 +1,6 @@
 //! A reader of one body.
 
-ghost use Rattle.std.specs.Prelude.{◌≡◌, [], IfOk};
+ghost use Rattle.std.specs.Prelude.{◌≡◌, IfOk, OnErr};
 ghost use Rattle.sv_body.specs.Body.{nothing_came};
 
 use crate::body_fault::BodyFault;
@@ -26,7 +26,7 @@ pub struct BodyReader {
 #[derive(Drop)]
 pub enum Progress {
     /// The body is not whole. The reader goes on with the next piece.
-    Awaits(BodyReader),
+    Awaits,
     /// The body, which ends after so many bytes of the piece.
     Complete(Bytes, usize),
     /// A fault, which shows after so many bytes of the piece.
@@ -60,23 +60,32 @@ impl BodyReader {
         }
     }
 
-    /// Reads a piece of the stream up to the end of the body, if it is there.
-    pub fn read(self, piece: &[u8]) -> Result<Progress, NoMemory>
-        ensures { IfOk result (ReadsOn self piece.now) }
+    /// Reads a piece of the stream up to the end of the body, if it is there. Behind the end, a fault or want of memory the
+    /// reader is as before the first byte of a body.
+    pub fn read(&mut self, piece: &[u8]) -> Result<Progress, NoMemory>
+        ensures read { IfOk result (λ progress. ReadsOn self.old piece.now progress self.new) }
+        ensures no_memory { OnErr result (self.new ≡ nothing_came self.old.framing) }
     {
-        let BodyReader {
-            framing,
-            mut machine,
-            came,
-        } = self;
-        Ok(match machine.run(piece)? {
-            Stop::Awaits => Progress::Awaits(BodyReader {
-                framing,
-                machine,
-                came: came.and(&Piece { bytes: piece }),
-            }),
-            Stop::Complete(at) => Progress::Complete(Bytes::from_vec(machine.body), at),
-            Stop::Broken(fault, at) => Progress::Broken(fault, at),
-        })
+        match self.machine.run(piece) {
+            Ok(Stop::Awaits) => {
+                self.came = self.came.and(&Piece { bytes: piece });
+                Ok(Progress::Awaits)
+            }
+            Ok(Stop::Complete(at)) => {
+                let body = self.machine.begin_anew(self.framing);
+                self.came = History::new();
+                Ok(Progress::Complete(Bytes::from_vec(body), at))
+            }
+            Ok(Stop::Broken(fault, at)) => {
+                self.machine.begin_anew(self.framing);
+                self.came = History::new();
+                Ok(Progress::Broken(fault, at))
+            }
+            Err(NoMemory) => {
+                self.machine.begin_anew(self.framing);
+                self.came = History::new();
+                Err(NoMemory)
+            }
+        }
     }
 }

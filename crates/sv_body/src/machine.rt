@@ -11,6 +11,7 @@ use crate::cut::{Cut, Text};
 use crate::framing::Framing;
 use crate::limits::{MAX_BODY_LEN, MAX_SIZE_LINE_LEN, MAX_TRAILER_LEN};
 use std::alloc::Global;
+use std::mem;
 use sv_text::NoMemory;
 
 /// What comes next of a body.
@@ -72,6 +73,15 @@ impl Machine {
             held: Vec::new(alloc),
             body: Vec::new(alloc),
         }
+    }
+
+    /// Goes back before the first byte of a body, and gives the bytes that were read of one.
+    pub(crate) fn begin_anew(&mut self, framing: Framing) -> Vec<u8>
+        ensures opens { Opens framing self.new }
+        ensures bytes { result ≡ self.old.body }
+    {
+        let alloc = *self.body.allocator();
+        mem::replace(self, Machine::new(alloc, framing)).body
     }
 
     /// Reads a text up to where it comes to a stop. After `NoMemory` the machine is of no use.
@@ -145,14 +155,11 @@ impl Machine {
         requires fit { FitsStage (Data count) self.old.held.items self.old.body.items }
         ensures { IfOk result (λ step. StepsFrom (Data count) self.old.held.items self.old.body.items text.now step self.new) }
     {
-        if text.is_empty() {
-            return Ok(Step::Stopped(Stop::Awaits));
-        }
         let here = count.min(text.len());
         self.body.extend_from_slice(&text[..here])?;
         if here < count {
             self.stage = Stage::Data(count - here);
-            return Ok(Step::Moved(here));
+            return Ok(Step::Stopped(Stop::Awaits));
         }
         self.stage = Stage::DataEnd;
         Ok(Step::Moved(here))

@@ -26,7 +26,7 @@ use Rattle.sv_wire.specs.declared.wire_fault.WireFault.TheVariants.{HeadTooLarge
 use Rattle.sv_wire.specs.EmptyLines.{drop_empty_lines}
 use Rattle.sv_wire.specs.Head.{ends_head}
 use Rattle.sv_wire.specs.Next.{HoldsText, StartsNext, ComesNext, IsHeadAt}
-use Rattle.sv_wire.specs.Pending.{IsHeadOf, owed_by, rest_of, IsSound, Begins}
+use Rattle.sv_wire.specs.Pending.{IsHeadOf, owed_by, rest_of, IsSound, Begins, ReadsPiece}
 use Rattle.sv_wire.specs.Reads.{Start, gives, awaits, ReadsHead, cut_head, with_body, after_body, StartsBody, StartsBehind, StartsAt, text_of, Starts}
 use Rattle.sv_wire.specs.WireFault.{fault_of}
 use Rattle.sv_wire.proofs.EmptyLinesLemmas.{drop_empty_lines_twice, drop_empty_lines_front}
@@ -83,8 +83,9 @@ module _ (pending : Pending) (stream : List ℕ) (at : ℕ) (inside : at ≤ len
       body_behind pending.owed pending.head.bytes pending.reader.came (drop at stream) pending.is_asked pending.reader.framing body sound.0 sound.1 reads
 
   pub body_complete : (bytes : List ℕ) (len : ℕ) (message : MessageRecord) → message ≡ with_body bytes pending.owed.message
-      → ReadsOn pending.reader (drop at stream) (Complete bytes len) → ComesNext (Some pending) stream at (Found (Message message) None (at + len))
-  body_complete bytes len message is reads =
+      → (after : Awaited) → ReadsOn pending.reader (drop at stream) (Complete bytes len) after
+      → ComesNext (Some pending) stream at (Found (Message message) None (at + len))
+  body_complete bytes len message is after reads =
       let fits : at + len ≤ length stream = omega (arith, inside, reads.0, length-drop at stream) in (
         omega arith,
         fits,
@@ -96,8 +97,9 @@ module _ (pending : Pending) (stream : List ℕ) (at : ℕ) (inside : at ≤ len
       )
 
   pub body_broken : (fault : BodyFault) (wire : WireFault) (len : ℕ) → wire ≡ fault_of fault
-      → ReadsOn pending.reader (drop at stream) (Broken fault len) → ComesNext (Some pending) stream at (Found (Refuse wire) None (at + len))
-  body_broken fault wire len is reads =
+      → (after : Awaited) → ReadsOn pending.reader (drop at stream) (Broken fault len) after
+      → ComesNext (Some pending) stream at (Found (Refuse wire) None (at + len))
+  body_broken fault wire len is after reads =
       let fits : at + len ≤ length stream = omega (arith, inside, reads.0, length-drop at stream) in (
         omega arith,
         fits,
@@ -108,14 +110,13 @@ module _ (pending : Pending) (stream : List ℕ) (at : ℕ) (inside : at ≤ len
             (starts (broken fault (drop len (drop at stream))) reads.1)),
       )
 
-  pub body_awaits : (after : Awaited) → ReadsOn pending.reader (drop at stream) (Awaits after)
-      → ComesNext (Some pending) stream at (AwaitsBody (record { owed = pending.owed; is_asked = pending.is_asked; head = pending.head; reader = after }))
-  body_awaits after reads = (
-    (ap (λ (a : Awaited). a.framing) reads.0 ∙ sound.0, sound.1),
+  pub body_awaits : (after : Pending) → ReadsPiece pending (drop at stream) Awaits after → ComesNext (Some pending) stream at (AwaitsBody after)
+  body_awaits after reads = subst (λ p. ComesNext (Some pending) stream at (AwaitsBody p)) (sym reads.1) (
+    (ap (λ (a : Awaited). a.framing) reads.0.0 ∙ sound.0, sound.1),
     refl,
-    ap (λ (a : Awaited). pending.head.bytes ++ a.came) reads.0
+    ap (λ (a : Awaited). pending.head.bytes ++ a.came) reads.0.0
         ∙ text_behind pending.owed pending.head.bytes pending.reader.came (drop at stream) pending.is_asked sound.1,
-    starts unfinished reads.1,
+    starts unfinished reads.0.1,
   )
 
 -- ---- a head at a place

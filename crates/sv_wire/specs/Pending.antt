@@ -1,8 +1,10 @@
 -- A body that is being read, and what contracts see of it (RFC 9112, section 6).
 use Rattle.std.specs.Prelude.{◌≡◌, ℕ, Bool, List, [], ◌++◌, length, if◌then◌else◌, Option, None, Some}
 use Rattle.std.specs.Bool.{MatchBool}
+use Rattle.sv_body.specs.declared.body_reader.Progress.{Progress}
 use Rattle.sv_body.specs.declared.cut.Cut.TheVariants.{Whole}
 use Rattle.sv_body.specs.Body.{nothing_came}
+use Rattle.sv_body.specs.Progress.{ReadsOn}
 use Rattle.sv_wire.specs.declared.owed_head.OwedHead.{OwedHead}
 use Rattle.sv_wire.specs.declared.owed_head.Verdict.TheVariants.{Accepted}
 use Rattle.sv_wire.specs.declared.pending.Pending.{Pending}
@@ -45,3 +47,9 @@ pub record Begins (is_asked : Bool) (head : List ℕ) (owed : OwedHead) (pending
   pub bytes : pending.head.bytes ≡ head
   pub owes : pending.owed ≡ owed
   pub reader : pending.reader ≡ nothing_came owed.framing
+
+-- a piece is read behind what has come: the body is still that of its head
+abbrev pub ReadsPiece : Pending → List ℕ → Progress → Pending → Type 0
+ReadsPiece before piece progress after =
+    ReadsOn before.reader piece progress after.reader
+    × (after ≡ record { owed = before.owed; is_asked = before.is_asked; head = before.head; reader = after.reader })

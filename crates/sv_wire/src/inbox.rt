@@ -9,7 +9,7 @@ ghost use Rattle.sv_wire.specs.State.{held_of, IsSoundState, ReadsTo};
 ghost use Rattle.sv_body.specs.declared.cut.Cut.TheVariants.{Unended};
 
 use crate::item::Item;
-use crate::pending::Pending;
+use crate::pending::PendingBox;
 use crate::reading::{Reading, Rest, read_items};
 use std::alloc::Global;
 use std::marker::Model;
@@ -35,7 +35,7 @@ pub(crate) enum State {
     /// A head, of which those bytes have come.
     Head(Vec<u8>),
     /// A body.
-    Body(Pending),
+    Body(PendingBox),
 }
 
 /// Reads the items of one stream of bytes, which comes in pieces (RFC 9112, section 2.2).
@@ -145,7 +145,7 @@ fn read_on(alloc: Global, held: Vec<u8>, piece: &[u8]) -> Result<(Vec<Item>, Sta
 /// Reads a piece that goes on with a body.
 fn read_behind(
     alloc: Global,
-    pending: Pending,
+    pending: PendingBox,
     piece: &[u8],
 ) -> Result<(Vec<Item>, State), NoMemory>
     requires { IsSound pending }

@@ -1,10 +1,14 @@
 //! A body that is being read, beside its head.
 
-ghost use Rattle.std.specs.Prelude.{◌≡◌, true, false, [], ◌++◌};
+ghost use Rattle.std.specs.Prelude.{◌≡◌, true, false, [], ◌++◌, IfOk};
+ghost use Rattle.sv_wire.specs.Reads.{with_body};
 
+use crate::message::Message;
 use crate::owed_head::OwedHead;
 use std::alloc::Global;
-use sv_body::{BodyReader, History, Piece};
+use std::marker::Model;
+use sv_body::{BodyReader, History, Piece, Progress};
+use sv_text::{Bytes, NoMemory};
 
 /// A head whose body is being read.
 #[derive(Drop)]
@@ -17,30 +21,68 @@ pub(crate) struct Pending {
     pub(crate) reader: BodyReader,
 }
 
-impl Pending {
-    ghost use Rattle.sv_wire.specs.Pending.{Begins};
+/// The same in a box: it is moved with each piece of a stream, and what holds one stays small.
+#[derive(Drop)]
+pub(crate) struct PendingBox {
+    inner: Box<Pending>,
+}
+
+impl Model for PendingBox {
+    ghost use Rattle.sv_wire.specs.declared.pending.Pending.{Pending};
+
+    ghost Value = { Pending };
+
+    ghost view = { λ boxed. boxed.inner.value };
+}
+
+impl PendingBox {
+    ghost use Rattle.sv_wire.specs.Pending.{Begins, ReadsPiece};
 
     /// The body of a head is asked for.
-    pub(crate) fn asked(alloc: Global, owed: OwedHead) -> Pending
-        ensures { Begins true [] owed result }
+    pub(crate) fn asked(alloc: Global, owed: OwedHead) -> Result<PendingBox, NoMemory>
+        ensures { IfOk result (Begins true [] owed) }
     {
-        Pending {
+        let pending = Pending {
             reader: BodyReader::new(alloc, owed.framing),
             owed,
             is_asked: true,
             head: History::new(),
-        }
+        };
+        Ok(PendingBox {
+            inner: Box::new(alloc, pending)?,
+        })
     }
 
     /// The body of a head follows it.
-    pub(crate) fn behind(alloc: Global, owed: OwedHead, head: &[u8]) -> Pending
-        ensures { Begins false head.now owed result }
+    pub(crate) fn behind(
+        alloc: Global,
+        owed: OwedHead,
+        head: &[u8],
+    ) -> Result<PendingBox, NoMemory>
+        ensures { IfOk result (Begins false head.now owed) }
     {
-        Pending {
+        let pending = Pending {
             reader: BodyReader::new(alloc, owed.framing),
             owed,
             is_asked: false,
             head: History::new().and(&Piece { bytes: head }),
-        }
+        };
+        Ok(PendingBox {
+            inner: Box::new(alloc, pending)?,
+        })
+    }
+
+    /// Reads a piece up to the end of the body, if it is there.
+    pub(crate) fn read(&mut self, piece: &[u8]) -> Result<Progress, NoMemory>
+        ensures { IfOk result (λ progress. ReadsPiece self.old piece.now progress self.new) }
+    {
+        self.inner.reader.read(piece)
+    }
+
+    /// The message with that body.
+    pub(crate) fn with_body(self, body: Bytes) -> Message
+        ensures { result ≡ with_body body self.owed.message }
+    {
+        Box::into_inner(self.inner).owed.message.with_body(body)
     }
 }

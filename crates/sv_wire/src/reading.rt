@@ -13,7 +13,7 @@ use crate::head::read_head;
 use crate::item::Item;
 use crate::limits::MAX_HEAD_LEN;
 use crate::owed_head::Verdict;
-use crate::pending::Pending;
+use crate::pending::PendingBox;
 use crate::wire_fault::WireFault;
 use std::alloc::Global;
 use sv_body::{Cut, Progress};
@@ -23,11 +23,11 @@ use sv_text::NoMemory;
 #[derive(Drop)]
 enum Next {
     /// An item, the body that is asked for behind it, and the place where the item ends.
-    Found(Item, Option<Pending>, usize),
+    Found(Item, Option<PendingBox>, usize),
     /// No item yet. A head is awaited, which begins at that place.
     AwaitsHead(usize),
     /// No item yet. A body is awaited.
-    AwaitsBody(Pending),
+    AwaitsBody(PendingBox),
 }
 
 /// What follows the items of a stream.
@@ -38,7 +38,7 @@ pub(crate) enum Rest {
     /// A head is awaited, which begins at that place.
     Head(usize),
     /// A body is awaited.
-    Body(Pending),
+    Body(PendingBox),
 }
 
 /// What a stream was read as.
@@ -52,7 +52,7 @@ pub(crate) struct Reading {
 /// head.
 pub(crate) fn read_items(
     alloc: Global,
-    pending: Option<Pending>,
+    pending: Option<PendingBox>,
     stream: &[u8],
     mut from: usize,
 ) -> Result<Reading, NoMemory>
@@ -96,7 +96,7 @@ pub(crate) fn read_items(
 /// Reads what comes next at a place. No front of fewer than `from` bytes behind it ends a head.
 fn next_item(
     alloc: Global,
-    body: Option<Pending>,
+    body: Option<PendingBox>,
     stream: &[u8],
     at: usize,
     from: usize,
@@ -154,37 +154,26 @@ fn next_behind(
     match verdict {
         Verdict::Refused(fault) => Ok(Next::Found(Item::Refuse(fault), None, end)),
         Verdict::Expecting(owed) => {
-            let pending = Pending::asked(alloc, owed);
+            let pending = PendingBox::asked(alloc, owed)?;
             Ok(Next::Found(Item::Continue, Some(pending), end))
         }
         Verdict::Accepted(owed) => {
-            let pending = Pending::behind(alloc, owed, &stream[start..end]);
+            let pending = PendingBox::behind(alloc, owed, &stream[start..end])?;
             next_in_body(pending, stream, end)
         }
     }
 }
 
 /// Reads the body that goes on at a place.
-fn next_in_body(pending: Pending, stream: &[u8], at: usize) -> Result<Next, NoMemory>
+fn next_in_body(mut pending: PendingBox, stream: &[u8], at: usize) -> Result<Next, NoMemory>
     requires within { at ≤ length stream.now }
     requires sound { IsSound pending }
     ensures { IfOk result (ComesNext (Some pending) stream.now at) }
 {
-    let Pending {
-        owed,
-        is_asked,
-        head,
-        reader,
-    } = pending;
-    match reader.read(&stream[at..])? {
-        Progress::Awaits(reader) => Ok(Next::AwaitsBody(Pending {
-            owed,
-            is_asked,
-            head,
-            reader,
-        })),
+    match pending.read(&stream[at..])? {
+        Progress::Awaits => Ok(Next::AwaitsBody(pending)),
         Progress::Complete(body, len) => {
-            let message = owed.message.with_body(body);
+            let message = pending.with_body(body);
             Ok(Next::Found(Item::Message(message), None, at + len))
         }
         Progress::Broken(fault, len) => {
