@@ -1,11 +1,13 @@
 -- A stream that is read up to a place.
-use Rattle.std.proofs.Common.{◌≡◌, ℕ, ◌+◌, ◌<◌, ◌≤◌, false, List, [], ◌∷◌, ◌++◌, length, take, drop, Option, None, Some, refl, sym, ap, ◌∙◌, subst, arith}
+use Rattle.std.proofs.Common.{◌≡◌, ℕ, ◌+◌, ◌<◌, ◌≤◌, Bool, true, false, ◌||◌, List, [], ◌∷◌, ◌++◌, length, take, drop, Option, None, Some, refl, sym, ap, ◌∙◌, subst, arith, MatchBool}
 use Rattle.std.proofs.lemmas.Bool.{or_from}
 use Rattle.std.proofs.lemmas.List.{append_assoc, append-nil, take-append-le}
 use Rattle.std.proofs.lemmas.List.Folds.{list_any-append}
 use Rattle.sv_body.specs.declared.cut.Cut.TheVariants.{Unended}
-use Rattle.sv_body.proofs.BoolLemmas.{MatchBool-from_false}
+use Rattle.sv_body.proofs.BoolLemmas.{MatchBool-from_true, MatchBool-from_false}
 use Rattle.sv_body.proofs.CutLemmas.{cut_unended-fronts}
+use Rattle.sv_wire.specs.declared.inbox.State.{State}
+use Rattle.sv_wire.specs.declared.inbox.State.TheVariants as state
 use Rattle.sv_wire.specs.declared.item.Item.{Item}
 use Rattle.sv_wire.specs.declared.limits.TheConstants.{MAX_HEAD_LEN}
 use Rattle.sv_wire.specs.declared.owed_head.OwedHead.{OwedHead}
@@ -13,23 +15,24 @@ use Rattle.sv_wire.specs.declared.pending.Pending.{Pending}
 use Rattle.sv_wire.specs.declared.reading.Next.TheVariants.{Found, AwaitsHead, AwaitsBody}
 use Rattle.sv_wire.specs.Head.{ends_head}
 use Rattle.sv_wire.specs.Items.{is_last, are_ended}
-use Rattle.sv_wire.specs.Next.{ComesNext}
+use Rattle.sv_wire.specs.Next.{StartsNext, ComesNext}
 use Rattle.sv_wire.specs.Pending.{owed_by, rest_of, AreSound}
-use Rattle.sv_wire.specs.Reads.{awaits, cut_head, Starts, Reads}
+use Rattle.sv_wire.specs.Reads.{gives, awaits, cut_head, Starts, Reads}
+use Rattle.sv_wire.specs.State.{ReadsTo, ReadsAfter}
 
 -- the items were read from the first bytes, and what is read behind them completes the reading
-pub record HasRead (first : Option Pending) (stream : List ℕ) (items : List Item) (body : Option Pending) (at : ℕ) : Type 0 where
+pub record HasRead (stream : List ℕ) (items : List Item) (body : Option Pending) (at : ℕ) : Type 0 where
   pub inside : at ≤ length stream
   pub sound : AreSound body
   pub goes_on : are_ended items ≡ false
   pub joins : (more : List Item) (left : Option OwedHead) (rest : List ℕ) → Reads (owed_by body) (rest_of body ++ drop at stream) more left rest
-      → Reads (owed_by first) (rest_of first ++ stream) (items ++ more) left rest
+      → Reads None stream (items ++ more) left rest
 
-module _ (first : Option Pending) (stream : List ℕ) (items : List Item) (body : Option Pending) (at : ℕ) (so_far : HasRead first stream items body at) where
+module _ (stream : List ℕ) (items : List Item) (body : Option Pending) (at : ℕ) (so_far : HasRead stream items body at) where
   pub read_to_head : (start : ℕ) → ComesNext body stream at (AwaitsHead start)
-      → Reads (owed_by first) (rest_of first ++ stream) items None (drop start stream)
+      → Reads None stream items None (drop start stream)
   read_to_head start next =
-      subst (λ xs. Reads (owed_by first) (rest_of first ++ stream) xs None (drop start stream)) (append-nil items)
+      subst (λ xs. Reads None stream xs None (drop start stream)) (append-nil items)
       (so_far.joins [] None (drop start stream) (
         sym next.2,
         next.3,
@@ -37,9 +40,9 @@ module _ (first : Option Pending) (stream : List ℕ) (items : List Item) (body 
       ))
 
   pub read_to_body : (pending : Pending) → ComesNext body stream at (AwaitsBody pending)
-      → Reads (owed_by first) (rest_of first ++ stream) items (owed_by (Some pending)) (rest_of (Some pending))
+      → Reads None stream items (owed_by (Some pending)) (rest_of (Some pending))
   read_to_body pending next =
-      subst (λ xs. Reads (owed_by first) (rest_of first ++ stream) xs (owed_by (Some pending)) (rest_of (Some pending))) (append-nil items)
+      subst (λ xs. Reads None stream xs (owed_by (Some pending)) (rest_of (Some pending))) (append-nil items)
       (so_far.joins [] (owed_by (Some pending)) (rest_of (Some pending)) (
         next.1,
         next.2,
@@ -47,13 +50,13 @@ module _ (first : Option Pending) (stream : List ℕ) (items : List Item) (body 
       ))
 
   module _ (item : Item) (behind : Option Pending) (end : ℕ) (next : ComesNext body stream at (Found item behind end)) where
-    pub read_more : is_last item ≡ false → HasRead first stream (items ++ item ∷ []) behind end
+    pub read_more : is_last item ≡ false → HasRead stream (items ++ item ∷ []) behind end
     read_more goes_on = record {
       inside = next.1;
       sound = next.2;
       goes_on = list_any-append is_last items (item ∷ []) ∙ or_from (are_ended items) _ so_far.goes_on (or_from (is_last item) false goes_on refl);
       joins = λ more left rest reads.
-          subst (λ xs. Reads (owed_by first) (rest_of first ++ stream) xs left rest) (sym (append_assoc items (item ∷ []) more))
+          subst (λ xs. Reads None stream xs left rest) (sym (append_assoc items (item ∷ []) more))
           (so_far.joins (item ∷ more) left rest (
             owed_by behind,
             rest_of behind ++ drop end stream,
@@ -66,3 +69,36 @@ module _ (first : Option Pending) (stream : List ℕ) (items : List Item) (body 
 pub awaits_end : (rest piece : List ℕ) → cut_head rest ≡ Unended → (k : ℕ) → k < length rest + 1 → ends_head (take k (rest ++ piece)) ≡ false
 awaits_end rest piece unended k below =
     ap ends_head (take-append-le k rest piece (omega arith)) ∙ cut_unended-fronts ends_head MAX_HEAD_LEN rest unended k (omega arith)
+
+-- a body that goes on with a piece
+module _ (pending : Pending) (piece : List ℕ) where
+  pub body_goes_on : (after : Pending) → ComesNext (Some pending) piece 0 (AwaitsBody after)
+      → ReadsTo (owed_by (Some pending)) (rest_of (Some pending) ++ piece) [] (state.Body after)
+  body_goes_on after next = (
+    (next.1, next.2, subst (λ t. Starts (owed_by (Some pending)) t awaits) (sym next.2) next.3),
+    refl,
+    next.0,
+  )
+
+  -- the piece completes an item
+  pub body_ends : (item : Item) (len : ℕ) (items : List Item) (left : State) → ComesNext (Some pending) piece 0 (Found item None (0 + len))
+      → ReadsAfter item (drop len piece) items left → ReadsTo (owed_by (Some pending)) (rest_of (Some pending) ++ piece) items left
+  body_ends item len items left next (more, is, behind) =
+      subst (λ xs. ReadsTo (owed_by (Some pending)) (rest_of (Some pending) ++ piece) xs left) (sym is) (by_last (is_last item) refl behind)
+    where
+      starts : StartsNext (Some pending) piece (gives item None (drop len piece))
+      starts = subst (λ n. StartsNext (Some pending) piece (gives item None (drop n piece))) (omega arith) next.4
+
+      by_last : (t : Bool) → is_last item ≡ t → MatchBool t ((more ≡ []) × (left ≡ state.Spent)) (ReadsTo None (drop len piece) more left)
+          → ReadsTo (owed_by (Some pending)) (rest_of (Some pending) ++ piece) (item ∷ more) left
+      by_last true last (none, spent) =
+          subst (λ s. ReadsTo (owed_by (Some pending)) (rest_of (Some pending) ++ piece) (item ∷ more) s) (sym spent) (
+            (None, drop len piece, starts, MatchBool-from_true (is_last item) _ _ last (none, refl, refl)),
+            sym (ap (λ t. t || are_ended more) last),
+            tt,
+          )
+      by_last false goes_on (reads, ended, sound) = (
+        (None, drop len piece, starts, MatchBool-from_false (is_last item) _ _ goes_on reads),
+        ended ∙ sym (ap (λ t. t || are_ended more) goes_on),
+        sound,
+      )

@@ -1,12 +1,13 @@
 -- What contracts see of what an inbox awaits (RFC 9112, section 8).
-use Rattle.std.specs.Prelude.{◌≡◌, ℕ, false, List, Option, None, Some}
+use Rattle.std.specs.Prelude.{◌≡◌, ℕ, false, List, [], ◌∷◌, Option, None, Some}
+use Rattle.std.specs.Bool.{MatchBool}
 use Rattle.sv_body.specs.declared.cut.Cut.TheVariants.{Unended}
 use Rattle.sv_wire.specs.declared.inbox.State.{State}
 use Rattle.sv_wire.specs.declared.inbox.State.TheVariants.{Spent, Head, Body}
 use Rattle.sv_wire.specs.declared.item.Item.{Item}
 use Rattle.sv_wire.specs.declared.owed_head.OwedHead.{OwedHead}
 use Rattle.sv_wire.specs.Inbox.{Held, spent_for_good}
-use Rattle.sv_wire.specs.Items.{are_ended}
+use Rattle.sv_wire.specs.Items.{is_last, are_ended}
 use Rattle.sv_wire.specs.Pending.{owed_by, rest_of, IsSound}
 use Rattle.sv_wire.specs.Reads.{Reads, cut_head}
 
@@ -26,3 +27,10 @@ abbrev pub ReadsTo : Option OwedHead → List ℕ → List Item → State → Ty
 ReadsTo owed stream items state =
     Reads owed stream items (held_of state).owed (held_of state).rest
     × ((held_of state).spent ≡ are_ended items) × IsSoundState state
+
+-- behind an item the stream goes on with that text, unless the item is the last one: the items are it and those that are read
+-- from the text, and what is held then is the state's
+abbrev pub ReadsAfter : Item → List ℕ → List Item → State → Type 0
+ReadsAfter item behind items state =
+    (more : List Item) × (items ≡ item ∷ more)
+    × MatchBool (is_last item) ((more ≡ []) × (state ≡ Spent)) (ReadsTo None behind more state)

@@ -5,15 +5,17 @@ ghost use Rattle.sv_wire.specs.Inbox.{nothing_held, spent_for_good, end_of};
 ghost use Rattle.sv_wire.specs.Items.{are_ended};
 ghost use Rattle.sv_wire.specs.Pending.{IsSound, owed_by, rest_of};
 ghost use Rattle.sv_wire.specs.Reads.{Reads, cut_head};
-ghost use Rattle.sv_wire.specs.State.{held_of, IsSoundState, ReadsTo};
+ghost use Rattle.sv_wire.specs.State.{held_of, IsSoundState, ReadsAfter, ReadsTo};
 ghost use Rattle.sv_body.specs.declared.cut.Cut.TheVariants.{Unended};
 
 use crate::item::Item;
 use crate::pending::PendingBox;
 use crate::reading::{Reading, Rest, read_items};
+use crate::wire_fault::WireFault;
 use std::alloc::Global;
 use std::marker::Model;
 use std::mem;
+use sv_body::Progress;
 use sv_text::NoMemory;
 
 /// What the end of a stream means.
@@ -131,7 +133,7 @@ fn read_on(alloc: Global, held: Vec<u8>, piece: &[u8]) -> Result<(Vec<Item>, Sta
     let mut stream = held;
     let from = stream.len() + 1;
     stream.extend_from_slice(piece)?;
-    let Reading { items, rest } = read_items(alloc, None, &stream, from)?;
+    let Reading { items, rest } = read_items(alloc, &stream, from)?;
     match rest {
         Rest::Ended => Ok((items, State::Spent)),
         Rest::Head(at) => {
@@ -145,21 +147,36 @@ fn read_on(alloc: Global, held: Vec<u8>, piece: &[u8]) -> Result<(Vec<Item>, Sta
 /// Reads a piece that goes on with a body.
 fn read_behind(
     alloc: Global,
-    pending: PendingBox,
+    mut pending: PendingBox,
     piece: &[u8],
 ) -> Result<(Vec<Item>, State), NoMemory>
     requires { IsSound pending }
     ensures { IfOk result (λ read. ReadsTo (owed_by (Some pending)) (rest_of (Some pending) ++ piece.now) read.0.items read.1) }
 {
-    let Reading { items, rest } = read_items(alloc, Some(pending), piece, 0)?;
-    match rest {
-        Rest::Ended => Ok((items, State::Spent)),
-        Rest::Head(at) => {
-            let held = Vec::from_slice(alloc, &piece[at..])?;
-            Ok((items, State::Head(held)))
+    match pending.read(piece)? {
+        Progress::Awaits => Ok((Vec::new(alloc), State::Body(pending))),
+        Progress::Complete(body, len) => {
+            let message = pending.with_body(body);
+            read_after(alloc, Item::Message(message), &piece[len..])
         }
-        Rest::Body(pending) => Ok((items, State::Body(pending))),
+        Progress::Broken(fault, len) => {
+            let fault = WireFault::of_body(fault);
+            read_after(alloc, Item::Refuse(fault), &piece[len..])
+        }
     }
+}
+
+/// Reads what stands behind an item, and sets the item before it.
+fn read_after(alloc: Global, item: Item, behind: &[u8]) -> Result<(Vec<Item>, State), NoMemory>
+    ensures { IfOk result (λ read. ReadsAfter item behind.now read.0.items read.1) }
+{
+    let (mut items, state) = if item.is_last() {
+        (Vec::new(alloc), State::Spent)
+    } else {
+        read_on(alloc, Vec::new(alloc), behind)?
+    };
+    items.insert(0, item)?;
+    Ok((items, state))
 }
 
 /// Takes so many bytes away from the front.

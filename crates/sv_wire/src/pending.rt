@@ -54,11 +54,7 @@ impl PendingBox {
     }
 
     /// The body of a head follows it.
-    pub(crate) fn behind(
-        alloc: Global,
-        owed: OwedHead,
-        head: &[u8],
-    ) -> Result<PendingBox, NoMemory>
+    pub(crate) fn behind(alloc: Global, owed: OwedHead, head: &[u8]) -> Result<PendingBox, NoMemory>
         ensures { IfOk result (Begins false head.now owed) }
     {
         let pending = Pending {

@@ -1,10 +1,10 @@
 //! The items of a stream, one after another.
 
-ghost use Rattle.std.specs.Prelude.{◌≡◌, ℕ, ◌<◌, ◌≤◌, false, None, Some, ◌++◌, length, take, drop, IfOk};
+ghost use Rattle.std.specs.Prelude.{◌≡◌, ℕ, ◌<◌, ◌≤◌, false, None, Some, length, take, drop, IfOk};
 ghost use Rattle.sv_wire.specs.Head.{ends_head};
 ghost use Rattle.sv_wire.specs.Items.{are_ended};
 ghost use Rattle.sv_wire.specs.Next.{ComesNext, IsHeadAt, IsSoundRest, bytes_behind, is_ended, owed_behind};
-ghost use Rattle.sv_wire.specs.Pending.{AreSound, IsSound, owed_by, rest_of};
+ghost use Rattle.sv_wire.specs.Pending.{AreSound, IsSound};
 ghost use Rattle.sv_wire.specs.Reads.{Reads};
 
 use crate::cut::cut_head;
@@ -48,23 +48,16 @@ pub(crate) struct Reading {
     pub(crate) rest: Rest,
 }
 
-/// Reads the items of a stream, which begins with a body if one is pending. No front of fewer than `from` bytes ends a
-/// head.
-pub(crate) fn read_items(
-    alloc: Global,
-    pending: Option<PendingBox>,
-    stream: &[u8],
-    mut from: usize,
-) -> Result<Reading, NoMemory>
-    requires sound { AreSound pending }
-    requires before { (k : ℕ) → k < from → ends_head (take k stream.now) ≡ false }
+/// Reads the items of a stream, of which no front of fewer than `from` bytes ends a head.
+pub(crate) fn read_items(alloc: Global, stream: &[u8], mut from: usize) -> Result<Reading, NoMemory>
+    requires { (k : ℕ) → k < from → ends_head (take k stream.now) ≡ false }
     ensures reads { IfOk result (λ reading.
-        Reads (owed_by pending) (rest_of pending ++ stream.now) reading.items.items (owed_behind reading.rest) (bytes_behind stream.now reading.rest)) }
+        Reads None stream.now reading.items.items (owed_behind reading.rest) (bytes_behind stream.now reading.rest)) }
     ensures ended { IfOk result (λ reading. are_ended reading.items.items ≡ is_ended reading.rest) }
     ensures rest { IfOk result (λ reading. IsSoundRest stream.now reading.rest) }
 {
     let mut items = Vec::new(alloc);
-    let mut body = pending;
+    let mut body = None;
     let mut at = 0;
     loop {
         match next_item(alloc, body, stream, at, from)? {

@@ -6,7 +6,7 @@ use Rattle.sv_wire.proofs.reading.read_items.Given as goal
 
 abbrev pub invariant-loop-items : goal.invariant-loop-items
 invariant-loop-items l =
-    HasRead l.fn.pending l.stream l.items.items l.body l.at × ((k : ℕ) → k < l.from → ends_head (take k (drop l.at l.stream)) ≡ false)
+    HasRead l.stream l.items.items l.body l.at × ((k : ℕ) → k < l.from → ends_head (take k (drop l.at l.stream)) ≡ false)
 
 abbrev pub decreases-loop-items : goal.decreases-loop-items
 decreases-loop-items l = weight l.body (length l.stream - l.at)
