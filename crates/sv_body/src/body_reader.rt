@@ -27,10 +27,17 @@ pub struct BodyReader {
 pub enum Progress {
     /// The body is not whole. The reader goes on with the next piece.
     Awaits,
-    /// The body, which ends after so many bytes of the piece.
-    Complete(Bytes, usize),
-    /// A fault, which shows after so many bytes of the piece.
-    Broken(BodyFault, usize),
+    /// How the body ends, after so many bytes of the piece.
+    Ended(BodyEnd, usize),
+}
+
+/// How a body ends.
+#[derive(Drop)]
+pub enum BodyEnd {
+    /// It is whole, and has those bytes.
+    Complete(Bytes),
+    /// It has a fault.
+    Broken(BodyFault),
 }
 
 impl Model for BodyReader {
@@ -74,12 +81,12 @@ impl BodyReader {
             Ok(Stop::Complete(at)) => {
                 let body = self.machine.begin_anew(self.framing);
                 self.came = History::new();
-                Ok(Progress::Complete(Bytes::from_vec(body), at))
+                Ok(Progress::Ended(BodyEnd::Complete(Bytes::from_vec(body)), at))
             }
             Ok(Stop::Broken(fault, at)) => {
                 self.machine.begin_anew(self.framing);
                 self.came = History::new();
-                Ok(Progress::Broken(fault, at))
+                Ok(Progress::Ended(BodyEnd::Broken(fault), at))
             }
             Err(NoMemory) => {
                 self.machine.begin_anew(self.framing);

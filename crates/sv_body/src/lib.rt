@@ -12,7 +12,7 @@ mod limits;
 mod machine;
 
 pub use body_fault::BodyFault;
-pub use body_reader::{BodyReader, Progress};
+pub use body_reader::{BodyEnd, BodyReader, Progress};
 pub use cut::Cut;
 pub use framing::Framing;
 pub use history::{History, Piece};

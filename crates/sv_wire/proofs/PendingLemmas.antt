@@ -3,18 +3,19 @@ use Rattle.std.proofs.Common.{◌≡◌, ℕ, ◌+◌, ◌-◌, ◌≤◌, Bool,
 use Rattle.std.specs.Bool.{MatchBool}
 use Rattle.std.specs.Result.{IfOk}
 use Rattle.std.proofs.lemmas.List.{append_assoc, append-nil, take-append-le, drop-append-le, length-take, length-drop, take_all, drop_all, drop-drop, take-append-drop, take-take}
-use Rattle.sv_body.specs.declared.body_fault.BodyFault.{BodyFault}
 use Rattle.sv_body.specs.declared.framing.Framing.{Framing}
-use Rattle.sv_body.specs.declared.body_reader.Progress.TheVariants.{Awaits, Complete, Broken}
+use Rattle.sv_body.specs.declared.body_reader.BodyEnd.{BodyEnd}
+use Rattle.sv_body.specs.declared.body_reader.BodyEnd.TheVariants.{Complete, Broken}
+use Rattle.sv_body.specs.declared.body_reader.Progress.TheVariants.{Awaits, Ended}
 use Rattle.sv_body.specs.declared.cut.Cut.TheVariants.{Whole, Endless, Unended}
 use Rattle.sv_body.specs.Body.{Awaited, ReadsBody}
-use Rattle.sv_body.specs.Chunks.{Body, unfinished, complete, broken}
+use Rattle.sv_body.specs.Chunks.{Body, unfinished}
 use Rattle.sv_body.specs.Cut.{cut_at}
-use Rattle.sv_body.specs.Progress.{ReadsOn}
+use Rattle.sv_body.specs.Progress.{ended, ReadsOn}
 use Rattle.sv_body.proofs.CutLemmas.{cut-whole, shortest_front_some}
-use Rattle.sv_wire.specs.declared.item.Item.TheVariants.{Continue, Message, Refuse}
+use Rattle.sv_wire.specs.declared.item.Item.{Item}
+use Rattle.sv_wire.specs.declared.item.Item.TheVariants.{Continue, Refuse}
 use Rattle.sv_wire.specs.declared.limits.TheConstants.{MAX_HEAD_LEN}
-use Rattle.sv_wire.specs.declared.message.Message.{Message as MessageRecord}
 use Rattle.sv_wire.specs.declared.owed_head.OwedHead.{OwedHead}
 use Rattle.sv_wire.specs.declared.owed_head.Verdict.{Verdict}
 use Rattle.sv_wire.specs.declared.owed_head.Verdict.TheVariants.{Refused, Expecting, Accepted}
@@ -27,8 +28,7 @@ use Rattle.sv_wire.specs.EmptyLines.{drop_empty_lines}
 use Rattle.sv_wire.specs.Head.{ends_head}
 use Rattle.sv_wire.specs.Next.{HoldsText, StartsNext, ComesNext, IsHeadAt}
 use Rattle.sv_wire.specs.Pending.{IsHeadOf, owed_by, rest_of, IsSound, Begins, ReadsPiece}
-use Rattle.sv_wire.specs.Reads.{Start, gives, awaits, ReadsHead, cut_head, with_body, after_body, StartsBody, StartsBehind, StartsAt, text_of, Starts}
-use Rattle.sv_wire.specs.WireFault.{fault_of}
+use Rattle.sv_wire.specs.Reads.{Start, gives, awaits, ReadsHead, cut_head, item_of, after_body, StartsBody, StartsBehind, StartsAt, text_of, Starts}
 use Rattle.sv_wire.proofs.EmptyLinesLemmas.{drop_empty_lines_twice, drop_empty_lines_front}
 use Rattle.sv_wire.proofs.ReadsLemmas.{IsSettled, settled}
 
@@ -82,33 +82,24 @@ module _ (pending : Pending) (stream : List ℕ) (at : ℕ) (inside : at ≤ len
   starts body reads =
       body_behind pending.owed pending.head.bytes pending.reader.came (drop at stream) pending.is_asked pending.reader.framing body sound.0 sound.1 reads
 
-  pub body_complete : (bytes : List ℕ) (len : ℕ) (message : MessageRecord) → message ≡ with_body bytes pending.owed.message
-      → (after : Awaited) → ReadsOn pending.reader (drop at stream) (Complete bytes len) after
-      → ComesNext (Some pending) stream at (Found (Message message) None (at + len))
-  body_complete bytes len message is after reads =
+  pub body_ended : (end : BodyEnd) (len : ℕ) (item : Item) → item ≡ item_of pending.owed end
+      → (after : Awaited) → ReadsOn pending.reader (drop at stream) (Ended end len) after
+      → ComesNext (Some pending) stream at (Found item None (at + len))
+  body_ended end len item is after reads =
       let fits : at + len ≤ length stream = omega (arith, inside, reads.0, length-drop at stream) in (
         omega arith,
         fits,
         tt,
         omega (arith, inside, fits),
-        subst (λ m. StartsNext (Some pending) (drop at stream) (gives (Message m) None (drop (at + len) stream))) (sym is)
-            (subst (λ t. StartsNext (Some pending) (drop at stream) (gives (Message (with_body bytes pending.owed.message)) None t)) (drop-drop len at stream)
-            (starts (complete bytes (drop len (drop at stream))) reads.1)),
+        subst (λ i. StartsNext (Some pending) (drop at stream) (gives i None (drop (at + len) stream))) (sym is)
+            (subst (λ t. StartsNext (Some pending) (drop at stream) (gives (item_of pending.owed end) None t)) (drop-drop len at stream)
+            (subst (StartsNext (Some pending) (drop at stream)) (by_end end (drop len (drop at stream)))
+            (starts (ended end (drop len (drop at stream))) reads.1))),
       )
-
-  pub body_broken : (fault : BodyFault) (wire : WireFault) (len : ℕ) → wire ≡ fault_of fault
-      → (after : Awaited) → ReadsOn pending.reader (drop at stream) (Broken fault len) after
-      → ComesNext (Some pending) stream at (Found (Refuse wire) None (at + len))
-  body_broken fault wire len is after reads =
-      let fits : at + len ≤ length stream = omega (arith, inside, reads.0, length-drop at stream) in (
-        omega arith,
-        fits,
-        tt,
-        omega (arith, inside, fits),
-        subst (λ f. StartsNext (Some pending) (drop at stream) (gives (Refuse f) None (drop (at + len) stream))) (sym is)
-            (subst (λ t. StartsNext (Some pending) (drop at stream) (gives (Refuse (fault_of fault)) None t)) (drop-drop len at stream)
-            (starts (broken fault (drop len (drop at stream))) reads.1)),
-      )
+    where
+      by_end : (e : BodyEnd) (rest : List ℕ) → after_body pending.owed (ended e rest) ≡ gives (item_of pending.owed e) None rest
+      by_end (Complete bytes) rest = refl
+      by_end (Broken fault) rest = refl
 
   pub body_awaits : (after : Pending) → ReadsPiece pending (drop at stream) Awaits after → ComesNext (Some pending) stream at (AwaitsBody after)
   body_awaits after reads = subst (λ p. ComesNext (Some pending) stream at (AwaitsBody p)) (sym reads.1) (

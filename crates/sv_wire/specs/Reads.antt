@@ -3,6 +3,8 @@ use Rattle.std.specs.Prelude.{◌≡◌, ℕ, ◌+◌, Bool, ◌⊎◌, List, []
 use Rattle.std.specs.Bool.{MatchBool}
 use Rattle.httparse.specs.Ascii.{line_feed}
 use Rattle.httparse.specs.Grammar.{RequestHead, ReadsRequest}
+use Rattle.sv_body.specs.declared.body_reader.BodyEnd.{BodyEnd}
+use Rattle.sv_body.specs.declared.body_reader.BodyEnd.TheVariants.{Complete, Broken}
 use Rattle.sv_body.specs.declared.cut.Cut.{Cut}
 use Rattle.sv_body.specs.declared.cut.Cut.TheVariants.{Whole, Endless, Unended}
 use Rattle.sv_body.specs.Body.{ReadsBody}
@@ -53,11 +55,16 @@ cut_head text = cut ends_head MAX_HEAD_LEN text
 abbrev pub with_body : List ℕ → MessageRecord → MessageRecord
 with_body bytes message = record message { body = bytes }
 
+-- what the stream says with a head and the end of its body
+abbrev pub item_of : OwedHead → BodyEnd → Item
+item_of owed (Complete bytes) = Message (with_body bytes owed.message)
+item_of owed (Broken fault) = Refuse (fault_of fault)
+
 -- what the text begins with behind a head, by what is read of its body
 abbrev pub after_body : OwedHead → Body → Start
 after_body owed unfinished = awaits
-after_body owed (complete bytes rest) = gives (Message (with_body bytes owed.message)) None rest
-after_body owed (broken fault rest) = gives (Refuse (fault_of fault)) None rest
+after_body owed (complete bytes rest) = gives (item_of owed (Complete bytes)) None rest
+after_body owed (broken fault rest) = gives (item_of owed (Broken fault)) None rest
 
 -- the text begins with the body of a head
 abbrev pub StartsBody : OwedHead → List ℕ → Start → Type 0

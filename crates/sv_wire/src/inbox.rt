@@ -4,18 +4,17 @@ ghost use Rattle.std.specs.Prelude.{◌≡◌, ◌≤◌, true, false, None, Som
 ghost use Rattle.sv_wire.specs.Inbox.{nothing_held, spent_for_good, end_of};
 ghost use Rattle.sv_wire.specs.Items.{are_ended};
 ghost use Rattle.sv_wire.specs.Pending.{IsSound, owed_by, rest_of};
-ghost use Rattle.sv_wire.specs.Reads.{Reads, cut_head};
+ghost use Rattle.sv_wire.specs.Reads.{Reads, cut_head, item_of};
 ghost use Rattle.sv_wire.specs.State.{held_of, IsSoundState, ReadsAfter, ReadsTo};
 ghost use Rattle.sv_body.specs.declared.cut.Cut.TheVariants.{Unended};
 
 use crate::item::Item;
 use crate::pending::PendingBox;
 use crate::reading::{Reading, Rest, read_items};
-use crate::wire_fault::WireFault;
 use std::alloc::Global;
 use std::marker::Model;
 use std::mem;
-use sv_body::Progress;
+use sv_body::{BodyEnd, Progress};
 use sv_text::NoMemory;
 
 /// What the end of a stream means.
@@ -155,21 +154,20 @@ fn read_behind(
 {
     match pending.read(piece)? {
         Progress::Awaits => Ok((Vec::new(alloc), State::Body(pending))),
-        Progress::Complete(body, len) => {
-            let message = pending.with_body(body);
-            read_after(alloc, Item::Message(message), &piece[len..])
-        }
-        Progress::Broken(fault, len) => {
-            let fault = WireFault::of_body(fault);
-            read_after(alloc, Item::Refuse(fault), &piece[len..])
-        }
+        Progress::Ended(end, len) => read_after(alloc, pending, end, &piece[len..]),
     }
 }
 
-/// Reads what stands behind an item, and sets the item before it.
-fn read_after(alloc: Global, item: Item, behind: &[u8]) -> Result<(Vec<Item>, State), NoMemory>
-    ensures { IfOk result (λ read. ReadsAfter item behind.now read.0.items read.1) }
+/// Reads what stands behind a body that ends so, and sets the body's item before it.
+fn read_after(
+    alloc: Global,
+    pending: PendingBox,
+    end: BodyEnd,
+    behind: &[u8],
+) -> Result<(Vec<Item>, State), NoMemory>
+    ensures { IfOk result (λ read. ReadsAfter (item_of pending.owed end) behind.now read.0.items read.1) }
 {
+    let item = pending.into_item(end);
     let (mut items, state) = if item.is_last() {
         (Vec::new(alloc), State::Spent)
     } else {

@@ -1,14 +1,15 @@
 //! A body that is being read, beside its head.
 
 ghost use Rattle.std.specs.Prelude.{◌≡◌, true, false, [], ◌++◌, IfOk};
-ghost use Rattle.sv_wire.specs.Reads.{with_body};
+ghost use Rattle.sv_wire.specs.Reads.{item_of};
 
-use crate::message::Message;
+use crate::item::Item;
 use crate::owed_head::OwedHead;
+use crate::wire_fault::WireFault;
 use std::alloc::Global;
 use std::marker::Model;
-use sv_body::{BodyReader, History, Piece, Progress};
-use sv_text::{Bytes, NoMemory};
+use sv_body::{BodyEnd, BodyReader, History, Piece, Progress};
+use sv_text::NoMemory;
 
 /// A head whose body is being read.
 #[derive(Drop)]
@@ -75,10 +76,15 @@ impl PendingBox {
         self.inner.reader.read(piece)
     }
 
-    /// The message with that body.
-    pub(crate) fn with_body(self, body: Bytes) -> Message
-        ensures { result ≡ with_body body self.owed.message }
+    /// What the stream says with the head and the end of its body.
+    pub(crate) fn into_item(self, end: BodyEnd) -> Item
+        ensures { result ≡ item_of self.owed end }
     {
-        Box::into_inner(self.inner).owed.message.with_body(body)
+        match end {
+            BodyEnd::Complete(body) => Item::Message(
+                Box::into_inner(self.inner).owed.message.with_body(body),
+            ),
+            BodyEnd::Broken(fault) => Item::Refuse(WireFault::of_body(fault)),
+        }
     }
 }

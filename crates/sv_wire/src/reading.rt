@@ -165,13 +165,6 @@ fn next_in_body(mut pending: PendingBox, stream: &[u8], at: usize) -> Result<Nex
 {
     match pending.read(&stream[at..])? {
         Progress::Awaits => Ok(Next::AwaitsBody(pending)),
-        Progress::Complete(body, len) => {
-            let message = pending.with_body(body);
-            Ok(Next::Found(Item::Message(message), None, at + len))
-        }
-        Progress::Broken(fault, len) => {
-            let fault = WireFault::of_body(fault);
-            Ok(Next::Found(Item::Refuse(fault), None, at + len))
-        }
+        Progress::Ended(end, len) => Ok(Next::Found(pending.into_item(end), None, at + len)),
     }
 }
