@@ -1,7 +1,7 @@
 //! Each call that may be refused memory, with memory at hand.
 
 use std::test::Fail;
-use sv_body::{BodyReader, Framing, Progress};
+use sv_body::{BodyEnd, BodyReader, Framing, Progress};
 use sv_head::{Field, replace_hosts};
 use sv_mapping::Pattern;
 use sv_program::first_line;
@@ -31,9 +31,12 @@ fn want_of_memory_is_not_the_answer_with_ample_memory(rt: HostRuntime) -> Result
     replace_hosts(rt.alloc(), &mut fields, b"other")?;
     assert_eq!(rt; fields[0].value.as_bytes(), b"other".as_slice());
 
-    let reader = BodyReader::new(rt.alloc(), Framing::Length(2));
-    let Progress::Complete(body, len) = reader.read(b"abc")? else {
+    let mut reader = BodyReader::new(rt.alloc(), Framing::Length(2));
+    let Progress::Ended(end, len) = reader.read(b"abc")? else {
         panic!(rt; "the body is missing");
+    };
+    let BodyEnd::Complete(body) = end else {
+        panic!(rt; "the body is broken");
     };
     assert_eq!(rt; body.as_slice(), b"ab".as_slice());
     assert_eq!(rt; len, 2);
