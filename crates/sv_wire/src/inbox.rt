@@ -1,6 +1,6 @@
 //! The inbox of a connection: bytes in, items out.
 
-ghost use Rattle.std.specs.Prelude.{◌≡◌, ◌≤◌, true, false, None, Some, [], ◌++◌, drop, vec_len, IfOk, IsOkAnd, OnErr};
+ghost use Rattle.std.specs.Prelude.{◌≡◌, true, false, None, Some, [], ◌++◌, IfOk, IsOkAnd, OnErr};
 ghost use Rattle.sv_wire.specs.Inbox.{nothing_held, spent_for_good, end_of};
 ghost use Rattle.sv_wire.specs.Items.{are_ended};
 ghost use Rattle.sv_wire.specs.Pending.{IsSound, owed_by, rest_of};
@@ -124,7 +124,7 @@ fn end_of(state: &State) -> Ended
     }
 }
 
-/// Reads a piece behind the bytes of a head.
+/// Reads a piece behind the bytes of a head. What was read is not kept: a buffer holds a head alone.
 fn read_on(alloc: Global, held: Vec<u8>, piece: &[u8]) -> Result<(Vec<Item>, State), NoMemory>
     requires { cut_head held.items ≡ Unended }
     ensures { IfOk result (λ read. ReadsTo None (held.items ++ piece.now) read.0.items read.1) }
@@ -135,9 +135,10 @@ fn read_on(alloc: Global, held: Vec<u8>, piece: &[u8]) -> Result<(Vec<Item>, Sta
     let Reading { items, rest } = read_items(alloc, &stream, from)?;
     match rest {
         Rest::Ended => Ok((items, State::Spent)),
+        Rest::Head(0) => Ok((items, State::Head(stream))),
         Rest::Head(at) => {
-            drop_front(&mut stream, at);
-            Ok((items, State::Head(stream)))
+            let held = Vec::from_slice(alloc, &stream[at..])?;
+            Ok((items, State::Head(held)))
         }
         Rest::Body(pending) => Ok((items, State::Body(pending))),
     }
@@ -175,12 +176,4 @@ fn read_after(
     };
     items.insert(0, item)?;
     Ok((items, state))
-}
-
-/// Takes so many bytes away from the front.
-fn drop_front(bytes: &mut Vec<u8>, count: usize)
-    requires { count ≤ vec_len bytes.old }
-    ensures { bytes.new.items ≡ drop count bytes.old.items }
-{
-    bytes.drain(..count);
 }
