@@ -213,7 +213,13 @@ fn written(alloc: Global, response: &Response, manner: &str) -> Result<Vec<u8>, 
     let keep = after == "keep";
     let mut output = b"before ".to_vec(alloc)?;
     if response.has_status_code() {
-        write_response(response, head_only, keep, moment.parse::<u64>()?, &mut output)?;
+        write_response(
+            response,
+            head_only,
+            keep,
+            moment.parse::<u64>()?,
+            &mut output,
+        )?;
     }
     Ok(output)
 }
