@@ -1,2 +1,3 @@
 pub mod Faults
 pub mod Gives
+pub mod Steps

@@ -2,11 +2,13 @@
 #![tactic(auto)]
 
 mod bytes;
+mod copies;
 mod listed;
 mod no_memory;
 mod text;
 
 pub use bytes::Bytes;
+pub use copies::copied_texts;
 pub use listed::Listed;
 pub use no_memory::NoMemory;
 pub use text::Text;
