@@ -18,8 +18,10 @@ reached_same before after same from reached = (reached.0, same ∙ reached.1)
 -- one more call
 pub reached_on : (change : Change) (before after : State) → after ≡ left_by (answer change before) change before → Changes before after
 unfolding Reaches
-reached_on change before after more from reached = (reached.0 ++ change ∷ [],
-    more ∙ (ap (λ x. left_by (answer change x) change x) reached.1 ∙ sym (after_all-append reached.0 (change ∷ []) from)))
+reached_on change before after more from reached = (
+  reached.0 ++ change ∷ [],
+  more ∙ (ap (λ x. left_by (answer change x) change x) reached.1 ∙ sym (after_all-append reached.0 (change ∷ []) from)),
+)
 
 -- what a call does is reached by changing calls
 pub reached_by : (change : Change) (result : Result Bool ExchangeFault) (before after : State) → Does change result before after → Changes before after
@@ -35,5 +37,7 @@ reaches_to before after changing = changing before ([], refl)
 
 pub reaches_from : (before after : State) → ((changes : List Change) × (after ≡ after_all changes before)) → Changes before after
 unfolding Reaches
-reaches_from before after reached from so_far = (so_far.0 ++ reached.0,
-    reached.1 ∙ (ap (λ x. after_all reached.0 x) so_far.1 ∙ sym (after_all-append so_far.0 reached.0 from)))
+reaches_from before after reached from so_far = (
+  so_far.0 ++ reached.0,
+  reached.1 ∙ (ap (λ x. after_all reached.0 x) so_far.1 ∙ sym (after_all-append so_far.0 reached.0 from)),
+)

@@ -36,38 +36,50 @@ found : {A : Type 0} (test : A → Bool) (xs : List A) → FirstAt test xs (posi
 unfolding AllFail
 found test [] = inr (tt, refl)
 found test (x ∷ xs) = elim (cases_Bool (test x)) [
-    inl passes ↦ inl (record { front = []; item = x; back = xs; is = refl; there = sym (position_here test x xs passes); passes = passes; others = tt })
+  | inl passes ↦ inl (record { front = []; item = x; back = xs; is = refl; there = sym (position_here test x xs passes); passes = passes; others = tt })
   | inr fails ↦ elim (found test xs) [
-      inl first ↦ inl (record { front = x ∷ first.front; item = first.item; back = first.back; is = ap (λ rest. x ∷ rest) first.is;
-        there = omega (arith, first.there, position_later test x xs fails); passes = first.passes; others = (fails, first.others) })
-    | inr none ↦ inr ((fails, none.0), omega (arith, none.1, position_later test x xs fails)) ] ]
+    | inl first ↦ inl (record {
+      front = x ∷ first.front;
+      item = first.item;
+      back = first.back;
+      is = ap (λ rest. x ∷ rest) first.is;
+      there = omega (arith, first.there, position_later test x xs fails);
+      passes = first.passes;
+      others = (fails, first.others);
+    })
+    | inr none ↦ inr ((fails, none.0), omega (arith, none.1, position_later test x xs fails))
+  ]
+]
 
 within : {A : Type 0} (test : A → Bool) (xs : List A) (place : ℕ) → position test xs ≡ Some place → (position_or_len test xs < length xs) × (place ≡ position_or_len test xs)
 within test xs place is = elim (cases_Bool (nat_lt (position_or_len test xs) (length xs))) [
-    inl below ↦ (ltb-true _ _ below, sym (same_Some _ place (sym (cond-true _ _ _ below) ∙ is)))
-  | inr outside ↦ absurd (none-some place (sym (cond-false _ _ _ outside) ∙ is)) ]
+  | inl below ↦ (ltb-true _ _ below, sym (same_Some _ place (sym (cond-true _ _ _ below) ∙ is)))
+  | inr outside ↦ absurd (none-some place (sym (cond-false _ _ _ outside) ∙ is))
+]
 
 beyond : {A : Type 0} (test : A → Bool) (xs : List A) → position test xs ≡ None → length xs ≤ position_or_len test xs
 beyond test xs is = elim (cases_Bool (nat_lt (position_or_len test xs) (length xs))) [
-    inl below ↦ absurd (none-some (position_or_len test xs) (sym is ∙ cond-true _ _ _ below))
-  | inr outside ↦ ltb-false _ _ outside ]
+  | inl below ↦ absurd (none-some (position_or_len test xs) (sym is ∙ cond-true _ _ _ below))
+  | inr outside ↦ ltb-false _ _ outside
+]
 
 pub found_at : {A : Type 0} (test : A → Bool) (xs : List A) (place : ℕ) → position test xs ≡ Some place → FirstAt test xs place
 found_at test xs place is = let inside = within test xs place is in
     elim (found test xs) [
-      inl first ↦ record { front = first.front; item = first.item; back = first.back; is = first.is; there = first.there ∙ sym inside.1; passes = first.passes; others = first.others }
-    | inr none ↦ absurd (omega (arith, inside.0, none.1)) ]
+      | inl first ↦ record { front = first.front; item = first.item; back = first.back; is = first.is; there = first.there ∙ sym inside.1; passes = first.passes; others = first.others }
+      | inr none ↦ absurd (omega (arith, inside.0, none.1))
+    ]
 
 pub missed : {A : Type 0} (test : A → Bool) (xs : List A) → position test xs ≡ None → AllFail test xs
 missed test xs is = let outside = beyond test xs is in
     elim (found test xs) [
-      inl first ↦ absurd (omega (arith, outside, first.there, ap length first.is, length-append first.front (first.item ∷ first.back)))
-    | inr none ↦ none.0 ]
+      | inl first ↦ absurd (omega (arith, outside, first.there, ap length first.is, length-append first.front (first.item ∷ first.back)))
+      | inr none ↦ none.0
+    ]
 
 -- ---- attributes
 
 module _ (name value : List ℕ) where
-
   value_found : (front back : List Attribute) (item : Attribute) → AllFail (λ attribute. bytes_eq attribute.name name) front → bytes_eq item.name name ≡ true
       → set_value name value (front ++ item ∷ back) ≡ front ++ (record { name = name; value = value }) ∷ back
   unfolding AllFail
@@ -117,7 +129,7 @@ module _ (name value : List ℕ) where
   set_field_found xs place found =
       let first = found_at (is_called name) xs place found in
       let written : set xs place (field_of name value) ≡ first.front ++ field_of name value ∷ first.back =
-          ap (λ all. set all place (field_of name value)) first.is ∙ set_at first.front first.item first.back (field_of name value) place first.there in
+      ap (λ all. set all place (field_of name value)) first.is ∙ set_at first.front first.item first.back (field_of name value) place first.there in
       ap (λ all. take (place + 1) all ++ without name (drop (place + 1) all)) written
       ∙ cut first.front first.back place first.there
       ∙ sym (ap (set_field name value) first.is ∙ field_found first.front first.back first.item first.others first.passes)

@@ -20,7 +20,7 @@ begun message canon context_path moment = record {
   status = OK;
   fields = [];
   buffer = [];
-  committed = false
+  committed = false;
 }
 
 abbrev pub finished : State → Response

@@ -14,7 +14,7 @@ paths_at context_path path servlet_path path_info query = record {
   path = path;
   servlet_path = servlet_path;
   path_info = path_info;
-  query = query
+  query = query;
 }
 
 abbrev pub is_include_kind : Kind → Bool
@@ -67,7 +67,7 @@ client_in kind paths client = client
 abbrev pub entered : Kind → Paths → State → State
 entered kind paths before = record before {
   client = client_in kind paths before.client;
-  dispatches = before.dispatches ++ (record { kind = kind; paths = paths }) ∷ []
+  dispatches = before.dispatches ++ (record { kind = kind; paths = paths }) ∷ [];
 }
 
 -- the innermost dispatch ends, and what it set is taken back

@@ -12,9 +12,13 @@ use sv_mapping::Kind;
 use sv_text::{NoMemory, Text};
 
 const REQUEST_URI: &[u8] = b"request_uri";
+
 const CONTEXT_PATH: &[u8] = b"context_path";
+
 const SERVLET_PATH: &[u8] = b"servlet_path";
+
 const PATH_INFO: &[u8] = b"path_info";
+
 const QUERY_STRING: &[u8] = b"query_string";
 
 /// Whether dispatches alone set attributes of that name.
@@ -105,12 +109,7 @@ fn behind<'a>(front: &[u8], name: &'a [u8]) -> Option<&'a [u8]>
     }
 }
 
-fn told_by<'a>(
-    kind: Kind,
-    paths: &'a Paths,
-    exchange: &'a Exchange,
-    rest: &[u8],
-) -> Option<&'a str>
+fn told_by<'a>(kind: Kind, paths: &'a Paths, exchange: &'a Exchange, rest: &[u8]) -> Option<&'a str>
     ensures { option_copied result ≡ told_by kind paths.now exchange.now rest.now }
 {
     match kind {

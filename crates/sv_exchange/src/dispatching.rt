@@ -27,7 +27,14 @@ impl Exchange {
         ensures refused { OnErr result (self.new ≡ self.old) }
     {
         let context_path = self.context_path.as_str();
-        let paths = Paths::copy_of(self.alloc, context_path, path, Some(servlet_path), path_info, query)?;
+        let paths = Paths::copy_of(
+            self.alloc,
+            context_path,
+            path,
+            Some(servlet_path),
+            path_info,
+            query,
+        )?;
         match kind {
             Kind::Request => {
                 let servlet_path = copied(self.alloc, Some(servlet_path))?;

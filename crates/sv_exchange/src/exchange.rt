@@ -39,17 +39,17 @@ impl Model for Exchange {
     ghost Value = { State };
 
     ghost view = { λ e. record {
-        method = e.method;
-        context_path = e.context_path;
-        request_fields = e.request_fields.items;
-        moment = e.moment;
-        client = e.client;
-        dispatches = e.dispatches.items;
-        attributes = e.attributes.items;
-        status = e.status;
-        fields = e.fields.items;
-        buffer = e.buffer.items;
-        committed = e.committed
+      method = e.method;
+      context_path = e.context_path;
+      request_fields = e.request_fields.items;
+      moment = e.moment;
+      client = e.client;
+      dispatches = e.dispatches.items;
+      attributes = e.attributes.items;
+      status = e.status;
+      fields = e.fields.items;
+      buffer = e.buffer.items;
+      committed = e.committed;
     } };
 }
 

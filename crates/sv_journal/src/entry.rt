@@ -37,7 +37,12 @@ impl Entry {
     ghost use Rattle.sv_journal.specs.declared.answer.Answer.{Answer as AnswerData};
 
     /// The entry of an event that the listener at a place, from 0, heard.
-    pub fn told(alloc: Global, context: &str, place: usize, event: &Event) -> Result<Entry, NoMemory>
+    pub fn told(
+        alloc: Global,
+        context: &str,
+        place: usize,
+        event: &Event,
+    ) -> Result<Entry, NoMemory>
         requires { place + 1 < 2 ^ 64 }
         ensures { GivesAnswer result (heard context.now place event.now) }
     {

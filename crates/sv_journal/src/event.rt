@@ -73,7 +73,10 @@ impl fmt::Display for Event {
             Event::SessionDestroyed(number) => write!(f, "SessionDestroyed {number}"),
             Event::SessionIdChanged(number) => write!(f, "SessionIdChanged {number}"),
             Event::AttributeAdded(number, name) => write!(f, "AttributeAdded {number} {name}"),
-            Event::AttributeReplaced(number, name) => write!(f, "AttributeReplaced {number} {name}"),
+            Event::AttributeReplaced(number, name) => write!(
+                f,
+                "AttributeReplaced {number} {name}"
+            ),
             Event::AttributeRemoved(number, name) => write!(f, "AttributeRemoved {number} {name}"),
         }
     }
