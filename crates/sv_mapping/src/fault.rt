@@ -36,6 +36,6 @@ impl From<NoMemory> for PatternFault {
     ghost from_gives = { λ _ e. e ≡ fault.NoMemory };
 
     fn from(_refused: NoMemory) -> PatternFault {
-        PatternFault::NoMemory
+        Self::NoMemory
     }
 }
