@@ -16,7 +16,7 @@ use std::marker::Model;
 use sv_text::Text;
 
 /// A URL pattern (Jakarta Servlet 6.0, section 12.2). Contracts see its text.
-#[derive(Debug, Drop)]
+#[derive(Drop)]
 pub struct Pattern {
     text: Text,
 }
