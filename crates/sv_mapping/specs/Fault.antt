@@ -10,10 +10,10 @@ text_fault BadPattern = Some BadPattern
 text_fault NoMemory = None
 
 -- a pattern is the text that it was read from
-abbrev pub parsed : List ℕ → Result (List ℕ) PatternFault
-parsed text = if is_pattern text then Ok text else Err BadPattern
+abbrev pub pattern_read : List ℕ → Result (List ℕ) PatternFault
+pattern_read text = if is_pattern text then Ok text else Err BadPattern
 
 -- the text that is printed for a fault
-abbrev pub fault_text : PatternFault → List ℕ
-fault_text BadPattern = codes "BadPattern"
-fault_text NoMemory = codes "no memory"
+abbrev pub pattern_fault_text : PatternFault → List ℕ
+pattern_fault_text BadPattern = codes "BadPattern"
+pattern_fault_text NoMemory = codes "no memory"

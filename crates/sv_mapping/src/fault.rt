@@ -1,7 +1,7 @@
 //! Why a text was not read as a URL pattern.
 
 ghost use Rattle.std.specs.Prelude.{Some};
-ghost use Rattle.sv_mapping.specs.Fault.{fault_text};
+ghost use Rattle.sv_mapping.specs.Fault.{pattern_fault_text};
 
 use std::error::Error;
 use std::fmt;
@@ -17,7 +17,7 @@ pub enum PatternFault {
 }
 
 impl fmt::Display for PatternFault {
-    ghost output = { λ fault. Some (fault_text fault) };
+    ghost output = { λ fault. Some (pattern_fault_text fault) };
 
     fn fmt<W: fmt::Write>(&self, f: &mut fmt::Formatter<W>) -> fmt::Result {
         f.write_str(match self {

@@ -12,7 +12,7 @@ use Rattle.sv_text.specs.Faults.{first_or}
 use Rattle.sv_uri.specs.declared.path.Canon.{Canon}
 use Rattle.sv_uri.specs.Target.{before, behind, between_slashes, visible_query}
 use Rattle.sv_uri.specs.Segment.{is_parent, name_of, segment_faults}
-use Rattle.sv_uri.specs.DotSegments.{is_idle, removed_in_front, kept, remaining, climbs, is_open, closing}
+use Rattle.sv_uri.specs.DotSegments.{is_idle, removed_in_front, kept, remaining, climbs, ends_open, closing}
 use Rattle.sv_uri.specs.Canonical.{canonical, target_faults, path_text, raw_segments, begins_with_slash}
 use Rattle.sv_uri.specs.Laws.{CanonicalIsItsOwn, is_literal}
 use Rattle.sv_uri.proofs.AnswerLemmas.{answered}
@@ -36,14 +36,14 @@ kept_again [] all = refl
 kept_again (name ∷ rest) all = cond-true _ _ _ (All-head IsKept name rest all) ∙ ap (λ xs. name ∷ xs) (kept_again rest (All-tail IsKept name rest all))
 
 -- a kept name other than `..` closes the path
-closed : (o : Option (List ℕ)) (names : List (List ℕ)) → is_open o ≡ false → All IsKept names → All IsName names → is_open (last_or o names) ≡ false
+closed : (o : Option (List ℕ)) (names : List (List ℕ)) → ends_open o ≡ false → All IsKept names → All IsName names → ends_open (last_or o names) ≡ false
 closed o [] start all_k all_n = start
 closed o (name ∷ rest) start all_k all_n =
     let neither = not-true _ (All-head IsKept name rest all_k) in
     closed (Some name) rest (or_from _ _ neither (All-head IsName name rest all_n)) (All-tail IsKept name rest all_k) (All-tail IsName name rest all_n)
 
 pub closing_is : (names : List (List ℕ)) → (closing names ≡ [] ∷ []) ⊎ (closing names ≡ [])
-closing_is names = ⊎_elim (λ yes. inl (cond-true _ _ _ yes)) (λ no. inr (cond-false _ _ _ no)) (cases_Bool (is_open (last_or None names)))
+closing_is names = ⊎_elim (λ yes. inl (cond-true _ _ _ yes)) (λ no. inr (cond-false _ _ _ no)) (cases_Bool (ends_open (last_or None names)))
 
 -- the parts of a canonical path, taken as names, give the same parts
 parts_again : (names : List (List ℕ)) → (kept (parts_of names) ≡ remaining (kept names)) × (closing (parts_of names) ≡ closing names)
@@ -56,7 +56,7 @@ parts_again names =
     (closing_is names)
 
 -- where the last segment is a name, some name is left
-left_some : (name : List ℕ) (rest : List (List ℕ)) → is_open (last_or (Some name) rest) ≡ false → 0 < length (remaining (kept (name ∷ rest)))
+left_some : (name : List ℕ) (rest : List (List ℕ)) → ends_open (last_or (Some name) rest) ≡ false → 0 < length (remaining (kept (name ∷ rest)))
 left_some name [] ends =
     let tests : (is_idle name ≡ false) × (is_parent name ≡ false) = or_parts _ _ ends in
     let itself : kept (name ∷ []) ≡ name ∷ [] = cond-true _ _ _ (not_from_false _ tests.0) in
@@ -77,11 +77,11 @@ begins [] some = absurd (omega arith)
 begins (name ∷ rest) some =
     let left = remaining (kept (name ∷ rest)) in
     ⊎_elim
-    (λ (yes : is_open (last_or (Some name) rest) ≡ true). begins_some (left ++ closing (name ∷ rest)) (rw (cond-true _ _ _ yes, length-append left ([] ∷ [])) (omega arith)))
+    (λ (yes : ends_open (last_or (Some name) rest) ≡ true). begins_some (left ++ closing (name ∷ rest)) (rw (cond-true _ _ _ yes, length-append left ([] ∷ [])) (omega arith)))
     (λ no.
     let some_left = left_some name rest no in
     begins_some (left ++ closing (name ∷ rest)) (rw (cond-false _ _ _ no, append-nil left) some_left))
-    (cases_Bool (is_open (last_or (Some name) rest)))
+    (cases_Bool (ends_open (last_or (Some name) rest)))
 
 -- literal names that are plain are segments without a fault, which name themselves
 faultless_names : (names : List (List ℕ)) → All IsPlain names → All (λ name. holds (byte "%") name ≡ false) names → All (λ name. holds (byte ";") name ≡ false) names → (flat_map segment_faults names ≡ []) × (map name_of names ≡ names)
@@ -97,7 +97,7 @@ pub plain_parts : (names : List (List ℕ)) → All IsPlain names → All IsPlai
 plain_parts names plain =
     All-append IsPlain (remaining (kept names)) (closing names)
     (All-remaining IsPlain (kept names) (All-filter _ IsPlain names plain))
-    (cond_both (is_open (last_or None names)) ([] ∷ []) [] (All IsPlain) (λ _. All-cons IsPlain [] [] IsPlain-nil (All-nil IsPlain)) (λ _. All-nil IsPlain))
+    (cond_both (ends_open (last_or None names)) ([] ∷ []) [] (All IsPlain) (λ _. All-cons IsPlain [] [] IsPlain-nil (All-nil IsPlain)) (λ _. All-nil IsPlain))
 
 pub slashless : (names : List (List ℕ)) → All IsPlain names → All (λ name. holds (byte "/") name ≡ false) names
 slashless names plain = All-weaker IsPlain (λ name. holds 47 name ≡ false) (λ name own. own.slash) names plain
