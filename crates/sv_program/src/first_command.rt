@@ -1,14 +1,14 @@
 //! The command `first`: what the example policy decides for the first request on a stream.
 
-ghost use Rattle.std.specs.Prelude.{◌≡◌, ◌≢◌, take, string_bytes, option_copied, IfOk, IfErr, OnOk, IfSome};
+ghost use Rattle.std.specs.Prelude.{◌≡◌, ◌≢◌, map, take, string_bytes, option_copied, IfOk, IfErr, IfSome};
 ghost use Rattle.sv_wire.specs.Items.{first_item};
-ghost use Rattle.sv_program.specs.CommandFault.{IsReadFault};
-ghost use Rattle.sv_program.specs.FirstLine.{item_line, message_line, decision_line, refused_line, IsFirstLine, RunsFirst};
+ghost use Rattle.sv_program.specs.Arguments.{Names};
+ghost use Rattle.sv_program.specs.FirstLine.{first_options, item_line, message_line, decision_line, refused_line, IsFirstLine, IsReadFault, RunsFirst};
 
 use crate::command_fault::CommandFault;
 use crate::example_policy::example_constraints;
 use crate::limits::MAX_INPUT_BYTES;
-use crate::output::write_line;
+use crate::output::print_line;
 use std::alloc::Global;
 use std::fmt::Display;
 use std::io::{ErrorKind, Read, Write};
@@ -18,26 +18,38 @@ use sv_uri::canon;
 use sv_uri::fault::CanonFault;
 use sv_wire::{Inbox, Item, Message, Target};
 
+/// Whether the options of the command, `deny` or none, deny uncovered methods; none where they are others.
+pub fn denies_uncovered(options: &[String]) -> Option<bool>
+    ensures { Names first_options (map string_bytes options.now) result }
+{
+    let Some((option, rest)) = options.split_first() else {
+        return Some(false);
+    };
+    if rest.is_empty() && option.as_str() == "deny" {
+        Some(true)
+    } else {
+        None
+    }
+}
+
 /// Reads `reader` to its end, but at most `MAX_INPUT_BYTES` bytes, and writes the line that `first_line` gives for
 /// them, and a line feed.
 ///
-/// After a fault of input or want of memory nothing was written; after a fault of output a part may have been.
+/// # Errors
+/// [`CommandFault::Input`] or [`CommandFault::NoMemory`], when nothing was written; [`CommandFault::Output`], when a part
+/// may have been.
 pub fn first<R: Read + Drop, W: Write>(
     alloc: Global,
     reader: R,
     writer: &mut W,
     deny_uncovered: bool,
 ) -> Result<(), CommandFault>
-    ensures written { OnOk result (RunsFirst deny_uncovered (R.remaining reader) (W.contents writer.old) (W.contents writer.new)) }
-    ensures faults { IfErr result (λ fault. fault ≢ CommandFault.Usage) }
+    ensures run { RunsFirst deny_uncovered result (R.remaining reader) (W.contents writer.old) (W.contents writer.new) }
     ensures untouched { IfErr result (λ fault. fault ≢ CommandFault.Output → writer.new ≡ writer.old) }
 {
     let input = read_input(alloc, reader)?;
     let line = first_line(alloc, input.as_slice(), deny_uncovered)?;
-    match write_line(writer, line.as_str()) {
-        Ok(()) => Ok(()),
-        Err(_) => Err(CommandFault::Output),
-    }
+    print_line(writer, line.as_str())
 }
 
 fn read_input<R: Read + Drop>(alloc: Global, reader: R) -> Result<Vec<u8>, CommandFault>

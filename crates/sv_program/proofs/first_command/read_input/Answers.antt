@@ -1,5 +1,5 @@
-use Rattle.sv_program.proofs.FirstRequest.{read_front}
-use Rattle.sv_program.proofs.first_request.read_input.Goals as goal
+use Rattle.sv_program.proofs.FirstRead.{read_front}
+use Rattle.sv_program.proofs.first_command.read_input.Goals as goal
 
 pub returns-in-Ok-clause-front : goal.returns-in-Ok-clause-front
 returns-in-Ok-clause-front g c =

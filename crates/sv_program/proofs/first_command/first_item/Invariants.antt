@@ -1,6 +1,6 @@
 use Rattle.std.proofs.Common.{◌≡◌, drop}
 use Rattle.sv_wire.specs.Items.{first_item}
-use Rattle.sv_program.proofs.first_request.first_item.Given as goal
+use Rattle.sv_program.proofs.first_command.first_item.Given as goal
 
 -- the first item is among those that are left
 abbrev pub invariant-loop-item : goal.invariant-loop-item
