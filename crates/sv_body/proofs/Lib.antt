@@ -1,6 +1,5 @@
 pub mod BodyLemmas
 pub mod BoolLemmas
-pub mod CutLemmas
 pub mod ListLemmas
 pub mod MachineLemmas
 pub mod OpenLemmas

@@ -1,6 +1,6 @@
 -- The laws of the reading of a stream: three say together that no cut of the stream into pieces matters, one what is stored.
 use Rattle.std.specs.Prelude.{◌≡◌, ℕ, ◌<◌, true, false, ◌⊎◌, List, ◌++◌, length, Option}
-use Rattle.sv_body.specs.declared.cut.Cut.TheVariants.{Unended}
+use Rattle.sv_text.specs.declared.front.Cut.TheVariants.{Unended}
 use Rattle.sv_wire.specs.declared.item.Item.{Item}
 use Rattle.sv_wire.specs.declared.limits.TheConstants.{MAX_HEAD_LEN}
 use Rattle.sv_wire.specs.declared.owed_head.OwedHead.{OwedHead}

@@ -3,6 +3,7 @@
 ghost use Rattle.std.specs.Prelude.{◌≡◌, Some};
 ghost use Rattle.sv_wire.specs.WireFault.{fault_name, fault_of, fault_status};
 
+use std::error::Error;
 use std::fmt;
 use sv_body::BodyFault;
 
@@ -72,3 +73,5 @@ impl fmt::Display for WireFault {
         })
     }
 }
+
+impl Error for WireFault {}
