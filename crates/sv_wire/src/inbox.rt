@@ -18,7 +18,7 @@ use sv_body::{BodyEnd, Progress};
 use sv_text::NoMemory;
 
 /// What the end of a stream means.
-#[derive(Clone, Copy, Debug, PartialEq, Eq)]
+#[derive(Clone, Copy)]
 pub enum Ended {
     /// No byte of an unfinished message was held.
     Clean,

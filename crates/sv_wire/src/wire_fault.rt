@@ -8,7 +8,7 @@ use std::fmt;
 use sv_body::BodyFault;
 
 /// Why a message is refused. A refusal is the last item of a stream: nothing behind it is read.
-#[derive(Clone, Copy, Debug, PartialEq, Eq)]
+#[derive(Clone, Copy, Debug)]
 pub enum WireFault {
     /// The head is not in the form of a request (RFC 9112, section 2.1).
     BadHead = 1,
