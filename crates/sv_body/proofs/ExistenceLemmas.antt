@@ -1,5 +1,5 @@
 -- No text is without a reading as a body.
-use Rattle.std.proofs.Common.{◌≡◌, ℕ, zero, suc, ◌≤◌, ◌<◌, Bool, true, false, List, [], ◌∷◌, ◌++◌, length, take, drop, Option, None, Some, refl, sym, subst, cond, ltb, arith}
+use Rattle.std.proofs.Common.{ℕ, zero, suc, ◌<◌, Bool, true, false, List, [], ◌∷◌, ◌++◌, length, take, drop, Option, None, Some, refl, sym, subst, cond, ltb, arith}
 use Rattle.std.proofs.lemmas.List.{length-drop}
 use Rattle.httparse.specs.Grammar.{chunk_size}
 use Rattle.sv_text.specs.declared.front.Cut.{Cut}

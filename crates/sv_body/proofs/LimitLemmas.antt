@@ -6,7 +6,6 @@ use Rattle.std.proofs.lemmas.List.{length-take, length-drop}
 use Rattle.httparse.specs.Ascii.{crlf_bytes}
 use Rattle.sv_text.specs.declared.front.Cut.{Cut}
 use Rattle.sv_text.specs.declared.front.Cut.TheVariants.{Whole, Endless, Unended}
-use Rattle.sv_body.specs.declared.body_fault.BodyFault.{BodyFault}
 use Rattle.sv_body.specs.declared.body_fault.BodyFault.TheVariants.{BadChunk, TooLarge}
 use Rattle.sv_body.specs.declared.framing.Framing.{Framing}
 use Rattle.sv_body.specs.declared.framing.Framing.TheVariants.{Length, Chunked}

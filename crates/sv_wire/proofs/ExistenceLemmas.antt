@@ -1,10 +1,9 @@
 -- No stream is without a reading.
-use Rattle.std.proofs.Common.{◌≡◌, ℕ, zero, suc, ◌+◌, ◌*◌, ◌≤◌, ◌<◌, Bool, true, false, List, [], ◌∷◌, length, take, drop, Option, None, Some, refl, sym, ap, subst, inl, inr, arith}
+use Rattle.std.proofs.Common.{◌≡◌, ℕ, zero, suc, ◌+◌, ◌*◌, ◌≤◌, ◌<◌, Bool, true, false, List, [], ◌∷◌, length, take, drop, Option, None, Some, refl, sym, subst, inl, inr, arith}
 use Rattle.std.specs.Bool.{MatchBool}
 use Rattle.std.proofs.lemmas.List.{length-drop}
 use Rattle.sv_text.specs.declared.front.Cut.{Cut}
 use Rattle.sv_text.specs.declared.front.Cut.TheVariants.{Whole, Endless, Unended}
-use Rattle.sv_body.specs.Body.{ReadsBody}
 use Rattle.sv_body.specs.Chunks.{Body, unfinished, complete, broken}
 use Rattle.sv_body.proofs.BoolLemmas.{MatchBool-from_true, MatchBool-from_false}
 use Rattle.sv_body.proofs.ExistenceLemmas.{NotNone, some_body, ReadsBody_leaves}
@@ -14,7 +13,6 @@ use Rattle.sv_wire.specs.declared.owed_head.OwedHead.{OwedHead}
 use Rattle.sv_wire.specs.declared.owed_head.Verdict.{Verdict}
 use Rattle.sv_wire.specs.declared.owed_head.Verdict.TheVariants.{Refused, Expecting, Accepted}
 use Rattle.sv_wire.specs.declared.wire_fault.WireFault.TheVariants.{BadHead, HeadTooLarge}
-use Rattle.sv_wire.specs.EmptyLines.{drop_empty_lines}
 use Rattle.sv_wire.specs.Head.{judge}
 use Rattle.sv_wire.specs.Items.{is_last}
 use Rattle.sv_wire.specs.Laws.{ReadingsExist}

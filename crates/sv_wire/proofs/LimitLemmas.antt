@@ -1,5 +1,5 @@
 -- The bodies of messages are within the limit, and what stands behind an item is no longer than what stood before it.
-use Rattle.std.proofs.Common.{◌≡◌, ℕ, ◌≤◌, Bool, true, false, ◌⊎◌, List, [], ◌∷◌, ◌++◌, length, take, drop, Option, None, Some, Result, Ok, Err, refl, sym, subst, inl, inr, cond, ltb, not, codes, arith}
+use Rattle.std.proofs.Common.{◌≡◌, ℕ, ◌≤◌, Bool, true, false, List, [], ◌∷◌, ◌++◌, length, take, drop, Option, None, Some, Result, Ok, Err, refl, sym, subst, inl, inr, cond, ltb, not, codes, arith}
 use Rattle.std.specs.Prelude.{All}
 use Rattle.std.specs.Bool.{MatchBool}
 use Rattle.std.proofs.lemmas.Bool.{ltb-false}
@@ -19,7 +19,6 @@ use Rattle.sv_head.specs.Fields.{fields_of, values_of}
 use Rattle.sv_head.specs.Host.{accepts_hosts}
 use Rattle.sv_head.specs.TargetForm.{target_form}
 use Rattle.httparse.specs.Grammar.{RequestHead}
-use Rattle.sv_wire.specs.declared.item.Item.{Item}
 use Rattle.sv_wire.specs.declared.limits.TheConstants.{MAX_HEAD_LEN}
 use Rattle.sv_wire.specs.declared.owed_head.OwedHead.{OwedHead}
 use Rattle.sv_wire.specs.declared.owed_head.Verdict.{Verdict}

@@ -1,8 +1,8 @@
-use Rattle.std.proofs.Common.{◌≡◌, Bool, true, false, not, List, [], ◌∷◌, ◌++◌, Err, refl, sym, ◌∙◌}
+use Rattle.std.proofs.Common.{◌≡◌, Bool, true, false, not, List, [], ◌∷◌, ◌++◌, Err, sym, ◌∙◌}
 use Rattle.sv_text.specs.Faults.{when, first_or}
 use Rattle.sv_wire.specs.declared.wire_fault.WireFault.{WireFault}
 use Rattle.sv_wire.specs.declared.wire_fault.WireFault.TheVariants.{BadHost, BadTarget}
-use Rattle.sv_wire.specs.Head.{framing_faults, is_unknown_expectation}
+use Rattle.sv_wire.specs.Head.{framing_faults}
 use Rattle.sv_wire.proofs.head.accept.Goals as goal
 
 first_of_both : (faults more : List WireFault) (fault : WireFault) → first_or faults (tt {0}) ≡ Err fault → first_or (faults ++ more) (tt {0}) ≡ Err fault
