@@ -1,0 +1,10 @@
+//! Tables of tests: rows of raw text, and the one run that compares the answer to each.
+#![tactic(auto)]
+
+mod cells;
+mod escapes;
+mod run;
+
+pub use cells::cell;
+pub use escapes::unescaped;
+pub use run::{Asks, strays};
