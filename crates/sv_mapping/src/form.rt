@@ -3,7 +3,7 @@
 ghost use Rattle.std.specs.Prelude.{◌≡◌};
 ghost use Rattle.std.specs.Option.{option_copied};
 ghost use Rattle.sv_mapping.specs.Form.{seen};
-ghost use Rattle.sv_mapping.specs.Pattern.{form, form_matches, has_extension, is_within, last_segment, extension};
+ghost use Rattle.sv_mapping.specs.Pattern.{form, form_matches, has_extension, is_at_or_below, last_segment, extension};
 
 /// What a pattern's text says (Jakarta Servlet 6.0, section 12.2).
 #[derive(Clone, Copy)]
@@ -48,14 +48,15 @@ impl<'a> Form<'a> {
             Form::Root => path == "/",
             Form::Default => true,
             Form::Extension(wanted) => has_extension(path, wanted),
-            Form::Prefix(prefix) => is_within(prefix, path),
+            Form::Prefix(prefix) => is_at_or_below(prefix, path),
             Form::Exact(text) => path == text,
         }
     }
 }
 
-fn is_within(prefix: &str, path: &str) -> bool
-    ensures { result ≡ is_within prefix.now path.now }
+/// Whether the path is the prefix or lies below it: what follows the prefix is nothing, or begins with `/`.
+pub fn is_at_or_below(prefix: &str, path: &str) -> bool
+    ensures { result ≡ is_at_or_below prefix.now path.now }
 {
     match path.strip_prefix(prefix) {
         Some(rest) => rest.is_empty() || rest.starts_with('/'),

@@ -8,8 +8,8 @@ use Rattle.std.proofs.lemmas.List.{length-map}
 use Rattle.std.proofs.lemmas.List.Elements.{All-nil, All-cons, All-head, All-tail, All-append, All-weaker, All-filter, filter-append, filter_passes}
 use Rattle.std.proofs.lemmas.List.Folds.{list_any_none}
 use Rattle.std.proofs.lemmas.List.Splits.{length-slice_split}
+use Rattle.sv_text.specs.Faults.{first_or}
 use Rattle.sv_uri.specs.declared.path.Canon.{Canon}
-use Rattle.sv_uri.specs.Fault.{first_or}
 use Rattle.sv_uri.specs.Target.{before, behind, between_slashes, visible_query}
 use Rattle.sv_uri.specs.Segment.{is_parent, name_of, segment_faults}
 use Rattle.sv_uri.specs.DotSegments.{is_idle, removed_in_front, kept, remaining, climbs, is_open, closing}

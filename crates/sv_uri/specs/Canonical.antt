@@ -6,8 +6,7 @@ use Rattle.std.specs.Str.{byte}
 use Rattle.sv_uri.specs.declared.fault.PathFault.{PathFault}
 use Rattle.sv_uri.specs.declared.fault.PathFault.TheVariants.{Fragment, NoSlash, Climbs}
 use Rattle.sv_uri.specs.declared.path.Canon.{Canon}
-use Rattle.sv_text.specs.Faults.{when}
-use Rattle.sv_uri.specs.Fault.{first_or}
+use Rattle.sv_text.specs.Faults.{when, first_or}
 use Rattle.sv_uri.specs.Target.{before, behind, between_slashes, visible_query}
 use Rattle.sv_uri.specs.Segment.{name_of, segment_faults}
 use Rattle.sv_uri.specs.DotSegments.{kept, remaining, climbs, closing}

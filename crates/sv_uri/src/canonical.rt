@@ -3,7 +3,8 @@
 ghost use Rattle.std.specs.Prelude.{◌≡◌, false, ◌∷◌, MatchOption};
 ghost use Rattle.std.specs.Str.{byte};
 ghost use Rattle.sv_text.specs.Gives.{Gives};
-ghost use Rattle.sv_uri.specs.Fault.{path_fault, first_or};
+ghost use Rattle.sv_text.specs.Faults.{first_or};
+ghost use Rattle.sv_uri.specs.Fault.{path_fault};
 ghost use Rattle.sv_uri.specs.Target.{between_slashes};
 ghost use Rattle.sv_uri.specs.Walked.{GivesWalk};
 ghost use Rattle.sv_uri.specs.Canonical.{canonical, begins_with_slash, path_faults, path_text};

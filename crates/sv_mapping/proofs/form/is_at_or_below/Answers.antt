@@ -1,6 +1,6 @@
 use Rattle.std.proofs.Common.{arith, sym, ◌∙◌}
 use Rattle.sv_mapping.proofs.Texts.{stripped_front, within_whole, within_rest, within_none}
-use Rattle.sv_mapping.proofs.form.is_within.Goals as goal
+use Rattle.sv_mapping.proofs.form.is_at_or_below.Goals as goal
 
 pub returns-then-is_empty : goal.returns-then-is_empty
 returns-then-is_empty c =
