@@ -24,7 +24,7 @@ mod servlet_tables;
 #[cfg(test)]
 mod summary;
 #[cfg(test)]
-mod table;
+mod texts;
 #[cfg(test)]
 mod toml_texts;
 #[cfg(test)]

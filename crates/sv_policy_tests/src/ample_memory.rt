@@ -17,7 +17,10 @@ fn a_decision_is_copied(rt: HostRuntime) -> Result<(), Fail> {
     };
     let copy = OwnedDecision::copy_of(rt.alloc(), Decision::Login(why))?;
     let text = format!(in rt.alloc(); "{} {}", copy.word(), copy.why())?;
-    assert_eq!(rt; text.as_str(), "login pattern=/a/* constraint=2 cause=NeedsCaller");
+    assert_eq!(rt;
+        text.as_str(),
+        "login pattern=/a/* constraint=2 cause=NeedsCaller"
+    );
     Ok(())
 }
 

@@ -134,7 +134,11 @@ fn told(alloc: Global, patterns: &[Pattern], path: &str) -> Result<String, NoMem
     let best = best(patterns, path);
     let Some(pattern) = best.and_then(|place| patterns.get(place)) else {
         let any = patterns.iter().any(|pattern| pattern.matches(path));
-        let text = if any { "a match is left out" } else { "- | - | -" };
+        let text = if any {
+            "a match is left out"
+        } else {
+            "- | - | -"
+        };
         return Ok(String::from_str(alloc, text)?);
     };
     if !pattern.matches(path) || best != place_of(patterns, pattern.text()) {

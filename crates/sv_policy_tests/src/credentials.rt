@@ -3,14 +3,19 @@
 use std::alloc::Global;
 use std::test::Fail;
 use sv_realm::{Caller, MAX_USERS, Realm, User};
-use sv_rows::{Asks, cell, strays};
+use sv_rows::{Asks, cell, strays, unescaped};
 use sv_text::{Bytes, Listed, NoMemory, Text};
 
-/// SHA-256 of `abc` (FIPS 180-4, the one-block example).
-const DIGEST: [u8; 32] = [
-    0xba, 0x78, 0x16, 0xbf, 0x8f, 0x01, 0xcf, 0xea, 0x41, 0x41, 0x40, 0xde, 0x5d, 0xae, 0x22, 0x23,
-    0xb0, 0x03, 0x61, 0xa3, 0x96, 0x17, 0x7a, 0x9c, 0xb4, 0x10, 0xff, 0x61, 0xf2, 0x00, 0x15, 0xad,
-];
+/// Users in their order: name, salt, digest, role. The digest is SHA-256 of `abc` (FIPS 180-4, the one-block example), but for that
+/// of `short`, which lacks the last byte, and that of `late`, whose last byte is another.
+const USERS: &str = r#"
+short | a   | \xba\x78\x16\xbf\x8f\x01\xcf\xea\x41\x41\x40\xde\x5d\xae\x22\x23\xb0\x03\x61\xa3\x96\x17\x7a\x9c\xb4\x10\xff\x61\xf2\x00\x15 | a
+ann   | a   | \xba\x78\x16\xbf\x8f\x01\xcf\xea\x41\x41\x40\xde\x5d\xae\x22\x23\xb0\x03\x61\xa3\x96\x17\x7a\x9c\xb4\x10\xff\x61\xf2\x00\x15\xad | b
+ann   | ""  | \xba\x78\x16\xbf\x8f\x01\xcf\xea\x41\x41\x40\xde\x5d\xae\x22\x23\xb0\x03\x61\xa3\x96\x17\x7a\x9c\xb4\x10\xff\x61\xf2\x00\x15\xad | c
+salt  | abc | \xba\x78\x16\xbf\x8f\x01\xcf\xea\x41\x41\x40\xde\x5d\xae\x22\x23\xb0\x03\x61\xa3\x96\x17\x7a\x9c\xb4\x10\xff\x61\xf2\x00\x15\xad | d
+plain | ""  | \xba\x78\x16\xbf\x8f\x01\xcf\xea\x41\x41\x40\xde\x5d\xae\x22\x23\xb0\x03\x61\xa3\x96\x17\x7a\x9c\xb4\x10\xff\x61\xf2\x00\x15\xad | e
+late  | a   | \xba\x78\x16\xbf\x8f\x01\xcf\xea\x41\x41\x40\xde\x5d\xae\x22\x23\xb0\x03\x61\xa3\x96\x17\x7a\x9c\xb4\x10\xff\x61\xf2\x00\x15\xac | f
+"#;
 
 /// Name, password, and the number, name and roles of the caller whom they give, `-` for none. Behind `find` and `caller`
 /// stand a name and a number alone.
@@ -75,33 +80,25 @@ fn told(alloc: Global, caller: Option<&Caller>) -> Result<String, NoMemory> {
     Ok(text)
 }
 
-/// Users of these names in this order, the role of each a letter.
+/// The realm of the users.
 fn realm(alloc: Global) -> Result<Realm, NoMemory> {
-    let mut late = DIGEST;
-    late[31] ^= 1;
-    let users = vec![in alloc;
-        user(alloc, "short", b"a", &DIGEST[..31], "a")?,
-        user(alloc, "ann", b"a", &DIGEST, "b")?,
-        user(alloc, "ann", b"", &DIGEST, "c")?,
-        user(alloc, "salt", b"abc", &DIGEST, "d")?,
-        user(alloc, "plain", b"", &DIGEST, "e")?,
-        user(alloc, "late", b"a", &late, "f")?,
-    ]?;
-    prove!(users.len() <= MAX_USERS);
+    let mut users = Vec::new(alloc);
+    for row in USERS.trim().lines() {
+        users.push(user(alloc, row)?)?;
+    }
+    if users.len() > MAX_USERS {
+        return Err(NoMemory);
+    }
     Realm::from_users(alloc, users)
 }
 
-fn user(
-    alloc: Global,
-    name: &str,
-    salt: &[u8],
-    digest: &[u8],
-    role: &str,
-) -> Result<User, NoMemory> {
+fn user(alloc: Global, row: &str) -> Result<User, NoMemory> {
+    let mut roles = Vec::new(alloc);
+    roles.push(Text::copy_of(alloc, cell(row, 3))?)?;
     Ok(User {
-        name: Text::copy_of(alloc, name)?,
-        salt: Bytes::from_vec(salt.to_vec(alloc)?),
-        digest: Bytes::from_vec(digest.to_vec(alloc)?),
-        roles: Listed::from_vec(vec![in alloc; Text::copy_of(alloc, role)?]?),
+        name: Text::copy_of(alloc, cell(row, 0))?,
+        salt: Bytes::from_vec(unescaped(alloc, cell(row, 1))?),
+        digest: Bytes::from_vec(unescaped(alloc, cell(row, 2))?),
+        roles: Listed::from_vec(roles),
     })
 }

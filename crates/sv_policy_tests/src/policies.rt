@@ -68,7 +68,9 @@ fn constraint_of(alloc: Global, place: usize, text: &str) -> Result<Constraint, 
     let (who, coverage) = text.split_once(" on ").unwrap_or((text, ""));
     let (who, guarantee) = who.split_once(" over ").unwrap_or((who, ""));
     Ok(Constraint {
-        number: number.parse::<u64>().unwrap_or((place as u64).saturating_add(1)),
+        number: number
+            .parse::<u64>()
+            .unwrap_or((place as u64).saturating_add(1)),
         collections: collections_of(alloc, coverage)?,
         auth: auth_of(alloc, who)?,
         transport: transport_of(guarantee),

@@ -197,6 +197,9 @@ fn the_example_of_the_specification_is_decided_as_its_table_says(
     rt: HostRuntime,
 ) -> Result<(), Fail> {
     let requests = Requests(SPECIFICATION_EXAMPLE);
-    assert_eq!(rt; strays(rt.alloc(), SPECIFICATION_ROWS, &requests)?.as_str(), "");
+    assert_eq!(rt;
+        strays(rt.alloc(), SPECIFICATION_ROWS, &requests)?.as_str(),
+        ""
+    );
     Ok(())
 }

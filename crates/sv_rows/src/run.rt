@@ -10,6 +10,11 @@ pub trait Asks {
     /// How many cells of a row are its question. The cells behind them are the wanted answer.
     const QUESTION: usize;
 
+    /// The text of a cell of the wanted answer.
+    fn text(&self, alloc: Global, cell: &str) -> Result<Vec<u8>, NoMemory> {
+        unescaped(alloc, cell)
+    }
+
     /// Writes the answer to a row's question: its cells, with ` | ` between them.
     fn answer(&self, alloc: Global, row: &str, answer: &mut Vec<u8>) -> Result<(), NoMemory>;
 }
@@ -39,7 +44,7 @@ fn add_stray<A: Asks>(
 ) -> Result<(), NoMemory> {
     let mut answer = Vec::new(alloc);
     asked.answer(alloc, row, &mut answer)?;
-    let wanted = wanted(alloc, row, A::QUESTION)?;
+    let wanted = wanted(alloc, row, asked)?;
     if answer.as_slice() != wanted.as_slice() {
         let found = String::from_utf8_lossy(alloc, answer.as_slice())?;
         strays.push_str(row)?;
@@ -51,13 +56,13 @@ fn add_stray<A: Asks>(
 }
 
 /// The wanted answer of a row.
-fn wanted(alloc: Global, row: &str, question: usize) -> Result<Vec<u8>, NoMemory> {
+fn wanted<A: Asks>(alloc: Global, row: &str, asked: &A) -> Result<Vec<u8>, NoMemory> {
     let mut wanted = Vec::new(alloc);
-    for (place, cell) in row.split('|').skip(question).enumerate() {
+    for (place, cell) in row.split('|').skip(A::QUESTION).enumerate() {
         if place > 0 {
             wanted.extend_from_slice(b" | ")?;
         }
-        wanted.extend_from_slice(unescaped(alloc, shown(cell))?.as_slice())?;
+        wanted.extend_from_slice(asked.text(alloc, shown(cell))?.as_slice())?;
     }
     Ok(wanted)
 }
