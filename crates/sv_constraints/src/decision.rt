@@ -9,7 +9,7 @@ use std::fmt;
 use sv_mapping::Pattern;
 
 /// What the constraints decide for a request.
-#[derive(Clone, Copy, Debug)]
+#[derive(Clone, Copy)]
 pub enum Decision<'a> {
     /// The request may pass.
     Open(Why<'a>),
@@ -20,7 +20,7 @@ pub enum Decision<'a> {
 }
 
 /// Why a request is decided as it is.
-#[derive(Clone, Copy, Debug)]
+#[derive(Clone, Copy)]
 pub struct Why<'a> {
     /// The best pattern for the request's path, none where no pattern matches it.
     pub pattern: Option<&'a Pattern>,

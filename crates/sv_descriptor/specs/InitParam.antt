@@ -1,7 +1,8 @@
 -- Jakarta Servlet 6.0 section 14.4 (init-param): names and values for a component, in the order of the names' bytes.
 use Rattle.std.specs.Prelude.{List, [], ◌∷◌, Ok}
 use Rattle.toml.specs.Data.{Members, no_members, member}
-use Rattle.sv_schema.specs.Fault.{Reads, ◌>>=◌}
+use Rattle.sv_text.specs.Steps.{◌>>=◌}
+use Rattle.sv_schema.specs.Fault.{Reads}
 use Rattle.sv_schema.specs.Value.{text_of, any_text}
 use Rattle.sv_descriptor.specs.declared.init_param.InitParam.{InitParam}
 

@@ -172,15 +172,15 @@ impl TextSchema for Method {
     ghost reads = { λ _. spec.method };
 
     fn read(&self, alloc: Global, key: &str, text: &str) -> Result<Text, ReadFault> {
-        if !is_method(text) {
+        if !is_method_name(text) {
             return refuse(alloc, FaultCode::BadValue, key);
         }
         Ok(Text::copy_of(alloc, text)?)
     }
 }
 
-fn is_method(text: &str) -> bool
-    ensures { result ≡ spec.is_method text.now }
+fn is_method_name(text: &str) -> bool
+    ensures { result ≡ spec.is_method_name text.now }
 {
     is_within(text, 1, MAX_METHOD_BYTES) && is_token_text(text)
 }

@@ -8,7 +8,7 @@ use sv_text::{Listed, Text};
 use toml::Table;
 
 /// A parameter of a servlet or a filter (`init-param`).
-#[derive(Debug, Drop)]
+#[derive(Drop)]
 pub struct InitParam {
     /// The parameter's name, any text.
     pub name: Text,

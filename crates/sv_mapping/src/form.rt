@@ -2,7 +2,7 @@
 
 ghost use Rattle.std.specs.Prelude.{◌≡◌};
 ghost use Rattle.std.specs.Option.{option_copied};
-ghost use Rattle.sv_mapping.specs.Form.{seen};
+ghost use Rattle.sv_mapping.specs.Form.{form_seen};
 ghost use Rattle.sv_mapping.specs.Pattern.{form, form_matches, has_extension, is_at_or_below, last_segment, extension};
 
 /// What a pattern's text says (Jakarta Servlet 6.0, section 12.2).
@@ -23,7 +23,7 @@ pub enum Form<'a> {
 impl<'a> Form<'a> {
     /// The form of a pattern's text.
     pub fn of(text: &'a str) -> Form<'a>
-        ensures { seen result ≡ form text.now }
+        ensures { form_seen result ≡ form text.now }
     {
         if text.is_empty() {
             return Form::Root;
@@ -42,7 +42,7 @@ impl<'a> Form<'a> {
 
     /// Whether a pattern of this form matches the path.
     pub fn matches(self, path: &str) -> bool
-        ensures { result ≡ form_matches (seen self.entry) path.now }
+        ensures { result ≡ form_matches (form_seen self.entry) path.now }
     {
         match self {
             Form::Root => path == "/",

@@ -6,7 +6,7 @@ use std::alloc::Global;
 use sv_text::{Listed, NoMemory, Text, copied_texts};
 
 /// An authenticated caller: a user of the realm, with the roles that the realm gives them.
-#[derive(Debug, Drop)]
+#[derive(Drop)]
 pub struct Caller {
     /// The user's place in the realm, from 0.
     pub number: u32,

@@ -9,7 +9,7 @@ use Rattle.sv_uri.specs.declared.fault.CanonFault.{CanonFault}
 use Rattle.sv_text.specs.Faults.{first_or}
 use Rattle.sv_uri.specs.Fault.{path_fault}
 use Rattle.sv_uri.specs.Segment.{name_of, segment_faults}
-use Rattle.sv_uri.specs.DotSegments.{kept, remaining, climbs, is_open}
+use Rattle.sv_uri.specs.DotSegments.{kept, remaining, climbs, ends_open}
 
 -- the bytes of each name
 abbrev pub shown : List (CowSlice ℕ Global) → List (List ℕ)
@@ -19,7 +19,7 @@ shown names = map cow_slice_items names
 pub record IsLeftOf (names : List (List ℕ)) (climbed open_end : Bool) (seen : List (List ℕ)) : Type 0 where
   pub left : names ≡ remaining (kept seen)
   pub climbed_by : climbed ≡ climbs (kept seen)
-  pub opened_by : open_end ≡ is_open (last_or None seen)
+  pub opened_by : open_end ≡ ends_open (last_or None seen)
 
 -- the walk has entered these names
 abbrev pub HasSeen : Walk → List (List ℕ) → Type 0

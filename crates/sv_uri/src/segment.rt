@@ -6,8 +6,8 @@ ghost use Rattle.std.specs.Str.{is_utf8};
 ghost use Rattle.sv_text.specs.Faults.{first_or};
 ghost use Rattle.sv_uri.specs.Segment as spec;
 
-use crate::cut::cut;
 use crate::fault::{CanonFault, PathFault};
+use crate::separator::before_and_behind;
 use percent_encoding::percent_decode;
 use std::alloc::Global;
 use std::borrow::CowSlice;
@@ -50,7 +50,7 @@ fn has_control(name: &[u8]) -> bool
     name.iter().any(|b| *b < 32 || *b == 127)
 }
 
-fn is_text(name: &[u8]) -> bool
+fn is_utf8(name: &[u8]) -> bool
     ensures { result ≡ is_utf8 name.now }
 {
     str::from_utf8(name).is_ok()
@@ -80,7 +80,7 @@ fn check_name(segment: &[u8], name: &[u8]) -> Result<(), PathFault>
         Err(PathFault::Backslash)
     } else if has_control(name) {
         Err(PathFault::Control)
-    } else if !is_text(name) {
+    } else if !is_utf8(name) {
         Err(PathFault::NotUtf8)
     } else if is_disguised(segment, name) {
         Err(PathFault::DotSegment)
@@ -98,7 +98,7 @@ pub(crate) fn read_name<'a>(
 ) -> Result<CowSlice<'a, u8, Global>, CanonFault>
     ensures { spec.GivesName result segment.now }
 {
-    let (raw_name, _) = cut(segment, b';');
+    let (raw_name, _) = before_and_behind(segment, b';');
     if has_bad_escape(raw_name) {
         return Err(CanonFault::Path(PathFault::BadEscape));
     }

@@ -1,4 +1,4 @@
-//! The cut of bytes at the first of a separator.
+//! What stands before a separator, and what stands behind it.
 
 ghost use Rattle.std.specs.Prelude.{◌≡◌, ◌==◌, position};
 ghost use Rattle.std.specs.Option.{option_copied};
@@ -11,7 +11,7 @@ fn place_of(bytes: &[u8], separator: u8) -> Option<usize>
 }
 
 /// What stands before the first `separator`, and what stands behind it where there is one.
-pub(crate) fn cut(bytes: &[u8], separator: u8) -> (&[u8], Option<&[u8]>)
+pub(crate) fn before_and_behind(bytes: &[u8], separator: u8) -> (&[u8], Option<&[u8]>)
     ensures front { result.0.now ≡ target.before separator bytes.now }
     ensures back { option_copied result.1 ≡ target.behind separator bytes.now }
 {
