@@ -5,7 +5,7 @@ use crate::summary::summary_of;
 use std::alloc::Global;
 use std::test::Fail;
 use sv_realm::Realm;
-use sv_rows::{Asks, cell, strays};
+use sv_rows::{Asks, cell, hold};
 use sv_settings::read_users;
 use sv_text::{NoMemory, Text};
 
@@ -165,10 +165,7 @@ bob | bc  | -
 #[test]
 fn the_user_of_the_demonstration_has_her_password_alone(rt: HostRuntime) -> Result<(), Fail> {
     let realm = Realm::from_users(rt.alloc(), read_users(rt.alloc(), USERS)?)?;
-    assert_eq!(rt;
-        strays(rt.alloc(), PASSWORDS, &Passwords(realm))?.as_str(),
-        ""
-    );
+    hold(&rt, &[PASSWORDS], &Passwords(realm))?;
     Ok(())
 }
 

@@ -14,6 +14,8 @@ mod element_tables;
 #[cfg(test)]
 mod filter_tables;
 #[cfg(test)]
+mod first_faults;
+#[cfg(test)]
 mod limits;
 #[cfg(test)]
 mod reading;

@@ -3,7 +3,7 @@
 use crate::texts::text_of;
 use std::alloc::Global;
 use sv_descriptor::{ReadFault, read_descriptor};
-use sv_rows::{Asks, cell};
+use sv_rows::{Asks, Strays, cell, hold};
 use sv_settings::{read_server, read_users};
 use sv_text::NoMemory;
 
@@ -73,24 +73,23 @@ fn add_found(answer: &mut Vec<u8>, found: &[u8]) -> Result<(), NoMemory> {
     Ok(())
 }
 
-/// The rows of tables that are not read as they say, and what they are read as. A table is a frame and rows. A row is
-/// lines of a text, which stand in the frame in the place of `%`, and the fault of the text, or `read`.
-pub fn strays(
-    alloc: Global,
+/// Says which rows of tables are not read as they say. A table is a frame and rows. A row is lines of a text, which stand
+/// in the frame in the place of `%`, and the fault of the text, or `read`.
+pub fn are_read<R: Eprint + AllocGlobal>(
+    rt: &R,
     format: Format,
     orders: &[Order],
     tables: &[(&str, &str)],
-) -> Result<String, NoMemory> {
-    let mut strays = String::new(alloc);
+) -> Result<(), Strays> {
     for (frame, table) in tables {
         let faults = Faults {
             format,
             orders,
             frame,
         };
-        strays.push_str(sv_rows::strays(alloc, table, &faults)?.as_str())?;
+        hold(rt, &[table], &faults)?;
     }
-    Ok(strays)
+    Ok(())
 }
 
 /// The lines of a cell in an order.
@@ -128,17 +127,4 @@ fn fault_of(alloc: Global, format: Format, text: &str) -> Option<ReadFault> {
         Format::Server => read_server(alloc, text).err(),
         Format::Users => read_users(alloc, text).err(),
     }
-}
-
-#[test]
-fn a_row_that_is_not_read_as_it_says_is_a_stray(rt: HostRuntime) -> Result<(), NoMemory> {
-    let rows =
-        "-- a comment\nversion = 1 | read\n\nversion = 2 ; x = 1 | read\nx = 1 | UnknownKey y";
-    let tables = [("%", rows)];
-    let found = strays(rt.alloc(), Format::Descriptor, &EITHER_ORDER, &tables)?;
-    assert_eq!(rt;
-        found.as_str(),
-        "version = 2 ; x = 1 | read but UnknownKey x\nx = 1 | UnknownKey y but UnknownKey x\n"
-    );
-    Ok(())
 }

@@ -1,9 +1,9 @@
 //! What TOML makes of a text before its format is asked.
 
-use crate::reading::{AS_WRITTEN, Format, found_in, strays};
+use crate::reading::{Format, found_in};
 use crate::texts::text_of;
 use std::alloc::Global;
-use sv_rows::{Asks, cell, unescaped};
+use sv_rows::{Asks, Strays, cell, hold, unescaped};
 use sv_text::NoMemory;
 
 /// A descriptor, its fault.
@@ -170,13 +170,8 @@ servlet.servlet-name = "a"                                             | WrongTy
 [[security-role]] ; role-name = "<16*\U0001F600>a"                     | BadValue role-name
 "#;
 
-#[test]
-fn a_text_is_toml_before_it_is_a_descriptor(rt: HostRuntime) -> Result<(), Fail> {
-    let tables = [("%", ROWS)];
-    let found = strays(rt.alloc(), Format::Descriptor, &AS_WRITTEN, &tables)?;
-    assert_eq!(rt; found.as_str(), "");
-    Ok(())
-}
+/// The table and where its rows stand.
+pub const TABLES: [(&str, &str); 1] = [("%", ROWS)];
 
 /// A text with escapes, its fault.
 const BYTES: &str = r#"
@@ -210,12 +205,8 @@ description = 'a\x7Fb'                           | NotToml
 #[test]
 fn a_byte_order_mark_line_ends_and_control_bytes_are_as_in_toml(
     rt: HostRuntime,
-) -> Result<(), NoMemory> {
-    assert_eq!(rt;
-        sv_rows::strays(rt.alloc(), BYTES, &FaultsOfBytes)?.as_str(),
-        ""
-    );
-    Ok(())
+) -> Result<(), Strays> {
+    hold(&rt, &[BYTES], &FaultsOfBytes)
 }
 
 /// The fault of a descriptor whose bytes are written with escapes.
@@ -251,12 +242,8 @@ port = 0x10000                  | BadValue port   | UnknownKey port
 "#;
 
 #[test]
-fn the_other_files_are_toml_too(rt: HostRuntime) -> Result<(), NoMemory> {
-    assert_eq!(rt;
-        sv_rows::strays(rt.alloc(), OTHER_FORMATS, &OtherFormats)?.as_str(),
-        ""
-    );
-    Ok(())
+fn the_other_files_are_toml_too(rt: HostRuntime) -> Result<(), Strays> {
+    hold(&rt, &[OTHER_FORMATS], &OtherFormats)
 }
 
 /// The faults of a text as a server file and as a users file.

@@ -6,7 +6,7 @@ use crate::texts::text_of;
 use std::alloc::Global;
 use std::test::Fail;
 use sv_descriptor::read_descriptor;
-use sv_rows::{Asks, cell, strays};
+use sv_rows::{Asks, Strays, cell, hold};
 use sv_text::NoMemory;
 
 /// A descriptor with as many constraints as there may be.
@@ -76,13 +76,6 @@ login-config = { auth-method = "FORM", form-login-config = { form-login-page = "
 "#;
 
 #[test]
-fn a_descriptor_is_read_as_it_is_written(rt: HostRuntime) -> Result<(), NoMemory> {
-    let summaries = Summaries(Format::Descriptor);
-    assert_eq!(rt; strays(rt.alloc(), DESCRIPTORS, &summaries)?.as_str(), "");
-    Ok(())
-}
-
-#[test]
 fn a_thousand_constraints_are_numbered_from_1(rt: HostRuntime) -> Result<(), Fail> {
     let text = text_of(rt.alloc(), THOUSAND_CONSTRAINTS)?;
     let descriptor = read_descriptor(rt.alloc(), text.as_str())?;
@@ -96,50 +89,49 @@ fn a_thousand_constraints_are_numbered_from_1(rt: HostRuntime) -> Result<(), Fai
 
 /// A server file, its summary.
 const SERVERS: &str = r#"
-port = 0 ; seed = "<64*0>" ; context = []                           | port 0 ; seed <64*0>
-port = 65535 ; seed = "<4*0123456789abcdef>" ; context = []         | port 65535 ; seed <4*0123456789abcdef>
-port = 0x1F90 ; seed = "<4*0123456789ABCDEF>" ; context = []        | port 8080 ; seed <4*0123456789abcdef>
-port = 1 ; seed = "<16*aBcD>" ; context = []                        | port 1 ; seed <16*abcd>
-port = 1 ; seed = "01<62*0>" ; context = [{ path = "/b", descriptor = "d.toml", files = "f", users = "u.toml" }, { path = "", descriptor = "", files = "" }, { path = "/a", descriptor = "../e", files = " ", users = "" }] | port 1 ; seed 01<62*0> ; context "/b" descriptor "d.toml" files "f" users "u.toml" ; context "" descriptor "" files "" ; context "/a" descriptor "../e" files " " users ""
+port = 0 ; seed = "<64*0>" ; context = []                           | port 0 ; seed \{64*0}
+port = 65535 ; seed = "<4*0123456789abcdef>" ; context = []         | port 65535 ; seed \{4*0123456789abcdef}
+port = 0x1F90 ; seed = "<4*0123456789ABCDEF>" ; context = []        | port 8080 ; seed \{4*0123456789abcdef}
+port = 1 ; seed = "<16*aBcD>" ; context = []                        | port 1 ; seed \{16*abcd}
+port = 1 ; seed = "01<62*0>" ; context = [{ path = "/b", descriptor = "d.toml", files = "f", users = "u.toml" }, { path = "", descriptor = "", files = "" }, { path = "/a", descriptor = "../e", files = " ", users = "" }] | port 1 ; seed 01\{62*0} ; context "/b" descriptor "d.toml" files "f" users "u.toml" ; context "" descriptor "" files "" ; context "/a" descriptor "../e" files " " users ""
 "#;
-
-#[test]
-fn a_server_file_is_read_as_it_is_written(rt: HostRuntime) -> Result<(), NoMemory> {
-    let summaries = Summaries(Format::Server);
-    assert_eq!(rt; strays(rt.alloc(), SERVERS, &summaries)?.as_str(), "");
-    Ok(())
-}
 
 /// A users file, its summary.
 const USERS: &str = r#"
 user = []                                                                           | ""
-user = [{ name = "a", salt = "", digest = "<64*0>", roles = [] }]                   | user a salt  digest <64*0> roles
-user = [{ name = "b", salt = "fF0a", digest = "<4*0123456789ABCDEF>", roles = ["s", "r", "*"] }, { name = "a", salt = "<32*Ab>", digest = "<4*0123456789abcdef>", roles = ["r", "r"] }] | user b salt ff0a digest <4*0123456789abcdef> roles s r * ; user a salt <32*ab> digest <4*0123456789abcdef> roles r r
-[[user]] ; roles = ["r"] ; digest = "<64*f>" ; salt = "00" ; name = "c"             | user c salt 00 digest <64*f> roles r
+user = [{ name = "a", salt = "", digest = "<64*0>", roles = [] }]                   | user a salt  digest \{64*0} roles
+user = [{ name = "b", salt = "fF0a", digest = "<4*0123456789ABCDEF>", roles = ["s", "r", "*"] }, { name = "a", salt = "<32*Ab>", digest = "<4*0123456789abcdef>", roles = ["r", "r"] }] | user b salt ff0a digest \{4*0123456789abcdef} roles s r * ; user a salt \{32*ab} digest \{4*0123456789abcdef} roles r r
+[[user]] ; roles = ["r"] ; digest = "<64*f>" ; salt = "00" ; name = "c"             | user c salt 00 digest \{64*f} roles r
 "#;
 
 #[test]
-fn a_users_file_is_read_as_it_is_written(rt: HostRuntime) -> Result<(), NoMemory> {
-    let summaries = Summaries(Format::Users);
-    assert_eq!(rt; strays(rt.alloc(), USERS, &summaries)?.as_str(), "");
+fn a_file_is_read_as_it_is_written(rt: HostRuntime) -> Result<(), Strays> {
+    for (format, table) in [
+        (Format::Descriptor, DESCRIPTORS),
+        (Format::Server, SERVERS),
+        (Format::Users, USERS),
+    ] {
+        hold(&rt, &[table], &Summaries(format))?;
+    }
     Ok(())
 }
 
-/// What is read of a file of a format.
+/// What is read of a file of a format: its lines with ` ; ` between them.
 #[derive(Drop)]
 struct Summaries(Format);
 
 impl Asks for Summaries {
     const QUESTION: usize = 1;
 
-    fn text(&self, alloc: Global, cell: &str) -> Result<Vec<u8>, NoMemory> {
-        Ok(text_of(alloc, cell)?.into_bytes())
-    }
-
     fn answer(&self, alloc: Global, row: &str, answer: &mut Vec<u8>) -> Result<(), NoMemory> {
         let text = text_of(alloc, cell(row, 0))?;
         let found = summary_of(alloc, self.0, text.as_str())?;
-        answer.extend_from_slice(found.as_str().trim_end().as_bytes())?;
+        for (place, line) in found.as_str().lines().enumerate() {
+            if place > 0 {
+                answer.extend_from_slice(b" ; ")?;
+            }
+            answer.extend_from_slice(line.as_bytes())?;
+        }
         Ok(())
     }
 }

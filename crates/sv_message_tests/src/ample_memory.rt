@@ -3,13 +3,6 @@
 use std::test::Fail;
 use sv_body::{BodyEnd, BodyReader, Framing, Progress};
 use sv_head::{Field, replace_hosts};
-use sv_text::Text;
-
-#[test]
-fn a_text_is_copied(rt: HostRuntime) -> Result<(), Fail> {
-    assert_eq!(rt; Text::copy_of(rt.alloc(), "a text")?.as_str(), "a text");
-    Ok(())
-}
 
 #[test]
 fn a_field_is_copied_and_takes_a_host(rt: HostRuntime) -> Result<(), Fail> {

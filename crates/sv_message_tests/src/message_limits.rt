@@ -1,8 +1,8 @@
 //! The limits of heads and bodies, from both sides.
 
 use crate::counts::Counts;
-use std::test::Fail;
-use sv_rows::strays;
+use crate::streams::CHUNKED;
+use sv_rows::{Strays, hold};
 
 /// Stream with repeated parts, its length, what is read of it, what its end means. A fault's name stands for its refusal.
 const ROWS: &str = r#"
@@ -128,20 +128,7 @@ fffff\r\n\{1048575*x}\r\n2\r\n                                              | 10
 "#;
 
 #[test]
-fn the_limits_of_heads_and_bodies_hold_on_both_sides(rt: HostRuntime) -> Result<(), Fail> {
-    assert_eq!(rt;
-        strays(rt.alloc(), ROWS, &Counts { head: b"" })?.as_str(),
-        ""
-    );
-    Ok(())
-}
-
-#[test]
-fn the_limits_of_chunks_hold_on_both_sides(rt: HostRuntime) -> Result<(), Fail> {
-    let head = b"POST / HTTP/1.1\r\nHost: h\r\nTransfer-Encoding: chunked\r\n\r\n";
-    assert_eq!(rt;
-        strays(rt.alloc(), CHUNK_ROWS, &Counts { head })?.as_str(),
-        ""
-    );
-    Ok(())
+fn the_limits_of_heads_and_bodies_hold_on_both_sides(rt: HostRuntime) -> Result<(), Strays> {
+    hold(&rt, &[ROWS], &Counts { head: b"" })?;
+    hold(&rt, &[CHUNK_ROWS], &Counts { head: CHUNKED.head })
 }

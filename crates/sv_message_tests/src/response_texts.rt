@@ -1,8 +1,7 @@
 //! Responses and their texts.
 
 use crate::responses::{Dates, Phrases, Responses};
-use std::test::Fail;
-use sv_rows::strays;
+use sv_rows::{Strays, hold};
 
 /// Status, fields with `\n` between them, session cookie, body, how it is written and when, text.
 const ROWS: &str = r#"
@@ -53,9 +52,8 @@ const ROWS: &str = r#"
 "#;
 
 #[test]
-fn a_response_is_written_behind_what_stands_there(rt: HostRuntime) -> Result<(), Fail> {
-    assert_eq!(rt; strays(rt.alloc(), ROWS, &Responses)?.as_str(), "");
-    Ok(())
+fn a_response_is_written_behind_what_stands_there(rt: HostRuntime) -> Result<(), Strays> {
+    hold(&rt, &[ROWS], &Responses)
 }
 
 /// Status, phrase (RFC 9110, section 15; RFC 6585). A status that none defines has the empty phrase.
@@ -110,9 +108,8 @@ const PHRASES: &str = r#"
 "#;
 
 #[test]
-fn a_status_has_its_phrase(rt: HostRuntime) -> Result<(), Fail> {
-    assert_eq!(rt; strays(rt.alloc(), PHRASES, &Phrases)?.as_str(), "");
-    Ok(())
+fn a_status_has_its_phrase(rt: HostRuntime) -> Result<(), Strays> {
+    hold(&rt, &[PHRASES], &Phrases)
 }
 
 /// Moment in seconds since 1970, IMF-fixdate (RFC 9110, section 5.6.7).
@@ -165,7 +162,6 @@ const DATES: &str = r#"
 "#;
 
 #[test]
-fn a_moment_has_its_date(rt: HostRuntime) -> Result<(), Fail> {
-    assert_eq!(rt; strays(rt.alloc(), DATES, &Dates)?.as_str(), "");
-    Ok(())
+fn a_moment_has_its_date(rt: HostRuntime) -> Result<(), Strays> {
+    hold(&rt, &[DATES], &Dates)
 }

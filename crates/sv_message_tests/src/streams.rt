@@ -11,7 +11,7 @@ use sv_text::NoMemory;
 #[derive(Drop)]
 pub struct Streams {
     /// What stands before the row's stream.
-    head: &'static [u8],
+    pub head: &'static [u8],
     /// The message of that head without its body, for which `@` stands. It is empty where there is no such head.
     message: &'static [u8],
 }

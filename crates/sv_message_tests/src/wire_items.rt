@@ -1,12 +1,10 @@
 //! Requests without bodies, and the items that an inbox reads from them.
 
-use crate::streams::PLAIN;
 use std::test::Fail;
-use sv_rows::strays;
 use sv_wire::{Ended, Inbox};
 
 /// Stream, items, what its end means.
-const ROWS: &str = r#"
+pub const ROWS: &str = r#"
 -- RFC 9112, section 2.1: request line, fields, empty line
 GET / HTTP/1.1\r\nHost: h\r\n\r\n                          | GET / 1.1 keep [host=h]                | Clean
 GET /a/b?c=d HTTP/1.1\r\nHost: h\r\n\r\n                   | GET /a/b?c=d 1.1 keep [host=h]         | Clean
@@ -147,12 +145,6 @@ GET / HTTP/9\r\nx                                          | ""                 
 \x00                                                       | ""                                     | Truncated
 G                                                          | ""                                     | Truncated
 "#;
-
-#[test]
-fn a_stream_gives_the_same_items_however_it_is_cut(rt: HostRuntime) -> Result<(), Fail> {
-    assert_eq!(rt; strays(rt.alloc(), ROWS, &PLAIN)?.as_str(), "");
-    Ok(())
-}
 
 #[test]
 fn an_inbox_is_spent_after_its_end(rt: HostRuntime) -> Result<(), Fail> {

@@ -1,8 +1,7 @@
 //! Request targets and their canonical paths.
 
 use crate::targets::Targets;
-use std::test::Fail;
-use sv_rows::strays;
+use sv_rows::{Strays, hold};
 
 /// Target, path or fault, query (`-` for none).
 const ROWS: &str = r#"
@@ -74,7 +73,7 @@ http://h/a                  | NoSlash         | -
 /a?%41%zz%2F                | /a              | %41%zz%2F
 /a?x\x20y\x00\x7F           | /a              | x%20y%00%7F
 /a?\xC3\xA9\xFF             | /a              | %C3%A9%FF
-/a?b\\c                     | /a              | b\c
+/a?b\\c                     | /a              | b\\c
 /a?!~                       | /a              | !~
 /a;x?y;z                    | /a              | y;z
 /a%3Fb                      | /a?b            | -
@@ -239,7 +238,8 @@ a%zz                        | NoSlash         | -
 "#;
 
 #[test]
-fn a_target_is_read_as_its_canonical_path_or_its_first_fault(rt: HostRuntime) -> Result<(), Fail> {
-    assert_eq!(rt; strays(rt.alloc(), ROWS, &Targets)?.as_str(), "");
-    Ok(())
+fn a_target_is_read_as_its_canonical_path_or_its_first_fault(
+    rt: HostRuntime,
+) -> Result<(), Strays> {
+    hold(&rt, &[ROWS], &Targets)
 }

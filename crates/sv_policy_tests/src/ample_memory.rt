@@ -33,7 +33,8 @@ fn a_caller_is_copied(rt: HostRuntime) -> Result<(), Fail> {
     };
     let copy = Caller::copy_of(rt.alloc(), &caller)?;
     let roles = copied_texts(rt.alloc(), copy.roles.as_slice())?;
-    let text = format!(in rt.alloc(); "{} {} {:?}", copy.number, copy.name, roles.as_slice())?;
-    assert_eq!(rt; text.as_str(), "3 ann [\"a\", \"b\"]");
+    let last = roles.as_slice().last().map_or("-", Text::as_str);
+    let text = format!(in rt.alloc(); "{} {} {last}", copy.number, copy.name)?;
+    assert_eq!(rt; text.as_str(), "3 ann b");
     Ok(())
 }

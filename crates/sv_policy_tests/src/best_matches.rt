@@ -2,9 +2,8 @@
 
 use crate::policies::patterns_of;
 use std::alloc::Global;
-use std::test::Fail;
 use sv_mapping::{Pattern, best, split};
-use sv_rows::{Asks, cell, strays};
+use sv_rows::{Asks, Strays, cell, hold};
 use sv_text::NoMemory;
 
 /// Patterns in their order, path, best pattern (`-` for none), servlet path, path info (`-` for none).
@@ -111,9 +110,8 @@ const ROWS: &str = r#"
 "#;
 
 #[test]
-fn the_best_pattern_of_a_path_splits_it(rt: HostRuntime) -> Result<(), Fail> {
-    assert_eq!(rt; strays(rt.alloc(), ROWS, &BestMatches)?.as_str(), "");
-    Ok(())
+fn the_best_pattern_of_a_path_splits_it(rt: HostRuntime) -> Result<(), Strays> {
+    hold(&rt, &[ROWS], &BestMatches)
 }
 
 /// The best pattern of a path and how it splits the path.

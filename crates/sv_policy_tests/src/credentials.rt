@@ -1,9 +1,8 @@
 //! Names and passwords against a realm of users.
 
 use std::alloc::Global;
-use std::test::Fail;
 use sv_realm::{Caller, MAX_USERS, Realm, User};
-use sv_rows::{Asks, cell, strays, unescaped};
+use sv_rows::{Asks, Strays, cell, hold, unescaped};
 use sv_text::{Bytes, Listed, NoMemory, Text};
 
 /// Users in their order: name, salt, digest, role. The digest is SHA-256 of `abc` (FIPS 180-4, the one-block example), but for that
@@ -43,10 +42,8 @@ caller | 6      | -   | -
 "#;
 
 #[test]
-fn a_password_gives_the_named_caller_where_its_digest_fits(rt: HostRuntime) -> Result<(), Fail> {
-    let callers = Callers(realm(rt.alloc())?);
-    assert_eq!(rt; strays(rt.alloc(), ROWS, &callers)?.as_str(), "");
-    Ok(())
+fn a_password_gives_the_named_caller_where_its_digest_fits(rt: HostRuntime) -> Result<(), Strays> {
+    hold(&rt, &[ROWS], &Callers(realm(rt.alloc())?))
 }
 
 /// The caller of a realm.

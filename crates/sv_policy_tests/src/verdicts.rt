@@ -1,8 +1,7 @@
 //! Combined security constraints (Servlet, section 13.8) and what they decide.
 
 use crate::policies::{Requests, Verdicts};
-use std::test::Fail;
-use sv_rows::strays;
+use sv_rows::{Strays, hold};
 
 /// Constraints, rules, request, caller, decision.
 ///
@@ -160,9 +159,8 @@ a on /x/y GET and /x/* PUT                          | -           | PUT /x/y  | 
 "#;
 
 #[test]
-fn combined_constraints_decide_by_the_first_case_that_holds(rt: HostRuntime) -> Result<(), Fail> {
-    assert_eq!(rt; strays(rt.alloc(), ROWS, &Verdicts)?.as_str(), "");
-    Ok(())
+fn combined_constraints_decide_by_the_first_case_that_holds(rt: HostRuntime) -> Result<(), Strays> {
+    hold(&rt, &[ROWS], &Verdicts)
 }
 
 /// The deployment descriptor of Servlet, section 13.8.2.
@@ -195,11 +193,10 @@ POST /acme/retail/1   | -                 | login pattern=/acme/retail/* constra
 #[test]
 fn the_example_of_the_specification_is_decided_as_its_table_says(
     rt: HostRuntime,
-) -> Result<(), Fail> {
-    let requests = Requests(SPECIFICATION_EXAMPLE);
-    assert_eq!(rt;
-        strays(rt.alloc(), SPECIFICATION_ROWS, &requests)?.as_str(),
-        ""
-    );
-    Ok(())
+) -> Result<(), Strays> {
+    hold(
+        &rt,
+        &[SPECIFICATION_ROWS],
+        &Requests(SPECIFICATION_EXAMPLE),
+    )
 }

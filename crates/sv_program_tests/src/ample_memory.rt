@@ -14,19 +14,19 @@ fn the_first_request_of_no_input_is_none(rt: HostRuntime) -> Result<(), Fail> {
     Ok(())
 }
 
-const SERVER: &str = r#"
+pub const SERVER: &str = r#"
 port = 0
 seed = "0000000000000000000000000000000000000000000000000000000000000000"
 context = [{ path = "", descriptor = "root.toml", files = "", users = "users.toml" }]
 "#;
 
-const DESCRIPTOR: &str = r#"
+pub const DESCRIPTOR: &str = r#"
 [[security-constraint]]
 web-resource-collection = [{ url-pattern = ["/admin/*"] }]
 auth-constraint = { role-name = ["a"] }
 "#;
 
-const USERS: &str = r#"
+pub const USERS: &str = r#"
 [[user]]
 name = "ann"
 salt = "61"
@@ -34,7 +34,7 @@ digest = "ba7816bf8f01cfea414140de5dae2223b00361a396177a9cb410ff61f20015ad"
 roles = ["a"]
 "#;
 
-const LINE: &str = "open context=/ path=/admin/x.txt pattern=/admin/* constraint=1 cause=Role";
+pub const LINE: &str = "open context=/ path=/admin/x.txt pattern=/admin/* constraint=1 cause=Role";
 
 #[test]
 fn the_texts_of_files_explain_a_request(rt: HostRuntime) -> Result<(), Fail> {

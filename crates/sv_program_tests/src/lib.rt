@@ -5,3 +5,5 @@
 mod ample_memory;
 #[cfg(test)]
 mod broken_streams;
+#[cfg(test)]
+mod files_asked;

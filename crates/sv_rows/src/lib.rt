@@ -4,7 +4,9 @@
 mod cells;
 mod escapes;
 mod run;
+#[cfg(test)]
+mod tests;
 
 pub use cells::cell;
 pub use escapes::unescaped;
-pub use run::{Asks, strays};
+pub use run::{Asks, Strays, hold};
