@@ -120,7 +120,7 @@ session-config = { session-timeout = 525601 }                          | BadTime
 "version" = 2                                                          | BadValue version
 'version' = 2                                                          | BadValue version
 "\u0076ersion" = 2                                                     | BadValue version
-'\u0076ersion' = 2                                                     | UnknownKey \u0076ersion
+'\u0076ersion' = 2                                                     | UnknownKey \\u0076ersion
 "a b" = 1                                                              | UnknownKey a b
 "a.b" = 1                                                              | UnknownKey a.b
 a.b = 1                                                                | UnknownKey a
