@@ -12,7 +12,10 @@ mod roles;
 mod rules;
 
 pub use constraint::{Auth, Collection, Constraint, Methods, Transport};
+pub use covering::{covers, lists};
 pub use decide::decide_plain;
 pub use decision::{Cause, Decision, Why};
+pub use findings::{Findings, lesser};
 pub use laws::{just_one_case_holds, only_the_best_pattern_decides};
+pub use roles::{EVERY_CALLER, EVERY_ROLE};
 pub use rules::Rules;
