@@ -6,7 +6,7 @@ use Rattle.sv_mapping.specs.BestMatch.{best_pattern}
 use Rattle.sv_realm.specs.declared.caller.Caller.{Caller}
 use Rattle.sv_constraints.proofs.Least.{least_number_more, least_where_more, any_more, some_where, none_number}
 use Rattle.sv_constraints.specs.Covering.{covers, covering, all_patterns}
-use Rattle.sv_constraints.specs.Decision.{Verdict}
+use Rattle.sv_constraints.specs.declared.owned_decision.OwnedDecision.{OwnedDecision}
 use Rattle.sv_constraints.specs.Findings.{findings_of, with_one, decided}
 use Rattle.sv_constraints.specs.Verdict.{precludes, permits_plain, is_open, admits_caller, verdict, verdict_at}
 use Rattle.sv_constraints.specs.declared.constraint.Constraint.{Constraint}
@@ -46,7 +46,7 @@ decided_at rules caller pattern members =
     rw (none_number members, some_where precludes members, some_where is_open members, some_where (admits_caller rules caller) members)
 
 -- so what is found in the constraints that cover a request at its best pattern gives the verdict
-pub decided_is_verdict : (constraints : List Constraint) (rules : Rules) (method path : List ℕ) (caller : Option Caller) (pattern : List ℕ) (found : Findings) (decision : Verdict) → Some pattern ≡ best_pattern (all_patterns constraints) path → found ≡ findings_of rules caller (covering constraints (Some pattern) method) → decision ≡ decided rules caller (Some pattern) found → decision ≡ verdict constraints rules method path caller
+pub decided_is_verdict : (constraints : List Constraint) (rules : Rules) (method path : List ℕ) (caller : Option Caller) (pattern : List ℕ) (found : Findings) (decision : OwnedDecision) → Some pattern ≡ best_pattern (all_patterns constraints) path → found ≡ findings_of rules caller (covering constraints (Some pattern) method) → decision ≡ decided rules caller (Some pattern) found → decision ≡ verdict constraints rules method path caller
 decided_is_verdict constraints rules method path caller pattern found decision best is_found is_decided =
     is_decided ∙ ap (decided rules caller (Some pattern)) is_found
     ∙ decided_at rules caller pattern (covering constraints (Some pattern) method)

@@ -1,32 +1,29 @@
 -- Jakarta Servlet 6.0, section 13.8: what can be decided for a request, as contracts see it, and its text.
-use Rattle.std.specs.Prelude.{ℕ, List, ◌++◌, Option, codes, unwrap_or}
+use Rattle.std.specs.Prelude.{ℕ, List, ◌++◌, codes, unwrap_or}
 use Rattle.std.specs.Option.{option_copied, option_map_or}
 use Rattle.std.specs.Fmt.{decimal}
-use Rattle.sv_constraints.specs.declared.decision.Cause.{Cause}
-use Rattle.sv_constraints.specs.declared.decision.Cause.TheVariants.{NoPattern, Uncovered, Precluded, Transport, Unauthenticated, NeedsCaller, Role, NoRole}
+use Rattle.sv_constraints.specs.declared.cause.Cause.{Cause}
+use Rattle.sv_constraints.specs.declared.cause.Cause.TheVariants.{NoPattern, Uncovered, Precluded, Transport, Unauthenticated, NeedsCaller, Role, NoRole}
 use Rattle.sv_constraints.specs.declared.decision.Decision.{Decision}
-use Rattle.sv_constraints.specs.declared.decision.Decision.TheVariants as decision
+use Rattle.sv_constraints.specs.declared.decision.Decision.TheVariants as borrowed
 use Rattle.sv_constraints.specs.declared.decision.Why.{Why}
-
--- why a request is decided as it is: the best pattern's text, the deciding constraint's number, and the case
-pub record Grounds : Type 0 where
-  pub pattern : Option (List ℕ)
-  pub number : Option ℕ
-  pub cause : Cause
-
-pub data Verdict : Type 0 where
-  Open : Grounds → Verdict
-  Login : Grounds → Verdict
-  Denied : Grounds → Verdict
+use Rattle.sv_constraints.specs.declared.owned_decision.OwnedDecision.{OwnedDecision}
+use Rattle.sv_constraints.specs.declared.owned_decision.OwnedDecision.TheVariants.{Open, Login, Denied}
+use Rattle.sv_constraints.specs.declared.owned_decision.OwnedWhy.{OwnedWhy}
 
 -- a decision as its reader sees it: a borrowed pattern is its text
-abbrev pub seen_grounds : Why → Grounds
-seen_grounds why = record { pattern = option_copied why.pattern; number = why.number; cause = why.cause }
+abbrev pub seen_why : Why → OwnedWhy
+seen_why why = record { pattern = option_copied why.pattern; number = why.number; cause = why.cause }
 
-abbrev pub seen : Decision → Verdict
-seen (decision.Open why) = Open (seen_grounds why)
-seen (decision.Login why) = Login (seen_grounds why)
-seen (decision.Denied why) = Denied (seen_grounds why)
+abbrev pub seen : Decision → OwnedDecision
+seen (borrowed.Open why) = Open (seen_why why)
+seen (borrowed.Login why) = Login (seen_why why)
+seen (borrowed.Denied why) = Denied (seen_why why)
+
+abbrev pub why_of : OwnedDecision → OwnedWhy
+why_of (Open why) = why
+why_of (Login why) = why
+why_of (Denied why) = why
 
 abbrev pub cause_text : Cause → List ℕ
 cause_text NoPattern = codes "NoPattern"
@@ -39,14 +36,17 @@ cause_text Role = codes "Role"
 cause_text NoRole = codes "NoRole"
 
 -- `pattern=P constraint=N cause=NAME`, with `-` for none
-abbrev pub grounds_text : Grounds → List ℕ
-grounds_text grounds =
-    codes "pattern=" ++ unwrap_or grounds.pattern (codes "-")
-    ++ codes " constraint=" ++ option_map_or decimal grounds.number (codes "-")
-    ++ codes " cause=" ++ cause_text grounds.cause
+abbrev pub why_text : OwnedWhy → List ℕ
+why_text why =
+    codes "pattern=" ++ unwrap_or why.pattern (codes "-")
+    ++ codes " constraint=" ++ option_map_or decimal why.number (codes "-")
+    ++ codes " cause=" ++ cause_text why.cause
 
--- the verdict's word, a blank, and why
-abbrev pub decision_text : Verdict → List ℕ
-decision_text (Open grounds) = codes "open " ++ grounds_text grounds
-decision_text (Login grounds) = codes "login " ++ grounds_text grounds
-decision_text (Denied grounds) = codes "denied " ++ grounds_text grounds
+abbrev pub word : OwnedDecision → List ℕ
+word (Open why) = codes "open"
+word (Login why) = codes "login"
+word (Denied why) = codes "denied"
+
+-- the decision's word, a blank, and why
+abbrev pub decision_text : OwnedDecision → List ℕ
+decision_text decision = word decision ++ codes " " ++ why_text (why_of decision)

@@ -4,10 +4,11 @@ use Rattle.std.specs.Bool.{then_some}
 use Rattle.std.specs.List.{list_any}
 use Rattle.sv_realm.specs.declared.caller.Caller.{Caller}
 use Rattle.sv_constraints.specs.Verdict.{least_number, least_where, precludes, permits_plain, is_open, admits_caller, first_case, because, uncovered}
-use Rattle.sv_constraints.specs.Decision.{Verdict, Open, Login, Denied}
-use Rattle.sv_constraints.specs.declared.decision.Cause.TheVariants as cause
+use Rattle.sv_constraints.specs.declared.cause.Cause.TheVariants as cause
 use Rattle.sv_constraints.specs.declared.constraint.Constraint.{Constraint}
 use Rattle.sv_constraints.specs.declared.findings.Findings.{Findings}
+use Rattle.sv_constraints.specs.declared.owned_decision.OwnedDecision.{OwnedDecision}
+use Rattle.sv_constraints.specs.declared.owned_decision.OwnedDecision.TheVariants.{Open, Login, Denied}
 use Rattle.sv_constraints.specs.declared.rules.Rules.{Rules}
 
 -- what there is to find in the constraints that cover a request
@@ -37,7 +38,7 @@ with_one rules caller constraint found = record {
 }
 
 -- the verdict's table, at what was found
-abbrev pub decided : Rules → Option Caller → Option (List ℕ) → Findings → Verdict
+abbrev pub decided : Rules → Option Caller → Option (List ℕ) → Findings → OwnedDecision
 decided rules caller pattern found = first_case
     ((is_none found.covering, uncovered rules (because pattern None cause.Uncovered))
     ∷ (is_some found.precluding, Denied (because pattern found.precluding cause.Precluded))

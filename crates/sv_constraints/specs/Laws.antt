@@ -4,14 +4,15 @@ use Rattle.std.specs.List.{list_any}
 use Rattle.sv_mapping.specs.BestMatch.{best_pattern}
 use Rattle.sv_realm.specs.declared.caller.Caller.{Caller}
 use Rattle.sv_constraints.specs.Covering.{covering, all_patterns}
-use Rattle.sv_constraints.specs.Decision.{Verdict, Open, Login, Denied}
 use Rattle.sv_constraints.specs.Verdict.{least_number, least_where, precludes, permits_plain, is_open, admits_caller, because, uncovered, verdict, verdict_at}
 use Rattle.sv_constraints.specs.declared.constraint.Constraint.{Constraint}
-use Rattle.sv_constraints.specs.declared.decision.Cause.TheVariants.{NoPattern, Uncovered, Precluded, Transport, Unauthenticated, NeedsCaller, Role, NoRole}
+use Rattle.sv_constraints.specs.declared.cause.Cause.TheVariants.{NoPattern, Uncovered, Precluded, Transport, Unauthenticated, NeedsCaller, Role, NoRole}
+use Rattle.sv_constraints.specs.declared.owned_decision.OwnedDecision.{OwnedDecision}
+use Rattle.sv_constraints.specs.declared.owned_decision.OwnedDecision.TheVariants.{Open, Login, Denied}
 use Rattle.sv_constraints.specs.declared.rules.Rules.{Rules}
 
 -- the eight cases, each with its full condition: no case before it holds, and it does
-abbrev pub full_cases : Rules → Option Caller → Option (List ℕ) → List Constraint → List (Bool × Verdict)
+abbrev pub full_cases : Rules → Option Caller → Option (List ℕ) → List Constraint → List (Bool × OwnedDecision)
 full_cases rules caller pattern members =
     (is_none pattern, Open (because pattern None NoPattern))
     ∷ (matched && length members == 0, uncovered rules (because pattern None Uncovered))

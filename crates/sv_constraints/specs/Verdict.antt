@@ -4,15 +4,17 @@ use Rattle.std.specs.List.{list_any, reduce}
 use Rattle.sv_mapping.specs.BestMatch.{best_pattern}
 use Rattle.sv_realm.specs.declared.caller.Caller.{Caller}
 use Rattle.sv_constraints.specs.Covering.{covering, all_patterns}
-use Rattle.sv_constraints.specs.Decision.{Grounds, Verdict, Open, Login, Denied}
 use Rattle.sv_constraints.specs.Roles.{admits}
 use Rattle.sv_constraints.specs.declared.constraint.Auth.{Auth}
 use Rattle.sv_constraints.specs.declared.constraint.Auth.TheVariants.{Absent, Roles}
 use Rattle.sv_constraints.specs.declared.constraint.Constraint.{Constraint}
 use Rattle.sv_constraints.specs.declared.constraint.Transport.{Transport}
 use Rattle.sv_constraints.specs.declared.constraint.Transport.TheVariants as transport
-use Rattle.sv_constraints.specs.declared.decision.Cause.{Cause}
-use Rattle.sv_constraints.specs.declared.decision.Cause.TheVariants as cause
+use Rattle.sv_constraints.specs.declared.cause.Cause.{Cause}
+use Rattle.sv_constraints.specs.declared.cause.Cause.TheVariants as cause
+use Rattle.sv_constraints.specs.declared.owned_decision.OwnedDecision.{OwnedDecision}
+use Rattle.sv_constraints.specs.declared.owned_decision.OwnedDecision.TheVariants.{Open, Login, Denied}
+use Rattle.sv_constraints.specs.declared.owned_decision.OwnedWhy.{OwnedWhy}
 use Rattle.sv_constraints.specs.declared.rules.Rules.{Rules}
 
 -- the least number of the constraints, if there is one
@@ -54,20 +56,20 @@ abbrev pub admits_caller : Rules → Option Caller → Constraint → Bool
 admits_caller rules caller constraint = admits rules.declared caller constraint.auth
 
 -- the verdict of the first row whose test holds, or else the last verdict
-abbrev pub first_case : List (Bool × Verdict) → Verdict → Verdict
+abbrev pub first_case : List (Bool × OwnedDecision) → OwnedDecision → OwnedDecision
 first_case [] last = last
 first_case (row ∷ rows) last = cond row.0 row.1 (first_case rows last)
 
 -- why, at a best pattern
-abbrev pub because : Option (List ℕ) → Option ℕ → Cause → Grounds
+abbrev pub because : Option (List ℕ) → Option ℕ → Cause → OwnedWhy
 because pattern number cause = record { pattern = pattern; number = number; cause = cause }
 
 -- an uncovered request passes, unless such requests are denied
-abbrev pub uncovered : Rules → Grounds → Verdict
+abbrev pub uncovered : Rules → OwnedWhy → OwnedDecision
 uncovered rules grounds = if rules.deny_uncovered then Denied grounds else Open grounds
 
 -- the table, at the text of the best pattern and the constraints that cover the method there
-abbrev pub cases : Rules → Option Caller → Option (List ℕ) → List Constraint → List (Bool × Verdict)
+abbrev pub cases : Rules → Option Caller → Option (List ℕ) → List Constraint → List (Bool × OwnedDecision)
 cases rules caller pattern members =
     (is_none pattern, Open (because pattern None cause.NoPattern))
     ∷ (length members == 0, uncovered rules (because pattern None cause.Uncovered))
@@ -78,11 +80,11 @@ cases rules caller pattern members =
     ∷ (list_any (admits_caller rules caller) members, Open (because pattern (least_where (admits_caller rules caller) members) cause.Role))
     ∷ []
 
-abbrev pub verdict_at : Rules → Option Caller → Option (List ℕ) → List Constraint → Verdict
+abbrev pub verdict_at : Rules → Option Caller → Option (List ℕ) → List Constraint → OwnedDecision
 verdict_at rules caller pattern members =
     first_case (cases rules caller pattern members) (Denied (because pattern (least_number members) cause.NoRole))
 
 -- the verdict on a request
-abbrev pub verdict : List Constraint → Rules → List ℕ → List ℕ → Option Caller → Verdict
+abbrev pub verdict : List Constraint → Rules → List ℕ → List ℕ → Option Caller → OwnedDecision
 verdict constraints rules method path caller =
     let pattern = best_pattern (all_patterns constraints) path in verdict_at rules caller pattern (covering constraints pattern method)

@@ -5,7 +5,7 @@ use sv_text::{Listed, Text};
 
 /// A web resource collection: the requests whose best pattern is among `patterns` and whose method is among `methods`
 /// (Jakarta Servlet 6.0, section 13.8).
-#[derive(Debug, Drop)]
+#[derive(Drop)]
 pub struct Collection {
     /// The patterns, which are compared with the best pattern by their texts.
     pub patterns: Listed<Pattern>,
@@ -14,7 +14,7 @@ pub struct Collection {
 }
 
 /// The methods that a collection covers. They are compared with case.
-#[derive(Debug, Drop)]
+#[derive(Drop)]
 pub enum Methods {
     /// Every method.
     All,
@@ -25,7 +25,7 @@ pub enum Methods {
 }
 
 /// A security constraint (Jakarta Servlet 6.0, section 13.8).
-#[derive(Debug, Drop)]
+#[derive(Drop)]
 pub struct Constraint {
     /// The number by which a decision names the constraint.
     pub number: u64,
@@ -38,7 +38,7 @@ pub struct Constraint {
 }
 
 /// The authorization constraint (`auth-constraint`).
-#[derive(Debug, Drop)]
+#[derive(Drop)]
 pub enum Auth {
     /// There is none: everyone may pass, without a login.
     Absent,

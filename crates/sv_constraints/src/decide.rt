@@ -7,8 +7,9 @@ ghost use Rattle.sv_constraints.specs.Covering.{patterns_in, all_patterns};
 ghost use Rattle.sv_constraints.specs.Decision.{seen};
 ghost use Rattle.sv_constraints.specs.Verdict.{verdict};
 
+use crate::cause::Cause;
 use crate::constraint::Constraint;
-use crate::decision::{Cause, Decision, Why};
+use crate::decision::{Decision, Why};
 use crate::findings::Findings;
 use crate::rules::Rules;
 use sv_mapping::{Pattern, better};

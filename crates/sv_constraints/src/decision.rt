@@ -1,14 +1,15 @@
 //! The decision on a request, with its reason.
 
-ghost use Rattle.std.specs.Prelude.{◌≡◌, Some, codes, unwrap_or};
-ghost use Rattle.std.specs.Option.{option_copied, option_map_or};
-ghost use Rattle.std.specs.Fmt.{decimal};
+ghost use Rattle.std.specs.Prelude.{Some};
+ghost use Rattle.sv_constraints.specs.Decision.{decision_text, seen, seen_why, why_text};
 
+use crate::cause::Cause;
+use crate::printed::{PrintedWhy, text_of};
 use std::fmt;
 use sv_mapping::Pattern;
 
 /// What the constraints decide for a request.
-#[derive(Clone, Copy, Debug)]
+#[derive(Clone, Copy)]
 pub enum Decision<'a> {
     /// The request may pass.
     Open(Why<'a>),
@@ -19,7 +20,7 @@ pub enum Decision<'a> {
 }
 
 /// Why a request is decided as it is.
-#[derive(Clone, Copy, Debug)]
+#[derive(Clone, Copy)]
 pub struct Why<'a> {
     /// The best pattern for the request's path, none where no pattern matches it.
     pub pattern: Option<&'a Pattern>,
@@ -29,104 +30,20 @@ pub struct Why<'a> {
     pub cause: Cause,
 }
 
-/// The cases of the verdict, in their order: the first that holds decides (Jakarta Servlet 6.0, section 13.8).
-#[derive(Clone, Copy, Debug, PartialEq, Eq)]
-pub enum Cause {
-    /// Open: no pattern matches the path.
-    NoPattern = 1,
-    /// Open, or denied where uncovered methods are denied: no constraint covers the method at the best pattern.
-    Uncovered = 2,
-    /// Denied: a covering constraint names no roles.
-    Precluded = 3,
-    /// Denied: no covering constraint allows a plain connection.
-    Transport = 4,
-    /// Open: a covering constraint asks for no authorization.
-    Unauthenticated = 5,
-    /// Login: there is no caller.
-    NeedsCaller = 6,
-    /// Open: a covering constraint names a role of the caller, or admits every caller.
-    Role = 7,
-    /// Denied: no covering constraint names a role of the caller.
-    NoRole = 8,
-}
-
-impl Cause {
-    ghost use Rattle.sv_constraints.specs.Decision.{cause_text};
-
-    /// The cause's name.
-    pub fn name(self) -> &'static str
-        ensures { result.now ≡ cause_text self }
-    {
-        match self {
-            Cause::NoPattern => "NoPattern",
-            Cause::Uncovered => "Uncovered",
-            Cause::Precluded => "Precluded",
-            Cause::Transport => "Transport",
-            Cause::Unauthenticated => "Unauthenticated",
-            Cause::NeedsCaller => "NeedsCaller",
-            Cause::Role => "Role",
-            Cause::NoRole => "NoRole",
-        }
-    }
-}
-
-impl fmt::Display for Cause {
-    ghost use Rattle.std.specs.Prelude.{Some};
-    ghost use Rattle.sv_constraints.specs.Decision.{cause_text};
-
-    ghost output = { λ cause. Some (cause_text cause) };
-
-    fn fmt<W: fmt::Write>(&self, f: &mut fmt::Formatter<W>) -> fmt::Result {
-        f.write_str(self.name())
-    }
-}
-
-/// Prints a number, or `-` where there is none.
-#[derive(Clone, Copy)]
-struct OrDash(Option<u64>);
-
-impl fmt::Display for OrDash {
-    ghost output = { λ shown. Some (option_map_or decimal shown.0 (codes "-")) };
-
-    fn fmt<W: fmt::Write>(&self, f: &mut fmt::Formatter<W>) -> fmt::Result {
-        match self.0 {
-            Some(number) => number.fmt(f),
-            None => f.write_str("-"),
-        }
-    }
-}
-
-/// The pattern's text, or `-` where there is none.
-fn text_or_dash(pattern: Option<&Pattern>) -> &str
-    ensures { result.now ≡ unwrap_or (option_copied pattern.entry) (codes "-") }
-{
-    match pattern {
-        Some(pattern) => pattern.text(),
-        None => "-",
-    }
-}
-
 impl fmt::Display for Why<'_> {
-    ghost use Rattle.std.specs.Prelude.{Some};
-    ghost use Rattle.sv_constraints.specs.Decision.{grounds_text, seen_grounds};
-
-    ghost output = { λ why. Some (grounds_text (seen_grounds why)) };
+    ghost output = { λ why. Some (why_text (seen_why why)) };
 
     fn fmt<W: fmt::Write>(&self, f: &mut fmt::Formatter<W>) -> fmt::Result {
-        let pattern = text_or_dash(self.pattern);
-        let number = OrDash(self.number);
-        write!(
-            f,
-            "pattern={pattern} constraint={number} cause={}",
-            self.cause
-        )
+        let printed = PrintedWhy {
+            pattern: text_of(self.pattern),
+            number: self.number,
+            cause: self.cause,
+        };
+        printed.fmt(f)
     }
 }
 
 impl fmt::Display for Decision<'_> {
-    ghost use Rattle.std.specs.Prelude.{Some};
-    ghost use Rattle.sv_constraints.specs.Decision.{decision_text, seen};
-
     ghost output = { λ decision. Some (decision_text (seen decision)) };
 
     fn fmt<W: fmt::Write>(&self, f: &mut fmt::Formatter<W>) -> fmt::Result {

@@ -7,9 +7,10 @@ ghost use Rattle.sv_constraints.specs.Findings.{lesser};
 ghost use Rattle.sv_constraints.specs.Verdict.{names_nobody, is_absent, allows_plain};
 ghost use Rattle.sv_constraints.specs.Decision.{seen};
 
+use crate::cause::Cause;
 use crate::constraint::{Auth, Constraint, Transport};
 use crate::covering::covers;
-use crate::decision::{Cause, Decision, Why};
+use crate::decision::{Decision, Why};
 use crate::roles::admits;
 use crate::rules::Rules;
 use sv_mapping::Pattern;

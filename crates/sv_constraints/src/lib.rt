@@ -2,20 +2,25 @@
 //! (Jakarta Servlet 6.0, section 13.8).
 #![tactic(auto)]
 
+mod cause;
 mod constraint;
 mod covering;
 mod decide;
 mod decision;
 mod findings;
 mod laws;
+mod owned_decision;
+mod printed;
 mod roles;
 mod rules;
 
+pub use cause::Cause;
 pub use constraint::{Auth, Collection, Constraint, Methods, Transport};
 pub use covering::{covers, lists};
 pub use decide::decide_plain;
-pub use decision::{Cause, Decision, Why};
+pub use decision::{Decision, Why};
 pub use findings::{Findings, lesser};
 pub use laws::{just_one_case_holds, only_the_best_pattern_decides};
+pub use owned_decision::{OwnedDecision, OwnedWhy};
 pub use roles::{EVERY_CALLER, EVERY_ROLE};
 pub use rules::Rules;

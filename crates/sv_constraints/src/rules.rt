@@ -3,7 +3,7 @@
 use sv_text::{Listed, Text};
 
 /// What an application declares beside its constraints.
-#[derive(Debug, Drop)]
+#[derive(Drop)]
 pub struct Rules {
     /// The declared roles (`security-role`), for which `*` stands in a list of roles.
     pub declared: Listed<Text>,

@@ -1,45 +1,46 @@
 -- What the elements of a deployment descriptor say of one another (Jakarta Servlet 6.0 sections 12.2 and 14.4).
 use Rattle.std.specs.Prelude.{ℕ, Bool, not, ◌||◌, List, map, codes}
 use Rattle.std.specs.List.{list_all, flat_map}
-use Rattle.sv_schema.specs.Fault.{Reads, check, ◌>>◌}
+use Rattle.sv_text.specs.Steps.{◌>>◌}
+use Rattle.sv_schema.specs.Fault.{Reads, check}
 use Rattle.sv_schema.specs.Table.{is_among}
 use Rattle.sv_schema.specs.declared.fault.FaultCode.TheVariants.{DuplicatePattern, UnknownServlet, UnknownFilter, DuplicateName}
 use Rattle.sv_schema.specs.Names.{repeats}
 use Rattle.sv_descriptor.specs.Servlet.{is_reserved_servlet}
-use Rattle.sv_descriptor.specs.declared.descriptor.Descriptor.{Descriptor}
+use Rattle.sv_descriptor.specs.declared.web_app.WebApp.{WebApp}
 
-abbrev pub servlet_names : Descriptor → List (List ℕ)
-servlet_names d = map (λ servlet. servlet.servlet_name) d.servlets
+abbrev pub servlet_names : WebApp → List (List ℕ)
+servlet_names app = map (λ servlet. servlet.servlet_name) app.servlets
 
-abbrev pub filter_names : Descriptor → List (List ℕ)
-filter_names d = map (λ filter. filter.filter_name) d.filters
+abbrev pub filter_names : WebApp → List (List ℕ)
+filter_names app = map (λ filter. filter.filter_name) app.filters
 
 -- the servlets, the file servlet and all servlets at once
-abbrev pub is_known_servlet : Descriptor → List ℕ → Bool
-is_known_servlet d name = is_reserved_servlet name || is_among (servlet_names d) name
+abbrev pub is_known_servlet : WebApp → List ℕ → Bool
+is_known_servlet app name = is_reserved_servlet name || is_among (servlet_names app) name
 
 -- the patterns of all servlet mappings
-abbrev pub servlet_patterns : Descriptor → List (List ℕ)
-servlet_patterns d = flat_map (λ mapping. mapping.url_patterns) d.servlet_mappings
+abbrev pub servlet_patterns : WebApp → List (List ℕ)
+servlet_patterns app = flat_map (λ mapping. mapping.url_patterns) app.servlet_mappings
 
-abbrev pub names_differ : Descriptor → Reads (Unit {0})
-names_differ d = do
-  check (not (repeats (servlet_names d))) DuplicateName (codes "servlet-name")
-  check (not (repeats (filter_names d))) DuplicateName (codes "filter-name")
-  check (not (repeats d.roles)) DuplicateName (codes "role-name")
+abbrev pub names_differ : WebApp → Reads (Unit {0})
+names_differ app = do
+  check (not (repeats (servlet_names app))) DuplicateName (codes "servlet-name")
+  check (not (repeats (filter_names app))) DuplicateName (codes "filter-name")
+  check (not (repeats app.rules.declared)) DuplicateName (codes "role-name")
 
-abbrev pub servlet_mappings_fit : Descriptor → Reads (Unit {0})
-servlet_mappings_fit d = do
-  check (list_all (λ mapping. is_among (servlet_names d) mapping.servlet_name) d.servlet_mappings) UnknownServlet (codes "servlet-name")
-  check (not (repeats (servlet_patterns d))) DuplicatePattern (codes "url-pattern")
+abbrev pub servlet_mappings_fit : WebApp → Reads (Unit {0})
+servlet_mappings_fit app = do
+  check (list_all (λ mapping. is_among (servlet_names app) mapping.servlet_name) app.servlet_mappings) UnknownServlet (codes "servlet-name")
+  check (not (repeats (servlet_patterns app))) DuplicatePattern (codes "url-pattern")
 
-abbrev pub filter_mappings_fit : Descriptor → Reads (Unit {0})
-filter_mappings_fit d = do
-  check (list_all (λ mapping. is_among (filter_names d) mapping.filter_name) d.filter_mappings) UnknownFilter (codes "filter-name")
-  check (list_all (λ mapping. list_all (is_known_servlet d) mapping.servlet_names) d.filter_mappings) UnknownServlet (codes "servlet-name")
+abbrev pub filter_mappings_fit : WebApp → Reads (Unit {0})
+filter_mappings_fit app = do
+  check (list_all (λ mapping. is_among (filter_names app) mapping.filter_name) app.filter_mappings) UnknownFilter (codes "filter-name")
+  check (list_all (λ mapping. list_all (is_known_servlet app) mapping.servlet_names) app.filter_mappings) UnknownServlet (codes "servlet-name")
 
-abbrev pub elements_agree : Descriptor → Reads (Unit {0})
-elements_agree d = do
-  names_differ d
-  servlet_mappings_fit d
-  filter_mappings_fit d
+abbrev pub elements_agree : WebApp → Reads (Unit {0})
+elements_agree app = do
+  names_differ app
+  servlet_mappings_fit app
+  filter_mappings_fit app

@@ -6,8 +6,9 @@ use Rattle.toml.specs.Data.{Data, Members}
 use Rattle.sv_constraints.specs.declared.constraint.Collection.{Collection}
 use Rattle.sv_constraints.specs.declared.constraint.Methods.{Methods}
 use Rattle.sv_constraints.specs.declared.constraint.Methods.TheVariants.{All, Only, Except}
-use Rattle.sv_schema.specs.Fault.{Reads, refuse, check, ◌>>=◌, ◌>>◌}
-use Rattle.sv_schema.specs.ListOf.{list_items, list_of}
+use Rattle.sv_text.specs.Steps.{◌>>=◌, ◌>>◌}
+use Rattle.sv_schema.specs.Fault.{Reads, refuse, check}
+use Rattle.sv_schema.specs.ListOf.{list_items, list_of_texts}
 use Rattle.sv_schema.specs.Table.{required, optional}
 use Rattle.sv_schema.specs.Value.{Reader, is_within, is_text, is_table, text_of, table_of}
 use Rattle.sv_schema.specs.declared.fault.FaultCode.TheVariants.{BothMethodLists, BadValue}
@@ -17,14 +18,14 @@ use Rattle.sv_descriptor.specs.Pattern.{patterns}
 use Rattle.sv_descriptor.specs.declared.limits.TheConstants.{MAX_METHOD_BYTES, MAX_PATTERNS_OF_CONSTRAINT}
 
 -- a token (RFC 9110 section 5.6.2)
-abbrev pub is_method : List ℕ → Bool
-is_method text = is_within 1 MAX_METHOD_BYTES text && list_all is_token_byte text
+unfoldable pub is_method_name : List ℕ → Bool
+is_method_name text = is_within 1 MAX_METHOD_BYTES text && list_all is_token_byte text
 
 abbrev pub method : List ℕ → List ℕ → Reads (List ℕ)
-method key text = if is_method text then Ok text else refuse BadValue key
+method key text = if is_method_name text then Ok text else refuse BadValue key
 
 abbrev pub methods : Reader (List (List ℕ))
-methods = list_of 1 MAX_LIST_ITEMS is_text (text_of method)
+methods = list_of_texts 1 MAX_LIST_ITEMS method
 
 -- a list of omitted methods, which no list of methods may stand beside
 abbrev pub omitted_methods : Bool → Reader (List (List ℕ))
@@ -48,11 +49,15 @@ collection room table = do
   omitted ← optional (omitted_methods (is_some listed)) (codes "http-method-omission") table
   Ok (record { patterns = its_patterns; methods = covered_methods listed omitted })
 
+-- the table of a collection of at most so many patterns
+unfoldable pub collection_table : ℕ → Reader Collection
+collection_table room = table_of (collection room)
+
 -- collections that together have at most so many patterns
 abbrev pub collections_within : ℕ → List ℕ → List Data → Reads (List Collection)
 collections_within room key [] = Ok []
 collections_within room key (value ∷ rest) = do
-  its_first ← table_of (collection room) key value
+  its_first ← collection_table room key value
   others ← collections_within (room - length its_first.patterns) key rest
   Ok (its_first ∷ others)
 

@@ -1,7 +1,8 @@
 -- Jakarta Servlet 6.0 section 10.9.2: error pages.
 use Rattle.std.specs.Prelude.{ℕ, List, [], ◌∷◌, codes, Option, Some, None, Ok}
 use Rattle.toml.specs.Data.{Members}
-use Rattle.sv_schema.specs.Fault.{Reads, refuse, ◌>>=◌, ◌>>◌}
+use Rattle.sv_text.specs.Steps.{◌>>=◌, ◌>>◌}
+use Rattle.sv_schema.specs.Fault.{Reads, refuse}
 use Rattle.sv_schema.specs.Table.{required, optional}
 use Rattle.sv_schema.specs.Value.{name, number_between, text_of, whole_of}
 use Rattle.sv_schema.specs.declared.fault.FaultCode.TheVariants.{BadValue}

@@ -2,10 +2,11 @@
 use Rattle.std.specs.Prelude.{ℕ, ◌||◌, List, [], ◌∷◌, codes, if◌then◌else◌, Ok}
 use Rattle.std.specs.Str.{bytes_eq}
 use Rattle.toml.specs.Data.{Members}
-use Rattle.sv_schema.specs.Fault.{Reads, refuse, check, ◌>>=◌, ◌>>◌}
-use Rattle.sv_schema.specs.ListOf.{list_of}
+use Rattle.sv_text.specs.Steps.{◌>>=◌, ◌>>◌}
+use Rattle.sv_schema.specs.Fault.{Reads, refuse, check}
+use Rattle.sv_schema.specs.ListOf.{list_of_texts}
 use Rattle.sv_schema.specs.Table.{has_key, required, optional_or}
-use Rattle.sv_schema.specs.Value.{name, is_text, text_of, table_of}
+use Rattle.sv_schema.specs.Value.{name, text_of, table_of}
 use Rattle.sv_schema.specs.declared.fault.FaultCode.TheVariants.{MissingKey, BadValue}
 use Rattle.sv_schema.specs.declared.limits.TheConstants.{MAX_LIST_ITEMS}
 use Rattle.sv_descriptor.specs.Ignored.{element_keys}
@@ -13,8 +14,8 @@ use Rattle.sv_descriptor.specs.InitParam.{init_params}
 use Rattle.sv_descriptor.specs.Pattern.{patterns}
 use Rattle.sv_descriptor.specs.declared.filter.FilterEntry.{FilterEntry}
 use Rattle.sv_descriptor.specs.declared.filter.FilterMapping.{FilterMapping}
-use Rattle.sv_descriptor.specs.declared.kind.Kind.{Kind}
-use Rattle.sv_descriptor.specs.declared.kind.Kind.TheVariants.{Request, Forward, Include, Error}
+use Rattle.sv_mapping.specs.declared.kind.Kind.{Kind}
+use Rattle.sv_mapping.specs.declared.kind.Kind.TheVariants.{Request, Forward, Include, Error}
 
 abbrev pub filter_entry : Members → Reads FilterEntry
 filter_entry table = do
@@ -38,6 +39,6 @@ filter_mapping table = do
   its_name ← required (text_of name) (codes "filter-name") table
   check (has_key (codes "url-pattern") table || has_key (codes "servlet-name") table) MissingKey (codes "url-pattern")
   its_patterns ← optional_or [] (patterns 0 MAX_LIST_ITEMS) (codes "url-pattern") table
-  servlets ← optional_or [] (list_of 0 MAX_LIST_ITEMS is_text (text_of name)) (codes "servlet-name") table
-  kinds ← optional_or [] (list_of 0 MAX_LIST_ITEMS is_text (text_of dispatcher)) (codes "dispatcher") table
+  servlets ← optional_or [] (list_of_texts 0 MAX_LIST_ITEMS name) (codes "servlet-name") table
+  kinds ← optional_or [] (list_of_texts 0 MAX_LIST_ITEMS dispatcher) (codes "dispatcher") table
   Ok (record { filter_name = its_name; url_patterns = its_patterns; servlet_names = servlets; dispatchers = kinds })

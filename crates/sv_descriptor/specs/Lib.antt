@@ -12,6 +12,12 @@ pub mod Role
 pub mod Login
 pub mod Listener
 pub mod Ignored
-pub mod Descriptor
+pub mod Tables
+pub mod Version
+pub mod Components
+pub mod Pages
+pub mod Security
+pub mod WebApp
 pub mod Agreement
+pub mod Descriptor
 pub mod WellFormed

@@ -1,7 +1,8 @@
 -- Jakarta Servlet 6.0 section 14.4 (listener).
 use Rattle.std.specs.Prelude.{[], ◌∷◌, codes, Ok}
 use Rattle.toml.specs.Data.{Members}
-use Rattle.sv_schema.specs.Fault.{Reads, ◌>>=◌, ◌>>◌}
+use Rattle.sv_text.specs.Steps.{◌>>=◌, ◌>>◌}
+use Rattle.sv_schema.specs.Fault.{Reads}
 use Rattle.sv_schema.specs.Table.{required}
 use Rattle.sv_schema.specs.Value.{name, text_of}
 use Rattle.sv_descriptor.specs.Ignored.{element_keys}

@@ -2,12 +2,12 @@
 use Rattle.std.specs.Prelude.{ℕ, List, if◌then◌else◌, Ok}
 use Rattle.sv_mapping.specs.Pattern.{is_pattern}
 use Rattle.sv_schema.specs.Fault.{Reads, refuse}
-use Rattle.sv_schema.specs.Value.{Reader, is_text, text_of}
-use Rattle.sv_schema.specs.ListOf.{list_of}
+use Rattle.sv_schema.specs.Value.{Reader}
+use Rattle.sv_schema.specs.ListOf.{list_of_texts}
 use Rattle.sv_schema.specs.declared.fault.FaultCode.TheVariants.{BadPattern}
 
 abbrev pub pattern : List ℕ → List ℕ → Reads (List ℕ)
 pattern key text = if is_pattern text then Ok text else refuse BadPattern key
 
 abbrev pub patterns : ℕ → ℕ → Reader (List (List ℕ))
-patterns least most = list_of least most is_text (text_of pattern)
+patterns least most = list_of_texts least most pattern

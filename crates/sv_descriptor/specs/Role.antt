@@ -2,14 +2,15 @@
 use Rattle.std.specs.Prelude.{ℕ, Bool, ◌||◌, List, [], ◌∷◌, codes, if◌then◌else◌}
 use Rattle.std.specs.Str.{bytes_eq}
 use Rattle.toml.specs.Data.{Members}
-use Rattle.sv_schema.specs.Fault.{Reads, refuse, ◌>>◌}
+use Rattle.sv_text.specs.Steps.{◌>>◌}
+use Rattle.sv_schema.specs.Fault.{Reads, refuse}
 use Rattle.sv_schema.specs.Table.{required}
 use Rattle.sv_schema.specs.Value.{name, text_of}
 use Rattle.sv_schema.specs.declared.fault.FaultCode.TheVariants.{ReservedRole}
 use Rattle.sv_descriptor.specs.Ignored.{element_keys}
 
 -- the names that stand for all declared roles and for every authenticated caller (section 13.8)
-abbrev pub is_reserved_role : List ℕ → Bool
+unfoldable pub is_reserved_role : List ℕ → Bool
 is_reserved_role text = bytes_eq text (codes "*") || bytes_eq text (codes "**")
 
 abbrev pub role_name : List ℕ → List ℕ → Reads (List ℕ)

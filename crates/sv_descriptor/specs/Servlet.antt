@@ -2,7 +2,8 @@
 use Rattle.std.specs.Prelude.{ℕ, ℤ, pos, negsuc, int_lt, Bool, ◌||◌, List, [], ◌∷◌, codes, if◌then◌else◌, Ok}
 use Rattle.std.specs.Str.{bytes_eq}
 use Rattle.toml.specs.Data.{Members}
-use Rattle.sv_schema.specs.Fault.{Reads, refuse, ◌>>=◌, ◌>>◌}
+use Rattle.sv_text.specs.Steps.{◌>>=◌, ◌>>◌}
+use Rattle.sv_schema.specs.Fault.{Reads, refuse}
 use Rattle.sv_schema.specs.Table.{required, optional, optional_or}
 use Rattle.sv_schema.specs.Value.{name, text_of, whole_of, table_of}
 use Rattle.sv_schema.specs.declared.fault.FaultCode.TheVariants.{BadValue}
@@ -14,7 +15,7 @@ use Rattle.sv_descriptor.specs.declared.servlet.ServletEntry.{ServletEntry}
 use Rattle.sv_descriptor.specs.declared.servlet.ServletMapping.{ServletMapping}
 
 -- the names that stand for the file servlet and for every servlet
-abbrev pub is_reserved_servlet : List ℕ → Bool
+unfoldable pub is_reserved_servlet : List ℕ → Bool
 is_reserved_servlet text = bytes_eq text (codes "default") || bytes_eq text (codes "*")
 
 abbrev pub servlet_name : List ℕ → List ℕ → Reads (List ℕ)

@@ -3,16 +3,16 @@ use Rattle.std.specs.Prelude.{ℕ, Bool, ◌||◌, nat_eq, List, [], ◌∷◌, 
 use Rattle.std.specs.List.{starts_with, ends_with}
 use Rattle.std.specs.Str.{bytes_eq}
 use Rattle.toml.specs.Data.{Members}
-use Rattle.sv_schema.specs.Fault.{Reads, refuse, ◌>>◌}
-use Rattle.sv_schema.specs.ListOf.{list_of}
+use Rattle.sv_text.specs.Steps.{◌>>◌}
+use Rattle.sv_schema.specs.Fault.{Reads, refuse}
+use Rattle.sv_schema.specs.ListOf.{list_of_texts}
 use Rattle.sv_schema.specs.Table.{required}
-use Rattle.sv_schema.specs.Value.{is_text, text_of}
 use Rattle.sv_schema.specs.declared.fault.FaultCode.TheVariants.{BadValue}
 use Rattle.sv_schema.specs.declared.limits.TheConstants.{MAX_LIST_ITEMS}
 use Rattle.sv_descriptor.specs.Ignored.{element_keys}
 
 -- a partial path has no slash at either end, and is not empty
-abbrev pub is_no_partial_path : List ℕ → Bool
+unfoldable pub is_no_partial_path : List ℕ → Bool
 is_no_partial_path text = bytes_eq text [] || (starts_with nat_eq text (codes "/") || ends_with nat_eq text (codes "/"))
 
 abbrev pub welcome_file : List ℕ → List ℕ → Reads (List ℕ)
@@ -21,4 +21,4 @@ welcome_file key text = if is_no_partial_path text then refuse BadValue key else
 abbrev pub welcome_file_list : Members → Reads (List (List ℕ))
 welcome_file_list table = do
   element_keys (codes "welcome-file" ∷ []) table
-  required (list_of 0 MAX_LIST_ITEMS is_text (text_of welcome_file)) (codes "welcome-file") table
+  required (list_of_texts 0 MAX_LIST_ITEMS welcome_file) (codes "welcome-file") table

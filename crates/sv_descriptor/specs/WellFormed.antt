@@ -1,47 +1,82 @@
 -- A well-formed descriptor: what all above may rest on (Jakarta Servlet 6.0 sections 12.2, 13.8 and 14.4).
-use Rattle.std.specs.Prelude.{◌≡◌, ℕ, ◌+◌, ◌<◌, ◌≤◌, false, true, List, length, slice_index_or, IfSome}
+use Rattle.std.specs.Prelude.{◌≡◌, ℕ, ◌+◌, ◌<◌, ◌≤◌, false, true, List, [], length, slice_index_or, IfSome}
 use Rattle.std.specs.List.{All, Contains}
 use Rattle.sv_constraints.specs.Covering.{patterns_in}
+use Rattle.sv_constraints.specs.declared.constraint.Auth.{Auth}
+use Rattle.sv_constraints.specs.declared.constraint.Auth.TheVariants as auth
 use Rattle.sv_constraints.specs.declared.constraint.Constraint.{Constraint}
+use Rattle.sv_constraints.specs.declared.constraint.Methods.{Methods}
+use Rattle.sv_constraints.specs.declared.constraint.Methods.TheVariants as methods
 use Rattle.sv_schema.specs.Names.{Differ}
 use Rattle.sv_schema.specs.declared.limits.TheConstants.{MAX_LIST_ITEMS}
 use Rattle.sv_descriptor.specs.Agreement.{servlet_names, filter_names, servlet_patterns, is_known_servlet}
 use Rattle.sv_descriptor.specs.Location.{is_location}
 use Rattle.sv_descriptor.specs.Role.{is_reserved_role}
 use Rattle.sv_descriptor.specs.Servlet.{is_reserved_servlet}
-use Rattle.sv_descriptor.specs.declared.descriptor.Descriptor.{Descriptor}
+use Rattle.sv_descriptor.specs.declared.filter.FilterMapping.{FilterMapping}
 use Rattle.sv_descriptor.specs.declared.limits.TheConstants.{MAX_PATTERNS_OF_CONSTRAINT, MAX_SESSION_TIMEOUT}
+use Rattle.sv_descriptor.specs.declared.web_app.WebApp.{WebApp}
 
--- no list of the descriptor is longer than its limit
-pub record HasShortLists (d : Descriptor) : Type 0 where
-  pub servlets : length d.servlets ≤ MAX_LIST_ITEMS
-  pub servlet_mappings : length d.servlet_mappings ≤ MAX_LIST_ITEMS
-  pub filters : length d.filters ≤ MAX_LIST_ITEMS
-  pub filter_mappings : length d.filter_mappings ≤ MAX_LIST_ITEMS
-  pub listeners : length d.listeners ≤ MAX_LIST_ITEMS
-  pub welcome_files : length d.welcome_files ≤ MAX_LIST_ITEMS
-  pub error_pages : length d.error_pages ≤ MAX_LIST_ITEMS
-  pub constraints : length d.constraints ≤ MAX_LIST_ITEMS
-  pub roles : length d.roles ≤ MAX_LIST_ITEMS
+-- a list is within the limit of lists
+abbrev pub IsShort : {A : Type 0} → List A → Type 0
+IsShort list = length list ≤ MAX_LIST_ITEMS
+
+-- no list of a filter mapping is too long
+pub record HasShortLists (mapping : FilterMapping) : Type 0 where
+  pub url_patterns : IsShort mapping.url_patterns
+  pub servlet_names : IsShort mapping.servlet_names
+  pub dispatchers : IsShort mapping.dispatchers
+
+-- the methods that a collection names
+abbrev pub named_methods : Methods → List (List ℕ)
+named_methods methods.All = []
+named_methods (methods.Only listed) = listed
+named_methods (methods.Except omitted) = omitted
+
+-- the roles that a constraint names
+abbrev pub named_roles : Auth → List (List ℕ)
+named_roles auth.Absent = []
+named_roles (auth.Roles roles) = roles
+
+-- no list of a constraint is too long, and its collections have few patterns together
+pub record HasFewItems (constraint : Constraint) : Type 0 where
+  pub collections : IsShort constraint.collections
+  pub patterns : length (patterns_in constraint) ≤ MAX_PATTERNS_OF_CONSTRAINT
+  pub methods : All (λ collection. IsShort (named_methods collection.methods)) constraint.collections
+  pub roles : IsShort (named_roles constraint.auth)
+
+-- no list of the elements is too long
+pub record AllListsAreShort (app : WebApp) : Type 0 where
+  pub servlets : IsShort app.servlets
+  pub servlet_mappings : IsShort app.servlet_mappings
+  pub patterns_of_servlets : All (λ mapping. IsShort mapping.url_patterns) app.servlet_mappings
+  pub filters : IsShort app.filters
+  pub filter_mappings : IsShort app.filter_mappings
+  pub lists_of_filter_mappings : All HasShortLists app.filter_mappings
+  pub listeners : IsShort app.listeners
+  pub welcome_files : IsShort app.welcome_files
+  pub error_pages : IsShort app.error_pages
+  pub constraints : IsShort app.constraints
+  pub lists_of_constraints : All HasFewItems app.constraints
+  pub roles : IsShort app.rules.declared
 
 -- constraints have the numbers 1, 2, .. in their order
 abbrev pub AreNumbered : List Constraint → Type 0
 AreNumbered constraints = (i : ℕ) (d : Constraint) → i < length constraints → (slice_index_or constraints i d).number ≡ i + 1
 
-pub record IsWellFormed (d : Descriptor) : Type 0 where
-  pub servlet_names_differ : Differ (servlet_names d)
-  pub servlet_names_are_free : All (λ servlet. is_reserved_servlet servlet.servlet_name ≡ false) d.servlets
-  pub mapped_servlets_are_declared : All (λ mapping. Contains (servlet_names d) mapping.servlet_name) d.servlet_mappings
-  pub servlet_patterns_differ : Differ (servlet_patterns d)
-  pub filter_names_differ : Differ (filter_names d)
-  pub mapped_filters_are_declared : All (λ mapping. Contains (filter_names d) mapping.filter_name) d.filter_mappings
-  pub filtered_servlets_are_known : All (λ mapping. All (λ name. is_known_servlet d name ≡ true) mapping.servlet_names) d.filter_mappings
-  pub error_pages_have_paths : All (λ page. is_location page.location ≡ true) d.error_pages
-  pub login_page_has_a_path : IfSome d.login (λ login. is_location login.login_page ≡ true)
-  pub login_error_page_has_a_path : IfSome d.login (λ login. is_location login.error_page ≡ true)
-  pub constraints_are_numbered : AreNumbered d.constraints
-  pub constraints_have_few_patterns : All (λ constraint. length (patterns_in constraint) ≤ MAX_PATTERNS_OF_CONSTRAINT) d.constraints
-  pub roles_differ : Differ d.roles
-  pub roles_are_free : All (λ role. is_reserved_role role ≡ false) d.roles
-  pub session_timeout_is_bounded : d.session_timeout ≤ MAX_SESSION_TIMEOUT
-  pub lists_are_short : HasShortLists d
+pub record IsWellFormed (app : WebApp) : Type 0 where
+  pub servlet_names_differ : Differ (servlet_names app)
+  pub servlet_names_are_free : All (λ servlet. is_reserved_servlet servlet.servlet_name ≡ false) app.servlets
+  pub mapped_servlets_are_declared : All (λ mapping. Contains (servlet_names app) mapping.servlet_name) app.servlet_mappings
+  pub servlet_patterns_differ : Differ (servlet_patterns app)
+  pub filter_names_differ : Differ (filter_names app)
+  pub mapped_filters_are_declared : All (λ mapping. Contains (filter_names app) mapping.filter_name) app.filter_mappings
+  pub filtered_servlets_are_known : All (λ mapping. All (λ name. is_known_servlet app name ≡ true) mapping.servlet_names) app.filter_mappings
+  pub error_pages_have_paths : All (λ page. is_location page.location ≡ true) app.error_pages
+  pub login_page_has_a_path : IfSome app.login (λ login. is_location login.login_page ≡ true)
+  pub login_error_page_has_a_path : IfSome app.login (λ login. is_location login.error_page ≡ true)
+  pub constraints_are_numbered : AreNumbered app.constraints
+  pub roles_differ : Differ app.rules.declared
+  pub roles_are_free : All (λ role. is_reserved_role role ≡ false) app.rules.declared
+  pub session_timeout_is_bounded : app.session.timeout ≤ MAX_SESSION_TIMEOUT
+  pub lists_are_short : AllListsAreShort app

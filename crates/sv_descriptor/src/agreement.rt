@@ -9,9 +9,9 @@ ghost use Rattle.sv_descriptor.specs.Servlet.{is_reserved_servlet};
 ghost use Rattle.sv_schema.specs.Fault.{fault};
 ghost use Rattle.sv_schema.specs.Table.{is_among, texts as texts_of};
 
-use crate::descriptor::Descriptor;
 use crate::filter::FilterMapping;
 use crate::servlet::{ServletMapping, is_reserved_servlet};
+use crate::web_app::WebApp;
 use std::alloc::Global;
 use sv_mapping::Pattern;
 use sv_schema::{FaultCode, Names, ReadFault, distinct_names, refuse, repeats};
@@ -23,31 +23,31 @@ use sv_text::{NoMemory, Text};
 /// In this order: [`FaultCode::DuplicateName`] for servlets, filters and roles, [`FaultCode::UnknownServlet`] and
 /// [`FaultCode::DuplicatePattern`] for servlet mappings, [`FaultCode::UnknownFilter`] and [`FaultCode::UnknownServlet`] for
 /// filter mappings; or [`ReadFault::NoMemory`].
-pub fn check_agreement(alloc: Global, descriptor: &Descriptor) -> Result<(), ReadFault>
-    ensures { Gives fault result (spec.elements_agree descriptor.now) }
+pub fn check_agreement(alloc: Global, web_app: &WebApp) -> Result<(), ReadFault>
+    ensures { Gives fault result (spec.elements_agree web_app.now) }
 {
-    let Some(servlets) = distinct_names(alloc, descriptor.servlets.as_slice())? else {
+    let Some(servlets) = distinct_names(alloc, web_app.servlets.as_slice())? else {
         return refuse(alloc, FaultCode::DuplicateName, "servlet-name");
     };
-    let Some(filters) = distinct_names(alloc, descriptor.filters.as_slice())? else {
+    let Some(filters) = distinct_names(alloc, web_app.filters.as_slice())? else {
         return refuse(alloc, FaultCode::DuplicateName, "filter-name");
     };
-    if repeats(alloc, descriptor.roles.as_slice())? {
+    if repeats(alloc, web_app.rules.declared.as_slice())? {
         return refuse(alloc, FaultCode::DuplicateName, "role-name");
     }
-    check_servlet_mappings(alloc, &servlets, descriptor)?;
-    check_filter_mappings(alloc, &servlets, &filters, descriptor)
+    check_servlet_mappings(alloc, &servlets, web_app)?;
+    check_filter_mappings(alloc, &servlets, &filters, web_app)
 }
 
 fn check_servlet_mappings(
     alloc: Global,
     servlets: &Names<'_>,
-    descriptor: &Descriptor,
+    web_app: &WebApp,
 ) -> Result<(), ReadFault>
-    requires { HaveSame servlets.now (spec.servlet_names descriptor.now) }
-    ensures { Gives fault result (spec.servlet_mappings_fit descriptor.now) }
+    requires { HaveSame servlets.now (spec.servlet_names web_app.now) }
+    ensures { Gives fault result (spec.servlet_mappings_fit web_app.now) }
 {
-    let mappings = descriptor.servlet_mappings.as_slice();
+    let mappings = web_app.servlet_mappings.as_slice();
     if !are_mapped(servlets, mappings) {
         return refuse(alloc, FaultCode::UnknownServlet, "servlet-name");
     }
@@ -79,22 +79,28 @@ fn push_patterns<'a>(texts: &mut Vec<&'a str>, patterns: &'a [Pattern]) -> Resul
     ensures { OnOk result (texts_of texts.new.items ≡ texts_of texts.old.items ++ patterns.now) }
 {
     for pattern in patterns {
-        texts.push(pattern.text())?;
+        texts.push(text_of(pattern))?;
     }
     Ok(())
+}
+
+fn text_of(pattern: &Pattern) -> &str
+    ensures { result.now ≡ pattern.now }
+{
+    pattern.text()
 }
 
 fn check_filter_mappings(
     alloc: Global,
     servlets: &Names<'_>,
     filters: &Names<'_>,
-    descriptor: &Descriptor,
+    web_app: &WebApp,
 ) -> Result<(), ReadFault>
-    requires servlets { HaveSame servlets.now (spec.servlet_names descriptor.now) }
-    requires filters { HaveSame filters.now (spec.filter_names descriptor.now) }
-    ensures { Gives fault result (spec.filter_mappings_fit descriptor.now) }
+    requires servlets { HaveSame servlets.now (spec.servlet_names web_app.now) }
+    requires filters { HaveSame filters.now (spec.filter_names web_app.now) }
+    ensures { Gives fault result (spec.filter_mappings_fit web_app.now) }
 {
-    let mappings = descriptor.filter_mappings.as_slice();
+    let mappings = web_app.filter_mappings.as_slice();
     if !have_filters(filters, mappings) {
         return refuse(alloc, FaultCode::UnknownFilter, "filter-name");
     }

@@ -62,11 +62,23 @@ fn collections_within(
     let mut room = room;
     let mut collections = Vec::with_capacity(alloc, values.len())?;
     for value in values {
-        let collection = TableOf(CollectionTable { room }).read(alloc, key, value)?;
+        let collection = read_collection(alloc, room, key, value)?;
         room = room_beside(room, &collection);
         collections.push(collection)?;
     }
     Ok(Listed::from_vec(collections))
+}
+
+#[tactic(auto, unfolding(crate::specs::Collection::collection_table))]
+fn read_collection(
+    alloc: Global,
+    room: usize,
+    key: &str,
+    value: &Value,
+) -> Result<Collection, ReadFault>
+    ensures { Gives fault result (spec.collection_table room key.now (view value.now)) }
+{
+    TableOf(CollectionTable { room }).read(alloc, key, value)
 }
 
 /// How many patterns there may be beside those of a collection.
@@ -172,15 +184,16 @@ impl TextSchema for Method {
     ghost reads = { λ _. spec.method };
 
     fn read(&self, alloc: Global, key: &str, text: &str) -> Result<Text, ReadFault> {
-        if !is_method(text) {
+        if !is_method_name(text) {
             return refuse(alloc, FaultCode::BadValue, key);
         }
         Ok(Text::copy_of(alloc, text)?)
     }
 }
 
-fn is_method(text: &str) -> bool
-    ensures { result ≡ spec.is_method text.now }
+#[tactic(auto, unfolding(crate::specs::Collection::is_method_name))]
+fn is_method_name(text: &str) -> bool
+    ensures { result ≡ spec.is_method_name text.now }
 {
     is_within(text, 1, MAX_METHOD_BYTES) && is_token_text(text)
 }

@@ -1,10 +1,7 @@
 //! Security constraints.
 
-ghost use Rattle.std.specs.Prelude.{◌^◌, ◌+◌, ◌<◌, length, map};
-ghost use Rattle.sv_text.specs.Gives.{Gives};
-ghost use Rattle.toml.specs.View.{view};
+ghost use Rattle.std.specs.Prelude.{◌≡◌};
 ghost use Rattle.sv_descriptor.specs.Constraint as spec;
-ghost use Rattle.sv_schema.specs.Fault.{fault};
 ghost use Rattle.sv_schema.specs.ListOf.{is_array};
 
 use crate::collection::Collections;
@@ -13,7 +10,7 @@ use std::alloc::Global;
 use sv_constraints::{Auth, Constraint, Transport};
 use sv_schema::{
     FaultCode, ListOf, MAX_LIST_ITEMS, Name, ReadFault, Schema, TableOf, TableSchema, TextOf,
-    TextSchema, list_items, list_or_empty, optional_or, refuse, required,
+    TextSchema, list_or_empty, optional_or, refuse, required,
 };
 use sv_text::Listed;
 use toml::{Table, Value};
@@ -39,39 +36,43 @@ impl Schema for Constraints {
         key: &str,
         value: &Value,
     ) -> Result<Listed<Constraint>, ReadFault> {
-        let item = TableOf(ConstraintTable { number: 1 });
-        let values = list_items(alloc, 0, MAX_LIST_ITEMS, &item, key, value)?;
-        numbered_constraints(alloc, key, values)
+        let constraints = UNNUMBERED.read(alloc, key, value)?;
+        Ok(numbered(constraints))
     }
 }
 
-fn numbered_constraints(
-    alloc: Global,
-    key: &str,
-    values: &[Value],
-) -> Result<Listed<Constraint>, ReadFault>
-    ensures { Gives fault result (spec.constraints_from 1 key.now (map view values.now)) }
+/// The list of constraints, none of which has its number.
+const UNNUMBERED: ListOf<TableOf<ConstraintTable>> = ListOf {
+    least: 0,
+    most: MAX_LIST_ITEMS,
+    item: TableOf(ConstraintTable),
+};
+
+/// Numbers constraints from 1 in their order.
+fn numbered(constraints: Listed<Constraint>) -> Listed<Constraint>
+    ensures { result ≡ spec.numbered 1 constraints }
 {
-    let mut constraints = Vec::with_capacity(alloc, values.len())?;
-    for value in values {
-        let number = constraints.len() as u64 + 1;
-        let constraint = TableOf(ConstraintTable { number }).read(alloc, key, value)?;
-        constraints.push(constraint)?;
-    }
-    Ok(Listed::from_vec(constraints))
+    let mut constraints = constraints.into_vec();
+    number_each(constraints.as_mut_slice());
+    Listed::from_vec(constraints)
 }
 
-/// The table of a constraint.
-#[derive(Clone, Copy)]
-struct ConstraintTable {
-    /// The constraint's number.
-    number: u64,
+fn number_each(constraints: &mut [Constraint])
+    ensures { constraints.new ≡ spec.numbered 1 constraints.old }
+{
+    for (place, constraint) in constraints.iter_mut().enumerate() {
+        constraint.number = place as u64 + 1;
+    }
 }
+
+/// The table of a constraint, which has the number 0 until all are numbered.
+#[derive(Clone, Copy)]
+struct ConstraintTable;
 
 impl TableSchema for ConstraintTable {
     type Output = Constraint;
 
-    ghost reads = { λ schema. spec.constraint schema.number };
+    ghost reads = { λ _. spec.constraint };
 
     fn read(&self, alloc: Global, table: &Table) -> Result<Constraint, ReadFault> {
         let known = [
@@ -82,17 +83,12 @@ impl TableSchema for ConstraintTable {
         element_keys(alloc, &known, table)?;
         let auth = TableOf(AuthTable);
         let transport = TableOf(TransportTable);
+        let plain = Transport::Absent;
         Ok(Constraint {
-            number: self.number,
+            number: 0,
             collections: required(alloc, table, "web-resource-collection", &Collections)?,
             auth: optional_or(alloc, table, "auth-constraint", &auth, Auth::Absent)?,
-            transport: optional_or(
-                alloc,
-                table,
-                "user-data-constraint",
-                &transport,
-                Transport::Absent,
-            )?,
+            transport: optional_or(alloc, table, "user-data-constraint", &transport, plain)?,
         })
     }
 }

@@ -6,7 +6,7 @@ ghost use Rattle.sv_schema.specs.Fault.{fault};
 
 use crate::ignored::element_keys;
 use crate::limits::{MAX_ERROR_CODE, MIN_ERROR_CODE};
-use crate::location::Location;
+use crate::location::{Location, PageLocation};
 use std::alloc::Global;
 use sv_schema::{
     FaultCode, Name, NumberBetween, ReadFault, TableSchema, TextOf, WholeOf, optional, refuse,
@@ -16,16 +16,16 @@ use sv_text::Text;
 use toml::Table;
 
 /// A page for errors (`error-page`).
-#[derive(Debug, Drop)]
+#[derive(Drop)]
 pub struct ErrorPage {
     /// The errors that the page is for.
     pub page_for: PageFor,
     /// The page's path within the context, with or without a query.
-    pub location: Text,
+    pub location: Location,
 }
 
 /// The errors that a page is for.
-#[derive(Debug, Drop)]
+#[derive(Drop)]
 pub enum PageFor {
     /// Those with this status, from 400 to 599 (`error-code`).
     Status(u16),
@@ -54,7 +54,7 @@ impl TableSchema for ErrorPageTable {
         let exception = optional(alloc, table, "exception-type", &TextOf(Name))?;
         Ok(ErrorPage {
             page_for: page_for(alloc, status, exception)?,
-            location: required(alloc, table, "location", &TextOf(Location))?,
+            location: required(alloc, table, "location", &TextOf(PageLocation))?,
         })
     }
 }

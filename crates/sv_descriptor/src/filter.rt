@@ -4,10 +4,9 @@ ghost use Rattle.sv_descriptor.specs.Filter as spec;
 
 use crate::ignored::element_keys;
 use crate::init_param::{InitParam, InitParams};
-use crate::kind::Kind;
 use crate::pattern::{UrlPattern, UrlPatterns};
 use std::alloc::Global;
-use sv_mapping::Pattern;
+use sv_mapping::{Kind, Pattern};
 use sv_schema::{
     FaultCode, ListOf, MAX_LIST_ITEMS, Name, Named, ReadFault, TableOf, TableSchema, TextOf,
     TextSchema, has_key, list_or_empty, refuse, required,
@@ -16,7 +15,7 @@ use sv_text::{Listed, Text};
 use toml::Table;
 
 /// A declared filter (`filter`).
-#[derive(Debug, Drop)]
+#[derive(Drop)]
 pub struct FilterEntry {
     /// The filter's name.
     pub filter_name: Text,
@@ -35,7 +34,7 @@ impl Named for FilterEntry {
 }
 
 /// The requests that pass a filter (`filter-mapping`): those that one of the patterns or one of the names matches.
-#[derive(Debug, Drop)]
+#[derive(Drop)]
 pub struct FilterMapping {
     /// The filter's name.
     pub filter_name: Text,

@@ -1,7 +1,4 @@
-//! The limits of the formats.
-
-/// The version of the descriptor's format.
-pub const VERSION: u16 = 1;
+//! The limits of the descriptor.
 
 /// How many minutes a session lives without a request, where the descriptor does not say.
 pub const DEFAULT_SESSION_TIMEOUT: u32 = 30;

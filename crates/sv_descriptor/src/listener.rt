@@ -9,7 +9,7 @@ use sv_text::Text;
 use toml::Table;
 
 /// A declared listener (`listener`).
-#[derive(Debug, Drop)]
+#[derive(Drop)]
 pub struct ListenerEntry {
     /// The name of the listener's class.
     pub listener_class: Text,

@@ -1,29 +1,72 @@
 //! Pages within a context.
 
-ghost use Rattle.std.specs.Prelude.{◌≡◌};
+ghost use Rattle.std.specs.Prelude.{◌≡◌, IsTrue};
 ghost use Rattle.sv_text.specs.Gives.{GivesAnswer};
+ghost use Rattle.sv_uri.specs.Canonical.{begins_with_slash};
 ghost use Rattle.sv_descriptor.specs.Location as spec;
 
 use std::alloc::Global;
+use std::marker::Model;
 use sv_schema::{FaultCode, ReadFault, TextSchema, refuse};
 use sv_text::{NoMemory, Text};
 use sv_uri::canon;
 use sv_uri::fault::CanonFault;
 
-/// A page within a context: a text that has a canonical path, with or without a query.
-#[derive(Clone, Copy)]
-pub struct Location;
+/// The place of a page within a context: a text that begins with `/` and has a canonical path, with or without a query
+/// (Jakarta Servlet 6.0 section 3.5.2). Contracts see the text.
+#[derive(Drop)]
+pub struct Location {
+    text: Text,
+}
 
-impl TextSchema for Location {
-    type Output = Text;
+impl Model for Location {
+    ghost use Rattle.std.specs.Prelude.{ℕ, List, IsTrue};
+    ghost use Rattle.sv_descriptor.specs.Location.{is_location};
+
+    ghost Value = { List ℕ };
+
+    ghost view = { λ location. location.text };
+
+    ghost invariant = { λ location. IsTrue (is_location location.text) };
+}
+
+impl Location {
+    /// Reads a location, `None` where the text has no canonical path.
+    pub fn parse(alloc: Global, text: &str) -> Result<Option<Location>, NoMemory>
+        ensures { GivesAnswer result (spec.parsed text.now) }
+    {
+        if !is_location(alloc, text)? {
+            return Ok(None);
+        }
+        Ok(Some(Location {
+            text: Text::copy_of(alloc, text)?,
+        }))
+    }
+
+    /// The text that the location was read from.
+    pub fn text(&self) -> &str
+        ensures value { result.now ≡ self.now }
+        ensures canonical { IsTrue (spec.is_location result.now) }
+        ensures begins { IsTrue (begins_with_slash result.now) }
+    {
+        self.text.as_str()
+    }
+}
+
+/// The location of a page.
+#[derive(Clone, Copy)]
+pub struct PageLocation;
+
+impl TextSchema for PageLocation {
+    type Output = Location;
 
     ghost reads = { λ _. spec.location };
 
-    fn read(&self, alloc: Global, key: &str, text: &str) -> Result<Text, ReadFault> {
-        if !is_location(alloc, text)? {
-            return refuse(alloc, FaultCode::BadValue, key);
+    fn read(&self, alloc: Global, key: &str, text: &str) -> Result<Location, ReadFault> {
+        match Location::parse(alloc, text)? {
+            Some(location) => Ok(location),
+            None => refuse(alloc, FaultCode::BadValue, key),
         }
-        Ok(Text::copy_of(alloc, text)?)
     }
 }
 

@@ -3,19 +3,18 @@
 ghost use Rattle.sv_descriptor.specs.Login as spec;
 
 use crate::ignored::element_keys;
-use crate::location::Location;
+use crate::location::{Location, PageLocation};
 use std::alloc::Global;
 use sv_schema::{FaultCode, ReadFault, TableOf, TableSchema, TextOf, TextSchema, refuse, required};
-use sv_text::Text;
 use toml::Table;
 
 /// Form based authentication (`login-config`, Jakarta Servlet 6.0 section 13.6.3).
-#[derive(Debug, Drop)]
+#[derive(Drop)]
 pub struct FormLogin {
     /// The path of the page with the login form, within the context.
-    pub login_page: Text,
+    pub login_page: Location,
     /// The path of the page for a login that failed, within the context.
-    pub error_page: Text,
+    pub error_page: Location,
 }
 
 /// The table of a login configuration.
@@ -46,8 +45,8 @@ impl TableSchema for FormLoginTable {
     fn read(&self, alloc: Global, table: &Table) -> Result<FormLogin, ReadFault> {
         element_keys(alloc, &["form-login-page", "form-error-page"], table)?;
         Ok(FormLogin {
-            login_page: required(alloc, table, "form-login-page", &TextOf(Location))?,
-            error_page: required(alloc, table, "form-error-page", &TextOf(Location))?,
+            login_page: required(alloc, table, "form-login-page", &TextOf(PageLocation))?,
+            error_page: required(alloc, table, "form-error-page", &TextOf(PageLocation))?,
         })
     }
 }

@@ -16,7 +16,7 @@ use sv_text::{Listed, Text};
 use toml::Table;
 
 /// A declared servlet (`servlet`).
-#[derive(Debug, Drop)]
+#[derive(Drop)]
 pub struct ServletEntry {
     /// The servlet's name, neither `default` nor `*`.
     pub servlet_name: Text,
@@ -37,7 +37,7 @@ impl Named for ServletEntry {
 }
 
 /// Patterns whose paths a servlet serves (`servlet-mapping`).
-#[derive(Debug, Drop)]
+#[derive(Drop)]
 pub struct ServletMapping {
     /// The servlet's name.
     pub servlet_name: Text,
@@ -112,6 +112,7 @@ impl TextSchema for ServletName {
 }
 
 /// Whether a name stands for the file servlet or for every servlet.
+#[tactic(auto, unfolding(crate::specs::Servlet::is_reserved_servlet))]
 pub fn is_reserved_servlet(name: &str) -> bool
     ensures { result ≡ spec.is_reserved_servlet name.now }
 {

@@ -1,15 +1,16 @@
 -- The best match of a list of patterns.
-use Rattle.std.proofs.Common.{◌≡◌, ℕ, ◌+◌, ◌<◌, ◌≤◌, take, get_or, sym, ◌∙◌, ap, append_assoc, Bool, true, false, cond, ◌&&◌, ◌||◌, List, [], ◌∷◌, ◌++◌, length, eqb, ltb, arith, Option, Some, IsTrue, inl, inr}
+use Rattle.std.proofs.Common.{◌≡◌, ℕ, ◌+◌, ◌<◌, ◌≤◌, take, get_or, sym, ◌∙◌, ap, append_assoc, append-nil, Bool, true, false, cond, ◌&&◌, ◌||◌, List, [], ◌∷◌, ◌++◌, length, eqb, ltb, arith, Option, None, Some, IsTrue, refl, inl, inr}
 use Rattle.std.specs.Cmp.{IsStrictWeakOrder}
-use Rattle.std.specs.List.{Contains}
-use Rattle.std.specs.Option.{option_map_or}
+use Rattle.std.specs.List.{Contains, filter}
+use Rattle.std.specs.Option.{option_map_or, option_to_list}
 use Rattle.std.proofs.lemmas.Bool.{and_from, and_parts, both_ways, cases_Bool, not-true}
+use Rattle.std.proofs.lemmas.List.Elements.{filter-append}
 use Rattle.std.proofs.lemmas.List.Folds.{list_any-from_Any}
 use Rattle.std.proofs.lemmas.List.{length-take, take_all, take_more}
 use Rattle.std.proofs.lemmas.Bool.Decides.{nat_tests}
-use Rattle.sv_mapping.specs.BestMatch.{is_best, rank, outranks, best, best_pattern}
+use Rattle.sv_mapping.specs.BestMatch.{is_best, rank, outranks, best, best_pattern, best_with, highest}
 use Rattle.sv_mapping.specs.Pattern.{matches}
-use Rattle.sv_mapping.proofs.FirstBest.{found_in, found_passes, found-push, place-push}
+use Rattle.sv_mapping.proofs.FirstBest.{found_in, found_passes, found-push, place-push, unbeaten_by_itself}
 
 is_above-one_way : (a b c d : ℕ) → (ltb c a || (eqb a c && ltb d b)) ≡ true → (ltb a c || (eqb c a && ltb b d)) ≡ false
 is_above-one_way a b c d h = grind (arith, nat_tests)
@@ -59,6 +60,28 @@ pub best_pattern-next : (before patterns : List (List ℕ)) (path pattern : List
 best_pattern-next before patterns path pattern i held taken within at was takes =
     let longer : before ++ take (i + 1) patterns ≡ (before ++ take i patterns) ++ pattern ∷ [] = ap (λ ps. before ++ ps) (take_next patterns pattern i within at) ∙ sym (append_assoc before (take i patterns) (pattern ∷ [])) in
     rw (longer, takes, was) (sym (best_pattern-push (before ++ take i patterns) path pattern))
+
+-- ---- the best of a pattern found before and of further ones
+filter-one : (matching : Bool) (pattern : List ℕ) (found : Option (List ℕ)) (known : List (List ℕ)) → highest known ≡ found → highest (known ++ cond matching (pattern ∷ []) []) ≡ cond (matching && option_map_or (λ other. outranks pattern other) found true) (Some pattern) found
+filter-one true pattern found known was = rw (← was) (found-push (λ _. true) outranks outranks-order known pattern)
+filter-one false pattern found known was = rw append-nil was
+
+-- what was found alone
+pub best_with-none : (found : Option (List ℕ)) (path : List ℕ) → found ≡ best_with found [] path
+best_with-none None path = refl
+best_with-none (Some pattern) path = rw (unbeaten_by_itself (λ _. true) outranks outranks-order pattern) refl
+
+pub best_with-next : (found : Option (List ℕ)) (patterns : List (List ℕ)) (path pattern : List ℕ) (i : ℕ) (held : Option (List ℕ)) (taken : Bool) → i < length patterns → pattern ≡ get_or patterns i pattern → held ≡ best_with found (take i patterns) path → taken ≡ takes_over path held pattern
+    → cond taken (Some pattern) held ≡ best_with found (take (i + 1) patterns) path
+best_with-next found patterns path pattern i held taken within at was takes =
+    let known = option_to_list found ++ filter (λ p. matches p path) (take i patterns) in
+    let longer : filter (λ p. matches p path) (take (i + 1) patterns) ≡ filter (λ p. matches p path) (take i patterns) ++ cond (matches pattern path) (pattern ∷ []) [] =
+    ap (filter (λ p. matches p path)) (take_next patterns pattern i within at) ∙ filter-append (λ p. matches p path) (take i patterns) (pattern ∷ [])
+    in
+    rw takes
+    (sym (ap (λ more. highest (option_to_list found ++ more)) longer
+    ∙ ap highest (sym (append_assoc (option_to_list found) (filter (λ p. matches p path) (take i patterns)) (cond (matches pattern path) (pattern ∷ []) [])))
+    ∙ filter-one (matches pattern path) pattern held known (sym was)))
 
 pub best-next : (patterns : List (List ℕ)) (path pattern : List ℕ) (i : ℕ) (held : Option (List ℕ)) (place : Option ℕ) (taken : Bool) → i < length patterns → pattern ≡ get_or patterns i pattern → held ≡ best_pattern (take i patterns) path → place ≡ best (take i patterns) path → taken ≡ takes_over path held pattern
     → cond taken (Some i) place ≡ best (take (i + 1) patterns) path

@@ -106,7 +106,7 @@ module _ {X : Type 0} (P : X → Bool) (beats : X → X → Bool) where
       unchanged y = rw (top-push xs x y, fails) refl
 
   module _ (order : IsStrictWeakOrder beats) where
-    unbeaten_by_itself : (x : X) → beats x x ≡ false
+    pub unbeaten_by_itself : (x : X) → beats x x ≡ false
     unbeaten_by_itself x = elim (cases_Bool (beats x x)) [ inl e ↦ order.one_way x x e | inr e ↦ e ]
 
     -- what beats h beats all that does not beat h

@@ -14,7 +14,7 @@ use Rattle.std.proofs.lemmas.Grind.{get_or_default_zero}
 use Rattle.std.proofs.lemmas.Str.{IsCharBoundary-before_ascii, IsCharBoundary-end, len_utf8_ascii}
 use Rattle.std.proofs.lemmas.Slice.Eq.{bytes_eq-Decides, starts_is, ends_is}
 use Rattle.std.proofs.lemmas.Str.Pattern.{NoCharPasses-char}
-use Rattle.sv_mapping.specs.Pattern.{Root, Default, Extension, Prefix, Exact, form, is_within, last_segment, extension, matches}
+use Rattle.sv_mapping.specs.Pattern.{Root, Default, Extension, Prefix, Exact, form, is_at_or_below, last_segment, extension, matches}
 
 pub same_bytes : (xs ys : List ℕ) → bytes_eq xs ys ≡ true → xs ≡ ys
 same_bytes xs ys h = (bytes_eq-Decides xs ys).0 h
@@ -41,12 +41,12 @@ pub stripped_end : (end text rest : List ℕ) → StripsSuffix (FindsTextSuffix 
 stripped_end end text rest h = h.1.1 ∙ ap (λ r. r ++ end) (sym h.2)
 
 -- ---- within a prefix
-pub within_whole : (prefix path rest : List ℕ) → path ≡ prefix ++ rest → eqb (length rest) 0 ≡ true → is_within prefix path ≡ true
+pub within_whole : (prefix path rest : List ℕ) → path ≡ prefix ++ rest → eqb (length rest) 0 ≡ true → is_at_or_below prefix path ≡ true
 within_whole prefix path rest h empty =
     let whole : path ≡ prefix = h ∙ (ap (λ r. prefix ++ r) (empty_from_len rest empty) ∙ append-nil prefix) in
     or_left _ _ ((bytes_eq-Decides path prefix).1 whole)
 
-pub within_rest : (prefix path rest : List ℕ) → path ≡ prefix ++ rest → eqb (length rest) 0 ≡ false → is_within prefix path ≡ eqb (get_or rest 0 0) 47
+pub within_rest : (prefix path rest : List ℕ) → path ≡ prefix ++ rest → eqb (length rest) 0 ≡ false → is_at_or_below prefix path ≡ eqb (get_or rest 0 0) 47
 within_rest prefix path [] h some = absurd (both_ways _ some refl)
 within_rest prefix path (x ∷ xs) h some =
     let longer : bytes_eq path prefix ≡ false = false_from_ne_true _ (λ same. absurd (omega (arith, ap length ((bytes_eq-Decides path prefix).0 same), ap length h, length-append prefix (x ∷ xs)))) in
@@ -58,13 +58,13 @@ within_rest prefix path (x ∷ xs) h some =
     apart : (b : ℕ) (bs rest : List ℕ) → eqb b 47 ≡ false → b ∷ bs ≡ 47 ∷ rest → ⊥
     apart b bs rest e k = let same : b ≡ 47 = cc in both_ways _ e (eq-eqb b 47 same)
 
-pub within_none : (prefix path : List ℕ) → ((rest : List ℕ) → path ≡ prefix ++ rest → ⊥) → is_within prefix path ≡ false
+pub within_none : (prefix path : List ℕ) → ((rest : List ℕ) → path ≡ prefix ++ rest → ⊥) → is_at_or_below prefix path ≡ false
 within_none prefix path none =
     or_from _ _ (false_from_ne_true _ (λ same. none [] ((bytes_eq-Decides path prefix).0 same ∙ sym (append-nil prefix))))
     (starts_not path (prefix ++ 47 ∷ []) (λ rest k. none (47 ∷ rest) (k ∙ append_assoc prefix (47 ∷ []) rest)))
 
 -- the path begins with the prefix, and may be cut behind it
-pub within_front : (prefix path : List ℕ) → is_within prefix path ≡ true → take (length prefix) path ≡ prefix
+pub within_front : (prefix path : List ℕ) → is_at_or_below prefix path ≡ true → take (length prefix) path ≡ prefix
 within_front prefix path h =
     elim (or_cases _ _ h) [
       | inl whole ↦ rw (same_bytes path prefix whole) (take-length prefix)
@@ -74,7 +74,7 @@ within_front prefix path h =
           ap (take (length prefix)) front ∙ cut
     ]
 
-pub within_boundary : (prefix path : List ℕ) → is_within prefix path ≡ true → IsCharBoundary path (length prefix)
+pub within_boundary : (prefix path : List ℕ) → is_at_or_below prefix path ≡ true → IsCharBoundary path (length prefix)
 within_boundary prefix path h =
     elim (or_cases _ _ h) [
       | inl whole ↦ rw (same_bytes path prefix whole) (IsCharBoundary-end prefix)
@@ -165,5 +165,5 @@ unfolding form
 form-exact text some other front end =
     rw (empty_test text ∙ some, other, starts_not text (42 ∷ 46 ∷ []) front, false_from_ne_true _ (λ h. end _ ((ends_is Decides-eqb text (47 ∷ 42 ∷ []) _ refl).0 h))) refl
 
-pub within_from_matches : (pattern prefix path : List ℕ) → Prefix prefix ≡ form pattern → matches pattern path ≡ true → is_within prefix path ≡ true
+pub within_from_matches : (pattern prefix path : List ℕ) → Prefix prefix ≡ form pattern → matches pattern path ≡ true → is_at_or_below prefix path ≡ true
 within_from_matches pattern prefix path e h = rw (← e) at h

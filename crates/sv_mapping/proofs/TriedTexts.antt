@@ -8,7 +8,7 @@ use Rattle.std.proofs.lemmas.Bool.Decides.{Decides-eqb}
 use Rattle.std.proofs.lemmas.Slice.Eq.{bytes_eq-Decides, ends_is, starts_is}
 use Rattle.sv_mapping.specs.BestMatch.{outranks, rank}
 use Rattle.sv_mapping.specs.MatchOrder.{exact_texts, extension_texts, fronts, prefix_texts, tried_texts}
-use Rattle.sv_mapping.specs.Pattern.{Form, Root, Default, Extension, Prefix, Exact, extension, form, form_matches, is_within, matches}
+use Rattle.sv_mapping.specs.Pattern.{Form, Root, Default, Extension, Prefix, Exact, extension, form, form_matches, is_at_or_below, matches}
 use Rattle.sv_mapping.proofs.Texts.{form-exact, form-prefix, same_bytes, starts}
 use Rattle.sv_mapping.proofs.Tried.{Falls, Falls-append, Falls-map, In, In-cases, In-left, In-map, In-map_from, In-right, TriesInOrder}
 use Rattle.sv_mapping.proofs.Uniqueness.{exact_is_no_slash, text_of, text_of-form}
@@ -17,14 +17,14 @@ use Rattle.sv_mapping.proofs.Uniqueness.{exact_is_no_slash, text_of, text_of-for
 abbrev Within : List ℕ → List ℕ → Type 0
 Within front path = (path ≡ front) ⊎ ((rest : List ℕ) × (path ≡ front ++ 47 ∷ rest))
 
-within_cases : (front path : List ℕ) → is_within front path ≡ true → Within front path
+within_cases : (front path : List ℕ) → is_at_or_below front path ≡ true → Within front path
 within_cases front path h =
     elim (or_cases _ _ h) [
       | inl whole ↦ inl (same_bytes path front whole)
       | inr below ↦ inr (_, (starts_is Decides-eqb path (front ++ 47 ∷ []) _ refl).0 below ∙ append_assoc front (47 ∷ []) _)
     ]
 
-within_from : (front path : List ℕ) → Within front path → is_within front path ≡ true
+within_from : (front path : List ℕ) → Within front path → is_at_or_below front path ≡ true
 within_from front path (inl whole) = or_left _ _ ((bytes_eq-Decides path front).1 whole)
 within_from front path (inr below) = or_right _ _ (starts path (front ++ 47 ∷ []) below.0 (below.1 ∙ sym (append_assoc front (47 ∷ []) below.0)))
 

@@ -1,6 +1,7 @@
 -- The best match among URL patterns (Jakarta Servlet 6.0, section 12.1).
-use Rattle.std.specs.Prelude.{◌≡◌, ℕ, Bool, ◌||◌, ◌&&◌, not, nat_lt, ◌==◌, List, length, Option, Some, is_some, IsTrue, Contains, find, position}
+use Rattle.std.specs.Prelude.{◌≡◌, ℕ, Bool, ◌||◌, ◌&&◌, not, nat_lt, ◌==◌, List, ◌++◌, length, Option, Some, is_some, IsTrue, Contains, filter, find, position}
 use Rattle.std.specs.List.{list_any}
+use Rattle.std.specs.Option.{option_to_list}
 use Rattle.sv_mapping.specs.Pattern.{Form, Root, Default, Extension, Prefix, Exact, form, matches}
 
 -- exact 3, prefix 2 and then its length, extension 1, default 0
@@ -33,6 +34,14 @@ best patterns path = position (is_best patterns path) patterns
 -- the text of the best match
 abbrev pub best_pattern : List (List ℕ) → List ℕ → Option (List ℕ)
 best_pattern patterns path = find (is_best patterns path) patterns
+
+-- the first of the patterns that no other outranks
+abbrev pub highest : List (List ℕ) → Option (List ℕ)
+highest patterns = find (λ pattern. not (list_any (λ other. outranks other pattern) patterns)) patterns
+
+-- the best match among further patterns and one that was found before, which counts as a match
+abbrev pub best_with : Option (List ℕ) → List (List ℕ) → List ℕ → Option (List ℕ)
+best_with found patterns path = highest (option_to_list found ++ filter (λ pattern. matches pattern path) patterns)
 
 -- there is a best match exactly where a pattern matches
 abbrev pub BestExists : Type 0

@@ -1,5 +1,5 @@
 -- What parsing a URL pattern answers (Jakarta Servlet 6.0, section 12.2).
-use Rattle.std.specs.Prelude.{ℕ, List, if◌then◌else◌, Option, Some, None, Result, Ok, Err}
+use Rattle.std.specs.Prelude.{ℕ, List, codes, if◌then◌else◌, Option, Some, None, Result, Ok, Err}
 use Rattle.sv_mapping.specs.Pattern.{is_pattern}
 use Rattle.sv_mapping.specs.declared.fault.PatternFault.{PatternFault}
 use Rattle.sv_mapping.specs.declared.fault.PatternFault.TheVariants.{BadPattern, NoMemory}
@@ -10,5 +10,10 @@ text_fault BadPattern = Some BadPattern
 text_fault NoMemory = None
 
 -- a pattern is the text that it was read from
-abbrev pub parsed : List ℕ → Result (List ℕ) PatternFault
-parsed text = if is_pattern text then Ok text else Err BadPattern
+abbrev pub pattern_read : List ℕ → Result (List ℕ) PatternFault
+pattern_read text = if is_pattern text then Ok text else Err BadPattern
+
+-- the text that is printed for a fault
+abbrev pub pattern_fault_text : PatternFault → List ℕ
+pattern_fault_text BadPattern = codes "BadPattern"
+pattern_fault_text NoMemory = codes "no memory"

@@ -4,9 +4,9 @@ use Rattle.sv_mapping.specs.declared.form.Form.{Form}
 use Rattle.sv_mapping.specs.declared.form.Form.TheVariants.{Root, Default, Extension, Prefix, Exact}
 
 -- the form that it stands for
-abbrev pub seen : Form → spec.Form
-seen Root = spec.Root
-seen Default = spec.Default
-seen (Extension wanted) = spec.Extension wanted.now
-seen (Prefix prefix) = spec.Prefix prefix.now
-seen (Exact text) = spec.Exact text.now
+abbrev pub form_seen : Form → spec.Form
+form_seen Root = spec.Root
+form_seen Default = spec.Default
+form_seen (Extension wanted) = spec.Extension wanted.now
+form_seen (Prefix prefix) = spec.Prefix prefix.now
+form_seen (Exact text) = spec.Exact text.now

@@ -41,8 +41,8 @@ form text =
     else Exact text
 
 -- the path is the prefix or lies below it
-abbrev pub is_within : List ℕ → List ℕ → Bool
-is_within prefix path = bytes_eq path prefix || starts_with nat_eq path (prefix ++ codes "/")
+abbrev pub is_at_or_below : List ℕ → List ℕ → Bool
+is_at_or_below prefix path = bytes_eq path prefix || starts_with nat_eq path (prefix ++ codes "/")
 
 abbrev pub last_segment : List ℕ → List ℕ
 last_segment path = after_last is_slash path
@@ -59,7 +59,7 @@ abbrev pub form_matches : Form → List ℕ → Bool
 form_matches Root path = bytes_eq path (codes "/")
 form_matches Default path = true
 form_matches (Extension wanted) path = has_extension wanted path
-form_matches (Prefix prefix) path = is_within prefix path
+form_matches (Prefix prefix) path = is_at_or_below prefix path
 form_matches (Exact text) path = bytes_eq path text
 
 abbrev pub matches : List ℕ → List ℕ → Bool

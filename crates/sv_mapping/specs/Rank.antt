@@ -3,8 +3,8 @@ use Rattle.std.specs.Prelude.{ℕ}
 use Rattle.sv_mapping.specs.declared.rank.Rank.{Rank}
 use Rattle.sv_mapping.specs.declared.rank.Rank.TheVariants.{Default, Extension, Prefix, Exact}
 
-abbrev pub number : Rank → ℕ × ℕ
-number Default = (0, 0)
-number Extension = (1, 0)
-number (Prefix length) = (2, length)
-number Exact = (3, 0)
+abbrev pub rank_number : Rank → ℕ × ℕ
+rank_number Default = (0, 0)
+rank_number Extension = (1, 0)
+rank_number (Prefix length) = (2, length)
+rank_number Exact = (3, 0)

@@ -3,7 +3,7 @@
 ghost use Rattle.std.specs.Prelude.{◌≡◌, ◌<◌, ◌&&◌, ℕ, List, ◌++◌, length, true, IfSome, IsTrue, slice_get};
 ghost use Rattle.std.specs.List.{HoldsAt};
 ghost use Rattle.std.specs.Option.{option_and_then, option_copied, option_map_or};
-ghost use Rattle.sv_mapping.specs.BestMatch.{best, best_pattern, outranks};
+ghost use Rattle.sv_mapping.specs.BestMatch.{best, best_pattern, best_with, outranks};
 ghost use Rattle.sv_mapping.specs.Pattern.{matches};
 
 use crate::pattern::Pattern;
@@ -28,14 +28,16 @@ pub fn best(patterns: &[Pattern], path: &str) -> Option<usize>
     best
 }
 
-/// The best match among further patterns and one that was the best of what came before them, so that lists of patterns
-/// are searched one after another. Of equal patterns it is the first.
+/// The best match among further patterns and one that was found before, which counts as a match whatever the path: of it
+/// and those of these that match, the first that none of them outranks. Where it was the best of what came before, the
+/// result is the best of all, so that lists of patterns are searched one after another.
 pub fn better<'a>(
     found: Option<&'a Pattern>,
     patterns: &'a [Pattern],
     path: &str,
 ) -> Option<&'a Pattern>
-    ensures { (before : List (List ℕ)) → best_pattern before path.now ≡ option_copied found.entry → option_copied result ≡ best_pattern (before ++ patterns.now) path.now }
+    ensures with { option_copied result ≡ best_with (option_copied found.entry) patterns.now path.now }
+    ensures joined { (before : List (List ℕ)) → best_pattern before path.now ≡ option_copied found.entry → option_copied result ≡ best_pattern (before ++ patterns.now) path.now }
 {
     let mut held = found;
     for pattern in patterns {

@@ -2,8 +2,8 @@
 
 ghost use Rattle.std.specs.Prelude.{◌≡◌};
 ghost use Rattle.std.specs.Option.{option_copied};
-ghost use Rattle.sv_mapping.specs.Form.{seen};
-ghost use Rattle.sv_mapping.specs.Pattern.{form, form_matches, has_extension, is_within, last_segment, extension};
+ghost use Rattle.sv_mapping.specs.Form.{form_seen};
+ghost use Rattle.sv_mapping.specs.Pattern.{form, form_matches, has_extension, is_at_or_below, last_segment, extension};
 
 /// What a pattern's text says (Jakarta Servlet 6.0, section 12.2).
 #[derive(Clone, Copy)]
@@ -23,7 +23,7 @@ pub enum Form<'a> {
 impl<'a> Form<'a> {
     /// The form of a pattern's text.
     pub fn of(text: &'a str) -> Form<'a>
-        ensures { seen result ≡ form text.now }
+        ensures { form_seen result ≡ form text.now }
     {
         if text.is_empty() {
             return Form::Root;
@@ -42,20 +42,21 @@ impl<'a> Form<'a> {
 
     /// Whether a pattern of this form matches the path.
     pub fn matches(self, path: &str) -> bool
-        ensures { result ≡ form_matches (seen self.entry) path.now }
+        ensures { result ≡ form_matches (form_seen self.entry) path.now }
     {
         match self {
             Form::Root => path == "/",
             Form::Default => true,
             Form::Extension(wanted) => has_extension(path, wanted),
-            Form::Prefix(prefix) => is_within(prefix, path),
+            Form::Prefix(prefix) => is_at_or_below(prefix, path),
             Form::Exact(text) => path == text,
         }
     }
 }
 
-fn is_within(prefix: &str, path: &str) -> bool
-    ensures { result ≡ is_within prefix.now path.now }
+/// Whether the path is the prefix or lies below it: what follows the prefix is nothing, or begins with `/`.
+pub fn is_at_or_below(prefix: &str, path: &str) -> bool
+    ensures { result ≡ is_at_or_below prefix.now path.now }
 {
     match path.strip_prefix(prefix) {
         Some(rest) => rest.is_empty() || rest.starts_with('/'),

@@ -1,7 +1,9 @@
 //! What holds of the best match: each law is the contract of a function that does nothing.
 
+ghost use Rattle.std.specs.Prelude.{◌≡◌};
 ghost use Rattle.sv_mapping.specs.BestMatch.{BestExists, BestIsAMatch, BestIsUnique};
 ghost use Rattle.sv_mapping.specs.MatchOrder.{BestIsFirstTried};
+ghost use Rattle.sv_mapping.specs.declared.limits.TheConstants.{MAX_PATTERN_BYTES};
 
 /// There is a best match exactly where a pattern matches the path.
 pub fn best_exists()
@@ -22,4 +24,9 @@ pub fn best_is_unique()
 /// longest to the shortest, then its extension, then the default pattern.
 pub fn best_is_first_tried()
     ensures { BestIsFirstTried }
+{}
+
+/// The limits of this crate as numbers.
+pub fn limits_are_as_stated()
+    ensures pattern { MAX_PATTERN_BYTES ≡ 1024 }
 {}

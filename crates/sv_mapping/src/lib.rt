@@ -4,6 +4,7 @@
 mod best_match;
 mod fault;
 mod form;
+mod kind;
 pub mod laws;
 mod limits;
 mod parts;
@@ -13,6 +14,8 @@ mod splitting;
 
 pub use best_match::{best, better};
 pub use fault::PatternFault;
+pub use form::is_at_or_below;
+pub use kind::Kind;
 pub use limits::MAX_PATTERN_BYTES;
 pub use parts::Split;
 pub use pattern::Pattern;

@@ -3,8 +3,8 @@
 ghost use Rattle.std.specs.Prelude.{◌≡◌, ◌↔◌, false, not, IsErrOf, IsTrue};
 ghost use Rattle.sv_text.specs.Gives.{Gives};
 ghost use Rattle.sv_mapping.specs.BestMatch.{outranks};
-ghost use Rattle.sv_mapping.specs.Fault.{parsed, text_fault};
-ghost use Rattle.sv_mapping.specs.Form.{seen};
+ghost use Rattle.sv_mapping.specs.Fault.{pattern_read, text_fault};
+ghost use Rattle.sv_mapping.specs.Form.{form_seen};
 ghost use Rattle.sv_mapping.specs.Pattern.{form, is_extension_pattern, is_path_pattern, is_pattern, matches};
 
 use crate::fault::PatternFault;
@@ -16,7 +16,7 @@ use std::marker::Model;
 use sv_text::Text;
 
 /// A URL pattern (Jakarta Servlet 6.0, section 12.2). Contracts see its text.
-#[derive(Debug, Drop)]
+#[derive(Drop)]
 pub struct Pattern {
     text: Text,
 }
@@ -40,7 +40,7 @@ impl Pattern {
     /// [`PatternFault::BadPattern`] for every other text, and [`PatternFault::NoMemory`] where there was no memory
     /// to keep the text of a pattern.
     pub fn parse(alloc: Global, text: &str) -> Result<Pattern, PatternFault>
-        ensures gives { Gives text_fault result (parsed text.now) }
+        ensures gives { Gives text_fault result (pattern_read text.now) }
         ensures refused { IsErrOf result PatternFault.BadPattern ↔ IsTrue (not (is_pattern text.now)) }
     {
         if !is_pattern(text) {
@@ -75,7 +75,7 @@ impl Pattern {
     }
 
     pub(crate) fn form(&self) -> Form<'_>
-        ensures { seen result ≡ form self.now }
+        ensures { form_seen result ≡ form self.now }
     {
         Form::of(self.text())
     }

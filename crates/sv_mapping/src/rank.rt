@@ -2,8 +2,8 @@
 
 ghost use Rattle.std.specs.Prelude.{◌≡◌};
 ghost use Rattle.sv_mapping.specs.BestMatch.{form_rank, is_above};
-ghost use Rattle.sv_mapping.specs.Form.{seen};
-ghost use Rattle.sv_mapping.specs.Rank.{number};
+ghost use Rattle.sv_mapping.specs.Form.{form_seen};
+ghost use Rattle.sv_mapping.specs.Rank.{rank_number};
 
 use crate::form::Form;
 
@@ -20,7 +20,7 @@ pub enum Rank {
 impl Rank {
     /// The rank of a form.
     pub fn of(form: Form<'_>) -> Rank
-        ensures { number result ≡ form_rank (seen form.entry) }
+        ensures { rank_number result ≡ form_rank (form_seen form.entry) }
     {
         match form {
             Form::Default => Rank::Default,
@@ -32,7 +32,7 @@ impl Rank {
 
     /// Whether a pattern of this rank is chosen before one of the other.
     pub fn is_above(self, other: Rank) -> bool
-        ensures { result ≡ is_above (number self) (number other) }
+        ensures { result ≡ is_above (rank_number self) (rank_number other) }
     {
         self > other
     }

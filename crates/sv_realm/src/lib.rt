@@ -11,7 +11,8 @@ mod user;
 
 pub use caller::Caller;
 pub use laws::{
-    a_checked_caller_is_the_named_one, a_digest_that_fits_is_whole, the_first_user_of_a_name_counts,
+    a_checked_caller_is_the_named_one, a_digest_that_fits_is_whole, limits_are_as_stated,
+    the_first_user_of_a_name_counts,
 };
 pub use limits::MAX_USERS;
 pub use realm::Realm;

@@ -3,7 +3,7 @@
 use sv_text::{Bytes, Listed, Text};
 
 /// A user with what a password is checked against.
-#[derive(Debug, Drop)]
+#[derive(Drop)]
 pub struct User {
     /// The user's name.
     pub name: Text,

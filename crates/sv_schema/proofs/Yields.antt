@@ -10,7 +10,8 @@ use Rattle.sv_schema.specs.declared.fault.ReadFault.{ReadFault}
 use Rattle.std.proofs.lemmas.Bool.Decides.{nat_tests}
 use Rattle.std.proofs.lemmas.List.Elements.{All-cons}
 use Rattle.toml.specs.Data.{Data, string, integer, float, boolean, datetime, array, table, Members, get_member}
-use Rattle.sv_schema.specs.Fault.{Reads, ◌>>=◌, fault, refuse, check}
+use Rattle.sv_text.specs.Steps.{◌>>=◌}
+use Rattle.sv_schema.specs.Fault.{Reads, fault, refuse, check}
 use Rattle.sv_schema.specs.ListOf.{each, items_list, list_items, list_of}
 use Rattle.sv_schema.specs.Table.{optional, optional_or, optional_value, or_else, required, required_value}
 use Rattle.sv_schema.specs.Value.{Reader, table_of, text_of, whole_of}
@@ -21,6 +22,11 @@ use Rattle.sv_schema.specs.declared.fault.FaultCode.TheVariants.{WrongType, BadV
 pub bind-Ok : {A B C : Type 0} (first : Reads A) (next : A → Reads B) (b : B) → (first >>= next) ≡ Ok b → ((a : A) → first ≡ Ok a → next a ≡ Ok b → C) → C
 bind-Ok (Ok a) next b h k = k a refl h
 bind-Ok (Err f) next b h k = cc
+
+-- what holds of the value of a reading that ended well
+pub holds-Ok : {A : Type 0} (P : A → Type 0) (reading : Reads A) (a : A) → reading ≡ Ok a → IfOk reading P → P a
+holds-Ok P (Ok b) a e h = let same : b ≡ a = cc in subst P same h
+holds-Ok P (Err f) a e h = cc
 
 pub check-Ok : (holds : Bool) (code : FaultCode) (key : List ℕ) (u : Unit {0}) → check holds code key ≡ Ok u → holds ≡ true
 check-Ok true code key u h = refl
@@ -134,6 +140,10 @@ list_of-yields P least most fits reads h key value found e =
       short = let n = list_items-Ok least most fits key value items ei in let m = each-length (reads key) items found ee in omega arith;
       each = each-All P (reads key) (h key) items found ee;
     })
+
+-- a list that was read is no longer than its limit
+pub list_of-short : {A : Type 0} (least most : ℕ) (fits : Data → Bool) (reads : Reader A) → Yields (λ found. length found ≤ most) (list_of least most fits reads)
+list_of-short least most fits reads key value found e = (list_of-yields (λ _. Unit {0}) least most fits reads (λ _ _ _ _. tt) key value found e).short
 
 -- what holds of all that the definition gives holds of all that is returned
 pub IfOk-Gives : {A : Type 0} (P : A → Type 0) (result : Result A ReadFault) (answer : Reads A) → ((a : A) → answer ≡ Ok a → P a) → Gives fault result answer → IfOk result P

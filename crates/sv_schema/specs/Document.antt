@@ -2,7 +2,8 @@
 use Rattle.std.specs.Prelude.{ℕ, List, [], Option, Some, None, Ok}
 use Rattle.toml.specs.Data.{Members}
 use Rattle.toml.specs.Parse.{parse_document}
-use Rattle.sv_schema.specs.Fault.{Reads, refuse, ◌>>=◌}
+use Rattle.sv_text.specs.Steps.{◌>>=◌}
+use Rattle.sv_schema.specs.Fault.{Reads, refuse}
 use Rattle.sv_schema.specs.declared.fault.FaultCode.TheVariants.{NotToml}
 
 abbrev pub parsed : Option Members → Reads Members

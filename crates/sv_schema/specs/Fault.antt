@@ -1,5 +1,5 @@
--- The first fault of a configuration file, and steps of which the first fault is the answer.
-use Rattle.std.specs.Prelude.{ℕ, Bool, if◌then◌else◌, List, Option, Some, None, Result, Ok, Err}
+-- The first fault of a configuration file.
+use Rattle.std.specs.Prelude.{ℕ, Bool, if◌then◌else◌, List, ◌++◌, codes, Option, Some, None, Result, Ok, Err}
 use Rattle.sv_schema.specs.declared.fault.DescriptorFault.{DescriptorFault}
 use Rattle.sv_schema.specs.declared.fault.FaultCode.{FaultCode}
 use Rattle.sv_schema.specs.declared.fault.FaultCode.TheVariants.{NotToml, UnknownKey, MissingKey, WrongType, BadPattern, DuplicatePattern, UnknownServlet, UnknownFilter, BothMethodLists, ReservedRole, BadTimeout, BadValue, DuplicateName, TooMany}
@@ -14,16 +14,6 @@ fault NoMemory = None
 -- a value, or the first fault on the way to it
 abbrev pub Reads : Type 0 → Type 0
 Reads A = Result A DescriptorFault
-
--- one step, and then the next with what the first gave
-infixl 10 ◌>>=◌
-abbrev pub ◌>>=◌ : {A B : Type 0} → Reads A → (A → Reads B) → Reads B
-Ok a >>= next = next a
-Err f >>= next = Err f
-
-infixl 10 ◌>>◌
-abbrev pub ◌>>◌ : {A B : Type 0} → Reads A → Reads B → Reads B
-first >> next = first >>= (λ _. next)
 
 abbrev pub refuse : {A : Type 0} → FaultCode → List ℕ → Reads A
 refuse code key = Err (record { code = code; key = key })
@@ -47,3 +37,29 @@ number BadTimeout = 11
 number BadValue = 12
 number DuplicateName = 13
 number TooMany = 14
+
+-- the name that is printed for a code
+abbrev pub code_name : FaultCode → List ℕ
+code_name NotToml = codes "NotToml"
+code_name UnknownKey = codes "UnknownKey"
+code_name MissingKey = codes "MissingKey"
+code_name WrongType = codes "WrongType"
+code_name BadPattern = codes "BadPattern"
+code_name DuplicatePattern = codes "DuplicatePattern"
+code_name UnknownServlet = codes "UnknownServlet"
+code_name UnknownFilter = codes "UnknownFilter"
+code_name BothMethodLists = codes "BothMethodLists"
+code_name ReservedRole = codes "ReservedRole"
+code_name BadTimeout = codes "BadTimeout"
+code_name BadValue = codes "BadValue"
+code_name DuplicateName = codes "DuplicateName"
+code_name TooMany = codes "TooMany"
+
+-- the code's name, a blank and the key
+abbrev pub descriptor_fault_text : DescriptorFault → List ℕ
+descriptor_fault_text f = code_name f.code ++ codes " " ++ f.key
+
+-- the text that is printed for a refusal
+abbrev pub read_fault_text : ReadFault → List ℕ
+read_fault_text (Fault f) = descriptor_fault_text f
+read_fault_text NoMemory = codes "no memory"

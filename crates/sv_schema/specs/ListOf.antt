@@ -1,13 +1,14 @@
 -- A list at a key: the types of all its items, its length, and then its items from the first on.
 use Rattle.std.specs.Prelude.{ℕ, Bool, true, false, not, nat_lt, List, map, [], ◌∷◌, length, if◌then◌else◌, Result, Ok, Err}
 use Rattle.std.specs.List.{list_all}
-use Rattle.toml.specs.Data.{Data, array, Items, no_items, item}
+use Rattle.toml.specs.Data.{Data, array, Items, no_items, item, Members}
 use Rattle.std.specs.Borrow.{Bor}
 use Rattle.toml.specs.View.{view}
 use Rattle.toml.specs.declared.value.Value.{Value}
 use Rattle.sv_schema.specs.declared.fault.ReadFault.{ReadFault}
-use Rattle.sv_schema.specs.Fault.{Reads, refuse, ◌>>=◌}
-use Rattle.sv_schema.specs.Value.{Reader}
+use Rattle.sv_text.specs.Steps.{◌>>=◌}
+use Rattle.sv_schema.specs.Fault.{Reads, refuse}
+use Rattle.sv_schema.specs.Value.{Reader, is_text, text_of, is_table, table_of}
 use Rattle.sv_schema.specs.declared.fault.FaultCode.TheVariants.{WrongType, BadValue, TooMany}
 
 abbrev pub items_list : Items → List Data
@@ -36,6 +37,14 @@ each reads (value ∷ rest) = do
 
 abbrev pub list_of : {A : Type 0} → ℕ → ℕ → (Data → Bool) → Reader A → Reader (List A)
 list_of least most fits reads key value = list_items least most fits key value >>= each (reads key)
+
+-- a list of texts
+abbrev pub list_of_texts : {A : Type 0} → ℕ → ℕ → (List ℕ → List ℕ → Reads A) → Reader (List A)
+list_of_texts least most reads = list_of least most is_text (text_of reads)
+
+-- a list of tables
+abbrev pub list_of_tables : {A : Type 0} → ℕ → ℕ → (Members → Reads A) → Reader (List A)
+list_of_tables least most reads = list_of least most is_table (table_of reads)
 
 abbrev pub is_array : Data → Bool
 is_array (array _) = true

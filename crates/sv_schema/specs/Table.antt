@@ -5,7 +5,8 @@ use Rattle.std.specs.List.{find, list_any}
 use Rattle.std.specs.Option.{option_map_or}
 use Rattle.std.specs.Str.{bytes_eq}
 use Rattle.toml.specs.Data.{Data, Members, no_members, member, get_member}
-use Rattle.sv_schema.specs.Fault.{Reads, refuse, ◌>>=◌}
+use Rattle.sv_text.specs.Steps.{◌>>=◌}
+use Rattle.sv_schema.specs.Fault.{Reads, refuse}
 use Rattle.sv_schema.specs.Value.{Reader}
 use Rattle.sv_schema.specs.declared.fault.FaultCode.TheVariants.{UnknownKey, MissingKey}
 

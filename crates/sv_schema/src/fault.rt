@@ -10,7 +10,7 @@ use std::error::Error;
 use std::fmt;
 use sv_text::{NoMemory as OutOfMemory, Text};
 
-/// Why a configuration file was not read.
+/// Why a configuration file was not read. It is printed as its fault, or `no memory`.
 #[derive(Debug, Drop)]
 pub enum ReadFault {
     /// The file is not one of its format: the first fault in the format's order.
@@ -19,7 +19,7 @@ pub enum ReadFault {
     NoMemory,
 }
 
-/// The first fault of a configuration file.
+/// The first fault of a configuration file. It is printed as the code's name, a blank and the key.
 #[derive(Debug, Drop)]
 pub struct DescriptorFault {
     /// What is wrong.
@@ -28,7 +28,7 @@ pub struct DescriptorFault {
     pub key: Text,
 }
 
-/// What can be wrong with a configuration file.
+/// What can be wrong with a configuration file. It is printed as its name.
 #[derive(Clone, Copy, Debug, PartialEq, Eq)]
 pub enum FaultCode {
     /// The text is no TOML.
@@ -73,22 +73,56 @@ impl FaultCode {
 }
 
 impl fmt::Display for FaultCode {
+    ghost use Rattle.std.specs.Prelude.{Some};
+    ghost use Rattle.sv_schema.specs.Fault.{code_name};
+
+    ghost output = { λ code. Some (code_name code) };
+
     fn fmt<W: fmt::Write>(&self, f: &mut fmt::Formatter<W>) -> fmt::Result {
-        write!(f, "{self:?}")
+        f.write_str(match self {
+            FaultCode::NotToml => "NotToml",
+            FaultCode::UnknownKey => "UnknownKey",
+            FaultCode::MissingKey => "MissingKey",
+            FaultCode::WrongType => "WrongType",
+            FaultCode::BadPattern => "BadPattern",
+            FaultCode::DuplicatePattern => "DuplicatePattern",
+            FaultCode::UnknownServlet => "UnknownServlet",
+            FaultCode::UnknownFilter => "UnknownFilter",
+            FaultCode::BothMethodLists => "BothMethodLists",
+            FaultCode::ReservedRole => "ReservedRole",
+            FaultCode::BadTimeout => "BadTimeout",
+            FaultCode::BadValue => "BadValue",
+            FaultCode::DuplicateName => "DuplicateName",
+            FaultCode::TooMany => "TooMany",
+        })
     }
 }
 
+impl Error for FaultCode {}
+
 impl fmt::Display for DescriptorFault {
+    ghost use Rattle.std.specs.Prelude.{Some};
+    ghost use Rattle.sv_schema.specs.Fault.{descriptor_fault_text};
+
+    ghost output = { λ fault. Some (descriptor_fault_text fault) };
+
     fn fmt<W: fmt::Write>(&self, f: &mut fmt::Formatter<W>) -> fmt::Result {
         write!(f, "{} {}", self.code, self.key)
     }
 }
 
+impl Error for DescriptorFault {}
+
 impl fmt::Display for ReadFault {
+    ghost use Rattle.std.specs.Prelude.{Some};
+    ghost use Rattle.sv_schema.specs.Fault.{read_fault_text};
+
+    ghost output = { λ fault. Some (read_fault_text fault) };
+
     fn fmt<W: fmt::Write>(&self, f: &mut fmt::Formatter<W>) -> fmt::Result {
         match self {
             ReadFault::Fault(fault) => write!(f, "{fault}"),
-            ReadFault::NoMemory => write!(f, "no memory"),
+            ReadFault::NoMemory => f.write_str("no memory"),
         }
     }
 }

@@ -4,6 +4,7 @@
 
 mod document;
 mod fault;
+mod laws;
 mod limits;
 mod list;
 mod names;
@@ -14,6 +15,7 @@ mod whole;
 
 pub use document::read_document;
 pub use fault::{DescriptorFault, FaultCode, ReadFault, refuse};
+pub use laws::limits_of_all_formats;
 pub use limits::{MAX_LIST_ITEMS, MAX_NAME_BYTES, NO_LIMIT};
 pub use list::{ListOf, list_items};
 pub use names::{Named, Names, distinct_names, repeats};

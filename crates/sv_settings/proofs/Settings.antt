@@ -5,10 +5,10 @@ use Rattle.std.specs.List.{All}
 use Rattle.toml.specs.Data.{Members}
 use Rattle.sv_realm.specs.declared.user.User.{User}
 use Rattle.sv_schema.specs.Fault.{refuse, check}
-use Rattle.sv_schema.specs.ListOf.{list_of}
+use Rattle.sv_schema.specs.ListOf.{list_of_texts, list_of_tables}
 use Rattle.sv_schema.specs.Names.{Differ, repeats}
 use Rattle.sv_schema.specs.Table.{only_keys, required, optional}
-use Rattle.sv_schema.specs.Value.{any_text, hex_text, name, number_between, is_text, is_table, table_of, text_of, whole_of}
+use Rattle.sv_schema.specs.Value.{any_text, hex_text, name, number_between, is_table, table_of, text_of, whole_of}
 use Rattle.sv_schema.specs.declared.fault.FaultCode.TheVariants.{BadValue, DuplicateName}
 use Rattle.sv_schema.specs.declared.limits.TheConstants.{MAX_LIST_ITEMS, NO_LIMIT}
 use Rattle.sv_schema.proofs.Differing.{Differ-repeats}
@@ -38,7 +38,7 @@ user-Ok members u e =
     bind-Ok (required (text_of name) (codes "name") members) _ _ e1 (λ _ _ e2.
     bind-Ok (required (text_of (hex_text 0 MAX_SALT_DIGITS)) (codes "salt") members) _ _ e2 (λ _ _ e3.
     bind-Ok (required (text_of (hex_text DIGEST_DIGITS DIGEST_DIGITS)) (codes "digest") members) _ _ e3 (λ digest read e4.
-    bind-Ok (required (list_of 0 MAX_LIST_ITEMS is_text (text_of name)) (codes "roles") members) _ _ e4 (λ _ _ e5.
+    bind-Ok (required (list_of_texts 0 MAX_LIST_ITEMS name) (codes "roles") members) _ _ e4 (λ _ _ e5.
     let same : digest ≡ u.digest = cc in
     let n = bytes-Ok DIGEST_DIGITS (codes "digest") members digest read in
     subst (λ b. length b ≡ DIGEST_BYTES) same (omega arith))))))
@@ -46,10 +46,10 @@ user-Ok members u e =
 pub users-Ok : (members : Members) (found : List User) → users members ≡ Ok found → AreWellFormedUsers found
 users-Ok members found e =
     bind-Ok (only_keys (codes "user" ∷ []) [] members) _ _ e (λ _ _ e1.
-    bind-Ok (required (list_of 0 MAX_LIST_ITEMS is_table (table_of user)) (codes "user") members) _ _ e1 (λ listed read e2.
+    bind-Ok (required (list_of_tables 0 MAX_LIST_ITEMS user) (codes "user") members) _ _ e1 (λ listed read e2.
     bind-Ok (check (not (repeats (user_names listed))) DuplicateName (codes "name")) _ _ e2 (λ u unique e3.
     let same : listed ≡ found = cc in
-    let all = required-Ok (IsListOf (λ user. length user.digest ≡ DIGEST_BYTES) MAX_LIST_ITEMS) (list_of 0 MAX_LIST_ITEMS is_table (table_of user))
+    let all = required-Ok (IsListOf (λ user. length user.digest ≡ DIGEST_BYTES) MAX_LIST_ITEMS) (list_of_tables 0 MAX_LIST_ITEMS user)
     (list_of-yields _ 0 MAX_LIST_ITEMS is_table (table_of user) (table_of-yields _ user user-Ok)) (codes "user") members listed read in
     subst AreWellFormedUsers same (record {
       few = all.short;
@@ -80,12 +80,12 @@ server-Ok members s e =
     bind-Ok (only_keys (codes "port" ∷ codes "seed" ∷ codes "context" ∷ []) [] members) _ _ e (λ _ _ e1.
     bind-Ok (required (whole_of (number_between 0 MAX_PORT)) (codes "port") members) _ _ e1 (λ port _ e2.
     bind-Ok (required (text_of (hex_text SEED_DIGITS SEED_DIGITS)) (codes "seed") members) _ _ e2 (λ seed seed_read e3.
-    bind-Ok (required (list_of 0 NO_LIMIT is_table (table_of context)) (codes "context") members) _ _ e3 (λ contexts contexts_read e4.
+    bind-Ok (required (list_of_tables 0 NO_LIMIT context) (codes "context") members) _ _ e3 (λ contexts contexts_read e4.
     bind-Ok (check (not (repeats (context_paths contexts))) DuplicateName (codes "path")) _ _ e4 (λ u unique e5.
     let same_seed : seed ≡ s.seed = cc in
     let same_contexts : contexts ≡ s.contexts = cc in
     let n = bytes-Ok SEED_DIGITS (codes "seed") members seed seed_read in
-    let all = required-Ok (IsListOf (λ context. is_context_path context.path ≡ true) NO_LIMIT) (list_of 0 NO_LIMIT is_table (table_of context))
+    let all = required-Ok (IsListOf (λ context. is_context_path context.path ≡ true) NO_LIMIT) (list_of_tables 0 NO_LIMIT context)
     (list_of-yields _ 0 NO_LIMIT is_table (table_of context) (table_of-yields _ context context-Ok)) (codes "context") members contexts contexts_read in
     record {
       seed_is_whole = subst (λ b. length b ≡ SEED_BYTES) same_seed (omega arith);

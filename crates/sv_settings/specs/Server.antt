@@ -3,10 +3,11 @@ use Rattle.std.specs.Prelude.{◌≡◌, ℕ, true, not, List, [], ◌∷◌, le
 use Rattle.std.specs.List.{All}
 use Rattle.toml.specs.Data.{Members}
 use Rattle.sv_schema.specs.Document.{document}
-use Rattle.sv_schema.specs.Fault.{Reads, check, ◌>>=◌, ◌>>◌}
-use Rattle.sv_schema.specs.ListOf.{list_of}
+use Rattle.sv_text.specs.Steps.{◌>>=◌, ◌>>◌}
+use Rattle.sv_schema.specs.Fault.{Reads, check}
+use Rattle.sv_schema.specs.ListOf.{list_of_tables}
 use Rattle.sv_schema.specs.Table.{only_keys, required, optional}
-use Rattle.sv_schema.specs.Value.{any_text, hex_text, number_between, is_table, table_of, text_of, whole_of}
+use Rattle.sv_schema.specs.Value.{any_text, hex_text, number_between, text_of, whole_of}
 use Rattle.sv_schema.specs.declared.fault.FaultCode.TheVariants.{DuplicateName}
 use Rattle.sv_schema.specs.declared.limits.TheConstants.{NO_LIMIT}
 use Rattle.sv_schema.specs.Names.{repeats, Differ}
@@ -32,7 +33,7 @@ server table = do
   only_keys (codes "port" ∷ codes "seed" ∷ codes "context" ∷ []) [] table
   its_port ← required (whole_of (number_between 0 MAX_PORT)) (codes "port") table
   its_seed ← required (text_of (hex_text SEED_DIGITS SEED_DIGITS)) (codes "seed") table
-  its_contexts ← required (list_of 0 NO_LIMIT is_table (table_of context)) (codes "context") table
+  its_contexts ← required (list_of_tables 0 NO_LIMIT context) (codes "context") table
   check (not (repeats (context_paths its_contexts))) DuplicateName (codes "path")
   Ok (record { port = its_port; seed = its_seed; contexts = its_contexts })
 

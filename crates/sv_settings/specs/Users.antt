@@ -5,10 +5,11 @@ use Rattle.std.specs.List.{All}
 use Rattle.toml.specs.Data.{Members}
 use Rattle.sv_realm.specs.declared.user.User.{User}
 use Rattle.sv_schema.specs.Document.{document}
-use Rattle.sv_schema.specs.Fault.{Reads, check, ◌>>=◌, ◌>>◌}
-use Rattle.sv_schema.specs.ListOf.{list_of}
+use Rattle.sv_text.specs.Steps.{◌>>=◌, ◌>>◌}
+use Rattle.sv_schema.specs.Fault.{Reads, check}
+use Rattle.sv_schema.specs.ListOf.{list_of_texts, list_of_tables}
 use Rattle.sv_schema.specs.Table.{only_keys, required}
-use Rattle.sv_schema.specs.Value.{name, hex_text, is_text, is_table, table_of, text_of}
+use Rattle.sv_schema.specs.Value.{name, hex_text, text_of}
 use Rattle.sv_schema.specs.declared.fault.FaultCode.TheVariants.{DuplicateName}
 use Rattle.sv_schema.specs.declared.fault.ReadFault.{ReadFault}
 use Rattle.sv_schema.specs.declared.limits.TheConstants.{MAX_LIST_ITEMS}
@@ -21,7 +22,7 @@ user table = do
   its_name ← required (text_of name) (codes "name") table
   its_salt ← required (text_of (hex_text 0 MAX_SALT_DIGITS)) (codes "salt") table
   its_digest ← required (text_of (hex_text DIGEST_DIGITS DIGEST_DIGITS)) (codes "digest") table
-  its_roles ← required (list_of 0 MAX_LIST_ITEMS is_text (text_of name)) (codes "roles") table
+  its_roles ← required (list_of_texts 0 MAX_LIST_ITEMS name) (codes "roles") table
   Ok (record { name = its_name; salt = its_salt; digest = its_digest; roles = its_roles })
 
 abbrev pub user_names : List User → List (List ℕ)
@@ -30,7 +31,7 @@ user_names = map (λ user. user.name)
 abbrev pub users : Members → Reads (List User)
 users table = do
   only_keys (codes "user" ∷ []) [] table
-  its_users ← required (list_of 0 MAX_LIST_ITEMS is_table (table_of user)) (codes "user") table
+  its_users ← required (list_of_tables 0 MAX_LIST_ITEMS user) (codes "user") table
   check (not (repeats (user_names its_users))) DuplicateName (codes "name")
   Ok its_users
 

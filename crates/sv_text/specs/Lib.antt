@@ -1,2 +1,4 @@
 pub mod Faults
+pub mod Front
 pub mod Gives
+pub mod Steps

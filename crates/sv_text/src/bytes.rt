@@ -1,7 +1,10 @@
 //! A byte string that contracts see as the list of its bytes.
 
 ghost use Rattle.std.specs.Prelude.{◌≡◌, ℕ, List};
+ghost use Rattle.sv_text.specs.Gives.{GivesAnswer};
 
+use crate::no_memory::NoMemory;
+use std::alloc::Global;
 use std::marker::Model;
 
 /// A byte string. Contracts see the list of its bytes, so that a struct with a `Bytes` field is plain data to them.
@@ -22,6 +25,15 @@ impl Bytes {
         ensures { result ≡ inner.items }
     {
         Bytes { inner }
+    }
+
+    /// Copies bytes.
+    pub fn copy_of(alloc: Global, bytes: &[u8]) -> Result<Bytes, NoMemory>
+        ensures { GivesAnswer result bytes.now }
+    {
+        let mut inner = Vec::with_capacity(alloc, bytes.len())?;
+        inner.extend_from_slice(bytes)?;
+        Ok(Bytes { inner })
     }
 
     /// The bytes.

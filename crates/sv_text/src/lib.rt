@@ -1,12 +1,16 @@
-//! Small types that contracts see as lists, and the words for "unless memory ran out".
+//! Small types that contracts see as lists, the cut of a text from its stream, and the words for "unless memory ran out".
 #![tactic(auto)]
 
 mod bytes;
+mod copies;
+mod front;
 mod listed;
 mod no_memory;
 mod text;
 
 pub use bytes::Bytes;
+pub use copies::copied_texts;
+pub use front::{Cut, Delimited, cut_front};
 pub use listed::Listed;
 pub use no_memory::NoMemory;
 pub use text::Text;

@@ -12,7 +12,8 @@ use Rattle.sv_uri.specs.declared.fault.CanonFault.{CanonFault}
 use Rattle.sv_uri.specs.declared.fault.CanonFault.TheVariants.{Path, NoMemory}
 use Rattle.sv_uri.specs.declared.fault.PathFault.{PathFault}
 use Rattle.sv_uri.specs.declared.walk.Walk.{Walk}
-use Rattle.sv_uri.specs.Fault.{first, path_fault, first_or}
+use Rattle.sv_text.specs.Faults.{first_or}
+use Rattle.sv_uri.specs.Fault.{path_fault}
 use Rattle.sv_uri.specs.Target.{before, behind, between_slashes, visible_query}
 use Rattle.sv_uri.specs.Segment.{name_of, segment_faults}
 use Rattle.sv_uri.specs.Walked.{HasSeen, shown}
@@ -53,17 +54,18 @@ HasRead-more walk next path text name rest segment is_first is_rest none is_name
   walked = rw (map_push name_of read.seen segment, ← is_name) (enters (map name_of read.seen) read.walked);
 }
 
-first-append : (xs ys : List PathFault) (fault : PathFault) → first xs ≡ Some fault → first (xs ++ ys) ≡ Some fault
-first-append [] ys fault is_first = cc
-first-append (x ∷ xs) ys fault is_first = is_first
+-- a fault that comes first comes first with more behind it, whatever the answer without faults is
+first_or-more : {A B : Type 0} (faults more : List PathFault) (a : A) (b : B) (fault : PathFault) → first_or faults a ≡ Err fault → first_or (faults ++ more) b ≡ Err fault
+first_or-more [] more a b fault given = cc
+first_or-more (first ∷ faults) more a b fault given = cc
 
 -- the first fault of the next segment is the first of the path
-pub first_of_next : (walk : Walk) (path text segment : List ℕ) (e : CanonFault) → segment ≡ before (byte "/") text → HasRead walk path (Some text) → MatchOption (path_fault e) (Unit {0}) (λ fault. first (segment_faults segment) ≡ Some fault) → MatchOption (path_fault e) (Unit {0}) (λ fault. first (flat_map segment_faults (between_slashes path)) ≡ Some fault)
+pub first_of_next : (walk : Walk) (path text segment : List ℕ) (e : CanonFault) → segment ≡ before (byte "/") text → HasRead walk path (Some text) → MatchOption (path_fault e) (Unit {0}) (λ fault. first_or (segment_faults segment) (name_of segment) ≡ Err fault) → MatchOption (path_fault e) (Unit {0}) (λ fault. first_or (flat_map segment_faults (between_slashes path)) (map name_of (between_slashes path)) ≡ Err fault)
 first_of_next walk path text segment (Path fault) is_first read said =
     let all : flat_map segment_faults (between_slashes path) ≡ segment_faults segment ++ flat_map segment_faults (segments_behind (behind (byte "/") text)) =
     ap (flat_map segment_faults) (next_whole walk path text read) ∙ flat_map-append segment_faults read.seen _ ∙ rw (read.faultless, is_first) refl
     in
-    rw all (first-append (segment_faults segment) _ fault said)
+    rw all (first_or-more (segment_faults segment) _ (name_of segment) (map name_of (between_slashes path)) fault said)
 first_of_next walk path text segment NoMemory is_first read said = tt
 
 pub HasRead-all : (walk : Walk) (path : List ℕ) (rest : Option (List ℕ)) → rest ≡ None → HasRead walk path rest → (flat_map segment_faults (between_slashes path) ≡ []) × HasSeen walk (map name_of (between_slashes path))

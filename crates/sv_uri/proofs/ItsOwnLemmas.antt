@@ -8,11 +8,11 @@ use Rattle.std.proofs.lemmas.List.{length-map}
 use Rattle.std.proofs.lemmas.List.Elements.{All-nil, All-cons, All-head, All-tail, All-append, All-weaker, All-filter, filter-append, filter_passes}
 use Rattle.std.proofs.lemmas.List.Folds.{list_any_none}
 use Rattle.std.proofs.lemmas.List.Splits.{length-slice_split}
+use Rattle.sv_text.specs.Faults.{first_or}
 use Rattle.sv_uri.specs.declared.path.Canon.{Canon}
-use Rattle.sv_uri.specs.Fault.{first_or}
 use Rattle.sv_uri.specs.Target.{before, behind, between_slashes, visible_query}
 use Rattle.sv_uri.specs.Segment.{is_parent, name_of, segment_faults}
-use Rattle.sv_uri.specs.DotSegments.{is_idle, removed_in_front, kept, remaining, climbs, is_open, closing}
+use Rattle.sv_uri.specs.DotSegments.{is_idle, removed_in_front, kept, remaining, climbs, ends_open, closing}
 use Rattle.sv_uri.specs.Canonical.{canonical, target_faults, path_text, raw_segments, begins_with_slash}
 use Rattle.sv_uri.specs.Laws.{CanonicalIsItsOwn, is_literal}
 use Rattle.sv_uri.proofs.AnswerLemmas.{answered}
@@ -21,14 +21,14 @@ use Rattle.sv_uri.proofs.SegmentLemmas.{IsPlain, IsPlain-nil, All-IsPlain, appen
 use Rattle.sv_uri.proofs.DotSegmentLemmas.{IsName, All-remaining, All-IsName-remaining, unremoved, last_or-push}
 
 -- the segments of the canonical path: the names that are left, and an empty one where the path is left open
-abbrev parts_of : List (List ℕ) → List (List ℕ)
+abbrev pub parts_of : List (List ℕ) → List (List ℕ)
 parts_of names = remaining (kept names) ++ closing names
 
 -- a name that is kept is neither empty nor `.`
-abbrev IsKept : List ℕ → Type 0
+abbrev pub IsKept : List ℕ → Type 0
 IsKept name = not (is_idle name) ≡ true
 
-all_kept : (names : List (List ℕ)) → All IsKept (remaining (kept names))
+pub all_kept : (names : List (List ℕ)) → All IsKept (remaining (kept names))
 all_kept names = All-remaining IsKept (kept names) (filter_passes (λ name. not (is_idle name)) names)
 
 kept_again : (names : List (List ℕ)) → All IsKept names → kept names ≡ names
@@ -36,14 +36,14 @@ kept_again [] all = refl
 kept_again (name ∷ rest) all = cond-true _ _ _ (All-head IsKept name rest all) ∙ ap (λ xs. name ∷ xs) (kept_again rest (All-tail IsKept name rest all))
 
 -- a kept name other than `..` closes the path
-closed : (o : Option (List ℕ)) (names : List (List ℕ)) → is_open o ≡ false → All IsKept names → All IsName names → is_open (last_or o names) ≡ false
+closed : (o : Option (List ℕ)) (names : List (List ℕ)) → ends_open o ≡ false → All IsKept names → All IsName names → ends_open (last_or o names) ≡ false
 closed o [] start all_k all_n = start
 closed o (name ∷ rest) start all_k all_n =
     let neither = not-true _ (All-head IsKept name rest all_k) in
     closed (Some name) rest (or_from _ _ neither (All-head IsName name rest all_n)) (All-tail IsKept name rest all_k) (All-tail IsName name rest all_n)
 
-closing_is : (names : List (List ℕ)) → (closing names ≡ [] ∷ []) ⊎ (closing names ≡ [])
-closing_is names = ⊎_elim (λ yes. inl (cond-true _ _ _ yes)) (λ no. inr (cond-false _ _ _ no)) (cases_Bool (is_open (last_or None names)))
+pub closing_is : (names : List (List ℕ)) → (closing names ≡ [] ∷ []) ⊎ (closing names ≡ [])
+closing_is names = ⊎_elim (λ yes. inl (cond-true _ _ _ yes)) (λ no. inr (cond-false _ _ _ no)) (cases_Bool (ends_open (last_or None names)))
 
 -- the parts of a canonical path, taken as names, give the same parts
 parts_again : (names : List (List ℕ)) → (kept (parts_of names) ≡ remaining (kept names)) × (closing (parts_of names) ≡ closing names)
@@ -56,7 +56,7 @@ parts_again names =
     (closing_is names)
 
 -- where the last segment is a name, some name is left
-left_some : (name : List ℕ) (rest : List (List ℕ)) → is_open (last_or (Some name) rest) ≡ false → 0 < length (remaining (kept (name ∷ rest)))
+left_some : (name : List ℕ) (rest : List (List ℕ)) → ends_open (last_or (Some name) rest) ≡ false → 0 < length (remaining (kept (name ∷ rest)))
 left_some name [] ends =
     let tests : (is_idle name ≡ false) × (is_parent name ≡ false) = or_parts _ _ ends in
     let itself : kept (name ∷ []) ≡ name ∷ [] = cond-true _ _ _ (not_from_false _ tests.0) in
@@ -72,16 +72,16 @@ begins_some : (parts : List (List ℕ)) → 0 < length parts → begins_with_sla
 begins_some [] some = absurd (omega arith)
 begins_some (part ∷ parts) some = refl
 
-begins : (names : List (List ℕ)) → 0 < length names → begins_with_slash (slashed (parts_of names)) ≡ true
+pub begins : (names : List (List ℕ)) → 0 < length names → begins_with_slash (slashed (parts_of names)) ≡ true
 begins [] some = absurd (omega arith)
 begins (name ∷ rest) some =
     let left = remaining (kept (name ∷ rest)) in
     ⊎_elim
-    (λ (yes : is_open (last_or (Some name) rest) ≡ true). begins_some (left ++ closing (name ∷ rest)) (rw (cond-true _ _ _ yes, length-append left ([] ∷ [])) (omega arith)))
+    (λ (yes : ends_open (last_or (Some name) rest) ≡ true). begins_some (left ++ closing (name ∷ rest)) (rw (cond-true _ _ _ yes, length-append left ([] ∷ [])) (omega arith)))
     (λ no.
     let some_left = left_some name rest no in
     begins_some (left ++ closing (name ∷ rest)) (rw (cond-false _ _ _ no, append-nil left) some_left))
-    (cases_Bool (is_open (last_or (Some name) rest)))
+    (cases_Bool (ends_open (last_or (Some name) rest)))
 
 -- literal names that are plain are segments without a fault, which name themselves
 faultless_names : (names : List (List ℕ)) → All IsPlain names → All (λ name. holds (byte "%") name ≡ false) names → All (λ name. holds (byte ";") name ≡ false) names → (flat_map segment_faults names ≡ []) × (map name_of names ≡ names)
@@ -93,13 +93,13 @@ faultless_names (name ∷ rest) plain percentless semicolonless =
     let behind_it = faultless_names rest (All-tail IsPlain name rest plain) (All-tail (λ x. holds 37 x ≡ false) name rest percentless) (All-tail (λ x. holds 59 x ≡ false) name rest semicolonless) in
     (rw (faultless_literal name own no_percent no_semicolon) behind_it.0, rw (name_of_literal name no_percent no_semicolon, behind_it.1) refl)
 
-plain_parts : (names : List (List ℕ)) → All IsPlain names → All IsPlain (parts_of names)
+pub plain_parts : (names : List (List ℕ)) → All IsPlain names → All IsPlain (parts_of names)
 plain_parts names plain =
     All-append IsPlain (remaining (kept names)) (closing names)
     (All-remaining IsPlain (kept names) (All-filter _ IsPlain names plain))
-    (cond_both (is_open (last_or None names)) ([] ∷ []) [] (All IsPlain) (λ _. All-cons IsPlain [] [] IsPlain-nil (All-nil IsPlain)) (λ _. All-nil IsPlain))
+    (cond_both (ends_open (last_or None names)) ([] ∷ []) [] (All IsPlain) (λ _. All-cons IsPlain [] [] IsPlain-nil (All-nil IsPlain)) (λ _. All-nil IsPlain))
 
-slashless : (names : List (List ℕ)) → All IsPlain names → All (λ name. holds (byte "/") name ≡ false) names
+pub slashless : (names : List (List ℕ)) → All IsPlain names → All (λ name. holds (byte "/") name ≡ false) names
 slashless names plain = All-weaker IsPlain (λ name. holds 47 name ≡ false) (λ name own. own.slash) names plain
 
 -- a byte that is not literal does not stand in a literal path
@@ -135,14 +135,27 @@ has_names (b ∷ relative) slash =
     let count = length-slice_split (λ x. eqb x 47) (before 63 relative) in
     rw (it, raw_segments-slash relative, length-map (between_slashes (before 63 relative)) name_of, count) (omega arith)
 
-pub canonical_is_its_own : CanonicalIsItsOwn
-canonical_is_its_own target canon given literal =
+-- a canonical path is made of the names of the target's segments, which are plain
+pub record IsMadeOf (names : List (List ℕ)) (path : List ℕ) : Type 0 where
+  pub some : 0 < length names
+  pub plain : All IsPlain names
+  pub made : slashed (parts_of names) ≡ path
+
+pub made_of_names : (target : List ℕ) (canon : Canon) → canonical target ≡ Ok canon → IsMadeOf (map name_of (raw_segments target)) canon.path
+made_of_names target canon given =
     let (none, same) = answered (target_faults target) _ canon given in
     let outer = append_none _ _ none in
     let front = append_none _ _ outer.0 in
     let inner = append_none _ _ outer.1 in
     let slash = not-false _ (when_none _ _ front.1) in
-    let names = map name_of (raw_segments target) in
-    let path_is : slashed (parts_of names) ≡ canon.path = ap (λ (c : Canon). c.path) same in
-    subst (λ (path : List ℕ). canonical path ≡ Ok (record { path = path; query = None })) path_is
-    (path_again names (has_names target slash) (All-IsPlain (raw_segments target) inner.0) (subst (AllPass is_literal) (sym path_is) literal))
+    record {
+      some = has_names target slash;
+      plain = All-IsPlain (raw_segments target) inner.0;
+      made = ap (λ (c : Canon). c.path) same;
+    }
+
+pub canonical_is_its_own : CanonicalIsItsOwn
+canonical_is_its_own target canon given literal =
+    let from = made_of_names target canon given in
+    subst (λ (path : List ℕ). canonical path ≡ Ok (record { path = path; query = None })) from.made
+    (path_again (map name_of (raw_segments target)) from.some from.plain (subst (AllPass is_literal) (sym from.made) literal))

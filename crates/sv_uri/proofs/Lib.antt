@@ -3,4 +3,5 @@ mod DotSegmentLemmas
 mod ItsOwnLemmas
 mod QueryLemmas
 mod SegmentLemmas
+mod ShapeLemmas
 mod TargetLemmas

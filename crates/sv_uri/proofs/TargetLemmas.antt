@@ -1,4 +1,4 @@
--- Cutting bytes at a separator.
+-- What stands before a separator, and what stands behind it.
 use Rattle.std.proofs.Common.{ℕ, suc, ◌≡◌, ◌+◌, ◌<◌, Bool, true, false, ◌||◌, cond, ◌==◌, eqb, ltb, List, [], ◌∷◌, ◌++◌, length, take, drop, append-nil, Option, Some, None, sym, refl, ap, ◌∙◌, ⊎_elim, arith}
 use Rattle.std.specs.List.{All, list_any, flat_map, position, position_or_len, after_first}
 use Rattle.std.specs.Str.{byte}
@@ -94,9 +94,9 @@ between_slashes-slashed (name ∷ next ∷ more) slashless =
     let rest_parts : between_slashes (next ++ slashed more) ≡ next ∷ more = cc in
     rw (slice_split_at (λ b. eqb b 47) name 47 (next ++ slashed more) none refl, rest_parts) refl
 
--- the cut at the first such byte, by its place
-pub cut_at_place : (c place : ℕ) (text : List ℕ) → Some place ≡ position (λ b. eqb b c) text → (place < length text) × (take place text ≡ before c text) × (Some (drop (place + 1) text) ≡ behind c text)
-cut_at_place c place text found =
+-- the parts before and behind the first such byte, by its place
+pub parts_at_place : (c place : ℕ) (text : List ℕ) → Some place ≡ position (λ b. eqb b c) text → (place < length text) × (take place text ≡ before c text) × (Some (drop (place + 1) text) ≡ behind c text)
+parts_at_place c place text found =
     let p = λ (b : ℕ). eqb b c in
     ⊎_elim
     (λ inside.
@@ -107,8 +107,8 @@ cut_at_place c place text found =
     (λ outside. cc (found, cond-false _ (Some (position_or_len p text)) None outside))
     (cases_Bool (ltb (position_or_len p text) (length text)))
 
-pub cut_nowhere : (c : ℕ) (text : List ℕ) → None ≡ position (λ b. eqb b c) text → holds c text ≡ false
-cut_nowhere c text found =
+pub no_place : (c : ℕ) (text : List ℕ) → None ≡ position (λ b. eqb b c) text → holds c text ≡ false
+no_place c text found =
     let p = λ (b : ℕ). eqb b c in
     ⊎_elim
     (λ inside. cc (found, cond-true _ (Some (position_or_len p text)) None inside))

@@ -1,14 +1,13 @@
 -- The canonical path of a request target and the faults for which there is none: Jakarta Servlet 6.0, section 3.5.2.
-use Rattle.std.specs.Prelude.{ℕ, Bool, false, ◌==◌, not, List, [], ◌∷◌, ◌++◌, map, drop, Result}
+use Rattle.std.specs.Prelude.{ℕ, Bool, false, ◌==◌, not, List, [], ◌∷◌, ◌++◌, map, Result}
 use Rattle.std.specs.Option.{option_map}
 use Rattle.std.specs.List.{list_any, flat_map}
 use Rattle.std.specs.Str.{byte}
 use Rattle.sv_uri.specs.declared.fault.PathFault.{PathFault}
 use Rattle.sv_uri.specs.declared.fault.PathFault.TheVariants.{Fragment, NoSlash, Climbs}
 use Rattle.sv_uri.specs.declared.path.Canon.{Canon}
-use Rattle.sv_text.specs.Faults.{when}
-use Rattle.sv_uri.specs.Fault.{first_or}
-use Rattle.sv_uri.specs.Target.{before, behind, between_slashes, visible_query}
+use Rattle.sv_text.specs.Faults.{when, first_or}
+use Rattle.sv_uri.specs.Target.{before, behind, segments_of, visible_query}
 use Rattle.sv_uri.specs.Segment.{name_of, segment_faults}
 use Rattle.sv_uri.specs.DotSegments.{kept, remaining, climbs, closing}
 
@@ -18,7 +17,7 @@ begins_with_slash (b ∷ _) = b == byte "/"
 
 -- the segments of a target as they were written, behind the slash with which it begins
 abbrev pub raw_segments : List ℕ → List (List ℕ)
-raw_segments target = drop 1 (between_slashes (before (byte "?") target))
+raw_segments target = segments_of (before (byte "?") target)
 
 -- the faults of segments: each segment's from left to right, and last that they climb above the first
 abbrev pub path_faults : List (List ℕ) → List PathFault

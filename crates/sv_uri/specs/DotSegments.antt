@@ -27,10 +27,10 @@ remaining (name ∷ rest) =
     if is_parent name || nat_lt 0 (removed_in_front rest) then remaining rest else name ∷ remaining rest
 
 -- the segment, where it is the last, leaves the path open for a name: it is empty, `.` or `..`
-abbrev pub is_open : Option (List ℕ) → Bool
-is_open None = false
-is_open (Some name) = is_idle name || is_parent name
+abbrev pub ends_open : Option (List ℕ) → Bool
+ends_open None = false
+ends_open (Some name) = is_idle name || is_parent name
 
 -- the empty last segment, where the path is left open
 abbrev pub closing : List (List ℕ) → List (List ℕ)
-closing names = if is_open (last_or None names) then [] ∷ [] else []
+closing names = if ends_open (last_or None names) then [] ∷ [] else []

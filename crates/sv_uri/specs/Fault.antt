@@ -1,19 +1,9 @@
 -- The faults of a request target and their order: Jakarta Servlet 6.0, section 3.5.2 (the sequences to refuse).
-use Rattle.std.specs.Prelude.{ℕ, List, [], ◌∷◌, Option, Some, None, Result, Ok, Err, codes}
+use Rattle.std.specs.Prelude.{ℕ, List, Option, Some, None, codes}
 use Rattle.sv_uri.specs.declared.fault.PathFault.{PathFault}
 use Rattle.sv_uri.specs.declared.fault.PathFault.TheVariants.{Fragment, NoSlash, BadEscape, EncodedSlash, Backslash, Control, NotUtf8, DotSegment, EmptyParameter, Climbs}
 use Rattle.sv_uri.specs.declared.fault.CanonFault.{CanonFault}
 use Rattle.sv_uri.specs.declared.fault.CanonFault.TheVariants.{Path, NoMemory}
-
--- the first of the faults, or else the answer
-abbrev pub first_or : {A : Type 0} → List PathFault → A → Result A PathFault
-first_or [] answer = Ok answer
-first_or (fault ∷ _) answer = Err fault
-
--- the first of the faults
-abbrev pub first : List PathFault → Option PathFault
-first [] = None
-first (fault ∷ _) = Some fault
 
 -- the fault of the target, and none for want of memory
 abbrev pub path_fault : CanonFault → Option PathFault

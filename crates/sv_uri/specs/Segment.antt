@@ -1,6 +1,6 @@
 -- One segment of a path as it was written: its name and its faults. RFC 3986, sections 2.1 (escapes) and 3.3 (parameters);
 -- Jakarta Servlet 6.0, section 3.5.2 (parameters are removed, then escapes decoded; sequences to refuse).
-use Rattle.std.specs.Prelude.{ℕ, ◌≡◌, Bool, false, ◌==◌, not, ◌&&◌, ◌||◌, nat_lt, List, [], ◌∷◌, ◌++◌, Result, Ok, Err, Some, MatchOption, is_some, codes, drop}
+use Rattle.std.specs.Prelude.{ℕ, ◌≡◌, Bool, false, ◌==◌, not, ◌&&◌, ◌||◌, nat_lt, List, [], ◌∷◌, ◌++◌, Result, Ok, Err, MatchOption, is_some, codes, drop}
 use Rattle.std.specs.List.{list_any, slice_split}
 use Rattle.std.specs.Char.{is_digit}
 use Rattle.std.specs.Str.{byte, bytes_eq, is_utf8}
@@ -10,8 +10,8 @@ use Rattle.sv_uri.specs.declared.fault.PathFault.TheVariants.{BadEscape, Encoded
 use Rattle.std.specs.Cow.{cow_slice_items}
 use Rattle.std.specs.declared.borrow.CowSlice.{CowSlice}
 use Rattle.sv_uri.specs.declared.fault.CanonFault.{CanonFault}
-use Rattle.sv_text.specs.Faults.{when}
-use Rattle.sv_uri.specs.Fault.{first, path_fault}
+use Rattle.sv_text.specs.Faults.{when, first_or}
+use Rattle.sv_uri.specs.Fault.{path_fault}
 use Rattle.sv_uri.specs.Target.{before, behind}
 
 -- the segment without its parameter
@@ -73,4 +73,4 @@ segment_faults segment = when (has_bad_escape (raw_name segment)) BadEscape ++ n
 -- the result is the name of the segment or its first fault, unless memory ran out
 abbrev pub GivesName : {A : Type 0} → Result (CowSlice ℕ A) CanonFault → List ℕ → Type 0
 GivesName (Ok name) segment = (segment_faults segment ≡ []) × (cow_slice_items name ≡ name_of segment)
-GivesName (Err e) segment = MatchOption (path_fault e) (Unit {0}) (λ fault. first (segment_faults segment) ≡ Some fault)
+GivesName (Err e) segment = MatchOption (path_fault e) (Unit {0}) (λ fault. first_or (segment_faults segment) (name_of segment) ≡ Err fault)

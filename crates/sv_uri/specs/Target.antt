@@ -1,5 +1,5 @@
 -- The parts of a request target: RFC 3986, sections 3.3 (path, segments, parameters) and 3.4 (query).
-use Rattle.std.specs.Prelude.{ℕ, Bool, ◌==◌, ◌&&◌, nat_le, List, [], ◌∷◌, Option, Some, None, if◌then◌else◌}
+use Rattle.std.specs.Prelude.{ℕ, Bool, ◌==◌, ◌&&◌, nat_le, List, [], ◌∷◌, drop, Option, Some, None, if◌then◌else◌}
 use Rattle.std.specs.List.{list_any, before_first, after_first, slice_split, flat_map}
 use Rattle.std.specs.Str.{byte}
 use Rattle.percent_encoding.specs.Percent.{percent_encode_byte}
@@ -16,6 +16,10 @@ behind separator text =
 -- what stands between the slashes, and before the first and behind the last
 abbrev pub between_slashes : List ℕ → List (List ℕ)
 between_slashes text = slice_split (λ b. b == byte "/") text
+
+-- the segments of a path: what stands behind each of its slashes, up to the next
+abbrev pub segments_of : List ℕ → List (List ℕ)
+segments_of path = drop 1 (between_slashes path)
 
 -- the bytes that a query holds as they are
 abbrev pub is_visible : ℕ → Bool

@@ -1,14 +1,15 @@
 -- What a walk over the segments of a path keeps of those that it has seen: RFC 3986, section 5.2.4.
-use Rattle.std.specs.Prelude.{ℕ, ◌≡◌, Bool, List, [], map, Some, None, Result, Ok, Err, MatchOption}
+use Rattle.std.specs.Prelude.{ℕ, ◌≡◌, Bool, List, [], map, None, Result, Ok, Err, MatchOption}
 use Rattle.std.specs.List.{last_or, flat_map}
 use Rattle.std.specs.Cow.{cow_slice_items}
 use Rattle.std.specs.declared.borrow.CowSlice.{CowSlice}
 use Rattle.std.specs.declared.alloc.Global.{Global}
 use Rattle.sv_uri.specs.declared.walk.Walk.{Walk}
 use Rattle.sv_uri.specs.declared.fault.CanonFault.{CanonFault}
-use Rattle.sv_uri.specs.Fault.{first, path_fault}
+use Rattle.sv_text.specs.Faults.{first_or}
+use Rattle.sv_uri.specs.Fault.{path_fault}
 use Rattle.sv_uri.specs.Segment.{name_of, segment_faults}
-use Rattle.sv_uri.specs.DotSegments.{kept, remaining, climbs, is_open}
+use Rattle.sv_uri.specs.DotSegments.{kept, remaining, climbs, ends_open}
 
 -- the bytes of each name
 abbrev pub shown : List (CowSlice ℕ Global) → List (List ℕ)
@@ -18,7 +19,7 @@ shown names = map cow_slice_items names
 pub record IsLeftOf (names : List (List ℕ)) (climbed open_end : Bool) (seen : List (List ℕ)) : Type 0 where
   pub left : names ≡ remaining (kept seen)
   pub climbed_by : climbed ≡ climbs (kept seen)
-  pub opened_by : open_end ≡ is_open (last_or None seen)
+  pub opened_by : open_end ≡ ends_open (last_or None seen)
 
 -- the walk has entered these names
 abbrev pub HasSeen : Walk → List (List ℕ) → Type 0
@@ -28,4 +29,4 @@ HasSeen walk seen = IsLeftOf (shown walk.names.items) walk.climbs walk.is_open s
 abbrev pub GivesWalk : Result Walk CanonFault → List (List ℕ) → Type 0
 GivesWalk (Ok walk) segments = (flat_map segment_faults segments ≡ []) × HasSeen walk (map name_of segments)
 GivesWalk (Err e) segments =
-    MatchOption (path_fault e) (Unit {0}) (λ fault. first (flat_map segment_faults segments) ≡ Some fault)
+    MatchOption (path_fault e) (Unit {0}) (λ fault. first_or (flat_map segment_faults segments) (map name_of segments) ≡ Err fault)

@@ -3,16 +3,17 @@
 ghost use Rattle.std.specs.Prelude.{◌≡◌, false, ◌∷◌, MatchOption};
 ghost use Rattle.std.specs.Str.{byte};
 ghost use Rattle.sv_text.specs.Gives.{Gives};
-ghost use Rattle.sv_uri.specs.Fault.{path_fault, first_or};
+ghost use Rattle.sv_text.specs.Faults.{first_or};
+ghost use Rattle.sv_uri.specs.Fault.{path_fault};
 ghost use Rattle.sv_uri.specs.Target.{between_slashes};
 ghost use Rattle.sv_uri.specs.Walked.{GivesWalk};
 ghost use Rattle.sv_uri.specs.Canonical.{canonical, begins_with_slash, path_faults, path_text};
 
-use crate::cut::cut;
 use crate::fault::{CanonFault, PathFault};
 use crate::path::Canon;
 use crate::query::read_query;
 use crate::segment::read_name;
+use crate::separator::before_and_behind;
 use crate::walk::Walk;
 use std::alloc::Global;
 use sv_text::Text;
@@ -24,7 +25,7 @@ fn walk_of<'a>(alloc: Global, path: &'a [u8]) -> Result<Walk<'a>, CanonFault>
     let mut walk = Walk::new(alloc);
     let mut rest = Some(path);
     while let Some(text) = rest {
-        let (segment, behind) = cut(text, b'/');
+        let (segment, behind) = before_and_behind(text, b'/');
         walk.enter(read_name(alloc, segment)?)?;
         rest = behind;
     }
@@ -69,7 +70,7 @@ pub fn canon(alloc: Global, target: &[u8]) -> Result<Canon, CanonFault>
     let Some(relative) = behind_slash(target) else {
         return Err(CanonFault::Path(PathFault::NoSlash));
     };
-    let (path, query) = cut(relative, b'?');
+    let (path, query) = before_and_behind(relative, b'?');
     let path = canonical_path(alloc, path)?;
     let query = read_query(alloc, query)?;
     Ok(Canon { path, query })

@@ -38,18 +38,18 @@ impl fmt::Display for PathFault {
     ghost output = { λ fault. Some (fault_name fault) };
 
     fn fmt<W: fmt::Write>(&self, f: &mut fmt::Formatter<W>) -> fmt::Result {
-        match self {
-            PathFault::Fragment => write!(f, "Fragment"),
-            PathFault::NoSlash => write!(f, "NoSlash"),
-            PathFault::BadEscape => write!(f, "BadEscape"),
-            PathFault::EncodedSlash => write!(f, "EncodedSlash"),
-            PathFault::Backslash => write!(f, "Backslash"),
-            PathFault::Control => write!(f, "Control"),
-            PathFault::NotUtf8 => write!(f, "NotUtf8"),
-            PathFault::DotSegment => write!(f, "DotSegment"),
-            PathFault::EmptyParameter => write!(f, "EmptyParameter"),
-            PathFault::Climbs => write!(f, "Climbs"),
-        }
+        f.write_str(match self {
+            PathFault::Fragment => "Fragment",
+            PathFault::NoSlash => "NoSlash",
+            PathFault::BadEscape => "BadEscape",
+            PathFault::EncodedSlash => "EncodedSlash",
+            PathFault::Backslash => "Backslash",
+            PathFault::Control => "Control",
+            PathFault::NotUtf8 => "NotUtf8",
+            PathFault::DotSegment => "DotSegment",
+            PathFault::EmptyParameter => "EmptyParameter",
+            PathFault::Climbs => "Climbs",
+        })
     }
 }
 

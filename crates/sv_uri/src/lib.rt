@@ -2,12 +2,12 @@
 #![tactic(auto)]
 
 mod canonical;
-mod cut;
 pub mod fault;
 pub mod laws;
 pub mod path;
 mod query;
 mod segment;
+mod separator;
 mod walk;
 
 pub use canonical::canon;

@@ -3,7 +3,7 @@
 use sv_text::Text;
 
 /// A canonical path with the query that stood behind it. Contracts see plain data: the bytes of both.
-#[derive(Debug, Drop)]
+#[derive(Drop)]
 pub struct Canon {
     /// Begins with `/`; its segments are decoded, and none but the last is empty, none is `.` or `..` (Jakarta Servlet 6.0,
     /// section 3.5.2). It ends in `/` where the target's last segment was empty, `.` or `..`.

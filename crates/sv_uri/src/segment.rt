@@ -3,11 +3,11 @@
 ghost use Rattle.std.specs.Prelude.{◌≡◌};
 ghost use Rattle.std.specs.List.{list_any};
 ghost use Rattle.std.specs.Str.{is_utf8};
-ghost use Rattle.sv_uri.specs.Fault as fault;
+ghost use Rattle.sv_text.specs.Faults.{first_or};
 ghost use Rattle.sv_uri.specs.Segment as spec;
 
-use crate::cut::cut;
 use crate::fault::{CanonFault, PathFault};
+use crate::separator::before_and_behind;
 use percent_encoding::percent_decode;
 use std::alloc::Global;
 use std::borrow::CowSlice;
@@ -50,7 +50,7 @@ fn has_control(name: &[u8]) -> bool
     name.iter().any(|b| *b < 32 || *b == 127)
 }
 
-fn is_text(name: &[u8]) -> bool
+fn is_utf8(name: &[u8]) -> bool
     ensures { result ≡ is_utf8 name.now }
 {
     str::from_utf8(name).is_ok()
@@ -70,24 +70,24 @@ fn is_bare_parameter(segment: &[u8], name: &[u8]) -> bool
     name.is_empty() && segment.contains(&b';')
 }
 
-// The first fault of a decoded name; `segment` is how it was written.
-fn name_fault(segment: &[u8], name: &[u8]) -> Option<PathFault>
-    ensures { result ≡ fault.first (spec.name_faults segment.now name.now) }
+// Answers the first fault of a decoded name; `segment` is how it was written.
+fn check_name(segment: &[u8], name: &[u8]) -> Result<(), PathFault>
+    ensures { result ≡ first_or (spec.name_faults segment.now name.now) tt }
 {
     if name.contains(&b'/') {
-        Some(PathFault::EncodedSlash)
+        Err(PathFault::EncodedSlash)
     } else if name.contains(&b'\\') {
-        Some(PathFault::Backslash)
+        Err(PathFault::Backslash)
     } else if has_control(name) {
-        Some(PathFault::Control)
-    } else if !is_text(name) {
-        Some(PathFault::NotUtf8)
+        Err(PathFault::Control)
+    } else if !is_utf8(name) {
+        Err(PathFault::NotUtf8)
     } else if is_disguised(segment, name) {
-        Some(PathFault::DotSegment)
+        Err(PathFault::DotSegment)
     } else if is_bare_parameter(segment, name) {
-        Some(PathFault::EmptyParameter)
+        Err(PathFault::EmptyParameter)
     } else {
-        None
+        Ok(())
     }
 }
 
@@ -98,13 +98,13 @@ pub(crate) fn read_name<'a>(
 ) -> Result<CowSlice<'a, u8, Global>, CanonFault>
     ensures { spec.GivesName result segment.now }
 {
-    let (raw_name, _) = cut(segment, b';');
+    let (raw_name, _) = before_and_behind(segment, b';');
     if has_bad_escape(raw_name) {
         return Err(CanonFault::Path(PathFault::BadEscape));
     }
     let name = percent_decode(raw_name).into_cow(alloc)?;
-    match name_fault(segment, name.as_slice()) {
-        Some(fault) => Err(CanonFault::Path(fault)),
-        None => Ok(name),
+    match check_name(segment, name.as_slice()) {
+        Ok(()) => Ok(name),
+        Err(fault) => Err(CanonFault::Path(fault)),
     }
 }

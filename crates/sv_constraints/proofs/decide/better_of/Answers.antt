@@ -6,7 +6,7 @@ use Rattle.sv_constraints.proofs.decide.better_of.Goals as goal
 
 pub loop-collection-preserved : goal.loop-collection-preserved
 loop-collection-preserved c = λ before best.
-    c.better-best.ensures
+    c.better-best.ensures.joined
     (before ++ flat_map (λ collection. collection.patterns) (take c.loop-collection.collection-index c.as_slice-collection-items.result.now))
     (sym (c.loop-collection.invariant before best))
     ∙ ap (λ patterns. best_pattern patterns c.args.path.now)

@@ -1,6 +1,6 @@
 use Rattle.std.proofs.Common.{◌≡◌, ◌++◌, drop, map, Ok}
 use Rattle.toml.specs.View.{view}
-use Rattle.sv_schema.specs.Fault.{◌>>=◌}
+use Rattle.sv_text.specs.Steps.{◌>>=◌}
 use Rattle.sv_descriptor.specs.Collection.{collections_within}
 use Rattle.sv_descriptor.proofs.collection.collections_within.Given as goal
 

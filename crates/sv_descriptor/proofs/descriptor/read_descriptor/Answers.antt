@@ -1,7 +1,7 @@
 use Rattle.sv_schema.proofs.Yields.{IfOk-Gives, document-Ok}
 use Rattle.sv_descriptor.specs.Descriptor.{descriptor, descriptor_of}
 use Rattle.sv_descriptor.specs.WellFormed.{IsWellFormed}
-use Rattle.sv_descriptor.proofs.Elements.{IsWellFormed-descriptor}
+use Rattle.sv_descriptor.proofs.Agreeing.{IsWellFormed-descriptor}
 use Rattle.sv_descriptor.proofs.descriptor.read_descriptor.Goals as goal
 
 pub returns-clause-well_formed : goal.returns-clause-well_formed

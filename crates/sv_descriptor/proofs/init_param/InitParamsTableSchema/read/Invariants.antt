@@ -1,6 +1,6 @@
 use Rattle.std.proofs.Common.{◌≡◌, ◌++◌, Ok}
 use Rattle.toml.specs.View.{members_view, table_view}
-use Rattle.sv_schema.specs.Fault.{◌>>=◌}
+use Rattle.sv_text.specs.Steps.{◌>>=◌}
 use Rattle.sv_descriptor.specs.InitParam.{init_params}
 use Rattle.sv_descriptor.proofs.init_param.InitParamsTableSchema.read.Given as goal
 

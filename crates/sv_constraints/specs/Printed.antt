@@ -1,0 +1,7 @@
+-- A reason by the parts that are printed.
+use Rattle.std.specs.Option.{option_copied}
+use Rattle.sv_constraints.specs.declared.owned_decision.OwnedWhy.{OwnedWhy}
+use Rattle.sv_constraints.specs.declared.printed.PrintedWhy.{PrintedWhy}
+
+abbrev pub printed_why : PrintedWhy → OwnedWhy
+printed_why why = record { pattern = option_copied why.pattern; number = why.number; cause = why.cause }

@@ -1,0 +1,92 @@
+-- A descriptor that was read is well-formed.
+use Rattle.std.proofs.Common.{◌≡◌, Bool, true, false, not, codes, Ok, refl, subst}
+use Rattle.std.specs.List.{list_all}
+use Rattle.std.proofs.lemmas.Option.{IfSome_then}
+use Rattle.std.proofs.lemmas.List.Sums.{AllPass-from_list_all}
+use Rattle.toml.specs.Data.{Members}
+use Rattle.sv_schema.specs.Fault.{check}
+use Rattle.sv_schema.specs.Names.{repeats}
+use Rattle.sv_schema.specs.Table.{is_among}
+use Rattle.sv_schema.specs.declared.fault.FaultCode.TheVariants.{DuplicatePattern, UnknownServlet, UnknownFilter, DuplicateName}
+use Rattle.sv_schema.proofs.Differing.{Differ-repeats, Contains-is_among}
+use Rattle.sv_schema.proofs.Yields.{bind-Ok, check-Ok}
+use Rattle.sv_descriptor.specs.Agreement.{elements_agree, names_differ, servlet_mappings_fit, servlet_names, filter_names, servlet_patterns, is_known_servlet}
+use Rattle.sv_descriptor.specs.Descriptor.{descriptor}
+use Rattle.sv_descriptor.specs.WebApp.{web_app}
+use Rattle.sv_descriptor.specs.WellFormed.{IsWellFormed}
+use Rattle.sv_descriptor.specs.declared.web_app.WebApp.{WebApp}
+use Rattle.sv_descriptor.proofs.Elements.{HasElements, web_app-Ok}
+
+-- what holds of the elements together
+record Agrees (app : WebApp) : Type 0 where
+  servlets_differ : repeats (servlet_names app) ≡ false
+  filters_differ : repeats (filter_names app) ≡ false
+  roles_differ : repeats app.rules.declared ≡ false
+  servlets_declared : list_all (λ mapping. is_among (servlet_names app) mapping.servlet_name) app.servlet_mappings ≡ true
+  patterns_differ : repeats (servlet_patterns app) ≡ false
+  filters_declared : list_all (λ mapping. is_among (filter_names app) mapping.filter_name) app.filter_mappings ≡ true
+  servlets_known : list_all (λ mapping. list_all (is_known_servlet app) mapping.servlet_names) app.filter_mappings ≡ true
+
+not-true : (b : Bool) → not b ≡ true → b ≡ false
+not-true true h = cc
+not-true false h = refl
+
+elements_agree-Ok : (app : WebApp) (u : Unit {0}) → elements_agree app ≡ Ok u → Agrees app
+elements_agree-Ok app u e =
+    bind-Ok (names_differ app) _ _ e (λ u1 names e1.
+    bind-Ok (servlet_mappings_fit app) _ _ e1 (λ u2 servlets filters.
+    bind-Ok (check (not (repeats (servlet_names app))) DuplicateName (codes "servlet-name")) _ _ names (λ v1 c1 f1.
+    bind-Ok (check (not (repeats (filter_names app))) DuplicateName (codes "filter-name")) _ _ f1 (λ v2 c2 c3.
+    bind-Ok (check (list_all (λ mapping. is_among (servlet_names app) mapping.servlet_name) app.servlet_mappings) UnknownServlet (codes "servlet-name")) _ _ servlets (λ v4 c4 c5.
+    bind-Ok (check (list_all (λ mapping. is_among (filter_names app) mapping.filter_name) app.filter_mappings) UnknownFilter (codes "filter-name")) _ _ filters (λ v6 c6 c7.
+    record {
+      servlets_differ = not-true _ (check-Ok _ DuplicateName (codes "servlet-name") v1 c1);
+      filters_differ = not-true _ (check-Ok _ DuplicateName (codes "filter-name") v2 c2);
+      roles_differ = not-true _ (check-Ok _ DuplicateName (codes "role-name") u1 c3);
+      servlets_declared = check-Ok _ UnknownServlet (codes "servlet-name") v4 c4;
+      patterns_differ = not-true _ (check-Ok _ DuplicatePattern (codes "url-pattern") u2 c5);
+      filters_declared = check-Ok _ UnknownFilter (codes "filter-name") v6 c6;
+      servlets_known = check-Ok _ UnknownServlet (codes "servlet-name") u c7;
+    }))))))
+
+well_formed : (app : WebApp) → HasElements app → Agrees app → IsWellFormed app
+well_formed app has agrees = record {
+  servlet_names_differ = Differ-repeats (servlet_names app) agrees.servlets_differ;
+  servlet_names_are_free = has.servlets.each;
+  mapped_servlets_are_declared = λ k m l. Contains-is_among (servlet_names app) _ (AllPass-from_list_all _ app.servlet_mappings agrees.servlets_declared k m l);
+  servlet_patterns_differ = Differ-repeats (servlet_patterns app) agrees.patterns_differ;
+  filter_names_differ = Differ-repeats (filter_names app) agrees.filters_differ;
+  mapped_filters_are_declared = λ k m l. Contains-is_among (filter_names app) _ (AllPass-from_list_all _ app.filter_mappings agrees.filters_declared k m l);
+  filtered_servlets_are_known = λ k m l. AllPass-from_list_all _ _ (AllPass-from_list_all _ app.filter_mappings agrees.servlets_known k m l);
+  error_pages_have_paths = has.error_pages.each;
+  login_page_has_a_path = IfSome_then app.login has.login (λ _ pages. pages.login_page);
+  login_error_page_has_a_path = IfSome_then app.login has.login (λ _ pages. pages.error_page);
+  constraints_are_numbered = has.constraints.numbered;
+  roles_differ = Differ-repeats app.rules.declared agrees.roles_differ;
+  roles_are_free = has.roles.each;
+  session_timeout_is_bounded = has.session;
+  lists_are_short = record {
+    servlets = has.servlets.short;
+    servlet_mappings = has.servlet_mappings.short;
+    patterns_of_servlets = has.servlet_mappings.each;
+    filters = has.filters;
+    filter_mappings = has.filter_mappings.short;
+    lists_of_filter_mappings = has.filter_mappings.each;
+    listeners = has.listeners;
+    welcome_files = has.welcome_files;
+    error_pages = has.error_pages.short;
+    constraints = has.constraints.short;
+    lists_of_constraints = has.constraints.few;
+    roles = has.roles.short;
+  };
+}
+
+pub IsWellFormed-agrees : (members : Members) (app : WebApp) (u : Unit {0}) → web_app members ≡ Ok app → elements_agree app ≡ Ok u → IsWellFormed app
+IsWellFormed-agrees members app u read agree = well_formed app (web_app-Ok members app read) (elements_agree-Ok app u agree)
+
+pub IsWellFormed-descriptor : (members : Members) (app : WebApp) → descriptor members ≡ Ok app → IsWellFormed app
+IsWellFormed-descriptor members app e =
+    bind-Ok (web_app members) _ _ e (λ found read e1.
+    bind-Ok (elements_agree found) _ _ e1 (λ u agree e2.
+    let same : found ≡ app = cc in
+    subst IsWellFormed same (IsWellFormed-agrees members found u read agree)))

@@ -1,0 +1,19 @@
+//! The limits in numbers, each the contract of a function that does nothing.
+
+ghost use Rattle.std.specs.Prelude.{◌≡◌};
+
+use crate::limits::{
+    DEFAULT_SESSION_TIMEOUT, MAX_ERROR_CODE, MAX_METHOD_BYTES, MAX_PATTERNS_OF_CONSTRAINT,
+    MAX_SESSION_TIMEOUT, MIN_ERROR_CODE,
+};
+
+/// A session lives 30 minutes where a descriptor does not say, and else at most 525,600; the statuses of errors are 400 to 599;
+/// a method has at most 15 bytes, and the collections of a constraint have at most 64 patterns.
+pub fn limits_of_the_descriptor()
+    ensures default_timeout { DEFAULT_SESSION_TIMEOUT ≡ 30 }
+    ensures greatest_timeout { MAX_SESSION_TIMEOUT ≡ 525600 }
+    ensures least_status { MIN_ERROR_CODE ≡ 400 }
+    ensures greatest_status { MAX_ERROR_CODE ≡ 599 }
+    ensures method_bytes { MAX_METHOD_BYTES ≡ 15 }
+    ensures patterns { MAX_PATTERNS_OF_CONSTRAINT ≡ 64 }
+{}

@@ -1,0 +1,33 @@
+//! Elements that a descriptor may have many of.
+
+ghost use Rattle.std.specs.Prelude.{[]};
+ghost use Rattle.sv_text.specs.Gives.{Gives};
+ghost use Rattle.toml.specs.View.{table_view};
+ghost use Rattle.sv_descriptor.specs.Tables as spec;
+ghost use Rattle.sv_schema.specs.Fault.{fault};
+ghost use Rattle.sv_schema.specs.Table.{optional_or};
+
+use std::alloc::Global;
+use sv_schema::{ListOf, MAX_LIST_ITEMS, ReadFault, TableOf, TableSchema, list_or_empty};
+use sv_text::Listed;
+use toml::Table;
+
+/// Reads the list of tables at a key that may be missing.
+///
+/// # Errors
+/// The first fault of the list, or [`ReadFault::NoMemory`].
+pub fn tables<T: TableSchema + Drop>(
+    alloc: Global,
+    table: &Table,
+    key: &str,
+    item: T,
+) -> Result<Listed<T::Output>, ReadFault>
+    ensures { Gives fault result (optional_or [] (spec.tables (T.reads item)) key.now (table_view table.now)) }
+{
+    let schema = ListOf {
+        least: 0,
+        most: MAX_LIST_ITEMS,
+        item: TableOf(item),
+    };
+    list_or_empty(alloc, table, key, &schema)
+}

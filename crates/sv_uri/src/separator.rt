@@ -1,0 +1,22 @@
+//! What stands before a separator, and what stands behind it.
+
+ghost use Rattle.std.specs.Prelude.{◌≡◌, ◌==◌, position};
+ghost use Rattle.std.specs.Option.{option_copied};
+ghost use Rattle.sv_uri.specs.Target as target;
+
+fn place_of(bytes: &[u8], separator: u8) -> Option<usize>
+    ensures { result ≡ position (λ b. b == separator) bytes.now }
+{
+    bytes.iter().position(|b| *b == separator)
+}
+
+/// What stands before the first `separator`, and what stands behind it where there is one.
+pub(crate) fn before_and_behind(bytes: &[u8], separator: u8) -> (&[u8], Option<&[u8]>)
+    ensures front { result.0.now ≡ target.before separator bytes.now }
+    ensures back { option_copied result.1 ≡ target.behind separator bytes.now }
+{
+    match place_of(bytes, separator) {
+        Some(place) => (&bytes[..place], Some(&bytes[place + 1..])),
+        None => (bytes, None),
+    }
+}
