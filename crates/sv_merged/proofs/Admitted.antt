@@ -3,7 +3,7 @@ use Rattle.std.proofs.Common.{arith, subst, ◌≡◌, ℕ, ◌+◌, ◌<◌, �
 use Rattle.std.specs.Borrow.{Bor}
 use Rattle.std.specs.Prelude.{filter, fold}
 use Rattle.std.specs.Bool.{then_some}
-use Rattle.std.specs.List.{list_any, reduce}
+use Rattle.std.specs.List.{list_any}
 use Rattle.std.specs.Str.{bytes_eq}
 use Rattle.std.proofs.Math.Nat.{min_comm}
 use Rattle.std.proofs.lemmas.Bool.Decides.{same_from_decides}

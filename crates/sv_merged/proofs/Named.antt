@@ -1,6 +1,6 @@
 -- A method that is not named is covered where the methods that are not named are.
 use Rattle.std.proofs.lemmas.Bool.{false≢true}
-use Rattle.std.proofs.Common.{◌≡◌, ℕ, Bool, true, false, not, ◌||◌, ◌&&◌, List, [], ◌∷◌, ◌++◌, refl, ap, sym, ◌∙◌, Some, None, cond}
+use Rattle.std.proofs.Common.{◌≡◌, ℕ, Bool, true, false, not, ◌||◌, ◌&&◌, List, [], ◌∷◌, refl, ap, sym, ◌∙◌, Some, None, cond}
 use Rattle.std.specs.Prelude.{filter}
 use Rattle.std.specs.List.{list_any, flat_map}
 use Rattle.std.proofs.lemmas.List.Folds.{list_any-append}
@@ -10,7 +10,7 @@ use Rattle.sv_constraints.specs.declared.constraint.Collection.{Collection}
 use Rattle.sv_constraints.specs.declared.constraint.Constraint.{Constraint}
 use Rattle.sv_constraints.specs.declared.constraint.Methods.{Methods}
 use Rattle.sv_constraints.specs.declared.constraint.Methods.TheVariants.{All, Only, Except}
-use Rattle.sv_merged.specs.Covering.{collection_covers_unnamed, covers_at, covers_unnamed, leaves_others_open, listed_methods, method_names, named_methods}
+use Rattle.sv_merged.specs.Covering.{collection_covers_unnamed, covers_at, leaves_others_open, listed_methods, method_names, named_methods}
 
 first_false : (a b : Bool) → (a || b) ≡ false → a ≡ false
 first_false true b h = h

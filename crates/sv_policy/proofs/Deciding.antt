@@ -1,5 +1,5 @@
 -- The table of the best pattern decides.
-use Rattle.std.proofs.Common.{subst, ◌≡◌, ℕ, ◌<◌, Bool, true, false, List, [], ◌∷◌, length, get_or, map, refl, ap, sym, ◌∙◌, Option, Some, None, cond, nat_eq, codes, IsTrue}
+use Rattle.std.proofs.Common.{subst, ◌≡◌, ℕ, Bool, List, [], ◌∷◌, map, refl, ap, sym, ◌∙◌, Option, Some, None, cond, nat_eq, codes, IsTrue}
 use Rattle.std.specs.Prelude.{All, find, slice_get}
 use Rattle.std.specs.List.{list_any, starts_with}
 use Rattle.std.specs.Option.{option_and_then, option_map}

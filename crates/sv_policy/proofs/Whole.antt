@@ -1,5 +1,5 @@
 -- The tables of patterns are whole.
-use Rattle.std.proofs.Common.{arith, subst, ◌≡◌, ℕ, ◌+◌, ◌<◌, ◌≤◌, Bool, true, false, not, ◌&&◌, List, [], ◌∷◌, ◌++◌, length, take, get_or, map, refl, ap, sym, ◌∙◌, cond, append-nil}
+use Rattle.std.proofs.Common.{arith, subst, ◌≡◌, ℕ, ◌+◌, ◌<◌, Bool, true, false, not, ◌&&◌, List, [], ◌∷◌, ◌++◌, length, take, get_or, map, refl, ap, sym, ◌∙◌, cond, append-nil}
 use Rattle.std.specs.Borrow.{Bor}
 use Rattle.std.specs.Prelude.{All, filter}
 use Rattle.std.proofs.lemmas.List.{append_assoc, map-append}
@@ -7,7 +7,7 @@ use Rattle.std.proofs.lemmas.List.Elements.{filter-append}
 use Rattle.sv_constraints.specs.Covering.{all_patterns, covers, lists}
 use Rattle.sv_constraints.specs.declared.constraint.Constraint.{Constraint}
 use Rattle.sv_constraints.specs.declared.rules.Rules.{Rules}
-use Rattle.sv_merged.proofs.Joined.{gone_over, seen_more}
+use Rattle.sv_merged.proofs.Joined.{seen_more}
 use Rattle.sv_merged.specs.Merged.{IsMerged}
 use Rattle.sv_merged.specs.Table.{IsTable, entry_of}
 use Rattle.sv_merged.specs.declared.table.Table.{Table}
@@ -19,7 +19,7 @@ pub table_of_all : (rules : Rules) (constraints : List Constraint) (members : Li
 table_of_all rules constraints members table pattern are same is = λ method.
     subst (λ covering. IsMerged rules covering (entry_of table method))
     (ap (filter (λ c. covers c table.pattern method)) (are ∙ ap (λ p. filter (λ c. lists_pattern c p) constraints) same)
-        ∙ filter_within (λ c. covers c table.pattern method) (λ c. lists_pattern c table.pattern) (covers_listed table.pattern method) constraints)
+    ∙ filter_within (λ c. covers c table.pattern method) (λ c. lists_pattern c table.pattern) (covers_listed table.pattern method) constraints)
     (is method)
 
 pub nothing_pushed : (texts : List (List ℕ)) (text : List ℕ) (listed : Bool) → not true ≡ listed → texts ≡ texts ++ cond listed (text ∷ []) []

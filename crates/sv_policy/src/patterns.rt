@@ -41,11 +41,10 @@ pub fn is_among(patterns: &[&Pattern], text: &str) -> bool
 pub fn is_listed(constraint: &Constraint, text: &str) -> bool
     ensures { result ≡ lists_pattern constraint.now text.now }
 {
-    constraint
-        .collections
-        .as_slice()
-        .iter()
-        .any(|collection| lists_pattern(collection.patterns.as_slice(), text))
+    constraint.collections.as_slice().iter().any(|collection| lists_pattern(
+        collection.patterns.as_slice(),
+        text,
+    ))
 }
 
 /// The patterns of constraints, each text once.

@@ -36,10 +36,10 @@ impl Model for Policy {
     ghost Value = { Standing };
 
     ghost view = { λ policy. record {
-        constraints = policy.constraints.items;
-        rules = policy.rules;
-        greatest = policy.greatest;
-        rebuilt = policy.rebuilt;
+      constraints = policy.constraints.items;
+      rules = policy.rules;
+      greatest = policy.greatest;
+      rebuilt = policy.rebuilt;
     } };
 
     ghost invariant = { λ policy.
@@ -48,7 +48,7 @@ impl Model for Policy {
 }
 
 /// A decision, and what it took.
-#[derive(Clone, Copy, Debug)]
+#[derive(Clone, Copy)]
 pub struct Decided<'a> {
     /// The decision.
     pub decision: Decision<'a>,
@@ -89,12 +89,7 @@ impl Policy {
     /// Decides a request as [`decide_plain`](sv_constraints::decide_plain) does by the constraints as they stand, and counts
     /// its look-ups. The path is any text that begins with `/`, as it stands. It takes no memory, and the
     /// constraints are not gone over.
-    pub fn decide<'a>(
-        &'a self,
-        method: &str,
-        path: &str,
-        caller: Option<&Caller>,
-    ) -> Decided<'a>
+    pub fn decide<'a>(&'a self, method: &str, path: &str, caller: Option<&Caller>) -> Decided<'a>
         ensures decision { IsTrue (is_slashed path.now) →
             seen result.decision ≡ verdict self.now.constraints self.now.rules method.now path.now (option_copied caller.entry) }
         ensures probes { result.probes ≤ segments path.now + 2 }
@@ -110,11 +105,9 @@ impl Policy {
                 probes: looked.probes,
             },
             Some(table) => Decided {
-                decision: table.findings(method, caller).decide(
-                    &table.pattern,
-                    &self.rules,
-                    caller,
-                ),
+                decision: table
+                    .findings(method, caller)
+                    .decide(&table.pattern, &self.rules, caller),
                 probes: looked.probes.saturating_add(1),
             },
         }
