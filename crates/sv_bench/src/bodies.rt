@@ -1,37 +1,29 @@
 //! A request whose body comes in chunks.
 
 use std::alloc::Global;
-use sv_text::NoMemory;
 
-/// How many lines the body has.
-const LINES: usize = 16_384;
+/// How many whole chunks the body has: small ones, since large ones cost little more than a copy.
+const CHUNKS: usize = 18_724;
 
-const LINE: &str = "field=0123456789abcdefghijklmnopqrstuvwxyz&another=ABCDEFGHIJK&z";
+/// A chunk of 56 bytes.
+const CHUNK: &str = "38\r\nfield=0123456789abcdefghijklmnopqrstuvwxyz&another=value\r\n";
 
-const _: () = prove!(LINES * LINE.len() == 1_048_576);
+const _: () = prove!(CHUNK.len() == 4 + 56 + 2);
 
-/// How many bytes a chunk has, but for the last one.
-const CHUNK_LEN: usize = 56;
+/// A chunk of the bytes that are left, and the last one.
+const END: &str = "20\r\n0123456789abcdefghijklmnopqrstuv\r\n0\r\n\r\n";
 
-/// A request with a body of 1 MiB in small chunks: large ones cost little more than a copy.
-pub fn chunked_request(alloc: Global) -> Result<Vec<u8>, NoMemory> {
-    let mut body = Vec::new(alloc);
-    for _ in 0..LINES {
-        body.extend_from_slice(LINE.as_bytes())?;
+const _: () = prove!(END.len() == 4 + 32 + 2 + 5);
+
+const _: () = prove!(CHUNKS * 56 + 32 == 1_048_576);
+
+/// A request with a body of 1 MiB.
+pub fn chunked_request(alloc: Global) -> Option<Vec<u8>> {
+    let head = b"POST / HTTP/1.1\r\nHost: h\r\nTransfer-Encoding: chunked\r\n\r\n";
+    let mut stream = head.to_vec(alloc).ok()?;
+    for _ in 0..CHUNKS {
+        stream.extend_from_slice(CHUNK.as_bytes()).ok()?;
     }
-    let mut stream = Vec::new(alloc);
-    stream.extend_from_slice(b"POST / HTTP/1.1\r\nHost: h\r\nTransfer-Encoding: chunked\r\n\r\n")?;
-    for chunk in body.chunks(CHUNK_LEN) {
-        push_chunk(alloc, &mut stream, chunk)?;
-    }
-    stream.extend_from_slice(b"0\r\n\r\n")?;
-    Ok(stream)
-}
-
-fn push_chunk(alloc: Global, stream: &mut Vec<u8>, chunk: &[u8]) -> Result<(), NoMemory> {
-    let size_line = format!(in alloc; "{:x}\r\n", chunk.len())?;
-    stream.extend_from_slice(size_line.as_bytes())?;
-    stream.extend_from_slice(chunk)?;
-    stream.extend_from_slice(b"\r\n")?;
-    Ok(())
+    stream.extend_from_slice(END.as_bytes()).ok()?;
+    Some(stream)
 }

@@ -1,14 +1,13 @@
-//! A hundred security constraints, and the decision on a request.
+//! Security constraints, and the decision on a request.
 
 use crate::measure::Work;
-use crate::patterns::{PATHS, numbered_pattern};
-use anyhow::Result;
+use crate::patterns::{PATHS, numbered_patterns};
 use std::alloc::Global;
 use sv_constraints::{
     Auth, Collection, Constraint, Decision, Methods, Rules, Transport, decide_plain,
 };
 use sv_realm::Caller;
-use sv_text::{Listed, NoMemory, Text};
+use sv_text::{Listed, Text};
 
 /// Deciding a request by all constraints.
 #[derive(Drop)]
@@ -19,31 +18,25 @@ pub struct Deciding {
 }
 
 impl Deciding {
-    /// One constraint for each of a hundred patterns, for GET and POST and two roles.
-    pub fn new(alloc: Global) -> Result<Deciding> {
-        let mut constraints = Vec::new(alloc);
-        for number in 0..100u32 {
-            constraints.push(numbered_constraint(alloc, number)?)?;
-        }
-        let rules = Rules {
-            declared: two_texts(alloc, "clerk", "manager")?,
-            deny_uncovered: true,
-        };
-        let caller = Caller {
-            number: 0,
-            name: Text::copy_of(alloc, "ann")?,
-            roles: two_texts(alloc, "guest", "manager")?,
-        };
-        Ok(Deciding {
-            constraints,
-            rules,
-            caller,
+    /// So many constraints of so many patterns, for GET and POST and two roles.
+    pub fn new(alloc: Global, count: u32, patterns: u32) -> Option<Deciding> {
+        Some(Deciding {
+            constraints: constraints(alloc, count, patterns)?,
+            rules: Rules {
+                declared: two_texts(alloc, "clerk", "manager")?,
+                deny_uncovered: true,
+            },
+            caller: Caller {
+                number: 0,
+                name: Text::copy_of(alloc, "ann").ok()?,
+                roles: two_texts(alloc, "guest", "manager")?,
+            },
         })
     }
 }
 
 impl Work for Deciding {
-    fn round(&self, place: usize) -> Result<usize, NoMemory> {
+    fn round(&self, place: usize) -> Option<usize> {
         let decision = decide_plain(
             self.constraints.as_slice(),
             &self.rules,
@@ -52,32 +45,43 @@ impl Work for Deciding {
             Some(&self.caller),
         );
         match decision {
-            Decision::Open(why) => Ok(why.cause as usize),
-            Decision::Login(_) => Ok(place),
-            Decision::Denied(_) => Ok(0),
+            Decision::Open(why) => Some(why.cause as usize),
+            Decision::Login(_) => Some(place),
+            Decision::Denied(_) => Some(0),
         }
     }
 }
 
-fn numbered_constraint(alloc: Global, number: u32) -> Result<Constraint> {
-    let mut patterns = Vec::new(alloc);
-    patterns.push(numbered_pattern(alloc, number)?)?;
+fn constraints(alloc: Global, count: u32, patterns: u32) -> Option<Vec<Constraint>> {
+    let mut constraints = Vec::new(alloc);
+    for number in 0..count {
+        let from = number.saturating_mul(patterns);
+        constraints
+            .push(constraint(alloc, from, from.saturating_add(patterns))?)
+            .ok()?;
+    }
+    Some(constraints)
+}
+
+/// A constraint for the patterns of these numbers.
+fn constraint(alloc: Global, from: u32, until: u32) -> Option<Constraint> {
     let mut collections = Vec::new(alloc);
-    collections.push(Collection {
-        patterns: Listed::from_vec(patterns),
+    let collection = Collection {
+        patterns: Listed::from_vec(numbered_patterns(alloc, from, until)?),
         methods: Methods::Only(two_texts(alloc, "GET", "POST")?),
-    })?;
-    Ok(Constraint {
-        number: u64::from(number),
+    };
+    collections.push(collection).ok()?;
+    Some(Constraint {
+        number: u64::from(from),
         collections: Listed::from_vec(collections),
         auth: Auth::Roles(two_texts(alloc, "clerk", "manager")?),
         transport: Transport::Absent,
     })
 }
 
-fn two_texts(alloc: Global, first: &str, second: &str) -> Result<Listed<Text>, NoMemory> {
+fn two_texts(alloc: Global, first: &str, second: &str) -> Option<Listed<Text>> {
     let mut texts = Vec::new(alloc);
-    texts.push(Text::copy_of(alloc, first)?)?;
-    texts.push(Text::copy_of(alloc, second)?)?;
-    Ok(Listed::from_vec(texts))
+    texts.push(Text::copy_of(alloc, first).ok()?).ok()?;
+    texts.push(Text::copy_of(alloc, second).ok()?).ok()?;
+    Some(Listed::from_vec(texts))
 }

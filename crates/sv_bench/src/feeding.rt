@@ -4,7 +4,6 @@ ghost use Rattle.std.specs.Prelude.{◌<◌};
 
 use crate::measure::Work;
 use std::alloc::Global;
-use sv_text::NoMemory;
 use sv_wire::Inbox;
 
 /// Feeding a stream to an inbox in pieces of a size.
@@ -17,13 +16,13 @@ pub struct Feeding<'a> {
 }
 
 impl Work for Feeding<'_> {
-    fn round(&self, place: usize) -> Result<usize, NoMemory> {
+    fn round(&self, place: usize) -> Option<usize> {
         let mut inbox = Inbox::new(self.alloc);
         let mut items = place;
         for piece in self.stream.chunks(self.piece) {
-            items = items.wrapping_add(inbox.feed(piece)?.len());
+            items = items.wrapping_add(inbox.feed(piece).ok()?.len());
         }
-        Ok(items)
+        Some(items)
     }
 }
 
@@ -35,9 +34,8 @@ pub struct Copying<'a> {
 }
 
 impl Work for Copying<'_> {
-    fn round(&self, place: usize) -> Result<usize, NoMemory> {
-        let copy = self.stream.to_vec(self.alloc)?;
-        let last = copy.last().copied().unwrap_or(0);
-        Ok(place.wrapping_add(last as usize))
+    fn round(&self, place: usize) -> Option<usize> {
+        let copy = self.stream.to_vec(self.alloc).ok()?;
+        Some(place.wrapping_add(copy.len()))
     }
 }

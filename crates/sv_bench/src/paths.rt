@@ -2,9 +2,7 @@
 
 use crate::measure::Work;
 use std::alloc::Global;
-use sv_text::NoMemory;
 use sv_uri::canon;
-use sv_uri::fault::CanonFault;
 
 /// Targets of equal length, which the rounds take in turn.
 pub const TARGETS: [&str; 4] = [
@@ -21,11 +19,8 @@ pub struct Reading {
 }
 
 impl Work for Reading {
-    fn round(&self, place: usize) -> Result<usize, NoMemory> {
-        match canon(self.alloc, TARGETS[place % 4].as_bytes()) {
-            Ok(canon) => Ok(canon.path.as_bytes().len()),
-            Err(CanonFault::Path(_)) => Ok(0),
-            Err(CanonFault::NoMemory) => Err(NoMemory),
-        }
+    fn round(&self, place: usize) -> Option<usize> {
+        let canon = canon(self.alloc, TARGETS[place % 4].as_bytes()).ok()?;
+        Some(canon.path.as_bytes().len())
     }
 }

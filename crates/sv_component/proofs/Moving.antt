@@ -1,16 +1,16 @@
 -- Which component a record moves, and that the others stay.
-use Rattle.std.proofs.Common.{◌≡◌, ◌≢◌, ℕ, ◌<◌, Bool, true, false, ◌⊎◌, inl, inr, List, [], ◌∷◌, ◌++◌, length, get_or, set, map, Option, Some, None, refl, sym, ◌∙◌, ap, subst, arith}
+use Rattle.std.proofs.Common.{◌≡◌, ◌≢◌, ℕ, ◌<◌, inl, inr, List, [], ◌∷◌, length, get_or, set, map, Option, Some, refl, sym, ◌∙◌, ap, subst, arith}
 use Rattle.std.specs.Prelude.{◌==◌, slice_get, unwrap_or}
 use Rattle.std.specs.Option.{option_map}
 use Rattle.std.proofs.lemmas.Bool.{cases_lt, cond-true, cond-false}
 use Rattle.std.proofs.lemmas.Bool.Decides.{eqb_tells}
 use Rattle.std.proofs.lemmas.List.{get_or-set_same, get_or-set_other, length-set}
 use Rattle.std.proofs.lemmas.Option.{get_or_from_slice_get, same_Some, slice_get-get_or, slice_get_past, slice_get_within}
-use Rattle.sv_component.specs.Call.{Call, Heard}
+use Rattle.sv_component.specs.Call.{Call}
 use Rattle.sv_component.specs.Laws.{ComponentsMoved, NamedMovedAt}
 use Rattle.sv_component.specs.Motion.{Moved, MovedAt, calls_at, filter_calls, listener_calls, servlet_calls}
 use Rattle.sv_component.specs.Noted.{filter_entry, servlet_entry}
-use Rattle.sv_component.specs.Runs.{Moves, MovesAt, NamedStep, OfFilter, OfListener, OfServlet, Record, Runs, SameCounts, entry_of}
+use Rattle.sv_component.specs.Runs.{Moves, MovesAt, NamedStep, OfFilter, OfListener, OfServlet, Record, Runs, entry_of}
 use Rattle.sv_component.specs.World.{World, name_at}
 use Rattle.sv_component.specs.declared.named.Named.{Named}
 use Rattle.sv_journal.specs.Entry.{heard}

@@ -1,5 +1,5 @@
 -- Runs go on by one record, and join.
-use Rattle.std.proofs.Common.{◌≡◌, ℕ, ◌+◌, suc, List, [], ◌∷◌, ◌++◌, refl, sym, subst, add-one, arith}
+use Rattle.std.proofs.Common.{ℕ, ◌+◌, List, [], ◌∷◌, ◌++◌, refl, subst, add-one}
 use Rattle.sv_component.specs.Call.{Call}
 use Rattle.sv_component.specs.Runs.{Grows, Moves, Record, Runs, each, then_made}
 use Rattle.sv_component.specs.World.{World}

@@ -2,7 +2,6 @@
 use Rattle.std.specs.Prelude.{◌≡◌, ℕ, List, [], ◌∷◌, ◌==◌, slice_get, Some, if◌then◌else◌}
 use Rattle.sv_component.specs.Call.{Call, Heard}
 use Rattle.sv_component.specs.Runs.{Record, OfFilter, OfListener, OfServlet}
-use Rattle.sv_component.specs.declared.named.Named.{Named}
 
 unfoldable pub Moved : {C : Type 0} → (C → Call → C → Type 0) → C → List Call → C → Type 0
 Moved step before [] after = after ≡ before

@@ -1,8 +1,5 @@
 //! What the elements of a descriptor say of one another, and the order in which the faults between them are found.
 
-use crate::reading::{EITHER_ORDER, Format, strays};
-use std::test::Fail;
-
 /// Lines of a descriptor, its fault: names that are declared twice.
 const NAMES: &str = r#"
 servlet = [{ servlet-name = "a", servlet-class = "A" }, { servlet-name = "b", servlet-class = "A" }]        | read
@@ -104,14 +101,9 @@ const ENTRIES: &str = r#"
 { b = 1 }, { a = 1 }                                                              | UnknownKey b
 "#;
 
-#[test]
-fn the_elements_of_a_descriptor_agree_with_one_another(rt: HostRuntime) -> Result<(), Fail> {
-    let tables = [
-        ("%", NAMES),
-        (MAPPINGS_FRAME, MAPPINGS),
-        ("servlet = [%]", ENTRIES),
-    ];
-    let found = strays(rt.alloc(), Format::Descriptor, &EITHER_ORDER, &tables)?;
-    assert_eq!(rt; found.as_str(), "");
-    Ok(())
-}
+/// The tables and where their rows stand.
+pub const TABLES: [(&str, &str); 3] = [
+    ("%", NAMES),
+    (MAPPINGS_FRAME, MAPPINGS),
+    ("servlet = [%]", ENTRIES),
+];

@@ -1,8 +1,5 @@
 //! The table of a security constraint, and the tables within it.
 
-use crate::reading::{ELEMENT, Format, strays};
-use std::test::Fail;
-
 /// Lines of a constraint's table, its fault.
 const CONSTRAINTS: &str = r#"
 web-resource-collection = [{ url-pattern = ["/x"] }]                                  | read
@@ -177,15 +174,10 @@ x = 1                                   | UnknownKey x
 transport-guarantee = "" ; transport = 1 | UnknownKey transport
 "#;
 
-#[test]
-fn a_constraint_is_refused_by_its_first_fault(rt: HostRuntime) -> Result<(), Fail> {
-    let tables = [
-        ("[[security-constraint]] ; %", CONSTRAINTS),
-        (COLLECTION_FRAME, COLLECTIONS),
-        (AUTHORIZATION_FRAME, AUTHORIZATIONS),
-        (TRANSPORT_FRAME, TRANSPORTS),
-    ];
-    let found = strays(rt.alloc(), Format::Descriptor, &ELEMENT, &tables)?;
-    assert_eq!(rt; found.as_str(), "");
-    Ok(())
-}
+/// The tables and where their rows stand.
+pub const TABLES: [(&str, &str); 4] = [
+    ("[[security-constraint]] ; %", CONSTRAINTS),
+    (COLLECTION_FRAME, COLLECTIONS),
+    (AUTHORIZATION_FRAME, AUTHORIZATIONS),
+    (TRANSPORT_FRAME, TRANSPORTS),
+];

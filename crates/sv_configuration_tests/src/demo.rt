@@ -1,9 +1,13 @@
 //! The demonstration: the four files of a server with two contexts.
 
-use crate::summary::{summary_of_descriptor, summary_of_server, summary_of_users};
+use crate::reading::Format;
+use crate::summary::summary_of;
+use std::alloc::Global;
 use std::test::Fail;
-use sv_descriptor::{read_descriptor, read_server, read_users};
 use sv_realm::Realm;
+use sv_rows::{Asks, cell, hold};
+use sv_settings::read_users;
+use sv_text::{NoMemory, Text};
 
 const SERVER: &str = r#"port = 0
 seed = "0000000000000000000000000000000000000000000000000000000000000000"
@@ -99,7 +103,7 @@ map nest to "/nest"
 map go to "/go"
 map keep to "/keep"
 filter mark Mark
-filter mark on "/*" servlets for Forward
+filter mark on "/*" servlets for FORWARD
 listener Log
 listener Log
 timeout 1
@@ -136,33 +140,51 @@ const USERS_SUMMARY: &str = "user ann salt 61 digest \
     ba7816bf8f01cfea414140de5dae2223b00361a396177a9cb410ff61f20015ad roles a\n";
 
 #[test]
-fn the_files_of_the_demonstration_are_read(rt: HostRuntime) -> Result<(), Fail> {
+fn the_files_of_the_demonstration_are_read(rt: HostRuntime) -> Result<(), NoMemory> {
     let alloc = rt.alloc();
-    let found = summary_of_server(alloc, &read_server(alloc, SERVER)?)?;
-    assert_eq!(rt; found.as_str(), SERVER_SUMMARY);
-    let found = summary_of_descriptor(alloc, &read_descriptor(alloc, ROOT)?)?;
-    assert_eq!(rt; found.as_str(), ROOT_SUMMARY);
-    let found = summary_of_descriptor(alloc, &read_descriptor(alloc, TWO)?)?;
-    assert_eq!(rt; found.as_str(), TWO_SUMMARY);
-    let found = summary_of_users(alloc, read_users(alloc, USERS)?.as_slice())?;
-    assert_eq!(rt; found.as_str(), USERS_SUMMARY);
+    let server = summary_of(alloc, Format::Server, SERVER)?;
+    let root = summary_of(alloc, Format::Descriptor, ROOT)?;
+    let two = summary_of(alloc, Format::Descriptor, TWO)?;
+    let users = summary_of(alloc, Format::Users, USERS)?;
+    assert_eq!(rt; server.as_str(), SERVER_SUMMARY);
+    assert_eq!(rt; root.as_str(), ROOT_SUMMARY);
+    assert_eq!(rt; two.as_str(), TWO_SUMMARY);
+    assert_eq!(rt; users.as_str(), USERS_SUMMARY);
     Ok(())
 }
+
+/// Name, password, the caller's name and roles, `-` for none.
+const PASSWORDS: &str = r#"
+ann | bc  | ann a
+ann | x   | -
+ann | abc | -
+ann | ""  | -
+bob | bc  | -
+"#;
 
 #[test]
 fn the_user_of_the_demonstration_has_her_password_alone(rt: HostRuntime) -> Result<(), Fail> {
     let realm = Realm::from_users(rt.alloc(), read_users(rt.alloc(), USERS)?)?;
-    let Some(caller) = realm.check("ann", b"bc") else {
-        panic!(rt; "ann is refused");
-    };
-    assert_eq!(rt; caller.name.as_str(), "ann");
-    assert_eq!(rt; caller.roles.as_slice().len(), 1);
-    for role in caller.roles.as_slice() {
-        assert_eq!(rt; role.as_str(), "a");
-    }
-    assert!(rt; realm.check("ann", b"x").is_none());
-    assert!(rt; realm.check("ann", b"abc").is_none());
-    assert!(rt; realm.check("ann", b"").is_none());
-    assert!(rt; realm.check("bob", b"bc").is_none());
+    hold(&rt, &[PASSWORDS], &Passwords(realm))?;
     Ok(())
+}
+
+/// The caller whom a name and a password give.
+#[derive(Drop)]
+struct Passwords(Realm);
+
+impl Asks for Passwords {
+    const QUESTION: usize = 2;
+
+    fn answer(&self, alloc: Global, row: &str, answer: &mut Vec<u8>) -> Result<(), NoMemory> {
+        match self.0.check(cell(row, 0), cell(row, 1).as_bytes()) {
+            Some(caller) => {
+                let roles = caller.roles.as_slice().first().map_or("-", Text::as_str);
+                let caller = format!(in alloc; "{} {roles}", caller.name)?;
+                answer.extend_from_slice(caller.as_bytes())?;
+            }
+            None => answer.extend_from_slice(b"-")?,
+        }
+        Ok(())
+    }
 }

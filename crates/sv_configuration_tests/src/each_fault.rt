@@ -1,9 +1,10 @@
 //! One text for each fault of a descriptor, with its number and the key at which it stands.
 
-use crate::table::{cell, is_row, text_of};
+use crate::texts::text_of;
 use std::alloc::Global;
-use std::test::Fail;
 use sv_descriptor::{ReadFault, read_descriptor};
+use sv_rows::{Asks, Strays, cell, hold};
+use sv_text::NoMemory;
 
 /// Text, number, name and key of its fault.
 const ROWS: &str = r#"
@@ -25,20 +26,23 @@ security-role = [<1001*{ role-name = "r@" },>]                      | 14 TooMany
 "#;
 
 #[test]
-fn each_fault_has_its_number_its_name_and_its_key(rt: HostRuntime) -> Result<(), Fail> {
-    for row in ROWS.lines().filter(|line| is_row(line)) {
-        let text = text_of(rt.alloc(), cell(row, 0))?;
-        let found = numbered_fault(rt.alloc(), text.as_str())?;
-        assert_eq!(rt; found.as_str(), cell(row, 1), "{row}");
-    }
-    Ok(())
+fn each_fault_has_its_number_its_name_and_its_key(rt: HostRuntime) -> Result<(), Strays> {
+    hold(&rt, &[ROWS], &NumberedFaults)
 }
 
 /// The number, the name and the key of a descriptor's fault.
-fn numbered_fault(alloc: Global, text: &str) -> Result<String, Fail> {
-    let Err(ReadFault::Fault(fault)) = read_descriptor(alloc, text) else {
-        return Ok(String::new(alloc));
-    };
-    let (number, code, key) = (fault.code.number(), fault.code, fault.key.as_str());
-    Ok(format!(in alloc; "{number} {code} {key:?}")?)
+struct NumberedFaults;
+
+impl Asks for NumberedFaults {
+    const QUESTION: usize = 1;
+
+    fn answer(&self, alloc: Global, row: &str, answer: &mut Vec<u8>) -> Result<(), NoMemory> {
+        let text = text_of(alloc, cell(row, 0))?;
+        if let Err(ReadFault::Fault(fault)) = read_descriptor(alloc, text.as_str()) {
+            let number = fault.code.number();
+            let found = format!(in alloc; "{number} {} {:?}", fault.code, fault.key.as_str())?;
+            answer.extend_from_slice(found.as_bytes())?;
+        }
+        Ok(())
+    }
 }

@@ -1,8 +1,5 @@
 //! The tables of listeners, sessions, welcome files, error pages, roles and the login.
 
-use crate::reading::{ELEMENT, Format, strays};
-use std::test::Fail;
-
 /// Lines of a listener's table, its fault.
 const LISTENERS: &str = r#"
 listener-class = "L"                    | read
@@ -233,18 +230,13 @@ form-login-page = 1                                           | WrongType form-l
 form-login-page = "l" ; form-error-page = "e"                 | BadValue form-login-page
 "#;
 
-#[test]
-fn an_element_is_refused_by_its_first_fault(rt: HostRuntime) -> Result<(), Fail> {
-    let tables = [
-        ("[[listener]] ; %", LISTENERS),
-        ("[session-config] ; %", SESSIONS),
-        ("[welcome-file-list] ; %", WELCOME_FILES),
-        ("[[error-page]] ; %", ERROR_PAGES),
-        ("[[security-role]] ; %", ROLES),
-        ("[login-config] ; %", LOGINS),
-        (LOGIN_PAGES_FRAME, LOGIN_PAGES),
-    ];
-    let found = strays(rt.alloc(), Format::Descriptor, &ELEMENT, &tables)?;
-    assert_eq!(rt; found.as_str(), "");
-    Ok(())
-}
+/// The tables and where their rows stand.
+pub const TABLES: [(&str, &str); 7] = [
+    ("[[listener]] ; %", LISTENERS),
+    ("[session-config] ; %", SESSIONS),
+    ("[welcome-file-list] ; %", WELCOME_FILES),
+    ("[[error-page]] ; %", ERROR_PAGES),
+    ("[[security-role]] ; %", ROLES),
+    ("[login-config] ; %", LOGINS),
+    (LOGIN_PAGES_FRAME, LOGIN_PAGES),
+];

@@ -1,8 +1,5 @@
 //! The tables of filters and of their mappings.
 
-use crate::reading::{ELEMENT, Format, strays};
-use std::test::Fail;
-
 /// Lines of a filter's table, its fault.
 const FILTERS: &str = r#"
 filter-name = "f" ; filter-class = "F"                                  | read
@@ -125,10 +122,5 @@ filter-name = "f" ; dispatcher = ["X"] ; servlet-name = ["b"]           | BadVal
 filter-name = "g" ; servlet-name = ["b"]                                | UnknownFilter filter-name
 "#;
 
-#[test]
-fn a_filter_or_its_mapping_is_refused_by_its_first_fault(rt: HostRuntime) -> Result<(), Fail> {
-    let tables = [("[[filter]] ; %", FILTERS), (MAPPING_FRAME, MAPPINGS)];
-    let found = strays(rt.alloc(), Format::Descriptor, &ELEMENT, &tables)?;
-    assert_eq!(rt; found.as_str(), "");
-    Ok(())
-}
+/// The tables and where their rows stand.
+pub const TABLES: [(&str, &str); 2] = [("[[filter]] ; %", FILTERS), (MAPPING_FRAME, MAPPINGS)];

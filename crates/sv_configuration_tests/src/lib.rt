@@ -14,6 +14,8 @@ mod element_tables;
 #[cfg(test)]
 mod filter_tables;
 #[cfg(test)]
+mod first_faults;
+#[cfg(test)]
 mod limits;
 #[cfg(test)]
 mod reading;
@@ -24,7 +26,7 @@ mod servlet_tables;
 #[cfg(test)]
 mod summary;
 #[cfg(test)]
-mod table;
+mod texts;
 #[cfg(test)]
 mod toml_texts;
 #[cfg(test)]

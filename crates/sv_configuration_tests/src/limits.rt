@@ -1,8 +1,5 @@
 //! The lengths of lists, from both sides of their limits.
 
-use crate::reading::{AS_WRITTEN, Format, strays};
-use std::test::Fail;
-
 /// A descriptor, its fault. A list has at most 1,000 items, which is seen behind the type of all of them and before any of
 /// them is judged.
 const LISTS: &str = r#"
@@ -109,14 +106,9 @@ const PATTERNS: &str = r#"
 <1001*1,>                                                                             | WrongType web-resource-collection
 "#;
 
-#[test]
-fn a_list_of_a_descriptor_keeps_its_limit(rt: HostRuntime) -> Result<(), Fail> {
-    let tables = [
-        ("%", LISTS),
-        (PATTERNS_FRAME, PATTERNS),
-        (SECOND_PATTERNS_FRAME, PATTERNS),
-    ];
-    let found = strays(rt.alloc(), Format::Descriptor, &AS_WRITTEN, &tables)?;
-    assert_eq!(rt; found.as_str(), "");
-    Ok(())
-}
+/// The tables and where their rows stand.
+pub const TABLES: [(&str, &str); 3] = [
+    ("%", LISTS),
+    (PATTERNS_FRAME, PATTERNS),
+    (SECOND_PATTERNS_FRAME, PATTERNS),
+];

@@ -1,8 +1,5 @@
 //! The tables of a server file.
 
-use crate::reading::{EITHER_ORDER, Format, strays};
-use std::test::Fail;
-
 /// Lines of a server file, its fault.
 const SERVERS: &str = r#"
 port = 0 ; seed = "<64*0>" ; context = []                   | read
@@ -173,14 +170,9 @@ const PATHS: &str = r#"
 { path = "a", descriptor = "d", files = "" }, { path = "/a", descriptor = "d" }                | BadValue path
 "#;
 
-#[test]
-fn a_server_file_is_refused_by_its_first_fault(rt: HostRuntime) -> Result<(), Fail> {
-    let tables = [
-        ("%", SERVERS),
-        (CONTEXT_FRAME, CONTEXTS),
-        (PATHS_FRAME, PATHS),
-    ];
-    let found = strays(rt.alloc(), Format::Server, &EITHER_ORDER, &tables)?;
-    assert_eq!(rt; found.as_str(), "");
-    Ok(())
-}
+/// The tables and where their rows stand.
+pub const TABLES: [(&str, &str); 3] = [
+    ("%", SERVERS),
+    (CONTEXT_FRAME, CONTEXTS),
+    (PATHS_FRAME, PATHS),
+];

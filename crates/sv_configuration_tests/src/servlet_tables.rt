@@ -1,8 +1,5 @@
 //! The tables of servlets and of their mappings.
 
-use crate::reading::{ELEMENT, Format, strays};
-use std::test::Fail;
-
 /// Lines of a servlet's table, its fault.
 const SERVLETS: &str = r#"
 servlet-name = "a" ; servlet-class = "A"                                | read
@@ -157,10 +154,5 @@ url-pattern = ["/x", "/x"] ; servlet-name = "b"                         | Unknow
 url-pattern = [<1001*"x",>] ; servlet-name = ""                         | BadValue servlet-name
 "#;
 
-#[test]
-fn a_servlet_or_its_mapping_is_refused_by_its_first_fault(rt: HostRuntime) -> Result<(), Fail> {
-    let tables = [("[[servlet]] ; %", SERVLETS), (MAPPING_FRAME, MAPPINGS)];
-    let found = strays(rt.alloc(), Format::Descriptor, &ELEMENT, &tables)?;
-    assert_eq!(rt; found.as_str(), "");
-    Ok(())
-}
+/// The tables and where their rows stand.
+pub const TABLES: [(&str, &str); 2] = [("[[servlet]] ; %", SERVLETS), (MAPPING_FRAME, MAPPINGS)];

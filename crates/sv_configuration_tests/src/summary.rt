@@ -1,62 +1,94 @@
 //! What was read of a configuration file: a line for each of its elements.
 
+use crate::reading::{Format, found_in};
 use std::alloc::Global;
-use std::test::Fail;
-use sv_constraints::{Auth, Collection, Constraint, Methods};
+use sv_constraints::{Auth, Collection, Constraint, Methods, Transport};
 use sv_descriptor::{
-    ContextEntry, Descriptor, ErrorPage, FilterEntry, FilterMapping, InitParam, PageFor, Server,
-    ServletEntry, ServletMapping,
+    ErrorPage, FilterEntry, FilterMapping, InitParam, PageFor, ServletEntry, ServletMapping,
+    WebApp, read_descriptor,
 };
 use sv_mapping::Pattern;
 use sv_realm::User;
-use sv_text::{Listed, Text};
+use sv_settings::{ContextEntry, Server, read_server, read_users};
+use sv_text::{Listed, NoMemory, Text};
 
-/// The lines of a descriptor.
-pub fn summary_of_descriptor(alloc: Global, descriptor: &Descriptor) -> Result<String, Fail> {
-    let mut text = String::new(alloc);
-    if descriptor.deny_uncovered {
-        text.push_str("deny uncovered\n")?;
+/// The lines of what is read of a text, or its fault.
+pub fn summary_of(alloc: Global, format: Format, text: &str) -> Result<String, NoMemory> {
+    let mut lines = String::new(alloc);
+    match format {
+        Format::Descriptor => {
+            if let Ok(descriptor) = read_descriptor(alloc, text) {
+                add_web_app(&mut lines, descriptor.web_app())?;
+                return Ok(lines);
+            }
+        }
+        Format::Server => {
+            if let Ok(server) = read_server(alloc, text) {
+                add_server(&mut lines, &server)?;
+                return Ok(lines);
+            }
+        }
+        Format::Users => {
+            if let Ok(users) = read_users(alloc, text) {
+                add_users(&mut lines, users.as_slice())?;
+                return Ok(lines);
+            }
+        }
     }
-    add_components(&mut text, descriptor)?;
-    write!(text, "timeout {}\n", descriptor.session_timeout)?;
-    for file in descriptor.welcome_files.as_slice() {
-        write!(text, "welcome {file}\n")?;
-    }
-    for page in descriptor.error_pages.as_slice() {
-        add_error_page(&mut text, page)?;
-    }
-    for constraint in descriptor.constraints.as_slice() {
-        add_constraint(&mut text, constraint)?;
-    }
-    for role in descriptor.roles.as_slice() {
-        write!(text, "role {role}\n")?;
-    }
-    if let Some(login) = &descriptor.login {
-        write!(text, "login {} {}\n", login.login_page, login.error_page)?;
-    }
-    Ok(text)
+    found_in(alloc, format, text)
 }
 
-fn add_components(text: &mut String, descriptor: &Descriptor) -> Result<(), Fail> {
-    for servlet in descriptor.servlets.as_slice() {
+/// The lines of a descriptor.
+fn add_web_app(text: &mut String, app: &WebApp) -> Result<(), NoMemory> {
+    if app.rules.deny_uncovered {
+        text.push_str("deny uncovered\n")?;
+    }
+    add_components(text, app)?;
+    write!(text, "timeout {}\n", app.session.timeout)?;
+    add_pages(text, app)?;
+    for constraint in app.constraints.as_slice() {
+        add_constraint(text, constraint)?;
+    }
+    for role in app.rules.declared.as_slice() {
+        write!(text, "role {role}\n")?;
+    }
+    if let Some(login) = &app.login {
+        let (login_page, error_page) = (login.login_page.text(), login.error_page.text());
+        write!(text, "login {login_page} {error_page}\n")?;
+    }
+    Ok(())
+}
+
+fn add_pages(text: &mut String, app: &WebApp) -> Result<(), NoMemory> {
+    for file in app.welcome_files.as_slice() {
+        write!(text, "welcome {file}\n")?;
+    }
+    for page in app.error_pages.as_slice() {
+        add_error_page(text, page)?;
+    }
+    Ok(())
+}
+
+fn add_components(text: &mut String, app: &WebApp) -> Result<(), NoMemory> {
+    for servlet in app.servlets.as_slice() {
         add_servlet(text, servlet)?;
     }
-    for mapping in descriptor.servlet_mappings.as_slice() {
+    for mapping in app.servlet_mappings.as_slice() {
         add_servlet_mapping(text, mapping)?;
     }
-    for filter in descriptor.filters.as_slice() {
+    for filter in app.filters.as_slice() {
         add_filter(text, filter)?;
     }
-    for mapping in descriptor.filter_mappings.as_slice() {
+    for mapping in app.filter_mappings.as_slice() {
         add_filter_mapping(text, mapping)?;
     }
-    for listener in descriptor.listeners.as_slice() {
+    for listener in app.listeners.as_slice() {
         write!(text, "listener {}\n", listener.listener_class)?;
     }
     Ok(())
 }
 
-fn add_servlet(text: &mut String, servlet: &ServletEntry) -> Result<(), Fail> {
+fn add_servlet(text: &mut String, servlet: &ServletEntry) -> Result<(), NoMemory> {
     write!(
         text,
         "servlet {} {}",
@@ -68,14 +100,14 @@ fn add_servlet(text: &mut String, servlet: &ServletEntry) -> Result<(), Fail> {
     add_params(text, &servlet.init_params)
 }
 
-fn add_servlet_mapping(text: &mut String, mapping: &ServletMapping) -> Result<(), Fail> {
+fn add_servlet_mapping(text: &mut String, mapping: &ServletMapping) -> Result<(), NoMemory> {
     write!(text, "map {} to", mapping.servlet_name)?;
     add_patterns(text, &mapping.url_patterns)?;
     text.push_str("\n")?;
     Ok(())
 }
 
-fn add_filter(text: &mut String, filter: &FilterEntry) -> Result<(), Fail> {
+fn add_filter(text: &mut String, filter: &FilterEntry) -> Result<(), NoMemory> {
     write!(
         text,
         "filter {} {}",
@@ -84,7 +116,7 @@ fn add_filter(text: &mut String, filter: &FilterEntry) -> Result<(), Fail> {
     add_params(text, &filter.init_params)
 }
 
-fn add_params(text: &mut String, params: &Listed<InitParam>) -> Result<(), Fail> {
+fn add_params(text: &mut String, params: &Listed<InitParam>) -> Result<(), NoMemory> {
     for param in params.as_slice() {
         write!(text, " {}={}", param.name, param.value)?;
     }
@@ -92,30 +124,30 @@ fn add_params(text: &mut String, params: &Listed<InitParam>) -> Result<(), Fail>
     Ok(())
 }
 
-fn add_filter_mapping(text: &mut String, mapping: &FilterMapping) -> Result<(), Fail> {
+fn add_filter_mapping(text: &mut String, mapping: &FilterMapping) -> Result<(), NoMemory> {
     write!(text, "filter {} on", mapping.filter_name)?;
     add_patterns(text, &mapping.url_patterns)?;
     text.push_str(" servlets")?;
     add_texts(text, &mapping.servlet_names)?;
     text.push_str(" for")?;
     for kind in mapping.dispatchers.as_slice() {
-        write!(text, " {kind:?}")?;
+        write!(text, " {kind}")?;
     }
     text.push_str("\n")?;
     Ok(())
 }
 
-fn add_error_page(text: &mut String, page: &ErrorPage) -> Result<(), Fail> {
+fn add_error_page(text: &mut String, page: &ErrorPage) -> Result<(), NoMemory> {
     match &page.page_for {
         PageFor::Status(status) => write!(text, "page {status}")?,
         PageFor::Exception(kind) => write!(text, "page {kind}")?,
         PageFor::Any => text.push_str("page for any")?,
     }
-    write!(text, " at {}\n", page.location)?;
+    write!(text, " at {}\n", page.location.text())?;
     Ok(())
 }
 
-fn add_constraint(text: &mut String, constraint: &Constraint) -> Result<(), Fail> {
+fn add_constraint(text: &mut String, constraint: &Constraint) -> Result<(), NoMemory> {
     write!(text, "constraint {}", constraint.number)?;
     for collection in constraint.collections.as_slice() {
         add_collection(text, collection)?;
@@ -127,11 +159,20 @@ fn add_constraint(text: &mut String, constraint: &Constraint) -> Result<(), Fail
             add_texts(text, roles)?;
         }
     }
-    write!(text, " over {:?}\n", constraint.transport)?;
+    write!(text, " over {}\n", transport_name(constraint.transport))?;
     Ok(())
 }
 
-fn add_collection(text: &mut String, collection: &Collection) -> Result<(), Fail> {
+fn transport_name(transport: Transport) -> &'static str {
+    match transport {
+        Transport::Absent => "Absent",
+        Transport::Plain => "Plain",
+        Transport::Integral => "Integral",
+        Transport::Confidential => "Confidential",
+    }
+}
+
+fn add_collection(text: &mut String, collection: &Collection) -> Result<(), NoMemory> {
     text.push_str(" on")?;
     add_patterns(text, &collection.patterns)?;
     match &collection.methods {
@@ -147,14 +188,14 @@ fn add_collection(text: &mut String, collection: &Collection) -> Result<(), Fail
     }
 }
 
-fn add_patterns(text: &mut String, patterns: &Listed<Pattern>) -> Result<(), Fail> {
+fn add_patterns(text: &mut String, patterns: &Listed<Pattern>) -> Result<(), NoMemory> {
     for pattern in patterns.as_slice() {
         write!(text, " {:?}", pattern.text())?;
     }
     Ok(())
 }
 
-fn add_texts(text: &mut String, texts: &Listed<Text>) -> Result<(), Fail> {
+fn add_texts(text: &mut String, texts: &Listed<Text>) -> Result<(), NoMemory> {
     for item in texts.as_slice() {
         write!(text, " {item}")?;
     }
@@ -162,17 +203,17 @@ fn add_texts(text: &mut String, texts: &Listed<Text>) -> Result<(), Fail> {
 }
 
 /// The lines of a server file.
-pub fn summary_of_server(alloc: Global, server: &Server) -> Result<String, Fail> {
-    let mut text = format!(in alloc; "port {}\nseed ", server.port)?;
-    add_hex(&mut text, server.seed.as_slice())?;
+fn add_server(text: &mut String, server: &Server) -> Result<(), NoMemory> {
+    write!(text, "port {}\nseed ", server.port)?;
+    add_hex(text, server.seed.as_slice())?;
     text.push_str("\n")?;
     for context in server.contexts.as_slice() {
-        add_context(&mut text, context)?;
+        add_context(text, context)?;
     }
-    Ok(text)
+    Ok(())
 }
 
-fn add_context(text: &mut String, context: &ContextEntry) -> Result<(), Fail> {
+fn add_context(text: &mut String, context: &ContextEntry) -> Result<(), NoMemory> {
     write!(text, "context {:?}", context.path.as_str())?;
     write!(text, " descriptor {:?}", context.descriptor.as_str())?;
     write!(text, " files {:?}", context.files.as_str())?;
@@ -184,21 +225,25 @@ fn add_context(text: &mut String, context: &ContextEntry) -> Result<(), Fail> {
 }
 
 /// The lines of a users file.
-pub fn summary_of_users(alloc: Global, users: &[User]) -> Result<String, Fail> {
-    let mut text = String::new(alloc);
+fn add_users(text: &mut String, users: &[User]) -> Result<(), NoMemory> {
     for user in users {
-        write!(text, "user {} salt ", user.name)?;
-        add_hex(&mut text, user.salt.as_slice())?;
-        text.push_str(" digest ")?;
-        add_hex(&mut text, user.digest.as_slice())?;
-        text.push_str(" roles")?;
-        add_texts(&mut text, &user.roles)?;
-        text.push_str("\n")?;
+        add_user(text, user)?;
     }
-    Ok(text)
+    Ok(())
 }
 
-fn add_hex(text: &mut String, bytes: &[u8]) -> Result<(), Fail> {
+fn add_user(text: &mut String, user: &User) -> Result<(), NoMemory> {
+    write!(text, "user {} salt ", user.name)?;
+    add_hex(text, user.salt.as_slice())?;
+    text.push_str(" digest ")?;
+    add_hex(text, user.digest.as_slice())?;
+    text.push_str(" roles")?;
+    add_texts(text, &user.roles)?;
+    text.push_str("\n")?;
+    Ok(())
+}
+
+fn add_hex(text: &mut String, bytes: &[u8]) -> Result<(), NoMemory> {
     for byte in bytes {
         write!(text, "{byte:02x}")?;
     }

@@ -1,8 +1,10 @@
 //! What TOML makes of a text before its format is asked.
 
-use crate::reading::{AS_WRITTEN, Format, found_in, strays};
-use crate::table::{cell, is_row, text_of};
-use std::test::Fail;
+use crate::reading::{Format, found_in};
+use crate::texts::text_of;
+use std::alloc::Global;
+use sv_rows::{Asks, Strays, cell, hold, unescaped};
+use sv_text::NoMemory;
 
 /// A descriptor, its fault.
 const ROWS: &str = r#"
@@ -118,7 +120,7 @@ session-config = { session-timeout = 525601 }                          | BadTime
 "version" = 2                                                          | BadValue version
 'version' = 2                                                          | BadValue version
 "\u0076ersion" = 2                                                     | BadValue version
-'\u0076ersion' = 2                                                     | UnknownKey \u0076ersion
+'\u0076ersion' = 2                                                     | UnknownKey \\u0076ersion
 "a b" = 1                                                              | UnknownKey a b
 "a.b" = 1                                                              | UnknownKey a.b
 a.b = 1                                                                | UnknownKey a
@@ -168,45 +170,58 @@ servlet.servlet-name = "a"                                             | WrongTy
 [[security-role]] ; role-name = "<16*\U0001F600>a"                     | BadValue role-name
 "#;
 
-#[test]
-fn a_text_is_toml_before_it_is_a_descriptor(rt: HostRuntime) -> Result<(), Fail> {
-    let tables = [("%", ROWS)];
-    let found = strays(rt.alloc(), Format::Descriptor, &AS_WRITTEN, &tables)?;
-    assert_eq!(rt; found.as_str(), "");
-    Ok(())
-}
+/// The table and where its rows stand.
+pub const TABLES: [(&str, &str); 1] = [("%", ROWS)];
+
+/// A text with escapes, its fault.
+const BYTES: &str = r#"
+-- a byte-order mark stands before all else, once
+\xEF\xBB\xBF                                     | read
+\xEF\xBB\xBFversion = 1                          | read
+\xEF\xBB\xBFversion = 2                          | BadValue version
+\xEF\xBB\xBF\xEF\xBB\xBFversion = 1              | NotToml
+\x20\xEF\xBB\xBFversion = 1                      | NotToml
+version = 1\n\xEF\xBB\xBF                        | NotToml
+
+-- lines end in LF or in CRLF
+\n\n                                             | read
+\x20\t\n                                         | read
+\tversion\t=\t1\t\n                              | read
+version = 1\r\ndescription = 1\r\n               | read
+version = 2\r\ndescription = 1\r\n               | BadValue version
+version = 1\rdescription = 1                     | NotToml
+version = 1\r                                    | NotToml
+version =\n1                                     | NotToml
+
+-- no control byte but a tab
+description = "a\tb"                             | read
+description = "a\x00b"                           | NotToml
+description = 'a\x7Fb'                           | NotToml
+# \x01                                           | NotToml
+\x00                                             | NotToml
+\xC2\xA0version = 1                              | NotToml
+"#;
 
 #[test]
 fn a_byte_order_mark_line_ends_and_control_bytes_are_as_in_toml(
     rt: HostRuntime,
-) -> Result<(), Fail> {
-    let rows = [
-        ("\u{FEFF}", "read"),
-        ("\u{FEFF}version = 1", "read"),
-        ("\u{FEFF}version = 2", "BadValue version"),
-        ("\u{FEFF}\u{FEFF}version = 1", "NotToml"),
-        (" \u{FEFF}version = 1", "NotToml"),
-        ("version = 1\n\u{FEFF}", "NotToml"),
-        ("\n\n", "read"),
-        (" \t\n", "read"),
-        ("\tversion\t=\t1\t\n", "read"),
-        ("version = 1\r\ndescription = 1\r\n", "read"),
-        ("version = 2\r\ndescription = 1\r\n", "BadValue version"),
-        ("version = 1\rdescription = 1", "NotToml"),
-        ("version = 1\r", "NotToml"),
-        ("version =\n1", "NotToml"),
-        ("description = \"a\tb\"", "read"),
-        ("description = \"a\u{0}b\"", "NotToml"),
-        ("description = 'a\u{7F}b'", "NotToml"),
-        ("# \u{1}", "NotToml"),
-        ("\u{0}", "NotToml"),
-        ("\u{A0}version = 1", "NotToml"),
-    ];
-    for (text, wanted) in rows {
-        let found = found_in(rt.alloc(), Format::Descriptor, text)?;
-        assert_eq!(rt; found.as_str(), wanted, "{text:?}");
+) -> Result<(), Strays> {
+    hold(&rt, &[BYTES], &FaultsOfBytes)
+}
+
+/// The fault of a descriptor whose bytes are written with escapes.
+struct FaultsOfBytes;
+
+impl Asks for FaultsOfBytes {
+    const QUESTION: usize = 1;
+
+    fn answer(&self, alloc: Global, row: &str, answer: &mut Vec<u8>) -> Result<(), NoMemory> {
+        let bytes = unescaped(alloc, cell(row, 0))?;
+        let text = String::from_utf8_lossy(alloc, bytes.as_slice())?;
+        let found = found_in(alloc, Format::Descriptor, text.as_str())?;
+        answer.extend_from_slice(found.as_bytes())?;
+        Ok(())
     }
-    Ok(())
 }
 
 /// A text, its fault as a server file and as a users file: both are TOML too.
@@ -227,13 +242,22 @@ port = 0x10000                  | BadValue port   | UnknownKey port
 "#;
 
 #[test]
-fn the_other_files_are_toml_too(rt: HostRuntime) -> Result<(), Fail> {
-    for row in OTHER_FORMATS.lines().filter(|line| is_row(line)) {
-        let text = text_of(rt.alloc(), cell(row, 0))?;
-        let found = found_in(rt.alloc(), Format::Server, text.as_str())?;
-        assert_eq!(rt; found.as_str(), cell(row, 1), "{row}");
-        let found = found_in(rt.alloc(), Format::Users, text.as_str())?;
-        assert_eq!(rt; found.as_str(), cell(row, 2), "{row}");
+fn the_other_files_are_toml_too(rt: HostRuntime) -> Result<(), Strays> {
+    hold(&rt, &[OTHER_FORMATS], &OtherFormats)
+}
+
+/// The faults of a text as a server file and as a users file.
+struct OtherFormats;
+
+impl Asks for OtherFormats {
+    const QUESTION: usize = 1;
+
+    fn answer(&self, alloc: Global, row: &str, answer: &mut Vec<u8>) -> Result<(), NoMemory> {
+        let text = text_of(alloc, cell(row, 0))?;
+        let server = found_in(alloc, Format::Server, text.as_str())?;
+        let users = found_in(alloc, Format::Users, text.as_str())?;
+        let found = format!(in alloc; "{server} | {users}")?;
+        answer.extend_from_slice(found.as_bytes())?;
+        Ok(())
     }
-    Ok(())
 }

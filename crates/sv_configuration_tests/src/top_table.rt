@@ -1,8 +1,5 @@
 //! The keys at the top of a descriptor.
 
-use crate::reading::{ELEMENT, Format, strays};
-use std::test::Fail;
-
 /// Lines of a descriptor, its fault.
 const ROWS: &str = r#"
 ""                                                          | read
@@ -165,15 +162,10 @@ security-role = [{ role-name = "a", description = 1, display-name = 1 }]        
 login-config = { description = 1, display-name = 1, auth-method = "FORM", form-login-config = { description = 1, display-name = 1, form-login-page = "/l", form-error-page = "/e" } } | read
 "#;
 
-#[test]
-fn what_stands_at_the_top_is_judged_in_its_order(rt: HostRuntime) -> Result<(), Fail> {
-    let tables = [
-        ("%", ROWS),
-        ("%", SHAPES),
-        ("%", ELEMENT_ORDER),
-        ("%", DESCRIPTIONS),
-    ];
-    let found = strays(rt.alloc(), Format::Descriptor, &ELEMENT, &tables)?;
-    assert_eq!(rt; found.as_str(), "");
-    Ok(())
-}
+/// The tables and where their rows stand.
+pub const TABLES: [(&str, &str); 4] = [
+    ("%", ROWS),
+    ("%", SHAPES),
+    ("%", ELEMENT_ORDER),
+    ("%", DESCRIPTIONS),
+];

@@ -1,8 +1,5 @@
 //! The tables of a users file.
 
-use crate::reading::{EITHER_ORDER, Format, strays};
-use std::test::Fail;
-
 /// Lines of a users file, its fault.
 const FILES: &str = r#"
 user = []                                   | read
@@ -127,10 +124,9 @@ const NAMES: &str = r#"
 { x = 1 }, { name = "a", salt = "0", digest = "<64*0>", roles = [] }                                                 | UnknownKey x
 "#;
 
-#[test]
-fn a_users_file_is_refused_by_its_first_fault(rt: HostRuntime) -> Result<(), Fail> {
-    let tables = [("%", FILES), ("[[user]] ; %", USERS), ("user = [%]", NAMES)];
-    let found = strays(rt.alloc(), Format::Users, &EITHER_ORDER, &tables)?;
-    assert_eq!(rt; found.as_str(), "");
-    Ok(())
-}
+/// The tables and where their rows stand.
+pub const TABLES: [(&str, &str); 3] = [
+    ("%", FILES),
+    ("[[user]] ; %", USERS),
+    ("user = [%]", NAMES),
+];

@@ -1,9 +1,17 @@
 //! What is read of files without a fault: names, patterns, numbers, and what stands for what is missing.
 
-use crate::summary::{summary_of_descriptor, summary_of_server, summary_of_users};
-use crate::table::{cell, is_row, text_of};
+use crate::reading::Format;
+use crate::summary::summary_of;
+use crate::texts::text_of;
+use std::alloc::Global;
 use std::test::Fail;
-use sv_descriptor::{read_descriptor, read_server, read_users};
+use sv_descriptor::read_descriptor;
+use sv_rows::{Asks, Strays, cell, hold};
+use sv_text::NoMemory;
+
+/// A descriptor with as many constraints as there may be.
+const THOUSAND_CONSTRAINTS: &str =
+    r#"security-constraint = [<1000*{ web-resource-collection = [{ url-pattern = ["/@"] }] },>]"#;
 
 /// A descriptor, its summary.
 const DESCRIPTORS: &str = r#"
@@ -42,7 +50,7 @@ servlet-mapping = [{ servlet-name = "a", url-pattern = ["/a//b%20;x"] }] ; servl
 filter = [{ filter-name = "g", filter-class = "F", init-param = { p = "v" } }, { filter-name = "f", filter-class = "F" }] | filter g F p=v ; filter f F ; timeout 30
 filter = [{ filter-name = "f", filter-class = "F" }] ; filter-mapping = [{ filter-name = "f", url-pattern = ["/y", "/x"] }, { filter-name = "f", servlet-name = ["*", "default"] }] | filter f F ; filter f on "/y" "/x" servlets for ; filter f on servlets * default for ; timeout 30
 filter = [{ filter-name = "f", filter-class = "F" }] ; filter-mapping = [{ filter-name = "f", url-pattern = [], dispatcher = [] }] | filter f F ; filter f on servlets for ; timeout 30
-filter = [{ filter-name = "f", filter-class = "F" }] ; filter-mapping = [{ filter-name = "f", url-pattern = ["/x"], dispatcher = ["ERROR", "REQUEST", "INCLUDE", "FORWARD"] }] | filter f F ; filter f on "/x" servlets for Error Request Include Forward ; timeout 30
+filter = [{ filter-name = "f", filter-class = "F" }] ; filter-mapping = [{ filter-name = "f", url-pattern = ["/x"], dispatcher = ["ERROR", "REQUEST", "INCLUDE", "FORWARD"] }] | filter f F ; filter f on "/x" servlets for ERROR REQUEST INCLUDE FORWARD ; timeout 30
 
 -- listeners, welcome files, error pages
 listener = [{ listener-class = "L" }, { listener-class = "K" }, { listener-class = "L" }] | listener L ; listener K ; listener L ; timeout 30
@@ -68,24 +76,10 @@ login-config = { auth-method = "FORM", form-login-config = { form-login-page = "
 "#;
 
 #[test]
-fn a_descriptor_is_read_as_it_is_written(rt: HostRuntime) -> Result<(), Fail> {
-    for row in DESCRIPTORS.lines().filter(|line| is_row(line)) {
-        let text = text_of(rt.alloc(), cell(row, 0))?;
-        let descriptor = read_descriptor(rt.alloc(), text.as_str())?;
-        let found = summary_of_descriptor(rt.alloc(), &descriptor)?;
-        let wanted = text_of(rt.alloc(), cell(row, 1))?;
-        assert_eq!(rt; found.as_str().trim_end(), wanted.as_str(), "{row}");
-    }
-    Ok(())
-}
-
-#[test]
 fn a_thousand_constraints_are_numbered_from_1(rt: HostRuntime) -> Result<(), Fail> {
-    let constraint = "{ web-resource-collection = [{ url-pattern = [\"/@\"] }] },";
-    let text = format!(in rt.alloc(); "security-constraint = [<1000*{constraint}>]")?;
-    let text = text_of(rt.alloc(), text.as_str())?;
+    let text = text_of(rt.alloc(), THOUSAND_CONSTRAINTS)?;
     let descriptor = read_descriptor(rt.alloc(), text.as_str())?;
-    let constraints = descriptor.constraints.as_slice();
+    let constraints = descriptor.web_app().constraints.as_slice();
     assert_eq!(rt; constraints.len(), 1000);
     for (place, constraint) in constraints.iter().enumerate() {
         assert_eq!(rt; constraint.number, (place as u64).saturating_add(1));
@@ -95,41 +89,49 @@ fn a_thousand_constraints_are_numbered_from_1(rt: HostRuntime) -> Result<(), Fai
 
 /// A server file, its summary.
 const SERVERS: &str = r#"
-port = 0 ; seed = "<64*0>" ; context = []                           | port 0 ; seed <64*0>
-port = 65535 ; seed = "<4*0123456789abcdef>" ; context = []         | port 65535 ; seed <4*0123456789abcdef>
-port = 0x1F90 ; seed = "<4*0123456789ABCDEF>" ; context = []        | port 8080 ; seed <4*0123456789abcdef>
-port = 1 ; seed = "<16*aBcD>" ; context = []                        | port 1 ; seed <16*abcd>
-port = 1 ; seed = "01<62*0>" ; context = [{ path = "/b", descriptor = "d.toml", files = "f", users = "u.toml" }, { path = "", descriptor = "", files = "" }, { path = "/a", descriptor = "../e", files = " ", users = "" }] | port 1 ; seed 01<62*0> ; context "/b" descriptor "d.toml" files "f" users "u.toml" ; context "" descriptor "" files "" ; context "/a" descriptor "../e" files " " users ""
+port = 0 ; seed = "<64*0>" ; context = []                           | port 0 ; seed \{64*0}
+port = 65535 ; seed = "<4*0123456789abcdef>" ; context = []         | port 65535 ; seed \{4*0123456789abcdef}
+port = 0x1F90 ; seed = "<4*0123456789ABCDEF>" ; context = []        | port 8080 ; seed \{4*0123456789abcdef}
+port = 1 ; seed = "<16*aBcD>" ; context = []                        | port 1 ; seed \{16*abcd}
+port = 1 ; seed = "01<62*0>" ; context = [{ path = "/b", descriptor = "d.toml", files = "f", users = "u.toml" }, { path = "", descriptor = "", files = "" }, { path = "/a", descriptor = "../e", files = " ", users = "" }] | port 1 ; seed 01\{62*0} ; context "/b" descriptor "d.toml" files "f" users "u.toml" ; context "" descriptor "" files "" ; context "/a" descriptor "../e" files " " users ""
 "#;
-
-#[test]
-fn a_server_file_is_read_as_it_is_written(rt: HostRuntime) -> Result<(), Fail> {
-    for row in SERVERS.lines().filter(|line| is_row(line)) {
-        let text = text_of(rt.alloc(), cell(row, 0))?;
-        let server = read_server(rt.alloc(), text.as_str())?;
-        let found = summary_of_server(rt.alloc(), &server)?;
-        let wanted = text_of(rt.alloc(), cell(row, 1))?;
-        assert_eq!(rt; found.as_str().trim_end(), wanted.as_str(), "{row}");
-    }
-    Ok(())
-}
 
 /// A users file, its summary.
 const USERS: &str = r#"
 user = []                                                                           | ""
-user = [{ name = "a", salt = "", digest = "<64*0>", roles = [] }]                   | user a salt  digest <64*0> roles
-user = [{ name = "b", salt = "fF0a", digest = "<4*0123456789ABCDEF>", roles = ["s", "r", "*"] }, { name = "a", salt = "<32*Ab>", digest = "<4*0123456789abcdef>", roles = ["r", "r"] }] | user b salt ff0a digest <4*0123456789abcdef> roles s r * ; user a salt <32*ab> digest <4*0123456789abcdef> roles r r
-[[user]] ; roles = ["r"] ; digest = "<64*f>" ; salt = "00" ; name = "c"             | user c salt 00 digest <64*f> roles r
+user = [{ name = "a", salt = "", digest = "<64*0>", roles = [] }]                   | user a salt  digest \{64*0} roles
+user = [{ name = "b", salt = "fF0a", digest = "<4*0123456789ABCDEF>", roles = ["s", "r", "*"] }, { name = "a", salt = "<32*Ab>", digest = "<4*0123456789abcdef>", roles = ["r", "r"] }] | user b salt ff0a digest \{4*0123456789abcdef} roles s r * ; user a salt \{32*ab} digest \{4*0123456789abcdef} roles r r
+[[user]] ; roles = ["r"] ; digest = "<64*f>" ; salt = "00" ; name = "c"             | user c salt 00 digest \{64*f} roles r
 "#;
 
 #[test]
-fn a_users_file_is_read_as_it_is_written(rt: HostRuntime) -> Result<(), Fail> {
-    for row in USERS.lines().filter(|line| is_row(line)) {
-        let text = text_of(rt.alloc(), cell(row, 0))?;
-        let users = read_users(rt.alloc(), text.as_str())?;
-        let found = summary_of_users(rt.alloc(), users.as_slice())?;
-        let wanted = text_of(rt.alloc(), cell(row, 1))?;
-        assert_eq!(rt; found.as_str().trim_end(), wanted.as_str(), "{row}");
+fn a_file_is_read_as_it_is_written(rt: HostRuntime) -> Result<(), Strays> {
+    for (format, table) in [
+        (Format::Descriptor, DESCRIPTORS),
+        (Format::Server, SERVERS),
+        (Format::Users, USERS),
+    ] {
+        hold(&rt, &[table], &Summaries(format))?;
     }
     Ok(())
+}
+
+/// What is read of a file of a format: its lines with ` ; ` between them.
+#[derive(Drop)]
+struct Summaries(Format);
+
+impl Asks for Summaries {
+    const QUESTION: usize = 1;
+
+    fn answer(&self, alloc: Global, row: &str, answer: &mut Vec<u8>) -> Result<(), NoMemory> {
+        let text = text_of(alloc, cell(row, 0))?;
+        let found = summary_of(alloc, self.0, text.as_str())?;
+        for (place, line) in found.as_str().lines().enumerate() {
+            if place > 0 {
+                answer.extend_from_slice(b" ; ")?;
+            }
+            answer.extend_from_slice(line.as_bytes())?;
+        }
+        Ok(())
+    }
 }

@@ -57,7 +57,7 @@ fn allows_plain(transport: Transport) -> bool
 }
 
 /// The lesser of two numbers, where there are any.
-fn lesser(number: Option<u64>, other: Option<u64>) -> Option<u64>
+pub fn lesser(number: Option<u64>, other: Option<u64>) -> Option<u64>
     ensures { result ≡ lesser number other }
 {
     match (number, other) {
@@ -82,7 +82,7 @@ impl Findings {
     ghost use Rattle.sv_constraints.specs.Findings.{findings_of, with_one, decided};
 
     /// What there is to find in no constraint.
-    fn none() -> Findings
+    pub fn none() -> Findings
         ensures { (rules : Rules) (caller : Option Caller) → result ≡ findings_of rules caller [] }
     {
         Findings {
@@ -95,7 +95,7 @@ impl Findings {
     }
 
     /// What there is to find with one more constraint.
-    fn with(self, constraint: &Constraint, rules: &Rules, caller: Option<&Caller>) -> Findings
+    pub fn with(self, constraint: &Constraint, rules: &Rules, caller: Option<&Caller>) -> Findings
         ensures { result ≡ with_one rules.now (option_copied caller.entry) constraint.now self }
     {
         let number = constraint.number;

@@ -1,21 +1,23 @@
 -- What is found for a path is its best match.
-use Rattle.std.proofs.Common.{◌≡◌, ℕ, ◌≤◌, true, List, [], ◌∷◌, ◌++◌, eqb, length, map, refl, sym, ◌∙◌, ap, arith, Option, Some, None, inl, inr}
+use Rattle.std.proofs.Common.{◌≡◌, ℕ, ◌≤◌, true, cond, List, [], ◌∷◌, ◌++◌, eqb, length, map, refl, sym, ◌∙◌, ap, arith, Option, Some, None, inl, inr, ◌⊎◌}
 use Rattle.std.specs.HashMap.{get_by_text}
+use Rattle.std.specs.List.{list_all}
 use Rattle.std.specs.Option.{option_and_then, option_or, option_to_list}
 use Rattle.std.proofs.lemmas.Bool.{cases_Bool, eqb-true}
 use Rattle.sv_mapping.specs.BestMatch.{best}
 use Rattle.sv_mapping.specs.MatchOrder.{exact_texts, extension_texts, prefix_texts}
-use Rattle.sv_mapping.specs.Pattern.{extension}
+use Rattle.sv_mapping.specs.Pattern.{extension, is_pattern}
 use Rattle.sv_pattern_table.specs.declared.index.Index.{Index}
 use Rattle.sv_pattern_table.specs.Index.{Finds}
 use Rattle.sv_pattern_table.specs.Places.{exact_place, first_place, place_of}
-use Rattle.sv_pattern_table.specs.Segments.{is_rooted, is_slashed, path_of, segments, segments_of}
+use Rattle.sv_pattern_table.specs.Segments.{is_rooted, segments, segments_of}
 use Rattle.sv_pattern_table.specs.Trie.{along, child, exact, prefix, reached}
+use Rattle.sv_pattern_table.proofs.Bare.{best_of_bare, best_of_empty}
 use Rattle.sv_pattern_table.proofs.Classes.{or_none}
 use Rattle.sv_pattern_table.proofs.Cuts.{segments_counted}
-use Rattle.sv_pattern_table.proofs.Paths.{clean_segments, segments_back}
+use Rattle.sv_pattern_table.proofs.Paths.{clean_segments, path_of, segments_back}
 use Rattle.sv_pattern_table.proofs.Places.{best_is_first_place, first_place-append}
-use Rattle.sv_pattern_table.proofs.Rooted.{rooted_back, rooted_path_of, slashed_rest}
+use Rattle.sv_pattern_table.proofs.Rooted.{rooted_back, rooted_cases, rooted_path_of}
 use Rattle.sv_pattern_table.proofs.Ways.{Stands, longest, way}
 
 -- ---- the way of a path
@@ -62,6 +64,21 @@ ladder patterns rest =
     ∙ (ap (option_or (exact_place patterns path)) (first_place-append patterns (prefix_texts path) (extension_texts path ++ (47 ∷ []) ∷ []) ∙ ap (option_or (first_place patterns (prefix_texts path))) last)
     ∙ or_regrouped (exact_place patterns path) (first_place patterns (prefix_texts path)) (otherwise patterns path)))
 
+-- what the trie finds for a path: nothing for one that is not rooted
+abbrev in_trie : List (List ℕ) → List ℕ → Option ℕ
+in_trie patterns path = option_or (cond (is_rooted path) (exact_place patterns path) None) (cond (is_rooted path) (first_place patterns (prefix_texts path)) None)
+
+whole_ladder : (patterns : List (List ℕ)) (path : List ℕ) → list_all is_pattern patterns ≡ true → best patterns path ≡ option_or (in_trie patterns path) (otherwise patterns path)
+whole_ladder patterns path accepted =
+    elim (cases_Bool (is_rooted path)) [
+      | inr bare ↦ rw bare (best_of_bare patterns path accepted bare)
+      | inl rooted ↦ rw rooted (rungs (rooted_cases path rooted))
+    ]
+  where
+    rungs : (path ≡ []) ⊎ ((rest : List ℕ) × (path ≡ 47 ∷ rest)) → best patterns path ≡ option_or (option_or (exact_place patterns path) (first_place patterns (prefix_texts path))) (otherwise patterns path)
+    rungs (inl e) = rw e (best_of_empty patterns ∙ ap (λ o. option_or o (place_of patterns (47 ∷ []))) (sym (or_none (place_of patterns (47 ∷ 42 ∷ [])))))
+    rungs (inr e) = rw e.1 (ladder patterns e.0)
+
 -- what the index has where the trie has nothing
 same_otherwise : (index : Index) (patterns : List (List ℕ)) → Finds index patterns → (path : List ℕ) → option_or (option_and_then (λ wanted. get_by_text index.extensions wanted) (extension path)) index.default ≡ otherwise patterns path
 same_otherwise index patterns finds path =
@@ -74,19 +91,18 @@ some_first a b n h = rw h refl
 none_first : (a b : Option ℕ) → a ≡ None → option_or a b ≡ b
 none_first a b h = rw h refl
 
-pub found_in_trie : (patterns : List (List ℕ)) (path : List ℕ) (e x : Option ℕ) (n : ℕ) → is_slashed path ≡ true → e ≡ exact_place patterns path → x ≡ first_place patterns (prefix_texts path) → option_or e x ≡ Some n → Some n ≡ best patterns path
-found_in_trie patterns path e x n slashed exactly longest some =
-    let rest = slashed_rest path slashed in
-    let known : option_or (exact_place patterns path) (first_place patterns (prefix_texts path)) ≡ Some n = sym (ap (λ a. option_or a x) exactly ∙ ap (option_or (exact_place patterns path)) longest) ∙ some in
-    sym (ap (best patterns) rest.1 ∙ (ladder patterns rest.0 ∙ (ap (λ p. option_or (option_or (exact_place patterns p) (first_place patterns (prefix_texts p))) (otherwise patterns p)) (sym rest.1) ∙ some_first _ _ n known)))
+both_known : (patterns : List (List ℕ)) (path : List ℕ) (e x : Option ℕ) → e ≡ cond (is_rooted path) (exact_place patterns path) None → x ≡ cond (is_rooted path) (first_place patterns (prefix_texts path)) None → in_trie patterns path ≡ option_or e x
+both_known patterns path e x exactly longest = sym (ap (λ a. option_or a x) exactly ∙ ap (option_or (cond (is_rooted path) (exact_place patterns path) None)) longest)
 
-pub found_otherwise : (index : Index) (patterns : List (List ℕ)) (path : List ℕ) (e x found : Option ℕ) → Finds index patterns → is_slashed path ≡ true → e ≡ exact_place patterns path → x ≡ first_place patterns (prefix_texts path) → option_or e x ≡ None
+pub found_in_trie : (patterns : List (List ℕ)) (path : List ℕ) (e x : Option ℕ) (n : ℕ) → list_all is_pattern patterns ≡ true → e ≡ cond (is_rooted path) (exact_place patterns path) None → x ≡ cond (is_rooted path) (first_place patterns (prefix_texts path)) None → option_or e x ≡ Some n → Some n ≡ best patterns path
+found_in_trie patterns path e x n accepted exactly longest some =
+    sym (whole_ladder patterns path accepted ∙ some_first (in_trie patterns path) (otherwise patterns path) n (both_known patterns path e x exactly longest ∙ some))
+
+pub found_otherwise : (index : Index) (patterns : List (List ℕ)) (path : List ℕ) (e x found : Option ℕ) → Finds index patterns → e ≡ cond (is_rooted path) (exact_place patterns path) None → x ≡ cond (is_rooted path) (first_place patterns (prefix_texts path)) None → option_or e x ≡ None
     → found ≡ option_or (option_and_then (λ wanted. get_by_text index.extensions wanted) (extension path)) index.default → found ≡ best patterns path
-found_otherwise index patterns path e x found finds slashed exactly longest none is =
-    let rest = slashed_rest path slashed in
-    let known : option_or (exact_place patterns path) (first_place patterns (prefix_texts path)) ≡ None = sym (ap (λ a. option_or a x) exactly ∙ ap (option_or (exact_place patterns path)) longest) ∙ none in
+found_otherwise index patterns path e x found finds exactly longest none is =
     is ∙ (same_otherwise index patterns finds path
-    ∙ sym (ap (best patterns) rest.1 ∙ (ladder patterns rest.0 ∙ (ap (λ p. option_or (option_or (exact_place patterns p) (first_place patterns (prefix_texts p))) (otherwise patterns p)) (sym rest.1) ∙ none_first _ _ known))))
+    ∙ sym (whole_ladder patterns path finds.accepted ∙ none_first (in_trie patterns path) (otherwise patterns path) (both_known patterns path e x exactly longest ∙ none)))
 
 -- a path has no more segments than slashes
 pub segments_most : (path : List ℕ) → length (segments_of path) ≤ segments path

@@ -1,4 +1,5 @@
 pub mod Added
+pub mod Bare
 pub mod Classes
 pub mod Cuts
 pub mod Found

@@ -1,5 +1,5 @@
 -- What the nodes of a trie keep after one is added or changed.
-use Rattle.std.proofs.Common.{◌≡◌, ◌≢◌, ℕ, ◌+◌, ◌<◌, cond, List, [], ◌∷◌, ◌++◌, eqb, ltb, length, get_or, slice_set, refl, sym, ◌∙◌, ap, arith, zero, suc, length-append, Option, Some, None, inl, inr}
+use Rattle.std.proofs.Common.{◌≡◌, ◌≤◌, ◌≢◌, ℕ, ◌+◌, ◌<◌, cond, List, [], ◌∷◌, ◌++◌, eqb, ltb, length, get_or, slice_set, refl, sym, ◌∙◌, ap, arith, zero, suc, length-append, Option, Some, None, inl, inr}
 use Rattle.std.specs.HashMap.{get_by_text}
 use Rattle.std.specs.List.{slice_get}
 use Rattle.std.specs.Option.{option_and_then, option_or}
@@ -8,8 +8,8 @@ use Rattle.std.proofs.lemmas.Bool.{cases_Bool, eqb-false, eqb-true, ltb-false, l
 use Rattle.std.proofs.lemmas.List.{get_or-set_other, get_or-set_same, length-set}
 use Rattle.std.proofs.lemmas.Option.{slice_get-get_or, slice_get_past, slice_get_read}
 use Rattle.sv_pattern_table.specs.declared.node.Node.{Node}
-use Rattle.sv_pattern_table.specs.Trie.{Adds, Enters, Grows, IsTree, along, child, exact, prefix, kept}
-use Rattle.sv_pattern_table.proofs.Trees.{kept_here, kept_others}
+use Rattle.sv_pattern_table.specs.Trie.{Adds, Enters, Grows, IsTree, along, child, exact, prefix, kept, looked_up}
+use Rattle.sv_pattern_table.proofs.Trees.{cases_Option, kept_here, kept_others}
 
 pub child_at : (nodes : List Node) (at : ℕ) (node : Node) (segment : List ℕ) → at < length nodes → node ≡ get_or nodes at node → child nodes at segment ≡ get_by_text node.children segment
 child_at nodes at node segment within is = rw (slice_get_read nodes (length nodes) at node refl within is) refl
@@ -90,6 +90,20 @@ along_none nodes at held rest behind segment cut none = rw (cut, none) refl
 
 pub along_some : (nodes : List Node) (at next : ℕ) (held : Option ℕ) (rest behind : List (List ℕ)) (segment : List ℕ) → rest ≡ segment ∷ behind → child nodes at segment ≡ Some next → along (child nodes) (exact nodes) (prefix nodes) at held rest ≡ along (child nodes) (exact nodes) (prefix nodes) next (option_or (prefix nodes next) held) behind
 along_some nodes at next held rest behind segment cut some = rw (cut, some) refl
+
+pub looked_none : (nodes : List Node) (at : ℕ) (rest behind : List (List ℕ)) (segment : List ℕ) → rest ≡ segment ∷ behind → child nodes at segment ≡ None → looked_up (child nodes) at rest ≡ 1
+looked_none nodes at rest behind segment cut none = rw (cut, none) refl
+
+pub looked_some : (nodes : List Node) (at next : ℕ) (rest behind : List (List ℕ)) (segment : List ℕ) → rest ≡ segment ∷ behind → child nodes at segment ≡ Some next → looked_up (child nodes) at rest ≡ 1 + looked_up (child nodes) next behind
+looked_some nodes at next rest behind segment cut some = rw (cut, some) refl
+
+pub looked_least : (child : ℕ → List ℕ → Option ℕ) (at : ℕ) (rest behind : List (List ℕ)) (segment : List ℕ) → rest ≡ segment ∷ behind → 1 ≤ looked_up child at rest
+looked_least child at rest behind segment cut = rw cut (omega arith)
+
+-- no more segments are looked up than there are
+pub looked_most : (child : ℕ → List ℕ → Option ℕ) (at : ℕ) (segments : List (List ℕ)) → looked_up child at segments ≤ length segments
+looked_most child at [] = omega arith
+looked_most child at (s ∷ ss) = elim (cases_Option (child at s)) [ inl e ↦ rw e (omega arith) | inr e ↦ rw e.1 (omega (arith, looked_most child e.0 ss)) ]
 
 -- ---- a place is kept by the node to which segments lead
 tree_same : (child other : ℕ → List ℕ → Option ℕ) (count others : ℕ) (paths : ℕ → List (List ℕ)) → child ≡ other → count ≡ others → IsTree other others paths → IsTree child count paths

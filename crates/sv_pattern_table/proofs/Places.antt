@@ -48,13 +48,14 @@ place-push patterns pattern text =
     ∙ ap (λ o. option_or o (cond (bytes_eq pattern text) (Some (length patterns)) None)) (sym (position_from-zero _ patterns))))
 
 -- ---- the first place of several texts
-abbrev among : List (List ℕ) → List ℕ → Bool
+-- a text is among the patterns
+abbrev pub among : List (List ℕ) → List ℕ → Bool
 among patterns text = list_any (λ pattern. bytes_eq pattern text) patterns
 
-place_none : (patterns : List (List ℕ)) (text : List ℕ) → among patterns text ≡ false → place_of patterns text ≡ None
+pub place_none : (patterns : List (List ℕ)) (text : List ℕ) → among patterns text ≡ false → place_of patterns text ≡ None
 place_none patterns text h = position_from-zero _ patterns ∙ from_none (λ p. bytes_eq p text) 0 patterns h
 
-place_stays : (patterns : List (List ℕ)) (text : List ℕ) (other : Option ℕ) → among patterns text ≡ true → option_or (place_of patterns text) other ≡ place_of patterns text
+pub place_stays : (patterns : List (List ℕ)) (text : List ℕ) (other : Option ℕ) → among patterns text ≡ true → option_or (place_of patterns text) other ≡ place_of patterns text
 place_stays patterns text other h = rw (position_from-zero (λ p. bytes_eq p text) patterns) (from_stays (λ p. bytes_eq p text) 0 patterns other h)
 
 first_found : (patterns texts : List (List ℕ)) → first_place patterns texts ≡ option_and_then (place_of patterns) (find (among patterns) texts)
@@ -79,7 +80,7 @@ In-Contains x [] h = absurd h
 In-Contains x (y ∷ ys) (inl e) = (0, omega arith, sym e)
 In-Contains x (y ∷ ys) (inr h) = Contains-append_right (y ∷ []) ys x (In-Contains x ys h)
 
-best_place : (patterns : List (List ℕ)) (path : List ℕ) → best patterns path ≡ option_and_then (place_of patterns) (best_pattern patterns path)
+pub best_place : (patterns : List (List ℕ)) (path : List ℕ) → best patterns path ≡ option_and_then (place_of patterns) (best_pattern patterns path)
 best_place patterns path = go (best_pattern patterns path) refl
   where
     matched : (a : List ℕ) → is_best patterns path a ≡ true → matches a path ≡ true

@@ -63,3 +63,8 @@ pub record Adds (old new : List Node) (segments : List (List ℕ)) (place : ℕ)
 abbrev pub along : (ℕ → List ℕ → Option ℕ) → (ℕ → Option ℕ) → (ℕ → Option ℕ) → ℕ → Option ℕ → List (List ℕ) → Option ℕ × Option ℕ
 along child exact prefix at held [] = (exact at, held)
 along child exact prefix at held (segment ∷ segments) = option_map_or (λ next. along child exact prefix next (option_or (prefix next) held) segments) (child at segment) (None, held)
+
+-- how many segments are looked up: those that lead on, and the first that does not
+abbrev pub looked_up : (ℕ → List ℕ → Option ℕ) → ℕ → List (List ℕ) → ℕ
+looked_up child at [] = 0
+looked_up child at (segment ∷ segments) = 1 + option_map_or (λ next. looked_up child next segments) (child at segment) 0

@@ -1,6 +1,6 @@
 //! The places of patterns, kept for look-ups.
 
-ghost use Rattle.std.specs.Prelude.{◌≡◌, ℕ, ◌≤◌, ◌+◌, [], ◌∷◌, ◌++◌, List, length, IfOk, IfNone, OnOk, IsTrue, Some, if◌then◌else◌};
+ghost use Rattle.std.specs.Prelude.{◌≡◌, ℕ, ◌≤◌, ◌+◌, [], ◌∷◌, ◌++◌, List, length, IfOk, IfNone, OnOk, IsTrue, None, Some, if◌then◌else◌};
 ghost use Rattle.std.specs.HashMap.{get_by_text};
 ghost use Rattle.std.specs.Option.{option_and_then, option_or};
 ghost use Rattle.std.specs.Str.{bytes_eq};
@@ -9,7 +9,7 @@ ghost use Rattle.sv_mapping.specs.MatchOrder.{prefix_texts};
 ghost use Rattle.sv_mapping.specs.Pattern.{extension, is_pattern};
 ghost use Rattle.sv_pattern_table.specs.Index.{Finds};
 ghost use Rattle.sv_pattern_table.specs.Places.{exact_place, first_place};
-ghost use Rattle.sv_pattern_table.specs.Segments.{is_rooted, is_slashed, segments_of};
+ghost use Rattle.sv_pattern_table.specs.Segments.{is_rooted, segments_of};
 ghost use Rattle.sv_pattern_table.specs.Trie.{IsTrie};
 
 use crate::extension::extension_of;
@@ -92,7 +92,7 @@ impl Index {
     /// The best match for a path.
     pub(crate) fn find(&self, path: &str) -> Looked
         requires { IsTrie self.now.trie.nodes.items }
-        ensures best { (patterns : List (List ℕ)) → Finds self.now patterns → IsTrue (is_slashed path.now) → result.best ≡ best patterns path.now }
+        ensures best { (patterns : List (List ℕ)) → Finds self.now patterns → result.best ≡ best patterns path.now }
         ensures probes { result.probes ≤ length (segments_of path.now) + 1 }
     {
         let way = self.way(path);
@@ -110,8 +110,8 @@ impl Index {
 
     fn way(&self, path: &str) -> Way
         requires { IsTrie self.now.trie.nodes.items }
-        ensures exact { (patterns : List (List ℕ)) → Finds self.now patterns → IsTrue (is_rooted path.now) → result.exact ≡ exact_place patterns path.now }
-        ensures prefix { (patterns : List (List ℕ)) → Finds self.now patterns → IsTrue (is_rooted path.now) → result.prefix ≡ first_place patterns (prefix_texts path.now) }
+        ensures exact { (patterns : List (List ℕ)) → Finds self.now patterns → result.exact ≡ (if is_rooted path.now then exact_place patterns path.now else None) }
+        ensures prefix { (patterns : List (List ℕ)) → Finds self.now patterns → result.prefix ≡ (if is_rooted path.now then first_place patterns (prefix_texts path.now) else None) }
         ensures probes { result.probes ≤ length (segments_of path.now) }
     {
         if is_rooted(path) {

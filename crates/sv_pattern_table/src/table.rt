@@ -1,9 +1,9 @@
 //! Compiled URL patterns.
 
-ghost use Rattle.std.specs.Prelude.{◌≡◌, ◌<◌, ◌≤◌, ◌+◌, length, IfSome, IsTrue, slice_get};
+ghost use Rattle.std.specs.Prelude.{◌≡◌, ◌<◌, ◌≤◌, ◌+◌, length, IfSome, slice_get};
 ghost use Rattle.std.specs.Option.{option_and_then};
 ghost use Rattle.sv_mapping.specs.BestMatch.{best, best_pattern};
-ghost use Rattle.sv_pattern_table.specs.Segments.{is_slashed, segments};
+ghost use Rattle.sv_pattern_table.specs.Segments.{segments};
 ghost use Rattle.sv_text.specs.Gives.{GivesAnswer};
 
 use crate::index::{Index, Looked};
@@ -59,9 +59,9 @@ impl PatternTable {
     /// then the longest prefix, then an extension, then the default pattern; of equal patterns the first. It takes no memory,
     /// and at most one look-up for each slash of the path, and one more.
     pub fn lookup(&self, path: &str) -> Looked
-        ensures best { IsTrue (is_slashed path.now) → result.best ≡ best self.now path.now }
-        ensures within { IsTrue (is_slashed path.now) → IfSome result.best (λ place. place < length self.now) }
-        ensures text { IsTrue (is_slashed path.now) → option_and_then (λ place. slice_get self.now place) result.best ≡ best_pattern self.now path.now }
+        ensures best { result.best ≡ best self.now path.now }
+        ensures within { IfSome result.best (λ place. place < length self.now) }
+        ensures text { option_and_then (λ place. slice_get self.now place) result.best ≡ best_pattern self.now path.now }
         ensures probes { result.probes ≤ segments path.now + 1 }
     {
         self.index.find(path)

@@ -1,10 +1,10 @@
 //! A trie over the segments of paths, which keeps the places of exact patterns and of prefix patterns.
 
-ghost use Rattle.std.specs.Prelude.{◌≡◌, ℕ, ◌<◌, ◌≤◌, ◌+◌, List, length, map, Some, None, IfOk, OnOk};
+ghost use Rattle.std.specs.Prelude.{◌≡◌, ℕ, ◌<◌, List, length, map, Some, None, IfOk, OnOk};
 ghost use Rattle.std.specs.Option.{option_or};
 ghost use Rattle.sv_pattern_table.specs.Segments.{segments_of};
 ghost use Rattle.sv_pattern_table.specs.Trie as spec;
-ghost use Rattle.sv_pattern_table.specs.Trie.{Adds, IsTrie, Grows, Enters, along};
+ghost use Rattle.sv_pattern_table.specs.Trie.{Adds, IsTrie, Grows, Enters, along, looked_up};
 
 use crate::node::Node;
 use crate::segments::{behind_root, cut};
@@ -104,7 +104,7 @@ impl Trie {
         requires { IsTrie self.now.nodes.items }
         ensures found { let nodes = self.now.nodes.items in
             along (spec.child nodes) (spec.exact nodes) (spec.prefix nodes) 0 (spec.prefix nodes 0) (segments_of path.now) ≡ (result.exact, result.prefix) }
-        ensures probes { result.probes ≤ length (segments_of path.now) }
+        ensures probes { result.probes ≡ looked_up (spec.child self.now.nodes.items) 0 (segments_of path.now) }
     {
         let mut at = 0;
         let mut prefix = self.nodes[0].prefix;

@@ -2,7 +2,6 @@ use Rattle.std.proofs.Common.{rules, ◌≤◌, arith, length, sym, ap, ◌∙�
 use Rattle.std.specs.Option.{option_or}
 use Rattle.sv_pattern_table.proofs.Cuts.{segments_fit}
 use Rattle.sv_pattern_table.proofs.Found.{found_in_trie, found_otherwise}
-use Rattle.sv_pattern_table.proofs.Rooted.{slashed_rest, slashed_rooted}
 use Rattle.sv_pattern_table.proofs.index.Index.find.Goals as goal
 
 pub overflow_add-result : goal.overflow_add-result
@@ -11,14 +10,10 @@ overflow_add-result c =
     search (rules, bound)
 
 pub returns-in-Some-clause-best : goal.returns-in-Some-clause-best
-returns-in-Some-clause-best c = λ patterns finds slashed.
-    let rest = slashed_rest c.args.path.now slashed in
-    let rooted = slashed_rooted c.args.path.now rest.0 rest.1 in
-    found_in_trie patterns c.args.path.now _ _ c.in-Some.place slashed (c.way-way.ensures.exact patterns finds rooted) (c.way-way.ensures.prefix patterns finds rooted) (sym c.or.ensures ∙ c.in-Some.is)
+returns-in-Some-clause-best c = λ patterns finds.
+    found_in_trie patterns c.args.path.now _ _ c.in-Some.place finds.accepted (c.way-way.ensures.exact patterns finds) (c.way-way.ensures.prefix patterns finds) (sym c.or.ensures ∙ c.in-Some.is)
 
 pub returns-in-None-clause-best : goal.returns-in-None-clause-best
-returns-in-None-clause-best c = λ patterns finds slashed.
-    let rest = slashed_rest c.args.path.now slashed in
-    let rooted = slashed_rooted c.args.path.now rest.0 rest.1 in
-    found_otherwise c.args.self.now patterns c.args.path.now _ _ _ finds slashed (c.way-way.ensures.exact patterns finds rooted) (c.way-way.ensures.prefix patterns finds rooted) (sym c.or.ensures ∙ c.in-None.is)
+returns-in-None-clause-best c = λ patterns finds.
+    found_otherwise c.args.self.now patterns c.args.path.now _ _ _ finds (c.way-way.ensures.exact patterns finds) (c.way-way.ensures.prefix patterns finds) (sym c.or.ensures ∙ c.in-None.is)
     (c.or-in-None.ensures ∙ ap (λ o. option_or o c.args.self.now.default) c.by_extension.ensures)

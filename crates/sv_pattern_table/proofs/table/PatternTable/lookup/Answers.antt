@@ -7,8 +7,8 @@ use Rattle.sv_pattern_table.proofs.Found.{segments_most}
 use Rattle.sv_pattern_table.proofs.table.PatternTable.lookup.Goals as goal
 
 pub returns-clause-text : goal.returns-clause-text
-returns-clause-text c = λ slashed.
-    ap (option_and_then (λ place. slice_get c.args.self.now place)) (c.find.ensures.best _ c.self.invariant slashed ∙ ap (λ patterns. best patterns c.args.path.now) c.self.view_is) ∙ get-position (is_best c.args.self.now c.args.path.now) c.args.self.now
+returns-clause-text c =
+    ap (option_and_then (λ place. slice_get c.args.self.now place)) (c.find.ensures.best _ c.self.invariant ∙ ap (λ patterns. best patterns c.args.path.now) c.self.view_is) ∙ get-position (is_best c.args.self.now c.args.path.now) c.args.self.now
 
 pub returns-clause-probes : goal.returns-clause-probes
 returns-clause-probes c = omega (arith, c.find.ensures.probes, segments_most c.args.path.now)

@@ -1,0 +1,11 @@
+//! Tests of canonical paths: tables whose rows a reader can check against the standards.
+#![tactic(auto)]
+
+#[cfg(test)]
+mod ample_memory;
+#[cfg(test)]
+mod canonical_paths;
+#[cfg(test)]
+mod specification_table;
+#[cfg(test)]
+mod targets;

@@ -1,0 +1,40 @@
+//! Each call that may be refused memory, with memory at hand.
+
+use crate::policies::texts_of;
+use std::test::Fail;
+use sv_constraints::{Cause, Decision, OwnedDecision, Why};
+use sv_mapping::Pattern;
+use sv_realm::Caller;
+use sv_text::{Text, copied_texts};
+
+#[test]
+fn a_decision_is_copied(rt: HostRuntime) -> Result<(), Fail> {
+    let pattern = Pattern::parse(rt.alloc(), "/a/*")?;
+    let why = Why {
+        pattern: Some(&pattern),
+        number: Some(2),
+        cause: Cause::NeedsCaller,
+    };
+    let copy = OwnedDecision::copy_of(rt.alloc(), Decision::Login(why))?;
+    let text = format!(in rt.alloc(); "{} {}", copy.word(), copy.why())?;
+    assert_eq!(rt;
+        text.as_str(),
+        "login pattern=/a/* constraint=2 cause=NeedsCaller"
+    );
+    Ok(())
+}
+
+#[test]
+fn a_caller_is_copied(rt: HostRuntime) -> Result<(), Fail> {
+    let caller = Caller {
+        number: 3,
+        name: Text::copy_of(rt.alloc(), "ann")?,
+        roles: texts_of(rt.alloc(), "a,b")?,
+    };
+    let copy = Caller::copy_of(rt.alloc(), &caller)?;
+    let roles = copied_texts(rt.alloc(), copy.roles.as_slice())?;
+    let last = roles.as_slice().last().map_or("-", Text::as_str);
+    let text = format!(in rt.alloc(); "{} {} {last}", copy.number, copy.name)?;
+    assert_eq!(rt; text.as_str(), "3 ann b");
+    Ok(())
+}

@@ -1,0 +1,15 @@
+//! Tests of patterns, users and constraints: tables whose rows a reader can check against the specification.
+#![tactic(auto)]
+
+#[cfg(test)]
+mod ample_memory;
+#[cfg(test)]
+mod best_matches;
+#[cfg(test)]
+mod credentials;
+#[cfg(test)]
+mod pattern_texts;
+#[cfg(test)]
+mod policies;
+#[cfg(test)]
+mod verdicts;

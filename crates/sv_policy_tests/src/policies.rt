@@ -1,0 +1,160 @@
+//! How constraints, rules and callers are written, and what is decided by them.
+
+use std::alloc::Global;
+use sv_constraints::{Auth, Collection, Constraint, Methods, Rules, Transport, decide_plain};
+use sv_mapping::Pattern;
+use sv_realm::Caller;
+use sv_rows::{Asks, cell};
+use sv_text::{Listed, NoMemory, Text};
+
+/// The decision on a row's request, by the constraints and the rules of the row.
+pub struct Verdicts;
+
+impl Asks for Verdicts {
+    const QUESTION: usize = 4;
+
+    fn answer(&self, alloc: Global, row: &str, answer: &mut Vec<u8>) -> Result<(), NoMemory> {
+        let rules = rules_of(alloc, cell(row, 1))?;
+        let told = told(alloc, cell(row, 0), &rules, cell(row, 2), cell(row, 3))?;
+        answer.extend_from_slice(told.as_bytes())?;
+        Ok(())
+    }
+}
+
+/// The decision on a row's request, by these constraints and no rules.
+#[derive(Drop)]
+pub struct Requests(pub &'static str);
+
+impl Asks for Requests {
+    const QUESTION: usize = 2;
+
+    fn answer(&self, alloc: Global, row: &str, answer: &mut Vec<u8>) -> Result<(), NoMemory> {
+        let rules = rules_of(alloc, "-")?;
+        let told = told(alloc, self.0, &rules, cell(row, 0), cell(row, 1))?;
+        answer.extend_from_slice(told.as_bytes())?;
+        Ok(())
+    }
+}
+
+/// The text of the decision on a request, which is a method and a path.
+fn told(
+    alloc: Global,
+    constraints: &str,
+    rules: &Rules,
+    request: &str,
+    caller: &str,
+) -> Result<String, NoMemory> {
+    let constraints = constraints_of(alloc, constraints)?;
+    let caller = caller_of(alloc, caller)?;
+    let (method, path) = request.split_once(' ').unwrap_or((request, ""));
+    let decision = decide_plain(constraints.as_slice(), rules, method, path, caller.as_ref());
+    Ok(format!(in alloc; "{decision}")?)
+}
+
+/// The constraints that a cell lists, numbered from 1 where they have no number.
+fn constraints_of(alloc: Global, cell: &str) -> Result<Vec<Constraint>, NoMemory> {
+    let mut constraints = Vec::new(alloc);
+    if cell.is_empty() {
+        return Ok(constraints);
+    }
+    for (place, text) in cell.split("; ").enumerate() {
+        constraints.push(constraint_of(alloc, place, text)?)?;
+    }
+    Ok(constraints)
+}
+
+fn constraint_of(alloc: Global, place: usize, text: &str) -> Result<Constraint, NoMemory> {
+    let (number, text) = text.split_once(": ").unwrap_or(("", text));
+    let (who, coverage) = text.split_once(" on ").unwrap_or((text, ""));
+    let (who, guarantee) = who.split_once(" over ").unwrap_or((who, ""));
+    Ok(Constraint {
+        number: number
+            .parse::<u64>()
+            .unwrap_or((place as u64).saturating_add(1)),
+        collections: collections_of(alloc, coverage)?,
+        auth: auth_of(alloc, who)?,
+        transport: transport_of(guarantee),
+    })
+}
+
+fn collections_of(alloc: Global, coverage: &str) -> Result<Listed<Collection>, NoMemory> {
+    let mut collections = Vec::new(alloc);
+    for collection in coverage.split(" and ") {
+        let (patterns, methods) = collection.split_once(' ').unwrap_or((collection, ""));
+        collections.push(Collection {
+            patterns: Listed::from_vec(patterns_of(alloc, patterns, ',')?),
+            methods: methods_of(alloc, methods)?,
+        })?;
+    }
+    Ok(Listed::from_vec(collections))
+}
+
+/// The patterns of a list, in which `""` stands for the empty one. A text that is no pattern ends the test.
+pub fn patterns_of(alloc: Global, list: &str, between: char) -> Result<Vec<Pattern>, NoMemory> {
+    let mut patterns = Vec::new(alloc);
+    for name in list.split(between) {
+        let text = if name == "\"\"" { "" } else { name };
+        let Ok(pattern) = Pattern::parse(alloc, text) else {
+            return Err(NoMemory);
+        };
+        patterns.push(pattern)?;
+    }
+    Ok(patterns)
+}
+
+fn methods_of(alloc: Global, text: &str) -> Result<Methods, NoMemory> {
+    if text.is_empty() {
+        return Ok(Methods::All);
+    }
+    match text.strip_prefix('!') {
+        Some(omitted) => Ok(Methods::Except(texts_of(alloc, omitted)?)),
+        None => Ok(Methods::Only(texts_of(alloc, text)?)),
+    }
+}
+
+fn auth_of(alloc: Global, who: &str) -> Result<Auth, NoMemory> {
+    match who {
+        "open" => Ok(Auth::Absent),
+        "nobody" => Ok(Auth::Roles(texts_of(alloc, "")?)),
+        roles => Ok(Auth::Roles(texts_of(alloc, roles)?)),
+    }
+}
+
+fn transport_of(guarantee: &str) -> Transport {
+    match guarantee {
+        "none" => Transport::Plain,
+        "integral" => Transport::Integral,
+        "confidential" => Transport::Confidential,
+        _ => Transport::Absent,
+    }
+}
+
+fn rules_of(alloc: Global, cell: &str) -> Result<Rules, NoMemory> {
+    Ok(Rules {
+        declared: texts_of(alloc, cell.strip_prefix("roles ").unwrap_or(""))?,
+        deny_uncovered: cell == "deny",
+    })
+}
+
+fn caller_of(alloc: Global, cell: &str) -> Result<Option<Caller>, NoMemory> {
+    let Some(roles) = cell.strip_prefix("caller") else {
+        return Ok(None);
+    };
+    Ok(Some(Caller {
+        number: 0,
+        name: Text::copy_of(alloc, "ann")?,
+        roles: texts_of(alloc, roles.trim())?,
+    }))
+}
+
+/// The texts between commas.
+pub fn texts_of(alloc: Global, list: &str) -> Result<Listed<Text>, NoMemory> {
+    let mut texts = Vec::new(alloc);
+    if list.is_empty() {
+        return Ok(Listed::from_vec(texts));
+    }
+    for text in list.split(',') {
+        texts.push(Text::copy_of(alloc, text)?)?;
+    }
+    Ok(Listed::from_vec(texts))
+}

@@ -1,0 +1,87 @@
+//! Bytes that are written as escapes.
+
+use std::alloc::Global;
+use sv_text::NoMemory;
+
+/// How far an escape has been read.
+#[derive(Clone, Copy)]
+enum Escape {
+    Outside,
+    Backslash,
+    FirstDigit,
+    SecondDigit(u8),
+}
+
+impl Escape {
+    /// What follows a byte, and the byte that is read there.
+    fn step(self, byte: u8) -> (Escape, Option<u8>) {
+        match self {
+            Escape::Outside if byte == b'\\' => (Escape::Backslash, None),
+            Escape::Outside => (Escape::Outside, Some(byte)),
+            Escape::Backslash if byte == b'x' => (Escape::FirstDigit, None),
+            Escape::Backslash => (Escape::Outside, Some(named_byte(byte))),
+            Escape::FirstDigit => (Escape::SecondDigit(digit_value(byte)), None),
+            Escape::SecondDigit(high) => {
+                (Escape::Outside, Some((high & 15) << 4 | digit_value(byte)))
+            }
+        }
+    }
+}
+
+/// The byte that a letter after a backslash stands for.
+fn named_byte(letter: u8) -> u8 {
+    match letter {
+        b'r' => b'\r',
+        b'n' => b'\n',
+        b't' => b'\t',
+        other => other,
+    }
+}
+
+/// The value of a hexadecimal digit, 0 for any other byte.
+fn digit_value(digit: u8) -> u8 {
+    match digit {
+        b'0'..=b'9' => digit - b'0',
+        b'A'..=b'F' => digit - b'A' + 10,
+        b'a'..=b'f' => digit - b'a' + 10,
+        _ => 0,
+    }
+}
+
+/// The bytes of a text in which `\r`, `\n`, `\t`, `\\` and `\xHH` stand for bytes, and `\{COUNT*PART}` for a part that
+/// is repeated.
+pub fn unescaped(alloc: Global, text: &str) -> Result<Vec<u8>, NoMemory> {
+    let mut bytes = Vec::new(alloc);
+    for (place, piece) in text.split("\\{").enumerate() {
+        let (repeated, rest) = if place == 0 {
+            ("", piece)
+        } else {
+            piece.split_once('}').unwrap_or((piece, ""))
+        };
+        push_times(&mut bytes, repeated)?;
+        push_unescaped(&mut bytes, rest)?;
+    }
+    Ok(bytes)
+}
+
+/// Appends a part so many times, as `COUNT*PART` says.
+fn push_times(bytes: &mut Vec<u8>, repeated: &str) -> Result<(), NoMemory> {
+    let (count, part) = repeated.split_once('*').unwrap_or(("0", ""));
+    for _ in 0..count.parse::<u32>().unwrap_or(0) {
+        push_unescaped(bytes, part)?;
+    }
+    Ok(())
+}
+
+/// Appends the bytes of a text without repeated parts.
+fn push_unescaped(bytes: &mut Vec<u8>, text: &str) -> Result<(), NoMemory> {
+    let mut escape = Escape::Outside;
+    for byte in text.as_bytes() {
+        let (next, read) = escape.step(*byte);
+        escape = next;
+        if let Some(read) = read {
+            bytes.push(read)?;
+        }
+    }
+    Ok(())
+}
