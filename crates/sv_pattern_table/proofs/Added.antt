@@ -12,10 +12,11 @@ use Rattle.sv_pattern_table.specs.declared.index.Index.{Index}
 use Rattle.sv_pattern_table.specs.declared.node.Node.{Node}
 use Rattle.sv_pattern_table.specs.Index.{Finds}
 use Rattle.sv_pattern_table.specs.Places.{exact_place, place_of}
-use Rattle.sv_pattern_table.specs.Segments.{is_rooted, path_of, segments_of}
+use Rattle.sv_pattern_table.specs.Segments.{is_rooted, segments_of}
 use Rattle.sv_pattern_table.specs.Trie.{Adds, child, exact, prefix, kept}
 use Rattle.sv_pattern_table.proofs.Classes.{empty_exact, equal, exact-push, exact_exact, fits_exactly, one, or_none, prefix_exact, prefix_prefix, short_prefix, slash_exact, starred_exact, starred_prefix, unequal}
 use Rattle.sv_pattern_table.proofs.Places.{place-push}
+use Rattle.sv_pattern_table.proofs.Paths.{path_of}
 use Rattle.sv_pattern_table.proofs.Rooted.{rooted_back, rooted_front, rooted_pattern}
 
 -- what a trie keeps of the kind f for each rooted path
@@ -90,8 +91,8 @@ module _ (patterns : List (List ℕ)) (pattern : List ℕ) where
     }
 
     -- the trie stays
-    aside : (n : ℕ) → (keeps : List ℕ → Option ℕ) (after : List ℕ → Option ℕ) (f : List Node → ℕ → Option ℕ) → new.trie ≡ old.trie → Keeps f old.trie.nodes.items keeps → ((path : List ℕ) → is_rooted path ≡ true → keeps path ≡ after path) → Keeps f new.trie.nodes.items after
-    aside n keeps after f same before moved path rooted = rw same (before path rooted ∙ moved path rooted)
+    aside : (keeps : List ℕ → Option ℕ) (after : List ℕ → Option ℕ) (f : List Node → ℕ → Option ℕ) → new.trie ≡ old.trie → Keeps f old.trie.nodes.items keeps → ((path : List ℕ) → is_rooted path ≡ true → keeps path ≡ after path) → Keeps f new.trie.nodes.items after
+    aside keeps after f same before moved path rooted = rw same (before path rooted ∙ moved path rooted)
 
     pub finds_aside : new.trie ≡ old.trie → ((path : List ℕ) → is_rooted path ≡ true → fits_exactly pattern path ≡ false) → ((path : List ℕ) → is_rooted path ≡ true → bytes_eq pattern (below path) ≡ false)
         → ((wanted : List ℕ) → get_by_text new.extensions wanted ≡ place_of grown (42 ∷ 46 ∷ wanted)) → new.default ≡ place_of grown (47 ∷ [])
@@ -99,8 +100,8 @@ module _ (patterns : List (List ℕ)) (pattern : List ℕ) where
     finds_aside same no_exact no_prefix extensions default = record {
       accepted = all_push patterns pattern finds.accepted accepted;
       trie = rw same finds.trie;
-      exacts = aside 0 (exact_place patterns) (exact_place grown) exact same finds.exacts (λ path rooted. unmoved (length patterns) _ _ (fits_exactly pattern path) (exact-push patterns pattern path) (no_exact path rooted));
-      prefixes = aside 0 (λ path. place_of patterns (below path)) (λ path. place_of grown (below path)) prefix same finds.prefixes (λ path rooted. still (below path) (no_prefix path rooted));
+      exacts = aside (exact_place patterns) (exact_place grown) exact same finds.exacts (λ path rooted. unmoved (length patterns) _ _ (fits_exactly pattern path) (exact-push patterns pattern path) (no_exact path rooted));
+      prefixes = aside (λ path. place_of patterns (below path)) (λ path. place_of grown (below path)) prefix same finds.prefixes (λ path rooted. still (below path) (no_prefix path rooted));
       extensions = extensions;
       default = default;
     }

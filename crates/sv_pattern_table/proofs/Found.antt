@@ -10,12 +10,12 @@ use Rattle.sv_mapping.specs.Pattern.{extension, is_pattern}
 use Rattle.sv_pattern_table.specs.declared.index.Index.{Index}
 use Rattle.sv_pattern_table.specs.Index.{Finds}
 use Rattle.sv_pattern_table.specs.Places.{exact_place, first_place, place_of}
-use Rattle.sv_pattern_table.specs.Segments.{is_rooted, path_of, segments, segments_of}
+use Rattle.sv_pattern_table.specs.Segments.{is_rooted, segments, segments_of}
 use Rattle.sv_pattern_table.specs.Trie.{along, child, exact, prefix, reached}
 use Rattle.sv_pattern_table.proofs.Bare.{best_of_bare, best_of_empty}
 use Rattle.sv_pattern_table.proofs.Classes.{or_none}
 use Rattle.sv_pattern_table.proofs.Cuts.{segments_counted}
-use Rattle.sv_pattern_table.proofs.Paths.{clean_segments, segments_back}
+use Rattle.sv_pattern_table.proofs.Paths.{clean_segments, path_of, segments_back}
 use Rattle.sv_pattern_table.proofs.Places.{best_is_first_place, first_place-append}
 use Rattle.sv_pattern_table.proofs.Rooted.{rooted_back, rooted_cases, rooted_path_of}
 use Rattle.sv_pattern_table.proofs.Ways.{Stands, longest, way}

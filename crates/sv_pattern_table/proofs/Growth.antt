@@ -1,9 +1,9 @@
 -- What the trie keeps while nodes are added to it.
-use Rattle.std.proofs.Common.{◌≡◌, ℕ, ◌<◌, ◌≤◌, cond, List, [], ◌∷◌, ◌++◌, eqb, length, refl, sym, ◌∙◌, ap, arith, append-nil, append_assoc, Option, Some, None}
+use Rattle.std.proofs.Common.{◌≡◌, ℕ, ◌<◌, ◌≤◌, cond, List, [], ◌∷◌, ◌++◌, eqb, length, refl, sym, ◌∙◌, ap, arith, append_assoc, Option, Some, None}
 use Rattle.std.specs.Option.{option_and_then}
 use Rattle.std.proofs.lemmas.Option.{slice_get_past}
 use Rattle.sv_pattern_table.specs.declared.node.Node.{Node}
-use Rattle.sv_pattern_table.specs.Trie.{Enters, Grows, IsTrie, child, exact, prefix, reached}
+use Rattle.sv_pattern_table.specs.Trie.{Enters, Grows, child, exact, prefix, reached}
 use Rattle.sv_pattern_table.proofs.Trees.{Joins, here, kept_stays, reached-further, reached_stays, tree_grows}
 
 -- the segments behind `done` are still to be entered
@@ -11,16 +11,6 @@ pub record Entering (old new : List Node) (segments rest : List (List ℕ)) (at 
   pub done : List (List ℕ)
   pub whole : done ++ rest ≡ segments
   pub enters : Enters old new done at
-
-pub entering_first : (nodes : List Node) (segments rest : List (List ℕ)) → IsTrie nodes → rest ≡ segments → Entering nodes nodes segments rest 0
-entering_first nodes segments rest trie whole = record {
-  done = [];
-  whole = whole;
-  enters = record { trie = trie; within = trie.1.some; here = refl; exacts = λ others. refl; prefixes = λ others. refl };
-}
-
-pub entered : (old new : List Node) (segments : List (List ℕ)) (at : ℕ) → Entering old new segments [] at → Enters old new segments at
-entered old new segments at e = rw (← (sym (append-nil e.done) ∙ e.whole)) e.enters
 
 -- a child is there
 pub entering_child : (old new : List Node) (segments rest behind : List (List ℕ)) (segment : List ℕ) (at next : ℕ) → Entering old new segments rest at → rest ≡ segment ∷ behind → child new at segment ≡ Some next → Entering old new segments behind next

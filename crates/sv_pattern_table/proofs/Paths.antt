@@ -1,12 +1,16 @@
 -- Paths and their segments.
 use Rattle.std.proofs.Common.{◌≡◌, ℕ, false, List, [], ◌∷◌, ◌++◌, eqb, refl, sym, ◌∙◌, ap, append-nil, inl, inr}
-use Rattle.std.specs.List.{list_any}
+use Rattle.std.specs.List.{flat_map, list_any}
 use Rattle.std.proofs.lemmas.Bool.{cases_Bool, eqb-true, or_from, or_parts}
 use Rattle.std.specs.List.{onto_first}
 use Rattle.sv_mapping.specs.MatchOrder.{fronts}
 use Rattle.sv_mapping.specs.Pattern.{is_slash}
-use Rattle.sv_pattern_table.specs.Segments.{between_slashes, path_of, segments_of}
+use Rattle.sv_pattern_table.specs.Segments.{between_slashes, segments_of}
 use Rattle.sv_pattern_table.proofs.Cuts.{first_segment, one_segment}
+
+-- the path of these segments
+abbrev pub path_of : List (List ℕ) → List ℕ
+path_of segments = flat_map (λ segment. 47 ∷ segment) segments
 
 -- no segment holds a slash
 abbrev pub Clean : List (List ℕ) → Type 0

@@ -5,8 +5,8 @@ use Rattle.std.proofs.lemmas.Bool.Decides.{Decides-eqb}
 use Rattle.std.proofs.lemmas.Slice.Eq.{starts_is}
 use Rattle.sv_mapping.specs.Pattern.{is_pattern}
 use Rattle.sv_mapping.proofs.Texts.{same_bytes, starts}
-use Rattle.sv_pattern_table.specs.Segments.{is_rooted, is_slashed, path_of, segments_of}
-use Rattle.sv_pattern_table.proofs.Paths.{path_back}
+use Rattle.sv_pattern_table.specs.Segments.{is_rooted, is_slashed, segments_of}
+use Rattle.sv_pattern_table.proofs.Paths.{path_back, path_of}
 
 pub slashed_rest : (path : List ℕ) → is_slashed path ≡ true → (rest : List ℕ) × (path ≡ 47 ∷ rest)
 slashed_rest path h = (_, (starts_is Decides-eqb path (47 ∷ []) _ refl).0 h)

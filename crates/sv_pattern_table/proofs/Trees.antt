@@ -35,14 +35,6 @@ module _ (child : ℕ → List ℕ → Option ℕ) where
     pub path_reached : (to : ℕ) (segments : List (List ℕ)) → reached child 0 segments ≡ Some to → paths to ≡ segments
     path_reached to segments h = path_from 0 to segments h ∙ ap (λ p. p ++ segments) tree.root
 
-    pub reached_within : (at to : ℕ) (segments : List (List ℕ)) → at < count → reached child at segments ≡ Some to → to < count
-    reached_within at to [] within h = rw (same_Some at to h) at within
-    reached_within at to (s ∷ ss) within h =
-        elim (cases_Option (child at s)) [
-          | inl e ↦ absurd (none-some to (rw e at h))
-          | inr e ↦ reached_within e.0 to ss (tree.edges at e.0 s e.1).0 (rw e.1 at h)
-        ]
-
 -- `next` becomes the child of `at` by the segment, and had no child
 pub record Joins (old new : ℕ → List ℕ → Option ℕ) (at : ℕ) (segment : List ℕ) (next : ℕ) : Type 0 where
   pub children : (from : ℕ) (name : List ℕ) → new from name ≡ cond (eqb from at && bytes_eq segment name) (Some next) (old from name)

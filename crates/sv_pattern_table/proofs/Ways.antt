@@ -5,9 +5,8 @@ use Rattle.std.specs.Option.{option_and_then, option_or}
 use Rattle.sv_mapping.specs.MatchOrder.{prefix_texts}
 use Rattle.sv_mapping.specs.Pattern.{is_slash}
 use Rattle.sv_pattern_table.specs.Places.{exact_place, first_place, place_of}
-use Rattle.sv_pattern_table.specs.Segments.{path_of}
 use Rattle.sv_pattern_table.specs.Trie.{along, reached}
-use Rattle.sv_pattern_table.proofs.Paths.{Clean, fronts_further}
+use Rattle.sv_pattern_table.proofs.Paths.{Clean, fronts_further, path_of}
 use Rattle.sv_pattern_table.proofs.Trees.{cases_Option}
 
 module _ (patterns : List (List ℕ)) where

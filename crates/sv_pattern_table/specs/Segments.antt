@@ -1,6 +1,6 @@
 -- The segments of a path: what stands behind each of its slashes (RFC 3986, section 3.3).
-use Rattle.std.specs.Prelude.{ℕ, Bool, ◌||◌, nat_eq, if◌then◌else◌, List, [], ◌∷◌, ◌++◌, codes, Option, Some, None, count_by}
-use Rattle.std.specs.List.{flat_map, slice_split, starts_with}
+use Rattle.std.specs.Prelude.{ℕ, Bool, ◌||◌, nat_eq, if◌then◌else◌, List, [], ◌∷◌, codes, Option, Some, None, count_by}
+use Rattle.std.specs.List.{slice_split, starts_with}
 use Rattle.std.specs.Str.{bytes_eq}
 use Rattle.sv_mapping.specs.Pattern.{is_slash}
 
@@ -20,10 +20,6 @@ rest_segments (Some text) = between_slashes text
 abbrev pub segments_of : List ℕ → List (List ℕ)
 segments_of [] = []
 segments_of (b ∷ text) = if is_slash b then between_slashes text else []
-
--- the path of these segments
-abbrev pub path_of : List (List ℕ) → List ℕ
-path_of segments = flat_map (λ segment. codes "/" ++ segment) segments
 
 abbrev pub is_slashed : List ℕ → Bool
 is_slashed path = starts_with nat_eq path (codes "/")

@@ -96,7 +96,7 @@ pub answered : {A : Type 0} (faults : List PathFault) (a b : A) → first_or fau
 answered [] a b given = (refl, cc)
 answered (fault ∷ faults) a b given = cc
 
-first_or-err : {A B : Type 0} (faults : List PathFault) (a : A) (b : B) (fault : PathFault) → first_or faults a ≡ Err fault → first_or faults b ≡ Err fault
+pub first_or-err : {A B : Type 0} (faults : List PathFault) (a : A) (b : B) (fault : PathFault) → first_or faults a ≡ Err fault → first_or faults b ≡ Err fault
 first_or-err [] a b fault given = cc
 first_or-err (first_fault ∷ faults) a b fault given = cc
 

@@ -1,5 +1,5 @@
 -- The shape of a path that is made of names.
-use Rattle.std.proofs.Common.{ℕ, ◌≡◌, ◌-◌, true, false, not, ◌||◌, ◌<◌, List, [], ◌∷◌, ◌++◌, length, length-append, take, take_all, append-nil, drop, IsUtf8, sym, refl, ap, subst, ◌∙◌, ⊎_elim, arith}
+use Rattle.std.proofs.Common.{ℕ, ◌≡◌, ◌-◌, true, false, not, ◌<◌, List, [], ◌∷◌, ◌++◌, length, length-append, take, append-nil, drop, IsUtf8, refl, ap, subst, ⊎_elim, arith}
 use Rattle.std.specs.List.{All, AllPass, list_any}
 use Rattle.std.proofs.lemmas.Bool.{not-true, not_from_false, or_from, or_parts}
 use Rattle.std.proofs.lemmas.List.{take_at}
@@ -10,7 +10,7 @@ use Rattle.sv_uri.specs.Segment.{is_control, is_empty, is_parent, is_same}
 use Rattle.sv_uri.specs.DotSegments.{kept, remaining, closing}
 use Rattle.sv_uri.specs.Shape.{CanonicalHasShape, IsCanonicalPath, is_dot_segment, may_stand_in_a_path}
 use Rattle.sv_uri.proofs.AnswerLemmas.{IsUtf8-slashed}
-use Rattle.sv_uri.proofs.TargetLemmas.{slashed, holds, none_All, between_slashes-slashed}
+use Rattle.sv_uri.proofs.TargetLemmas.{slashed, holds, between_slashes-slashed}
 use Rattle.sv_uri.proofs.SegmentLemmas.{IsPlain}
 use Rattle.sv_uri.proofs.DotSegmentLemmas.{IsName, All-IsName-remaining}
 use Rattle.sv_uri.proofs.ItsOwnLemmas.{IsKept, parts_of, all_kept, closing_is, plain_parts, slashless, begins, made_of_names}
