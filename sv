@@ -1,58 +1,73 @@
 #!/usr/bin/env bash
-# ./sv COMMAND ..   runs the program, from any folder, on standard input and with the arguments as they are.
-# Where it is not built, or a source is newer than it, every crate below it is proved and built first.
+# ./sv COMMAND ..   runs the program, from any folder, on standard input and with the arguments as they are: the released
+#                   program where it was built from these sources, else one that is built here first.
+# ./sv build        proves and builds the program from these sources.
+# ./sv release      does so, and makes it the released program.
 set -eu
 top=$(dirname "$(readlink -f "$0")")
-program=$top/crates/sv/out/sv
+. "$top/tools/program"
 
-# The crates of the repository below crate $1, and it itself, lowest first; one may stand more than once.
-crates_below() {
-    local dep
-    for dep in $(sed -n "s/^$1\( [^:]*\)\{0,1\}://p" "$top/crates.txt"); do
-        if [ -d "$top/crates/$dep" ]; then
-            crates_below "$dep"
+# How many crates are proved at once: one a processor, as far as the free memory reaches at 3 GiB each.
+jobs() {
+    local room
+    room=$(awk '/^MemAvailable/ { print int($2 / 3145728) }' /proc/meminfo)
+    echo $((room < 1 ? 1 : room < $(nproc) ? room : $(nproc)))
+}
+
+# Tells each crate of $@ as it is proved, and keeps all lines that are read in the file $log.
+tell_progress() {
+    local line done=0
+    while IFS= read -r line; do
+        printf '%s\n' "$line" >> "$log"
+        if [[ $line == "== sv"* ]]; then
+            done=$((done + 1))
+            echo "sv: ${line#== } ($done of $# done, $SECONDS s)" >&2
         fi
     done
-    echo "$1"
 }
 
-# Whether the program is missing or older than a source of the crates $@.
-is_stale() {
-    local folders=("${@/#/$top/crates/}")
-    [ ! -x "$program" ] || [ -n "$(find "$top/crates.txt" "${folders[@]}" -name out -prune -o \
-        -type f \( -name '*.rt' -o -name '*.antt' -o -name crates.txt \) -newer "$program" -print -quit)" ]
-}
-
-# Proves and builds crate $1: a library for the crates above it, the program by a run on an empty stream.
-build_crate() {
-    cd "$top/crates/$1"
-    if [ "$1" = sv ]; then
-        rt run -- first < /dev/null && touch "$program"
-    else
-        rt lib
-    fi
-}
-
+# Proves and builds the crates $@ in a copy that holds nothing else, and brings the work back.
 build() {
-    local crate log done=0
-    log=$(mktemp)
+    local crate copy log
+    copy=$(mktemp -d)
+    log=$copy/log
+    trap "rm -rf '$copy'" EXIT
+    mkdir "$copy/crates"
+    cp -a "${@/#/$top/crates/}" "$copy/crates"
+    cp "$top/HANDLES" "$copy"
+    grep -E "^($(IFS='|'; echo "$*"))( [^:]*)?:" "$top/crates.txt" > "$copy/crates.txt"
     echo "sv: proving and building $# crates; later runs start at once" >&2
+    if ! (cd "$copy" && rt all check --jobs "$(jobs)") 2>&1 | tell_progress "$@" ||
+        ! (cd "$copy/crates/sv" && rt run -- first < /dev/null) >> "$log" 2>&1; then
+        cat "$log" >&2
+        echo "sv: the program was not built" >&2
+        exit 1
+    fi
     for crate in "$@"; do
-        echo "sv: $crate ($done of $# done, $SECONDS s)" >&2
-        if ! (build_crate "$crate") > "$log" 2>&1; then
-            cat "$log" >&2
-            rm "$log"
-            echo "sv: $crate was not built" >&2
-            exit 1
-        fi
-        done=$((done + 1))
+        rm -rf "$top/crates/$crate/out"
+        mv "$copy/crates/$crate/out" "$top/crates/$crate/out"
     done
-    rm "$log"
-    echo "sv: $done of $# done, $SECONDS s" >&2
+    note_sources "$built"
+    echo "sv: $# of $# done, $SECONDS s" >&2
 }
 
-mapfile -t crates < <(crates_below sv | awk '!seen[$0]++')
-if is_stale "${crates[@]}"; then
-    build "${crates[@]}"
-fi
-exec "$program" "$@"
+# Makes the program that was built the released one.
+release() {
+    cp "$built/sv" "$built/sources" "$released"
+}
+
+set -o pipefail
+mapfile -t crates < <(program_crates)
+case ${1:-} in
+    build) build "${crates[@]}" ;;
+    release) build "${crates[@]}" && release ;;
+    *)
+        if runs_here && is_of_tree "$released"; then
+            exec "$released/sv" "$@"
+        fi
+        if ! is_of_tree "$built"; then
+            build "${crates[@]}"
+        fi
+        exec "$built/sv" "$@"
+        ;;
+esac

@@ -1,10 +1,13 @@
 //! The program `sv`: its arguments, its standard streams and its exit status.
 #![tactic(auto)]
 
+mod program_fault;
+
+use program_fault::ProgramFault;
 use std::process::ExitCode;
 use std::rt::{Env, Files};
 use std::{env, io};
-use sv_program::{Command, CommandFault};
+use sv_program::{Command, CommandFault, Disk};
 
 fn main(rt: HostRuntime) -> ExitCode {
     match run(&rt) {
@@ -18,11 +21,20 @@ fn main(rt: HostRuntime) -> ExitCode {
 }
 
 /// Runs the command that the arguments name. Arguments that cannot be read name none.
-fn run<R: Env + Files + Input + Print + AllocGlobal>(rt: &R) -> Result<(), CommandFault> {
+fn run<R: Env + Files + Input + Print + AllocGlobal>(rt: &R) -> Result<(), ProgramFault> {
     let Ok(arguments) = env::args(rt) else {
-        return Err(CommandFault::Usage);
+        return Err(ProgramFault::Usage);
     };
-    let arguments: Vec<String> = arguments.skip(1).collect(rt.alloc())?;
-    let command = Command::parse(arguments.as_slice()).ok_or(CommandFault::Usage)?;
-    command.run(rt, rt.reader(), &mut io::writer(rt))
+    let arguments: Vec<String> = arguments
+        .skip(1)
+        .collect(rt.alloc())
+        .map_err(CommandFault::from)?;
+    let command = Command::parse(arguments.as_slice()).ok_or(ProgramFault::Usage)?;
+    command.run(
+        rt.alloc(),
+        &mut Disk::new(rt),
+        rt.reader(),
+        &mut io::writer(rt),
+    )?;
+    Ok(())
 }

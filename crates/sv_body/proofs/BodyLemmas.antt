@@ -7,17 +7,17 @@ use Rattle.httparse.specs.Ascii.{crlf_bytes}
 use Rattle.httparse.specs.Grammar.{chunk_size}
 use Rattle.httparse.proofs.ChunkLemmas.{chunk_line_unique}
 use Rattle.sv_body.specs.declared.body_fault.BodyFault.TheVariants.{BadChunk, TooLarge, TrailerTooLarge}
-use Rattle.sv_body.specs.declared.cut.Cut.{Cut}
-use Rattle.sv_body.specs.declared.cut.Cut.TheVariants.{Whole, Endless, Unended}
-use Rattle.sv_body.specs.declared.cut.Text.{Text}
-use Rattle.sv_body.specs.declared.cut.Text.TheVariants.{SizeLine, Trailer}
+use Rattle.sv_text.specs.declared.front.Cut.{Cut}
+use Rattle.sv_text.specs.declared.front.Cut.TheVariants.{Whole, Endless, Unended}
+use Rattle.sv_body.specs.declared.text_kind.TextKind.{TextKind}
+use Rattle.sv_body.specs.declared.text_kind.TextKind.TheVariants.{SizeLine, Trailer}
 use Rattle.sv_body.specs.declared.framing.Framing.{Framing}
 use Rattle.sv_body.specs.declared.framing.Framing.TheVariants.{Length, Chunked}
 use Rattle.sv_body.specs.declared.limits.TheConstants.{MAX_BODY_LEN, MAX_SIZE_LINE_LEN, MAX_TRAILER_LEN}
 use Rattle.sv_body.specs.Body.{read_length, ReadsBody}
 use Rattle.sv_body.specs.Chunks.{Body, unfinished, complete, broken, Part, chunk, last, ends_text, text_limit, cut_text, ReadsSize, trailer_at, read_trailer, read_data, after_line, BeginsAt, Begins, ReadsChunks}
 use Rattle.sv_body.specs.Machine.{ReadsRest}
-use Rattle.sv_body.proofs.CutLemmas.{cut-whole, cut-append, Endless-inverse}
+use Rattle.sv_text.proofs.FrontLemmas.{cut-whole, cut-append, Endless-inverse}
 use Rattle.sv_body.proofs.MachineLemmas.{read_length_long, read_data_long, data_end}
 
 -- ---- before more bytes
@@ -33,7 +33,7 @@ part_more (chunk bytes rest) more = chunk bytes (rest ++ more)
 part_more (last body) more = last (and_more body more)
 
 -- where a cut is made, it stays, and the bytes that it takes are there
-module _ (kind : Text) (text more : List ℕ) where
+module _ (kind : TextKind) (text more : List ℕ) where
   pub whole_stays : (n : ℕ) → cut_text kind text ≡ Whole n → (cut_text kind (text ++ more) ≡ Whole n) × (n ≤ length text)
   whole_stays n is = (
     by_cut (cut-append (ends_text kind) (text_limit kind) text more (Whole n) is),

@@ -1,6 +1,7 @@
 pub mod BodyLemmas
 pub mod BoolLemmas
-pub mod CutLemmas
+pub mod ExistenceLemmas
+pub mod LimitLemmas
 pub mod ListLemmas
 pub mod MachineLemmas
 pub mod OpenLemmas

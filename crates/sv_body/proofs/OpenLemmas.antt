@@ -2,15 +2,15 @@
 use Rattle.std.proofs.Common.{◌≡◌, ℕ, ◌+◌, ◌-◌, ◌<◌, ◌≤◌, true, false, ◌⊎◌, List, ◌++◌, length, take, drop, min, sym, ap, ◌∙◌, inl, inr, arith, length-append}
 use Rattle.std.proofs.lemmas.Bool.{cases_lt, false≢true}
 use Rattle.std.proofs.lemmas.List.{append_assoc, take-append-le, drop-append-le, length-take, take-append-drop, take_all}
-use Rattle.sv_body.specs.declared.cut.Cut.{Cut}
-use Rattle.sv_body.specs.declared.cut.Cut.TheVariants.{Whole, Endless, Unended}
-use Rattle.sv_body.specs.declared.cut.Text.{Text}
+use Rattle.sv_text.specs.declared.front.Cut.{Cut}
+use Rattle.sv_text.specs.declared.front.Cut.TheVariants.{Whole, Endless, Unended}
+use Rattle.sv_body.specs.declared.text_kind.TextKind.{TextKind}
 use Rattle.sv_body.specs.Chunks.{ends_text, text_limit, cut_text}
 use Rattle.sv_body.specs.Machine.{CutsOpen}
-use Rattle.sv_body.proofs.CutLemmas.{cut-whole, cut-append, cut_unended-fronts, Endless-inverse, Unended-inverse}
+use Rattle.sv_text.proofs.FrontLemmas.{cut-whole, cut-append, cut_unended-fronts, Endless-inverse, Unended-inverse}
 use Rattle.sv_body.proofs.ListLemmas.{drop_behind}
 
-module _ (kind : Text) (held stream : List ℕ) (here : ℕ) (unended : cut_text kind held ≡ Unended)
+module _ (kind : TextKind) (held stream : List ℕ) (here : ℕ) (unended : cut_text kind held ≡ Unended)
     (taken : here ≡ min (length stream) (text_limit kind - length held)) where
   long : length (held ++ take here stream) ≡ length held + here
   long = omega (arith, taken, length-append held (take here stream), length-take here stream)

@@ -2,9 +2,9 @@
 use Rattle.std.proofs.Common.{◌≡◌, ℕ, ◌+◌, ◌-◌, ◌≤◌, List, [], ◌∷◌, ◌++◌, length, take, drop, Option, refl, sym, ap, ◌∙◌, subst, arith}
 use Rattle.std.proofs.lemmas.List.{append_assoc, append-nil, length-drop, drop-drop}
 use Rattle.sv_body.specs.declared.body_fault.BodyFault.TheVariants.{BadChunk, TrailerTooLarge}
-use Rattle.sv_body.specs.declared.cut.Cut.{Cut}
-use Rattle.sv_body.specs.declared.cut.Cut.TheVariants.{Whole, Endless, Unended}
-use Rattle.sv_body.specs.declared.cut.Text.TheVariants as text
+use Rattle.sv_text.specs.declared.front.Cut.{Cut}
+use Rattle.sv_text.specs.declared.front.Cut.TheVariants.{Whole, Endless, Unended}
+use Rattle.sv_body.specs.declared.text_kind.TextKind.TheVariants as text
 use Rattle.sv_body.specs.declared.limits.TheConstants.{MAX_BODY_LEN, MAX_SIZE_LINE_LEN, MAX_TRAILER_LEN}
 use Rattle.sv_body.specs.declared.machine.Machine.{Machine}
 use Rattle.sv_body.specs.declared.machine.Stage.{Stage}

@@ -1,7 +1,8 @@
 -- The body of a message by its framing (RFC 9112, section 6).
-use Rattle.std.specs.Prelude.{◌≡◌, ℕ, List, [], ◌++◌, length, take, drop, nat_lt, if◌then◌else◌}
+use Rattle.std.specs.Prelude.{◌≡◌, ℕ, ◌≤◌, List, [], ◌++◌, length, take, drop, nat_lt, if◌then◌else◌, ⊤}
 use Rattle.sv_body.specs.declared.framing.Framing.{Framing}
 use Rattle.sv_body.specs.declared.framing.Framing.TheVariants.{Length, Chunked}
+use Rattle.sv_body.specs.declared.limits.TheConstants.{MAX_BODY_LEN}
 use Rattle.sv_body.specs.Chunks.{Body, unfinished, complete, ReadsChunks}
 
 -- what contracts see of a body that is being read: its framing, and the bytes that have come, as they came
@@ -22,3 +23,8 @@ read_length bytes count text =
 abbrev pub ReadsBody : Framing → List ℕ → Body → Type 0
 ReadsBody (Length count) text body = body ≡ read_length [] count text
 ReadsBody Chunked text body = (chunks : List (List ℕ)) × ReadsChunks [] text chunks body
+
+-- a body of that framing has no more bytes than a body may have: a length says so, and of chunks it is judged as they come
+abbrev pub FitsLimit : Framing → Type 0
+FitsLimit (Length count) = count ≤ MAX_BODY_LEN
+FitsLimit Chunked = ⊤

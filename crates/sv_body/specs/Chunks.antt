@@ -5,12 +5,12 @@ use Rattle.httparse.specs.Ascii.{line_feed, crlf_bytes}
 use Rattle.httparse.specs.Grammar.{ChunkLine, ReadsChunkLine, chunk_size}
 use Rattle.sv_body.specs.declared.body_fault.BodyFault.{BodyFault}
 use Rattle.sv_body.specs.declared.body_fault.BodyFault.TheVariants.{BadChunk, TooLarge, TrailerTooLarge}
-use Rattle.sv_body.specs.declared.cut.Cut.{Cut}
-use Rattle.sv_body.specs.declared.cut.Cut.TheVariants.{Whole, Endless, Unended}
-use Rattle.sv_body.specs.declared.cut.Text.{Text}
-use Rattle.sv_body.specs.declared.cut.Text.TheVariants.{SizeLine, Trailer}
+use Rattle.sv_text.specs.declared.front.Cut.{Cut}
+use Rattle.sv_text.specs.declared.front.Cut.TheVariants.{Whole, Endless, Unended}
+use Rattle.sv_body.specs.declared.text_kind.TextKind.{TextKind}
+use Rattle.sv_body.specs.declared.text_kind.TextKind.TheVariants.{SizeLine, Trailer}
 use Rattle.sv_body.specs.declared.limits.TheConstants.{MAX_BODY_LEN, MAX_SIZE_LINE_LEN, MAX_TRAILER_LEN}
-use Rattle.sv_body.specs.Cut.{cut}
+use Rattle.sv_text.specs.Front.{cut}
 
 -- what is read of a body
 pub data Body : Type 0 where
@@ -29,17 +29,17 @@ pub data Part : Type 0 where
   last : Body → Part
 
 -- whether a text ends: a size line at its LF, a trailer section where it is an empty line or behind its first one
-abbrev pub ends_text : Text → List ℕ → Bool
+abbrev pub ends_text : TextKind → List ℕ → Bool
 ends_text SizeLine text = ends_with nat_eq text (line_feed ∷ [])
 ends_text Trailer text = bytes_eq text crlf_bytes || ends_with nat_eq text (crlf_bytes ++ crlf_bytes)
 
 -- a text's end lies within so many bytes
-abbrev pub text_limit : Text → ℕ
+abbrev pub text_limit : TextKind → ℕ
 text_limit SizeLine = MAX_SIZE_LINE_LEN
 text_limit Trailer = MAX_TRAILER_LEN
 
 -- where a text ends that the stream begins with
-abbrev pub cut_text : Text → List ℕ → Cut
+abbrev pub cut_text : TextKind → List ℕ → Cut
 cut_text kind stream = cut (ends_text kind) (text_limit kind) stream
 
 -- the size that the whole text of a line says, or none where it is no size line

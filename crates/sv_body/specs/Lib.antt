@@ -1,6 +1,6 @@
 pub mod Body
+pub mod BodyFault
 pub mod Chunks
-pub mod Cut
 pub mod Machine
 pub mod Progress
 pub mod Storage

@@ -1,9 +1,9 @@
 -- What a machine that has read the front of a body makes of the text behind it (RFC 9112, sections 6 and 7.1).
 use Rattle.std.specs.Prelude.{◌≡◌, ℕ, ◌+◌, ◌-◌, ◌<◌, ◌≤◌, List, [], ◌++◌, length, take, drop, Option}
-use Rattle.sv_body.specs.declared.cut.Cut.{Cut}
-use Rattle.sv_body.specs.declared.cut.Cut.TheVariants.{Whole, Endless, Unended}
-use Rattle.sv_body.specs.declared.cut.Text.{Text}
-use Rattle.sv_body.specs.declared.cut.Text.TheVariants as text
+use Rattle.sv_text.specs.declared.front.Cut.{Cut}
+use Rattle.sv_text.specs.declared.front.Cut.TheVariants.{Whole, Endless, Unended}
+use Rattle.sv_body.specs.declared.text_kind.TextKind.{TextKind}
+use Rattle.sv_body.specs.declared.text_kind.TextKind.TheVariants as text
 use Rattle.sv_body.specs.declared.limits.TheConstants.{MAX_BODY_LEN}
 use Rattle.sv_body.specs.declared.framing.Framing.{Framing}
 use Rattle.sv_body.specs.declared.machine.Machine.{Machine}
@@ -49,7 +49,7 @@ abbrev pub IsFit : Machine → Type 0
 IsFit machine = FitsStage machine.stage machine.held.items machine.body.items
 
 -- an open text, of which the bytes `held` had come, is cut with the text behind it, of which the bytes up to `after` are taken
-abbrev pub CutsOpen : Text → List ℕ → List ℕ → List ℕ → Cut → Type 0
+abbrev pub CutsOpen : TextKind → List ℕ → List ℕ → List ℕ → Cut → Type 0
 CutsOpen kind held stream after (Whole len) =
     (length held < len) × (len ≤ length after) × (len - length held ≤ length stream)
     × ((more : List ℕ) → (cut_text kind (held ++ (stream ++ more)) ≡ Whole len)

@@ -1,7 +1,13 @@
 //! Why a body is refused.
 
+ghost use Rattle.std.specs.Prelude.{Some};
+ghost use Rattle.sv_body.specs.BodyFault.{name_of};
+
+use std::error::Error;
+use std::fmt;
+
 /// Why a body is refused.
-#[derive(Clone, Copy, Debug, PartialEq, Eq)]
+#[derive(Clone, Copy, Debug)]
 pub enum BodyFault {
     /// A size line, or what stands behind a chunk's bytes, is in no form of a chunk (RFC 9112, section 7.1).
     BadChunk = 1,
@@ -10,3 +16,17 @@ pub enum BodyFault {
     /// The trailer section does not end within its limit (RFC 9112, section 7.1.2).
     TrailerTooLarge = 3,
 }
+
+impl fmt::Display for BodyFault {
+    ghost output = { λ fault. Some (name_of fault) };
+
+    fn fmt<W: fmt::Write>(&self, f: &mut fmt::Formatter<W>) -> fmt::Result {
+        f.write_str(match self {
+            BodyFault::BadChunk => "BadChunk",
+            BodyFault::TooLarge => "TooLarge",
+            BodyFault::TrailerTooLarge => "TrailerTooLarge",
+        })
+    }
+}
+
+impl Error for BodyFault {}

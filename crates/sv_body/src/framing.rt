@@ -1,7 +1,7 @@
 //! How the end of a body is found.
 
 /// How the end of a body is found (RFC 9112, section 6).
-#[derive(Clone, Copy, Debug, PartialEq, Eq)]
+#[derive(Clone, Copy)]
 pub enum Framing {
     /// The body has so many bytes. A message without a body has the length 0.
     Length(usize),

@@ -1,21 +1,21 @@
 //! A machine that reads a body from pieces of its stream.
 
 ghost use Rattle.std.specs.Prelude.{◌≡◌, ◌≤◌, [], length, IfOk};
-ghost use Rattle.sv_body.specs.declared.cut.Cut.TheVariants.{Unended};
+ghost use Rattle.sv_text.specs.declared.front.Cut.TheVariants.{Unended};
 ghost use Rattle.sv_body.specs.declared.machine.Stage.TheVariants.{Plain, SizeLine, Data, DataEnd, Trailer};
 ghost use Rattle.sv_body.specs.Chunks.{cut_text};
 
 use crate::body_fault::BodyFault;
 use crate::chunk_size::read_size;
-use crate::cut::{Cut, Text};
 use crate::framing::Framing;
 use crate::limits::{MAX_BODY_LEN, MAX_SIZE_LINE_LEN, MAX_TRAILER_LEN};
+use crate::text_kind::TextKind;
 use std::alloc::Global;
 use std::mem;
-use sv_text::NoMemory;
+use sv_text::{Cut, Delimited, NoMemory, cut_front};
 
 /// What comes next of a body.
-#[derive(Clone, Copy, Debug)]
+#[derive(Clone, Copy)]
 pub(crate) enum Stage {
     /// So many bytes of a body whose length is known.
     Plain(usize),
@@ -30,7 +30,7 @@ pub(crate) enum Stage {
 }
 
 /// What a machine found in a text.
-#[derive(Clone, Copy, Debug)]
+#[derive(Clone, Copy)]
 pub(crate) enum Step {
     /// So many bytes, behind which another stage begins.
     Moved(usize),
@@ -39,7 +39,7 @@ pub(crate) enum Step {
 }
 
 /// Where a machine comes to a stop in a text.
-#[derive(Clone, Copy, Debug)]
+#[derive(Clone, Copy)]
 pub(crate) enum Stop {
     /// At its end: more is awaited.
     Awaits,
@@ -136,7 +136,7 @@ impl Machine {
         ensures { IfOk result (λ step. StepsFrom SizeLine self.old.held.items self.old.body.items text.now step self.new) }
     {
         let held = self.held.len();
-        match self.cut_open(Text::SizeLine, text)? {
+        match self.cut_open(TextKind::SizeLine, text)? {
             Cut::Whole(len) => {
                 let size = read_size(&self.held[..len]);
                 self.held.clear();
@@ -189,7 +189,7 @@ impl Machine {
         ensures { IfOk result (λ step. StepsFrom Trailer self.old.held.items self.old.body.items text.now step self.new) }
     {
         let held = self.held.len();
-        match self.cut_open(Text::Trailer, text)? {
+        match self.cut_open(TextKind::Trailer, text)? {
             Cut::Whole(len) => Ok(Step::Stopped(Stop::Complete(len - held))),
             Cut::Endless => Ok(Step::Stopped(Stop::Broken(
                 BodyFault::TrailerTooLarge,
@@ -200,7 +200,7 @@ impl Machine {
     }
 
     /// Sets as much of the text behind the open text as its limit allows, and says where it ends.
-    fn cut_open(&mut self, kind: Text, text: &[u8]) -> Result<Cut, NoMemory>
+    fn cut_open(&mut self, kind: TextKind, text: &[u8]) -> Result<Cut, NoMemory>
         requires { cut_text kind self.old.held.items ≡ Unended }
         ensures cut { IfOk result (CutsOpen kind self.old.held.items text.now self.new.held.items) }
         ensures stage { self.new.stage ≡ self.old.stage }
@@ -209,7 +209,7 @@ impl Machine {
         let held = self.held.len();
         let here = text.len().min(kind.limit() - held);
         self.held.extend_from_slice(&text[..here])?;
-        Ok(kind.cut(&self.held, held + 1))
+        Ok(cut_front(&kind, &self.held, held + 1))
     }
 
     /// Begins what stands behind a size line, which ended after so many bytes.

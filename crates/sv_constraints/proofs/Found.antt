@@ -14,7 +14,7 @@ use Rattle.sv_constraints.specs.declared.findings.Findings.{Findings}
 use Rattle.sv_constraints.specs.declared.rules.Rules.{Rules}
 
 -- what is found in constraints and one more
-found_more : (rules : Rules) (caller : Option Caller) (members : List Constraint) (c : Constraint) → with_one rules caller c (findings_of rules caller members) ≡ findings_of rules caller (members ++ c ∷ [])
+pub found_more : (rules : Rules) (caller : Option Caller) (members : List Constraint) (c : Constraint) → with_one rules caller c (findings_of rules caller members) ≡ findings_of rules caller (members ++ c ∷ [])
 found_more rules caller members c =
     cc (least_number_more members c, least_where_more precludes members c, any_more permits_plain members c, least_where_more is_open members c, least_where_more (admits_caller rules caller) members c)
 

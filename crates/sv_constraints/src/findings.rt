@@ -4,8 +4,8 @@ ghost use Rattle.std.specs.Prelude.{◌≡◌, [], Option, Some};
 ghost use Rattle.std.specs.Option.{option_copied};
 ghost use Rattle.sv_constraints.specs.Covering.{covering};
 ghost use Rattle.sv_constraints.specs.Findings.{lesser};
-ghost use Rattle.sv_constraints.specs.Verdict.{names_nobody, is_absent, allows_plain};
-ghost use Rattle.sv_constraints.specs.Decision.{seen};
+ghost use Rattle.sv_constraints.specs.Verdict.{names_nobody, is_absent, allows_plain, because};
+ghost use Rattle.sv_constraints.specs.Decision.{seen, seen_why};
 
 use crate::cause::Cause;
 use crate::constraint::{Auth, Constraint, Transport};
@@ -57,7 +57,7 @@ fn allows_plain(transport: Transport) -> bool
 }
 
 /// The lesser of two numbers, where there are any.
-fn lesser(number: Option<u64>, other: Option<u64>) -> Option<u64>
+pub fn lesser(number: Option<u64>, other: Option<u64>) -> Option<u64>
     ensures { result ≡ lesser number other }
 {
     match (number, other) {
@@ -67,11 +67,22 @@ fn lesser(number: Option<u64>, other: Option<u64>) -> Option<u64>
     }
 }
 
+/// Why, at the best pattern.
+fn because(pattern: &Pattern, number: Option<u64>, cause: Cause) -> Why<'_>
+    ensures { seen_why result ≡ because (Some pattern.now) number cause }
+{
+    Why {
+        pattern: Some(pattern),
+        number,
+        cause,
+    }
+}
+
 impl Findings {
     ghost use Rattle.sv_constraints.specs.Findings.{findings_of, with_one, decided};
 
     /// What there is to find in no constraint.
-    fn none() -> Findings
+    pub fn none() -> Findings
         ensures { (rules : Rules) (caller : Option Caller) → result ≡ findings_of rules caller [] }
     {
         Findings {
@@ -84,7 +95,7 @@ impl Findings {
     }
 
     /// What there is to find with one more constraint.
-    fn with(self, constraint: &Constraint, rules: &Rules, caller: Option<&Caller>) -> Findings
+    pub fn with(self, constraint: &Constraint, rules: &Rules, caller: Option<&Caller>) -> Findings
         ensures { result ≡ with_one rules.now (option_copied caller.entry) constraint.now self }
     {
         let number = constraint.number;
@@ -128,30 +139,25 @@ impl Findings {
     ) -> Decision<'a>
         ensures { seen result ≡ decided rules.now (option_copied caller.entry) (Some pattern.now) self.now }
     {
-        let because = |number: Option<u64>, cause: Cause| Why {
-            pattern: Some(pattern),
-            number,
-            cause,
-        };
         if self.covering.is_none() {
-            let why = because(None, Cause::Uncovered);
+            let why = because(pattern, None, Cause::Uncovered);
             if rules.deny_uncovered {
                 Decision::Denied(why)
             } else {
                 Decision::Open(why)
             }
         } else if self.precluding.is_some() {
-            Decision::Denied(because(self.precluding, Cause::Precluded))
+            Decision::Denied(because(pattern, self.precluding, Cause::Precluded))
         } else if !self.permits_plain {
-            Decision::Denied(because(self.covering, Cause::Transport))
+            Decision::Denied(because(pattern, self.covering, Cause::Transport))
         } else if self.unauthenticated.is_some() {
-            Decision::Open(because(self.unauthenticated, Cause::Unauthenticated))
+            Decision::Open(because(pattern, self.unauthenticated, Cause::Unauthenticated))
         } else if caller.is_none() {
-            Decision::Login(because(self.covering, Cause::NeedsCaller))
+            Decision::Login(because(pattern, self.covering, Cause::NeedsCaller))
         } else if self.admitting.is_some() {
-            Decision::Open(because(self.admitting, Cause::Role))
+            Decision::Open(because(pattern, self.admitting, Cause::Role))
         } else {
-            Decision::Denied(because(self.covering, Cause::NoRole))
+            Decision::Denied(because(pattern, self.covering, Cause::NoRole))
         }
     }
 }

@@ -12,10 +12,10 @@ use sv_realm::Caller;
 use sv_text::Text;
 
 /// Stands for every declared role.
-const EVERY_ROLE: &str = "*";
+pub const EVERY_ROLE: &str = "*";
 
 /// Stands for every authenticated caller, whatever their roles.
-const EVERY_CALLER: &str = "**";
+pub const EVERY_CALLER: &str = "**";
 
 /// Whether the caller's roles hold one that the name stands for.
 fn name_fits(declared: &[Text], name: &str, held: &[Text]) -> bool

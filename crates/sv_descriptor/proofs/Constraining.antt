@@ -17,7 +17,7 @@ use Rattle.sv_schema.specs.Value.{is_table, is_text, name, table_of, text_of}
 use Rattle.sv_schema.specs.declared.fault.FaultCode.TheVariants.{BothMethodLists}
 use Rattle.sv_schema.specs.declared.limits.TheConstants.{MAX_LIST_ITEMS}
 use Rattle.sv_schema.proofs.Yields.{Yields, bind-Ok, holds-Ok, list_of-short, table_of-yields, list_of-yields, list_items-Ok, required-Ok, optional-Ok, optional_or-Ok}
-use Rattle.sv_descriptor.specs.Collection.{collection, collections, collections_within, covered_methods, method, methods, omitted_methods}
+use Rattle.sv_descriptor.specs.Collection.{collection, collection_table, collections, collections_within, covered_methods, method, methods, omitted_methods}
 use Rattle.sv_descriptor.specs.Constraint.{auth_constraint, constraint, constraints, numbered, user_data_constraint}
 use Rattle.sv_descriptor.specs.Ignored.{element_keys, ignored_text}
 use Rattle.sv_descriptor.specs.Pattern.{pattern, patterns}
@@ -62,6 +62,10 @@ collection-Ok room members c e =
           (optional-Ok _ (omitted_methods (is_some listed)) (omitted-short (is_some listed)) (codes "http-method-omission") members omitted omitted_read);
     }))))))
 
+collection_table-Ok : (room : ℕ) → Yields (IsCollection room) (collection_table room)
+unfolding collection_table
+collection_table-Ok room = table_of-yields (IsCollection room) (collection room) (collection-Ok room)
+
 -- collections that share a room
 record AreCollections (room n : ℕ) (found : List Collection) : Type 0 where
   count : length found ≡ n
@@ -71,9 +75,9 @@ record AreCollections (room n : ℕ) (found : List Collection) : Type 0 where
 collections_within-Ok : (room : ℕ) (key : List ℕ) (values : List Data) (found : List Collection) → collections_within room key values ≡ Ok found → AreCollections room (length values) found
 collections_within-Ok room key [] found e = holds-Ok (AreCollections room 0) _ found e (record { count = refl; patterns = omega arith; methods = λ i d l. absurd (omega arith) })
 collections_within-Ok room key (value ∷ rest) found e =
-    bind-Ok (table_of (collection room) key value) _ _ e (λ c read e1.
+    bind-Ok (collection_table room key value) _ _ e (λ c read e1.
     bind-Ok (collections_within (room - length c.patterns) key rest) _ _ e1 (λ others more e2.
-    let one = table_of-yields (IsCollection room) (collection room) (collection-Ok room) key value c read in
+    let one = collection_table-Ok room key value c read in
     let all = collections_within-Ok (room - length c.patterns) key rest others more in
     holds-Ok (AreCollections room (suc (length rest))) _ found e2 (record {
       count = ap suc all.count;

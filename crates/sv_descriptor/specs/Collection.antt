@@ -18,7 +18,7 @@ use Rattle.sv_descriptor.specs.Pattern.{patterns}
 use Rattle.sv_descriptor.specs.declared.limits.TheConstants.{MAX_METHOD_BYTES, MAX_PATTERNS_OF_CONSTRAINT}
 
 -- a token (RFC 9110 section 5.6.2)
-abbrev pub is_method_name : List ℕ → Bool
+unfoldable pub is_method_name : List ℕ → Bool
 is_method_name text = is_within 1 MAX_METHOD_BYTES text && list_all is_token_byte text
 
 abbrev pub method : List ℕ → List ℕ → Reads (List ℕ)
@@ -49,11 +49,15 @@ collection room table = do
   omitted ← optional (omitted_methods (is_some listed)) (codes "http-method-omission") table
   Ok (record { patterns = its_patterns; methods = covered_methods listed omitted })
 
+-- the table of a collection of at most so many patterns
+unfoldable pub collection_table : ℕ → Reader Collection
+collection_table room = table_of (collection room)
+
 -- collections that together have at most so many patterns
 abbrev pub collections_within : ℕ → List ℕ → List Data → Reads (List Collection)
 collections_within room key [] = Ok []
 collections_within room key (value ∷ rest) = do
-  its_first ← table_of (collection room) key value
+  its_first ← collection_table room key value
   others ← collections_within (room - length its_first.patterns) key rest
   Ok (its_first ∷ others)
 

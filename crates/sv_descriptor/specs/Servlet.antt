@@ -15,7 +15,7 @@ use Rattle.sv_descriptor.specs.declared.servlet.ServletEntry.{ServletEntry}
 use Rattle.sv_descriptor.specs.declared.servlet.ServletMapping.{ServletMapping}
 
 -- the names that stand for the file servlet and for every servlet
-abbrev pub is_reserved_servlet : List ℕ → Bool
+unfoldable pub is_reserved_servlet : List ℕ → Bool
 is_reserved_servlet text = bytes_eq text (codes "default") || bytes_eq text (codes "*")
 
 abbrev pub servlet_name : List ℕ → List ℕ → Reads (List ℕ)

@@ -79,9 +79,15 @@ fn push_patterns<'a>(texts: &mut Vec<&'a str>, patterns: &'a [Pattern]) -> Resul
     ensures { OnOk result (texts_of texts.new.items ≡ texts_of texts.old.items ++ patterns.now) }
 {
     for pattern in patterns {
-        texts.push(pattern.text())?;
+        texts.push(text_of(pattern))?;
     }
     Ok(())
+}
+
+fn text_of(pattern: &Pattern) -> &str
+    ensures { result.now ≡ pattern.now }
+{
+    pattern.text()
 }
 
 fn check_filter_mappings(

@@ -62,11 +62,23 @@ fn collections_within(
     let mut room = room;
     let mut collections = Vec::with_capacity(alloc, values.len())?;
     for value in values {
-        let collection = TableOf(CollectionTable { room }).read(alloc, key, value)?;
+        let collection = read_collection(alloc, room, key, value)?;
         room = room_beside(room, &collection);
         collections.push(collection)?;
     }
     Ok(Listed::from_vec(collections))
+}
+
+#[tactic(auto, unfolding(crate::specs::Collection::collection_table))]
+fn read_collection(
+    alloc: Global,
+    room: usize,
+    key: &str,
+    value: &Value,
+) -> Result<Collection, ReadFault>
+    ensures { Gives fault result (spec.collection_table room key.now (view value.now)) }
+{
+    TableOf(CollectionTable { room }).read(alloc, key, value)
 }
 
 /// How many patterns there may be beside those of a collection.
@@ -179,6 +191,7 @@ impl TextSchema for Method {
     }
 }
 
+#[tactic(auto, unfolding(crate::specs::Collection::is_method_name))]
 fn is_method_name(text: &str) -> bool
     ensures { result ≡ spec.is_method_name text.now }
 {

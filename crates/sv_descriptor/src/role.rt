@@ -41,6 +41,7 @@ impl TextSchema for RoleName {
     }
 }
 
+#[tactic(auto, unfolding(crate::specs::Role::is_reserved_role))]
 fn is_reserved_role(name: &str) -> bool
     ensures { result ≡ spec.is_reserved_role name.now }
 {

@@ -112,6 +112,7 @@ impl TextSchema for ServletName {
 }
 
 /// Whether a name stands for the file servlet or for every servlet.
+#[tactic(auto, unfolding(crate::specs::Servlet::is_reserved_servlet))]
 pub fn is_reserved_servlet(name: &str) -> bool
     ensures { result ≡ spec.is_reserved_servlet name.now }
 {

@@ -6,7 +6,7 @@ ghost use Rattle.sv_descriptor.specs.Version as spec;
 ghost use Rattle.sv_schema.specs.Fault.{fault};
 
 use std::alloc::Global;
-use sv_schema::{FaultCode, ReadFault, WholeOf, WholeSchema, optional_or, refuse};
+use sv_schema::{NumberBetween, ReadFault, WholeOf, WholeSchema, optional_or};
 use toml::Table;
 
 /// A version of the descriptor's format.
@@ -19,7 +19,7 @@ pub enum Version {
 /// Reads the version of a descriptor.
 ///
 /// # Errors
-/// [`FaultCode::WrongType`], [`FaultCode::BadValue`], or [`ReadFault::NoMemory`].
+/// The fault of the value, or [`ReadFault::NoMemory`].
 pub fn read_version(alloc: Global, table: &Table) -> Result<Version, ReadFault>
     ensures { Gives fault result (spec.version (table_view table.now)) }
 {
@@ -42,9 +42,7 @@ impl WholeSchema for VersionNumber {
     ghost reads = { λ _. spec.version_number };
 
     fn read(&self, alloc: Global, key: &str, number: i64) -> Result<Version, ReadFault> {
-        if number != 1 {
-            return refuse(alloc, FaultCode::BadValue, key);
-        }
+        NumberBetween { least: 1, most: 1 }.read(alloc, key, number)?;
         Ok(Version::One)
     }
 }

@@ -48,6 +48,7 @@ impl TextSchema for WelcomeFile {
     }
 }
 
+#[tactic(auto, unfolding(crate::specs::WelcomeFile::is_no_partial_path))]
 fn is_no_partial_path(text: &str) -> bool
     ensures { result ≡ spec.is_no_partial_path text.now }
 {

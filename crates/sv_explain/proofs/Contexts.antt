@@ -6,29 +6,29 @@ use Rattle.std.proofs.lemmas.Bool.Decides.{nat_tests}
 use Rattle.std.proofs.lemmas.Bool.{and_from, and_parts, both_ways, cases_Bool, false_from_ne_true, le-ltb, ltb-false, not-true, not_from_false, or_cases, or_left, or_right}
 use Rattle.std.proofs.lemmas.List.Folds.{list_any-from_Any, list_any_more}
 use Rattle.std.proofs.Math.Bool.{or_comm, or-false}
-use Rattle.sv_mapping.specs.Pattern.{is_within}
+use Rattle.sv_mapping.specs.Pattern.{is_at_or_below}
 use Rattle.sv_explain.specs.Context.{context_of, context_paths, is_chosen}
 use Rattle.sv_explain.specs.declared.context.ContextPolicy.{ContextPolicy}
-use Rattle.sv_explain.proofs.Texts.{within_front}
+use Rattle.sv_explain.proofs.Texts.{below_front}
 
 -- no context path of the list that leads to the path is longer than a chosen one
-not_longer : (contexts : List (List ℕ)) (path a b : List ℕ) → Contains contexts b → is_within b path ≡ true → is_chosen contexts path a ≡ true → ltb (length a) (length b) ≡ false
+not_longer : (contexts : List (List ℕ)) (path a b : List ℕ) → Contains contexts b → is_at_or_below b path ≡ true → is_chosen contexts path a ≡ true → ltb (length a) (length b) ≡ false
 not_longer contexts path a b member serves chosen =
     elim (cases_Bool (ltb (length a) (length b))) [
       | inr e ↦ e
       | inl e ↦
-          let found = list_any-from_Any (λ other. is_within other path && ltb (length a) (length other)) contexts (member.0, b, member.1, member.2, and_from _ _ serves e) in
-          absurd (both_ways _ (not-true _ (and_parts (is_within a path) _ chosen).1) found)
+          let found = list_any-from_Any (λ other. is_at_or_below other path && ltb (length a) (length other)) contexts (member.0, b, member.1, member.2, and_from _ _ serves e) in
+          absurd (both_ways _ (not-true _ (and_parts (is_at_or_below a path) _ chosen).1) found)
     ]
 
 pub chosen_equal : (contexts : List (List ℕ)) (path a b : List ℕ) → Contains contexts a → Contains contexts b → is_chosen contexts path a ≡ true → is_chosen contexts path b ≡ true → a ≡ b
 chosen_equal contexts path a b a_in b_in a_chosen b_chosen =
-    let a_serves = (and_parts (is_within a path) _ a_chosen).0 in
-    let b_serves = (and_parts (is_within b path) _ b_chosen).0 in
+    let a_serves = (and_parts (is_at_or_below a path) _ a_chosen).0 in
+    let b_serves = (and_parts (is_at_or_below b path) _ b_chosen).0 in
     let over = ltb-false _ _ (not_longer contexts path a b b_in b_serves a_chosen) in
     let under = ltb-false _ _ (not_longer contexts path b a a_in a_serves b_chosen) in
     let same : length a ≡ length b = omega (arith, over, under) in
-    sym (within_front a path a_serves) ∙ (ap (λ n. take n path) same ∙ within_front b path b_serves)
+    sym (below_front a path a_serves) ∙ (ap (λ n. take n path) same ∙ below_front b path b_serves)
 
 -- ---- the longest
 longer_of_two : (len longest other : ℕ) → (ltb len longest || ltb len other) ≡ ltb len (cond (ltb longest other) other longest)
@@ -42,12 +42,12 @@ next_longest len longest other false = or-false (ltb len longest)
 
 -- one context more
 pub longest_more : (contexts : List ContextPolicy) (path : List ℕ) (i : ℕ) (context : ContextPolicy) (longest : ℕ) (taken : Bool)
-    → i < length contexts → context ≡ get_or contexts i context → taken ≡ (is_within context.path path && ltb longest (length context.path))
-    → ((len : ℕ) → list_any (λ context. is_within context.path path && ltb len (length context.path)) (take i contexts) ≡ ltb len longest)
-    → (len : ℕ) → list_any (λ context. is_within context.path path && ltb len (length context.path)) (take (i + 1) contexts) ≡ ltb len (cond taken (length context.path) longest)
+    → i < length contexts → context ≡ get_or contexts i context → taken ≡ (is_at_or_below context.path path && ltb longest (length context.path))
+    → ((len : ℕ) → list_any (λ context. is_at_or_below context.path path && ltb len (length context.path)) (take i contexts) ≡ ltb len longest)
+    → (len : ℕ) → list_any (λ context. is_at_or_below context.path path && ltb len (length context.path)) (take (i + 1) contexts) ≡ ltb len (cond taken (length context.path) longest)
 longest_more contexts path i context longest taken within at takes known len =
-    list_any_more (λ context. is_within context.path path && ltb len (length context.path)) contexts i context within
-    ∙ rw (known len, ← at, takes) (next_longest len longest (length context.path) (is_within context.path path))
+    list_any_more (λ context. is_at_or_below context.path path && ltb len (length context.path)) contexts i context within
+    ∙ rw (known len, ← at, takes) (next_longest len longest (length context.path) (is_at_or_below context.path path))
 
 list_any-map : {X Y : Type 0} (test : Y → Bool) (f : X → Y) (xs : List X) → list_any test (map f xs) ≡ list_any (λ x. test (f x)) xs
 list_any-map test f [] = refl
@@ -58,25 +58,25 @@ found_passes : {X : Type 0} (test : X → Bool) (xs : List X) (x : X) → find t
 found_passes test [] x h = cc
 found_passes test (y ∷ ys) x h = elim (cases_Bool (test y)) [ inl e ↦ cc | inr e ↦ found_passes test ys x (rw e at h) ]
 
-found_serves : (contexts : List ContextPolicy) (path : List ℕ) (context : ContextPolicy) → context_of contexts path ≡ Some context → is_within context.path path ≡ true
+found_serves : (contexts : List ContextPolicy) (path : List ℕ) (context : ContextPolicy) → context_of contexts path ≡ Some context → is_at_or_below context.path path ≡ true
 found_serves contexts path context found =
-    (and_parts (is_within context.path path) _ (found_passes (λ context. is_chosen (context_paths contexts) path context.path) contexts context found)).0
+    (and_parts (is_at_or_below context.path path) _ (found_passes (λ context. is_chosen (context_paths contexts) path context.path) contexts context found)).0
 
 pub reference_serves : (contexts : List ContextPolicy) (path : List ℕ) (found : Option (Bor ContextPolicy)) → option_copied found ≡ context_of contexts path
-    → IfSome found (λ context. IsTrue (is_within context.now.path path))
+    → IfSome found (λ context. IsTrue (is_at_or_below context.now.path path))
 reference_serves contexts path None h = tt
 reference_serves contexts path (Some context) h = found_serves contexts path context.now (sym h)
 
 -- the test of the code is that of the definition, where `longest` is the length of the longest
 pub found_by_longest : (contexts : List ContextPolicy) (path : List ℕ) (longest : ℕ)
-    → ((len : ℕ) → list_any (λ context. is_within context.path path && ltb len (length context.path)) contexts ≡ ltb len longest)
-    → find (λ context. is_within context.path path && not (ltb (length context.path) longest)) contexts ≡ context_of contexts path
+    → ((len : ℕ) → list_any (λ context. is_at_or_below context.path path && ltb len (length context.path)) contexts ≡ ltb len longest)
+    → find (λ context. is_at_or_below context.path path && not (ltb (length context.path) longest)) contexts ≡ context_of contexts path
 found_by_longest contexts path longest known = ap (λ test. find test contexts) (λ i context. same context i)
   where
-    longer : (len : ℕ) → list_any (λ other. is_within other path && ltb len (length other)) (context_paths contexts) ≡ ltb len longest
+    longer : (len : ℕ) → list_any (λ other. is_at_or_below other path && ltb len (length other)) (context_paths contexts) ≡ ltb len longest
     longer len = list_any-map _ (λ context. context.path) contexts ∙ known len
 
-    same : (context : ContextPolicy) → (is_within context.path path && not (ltb (length context.path) longest)) ≡ is_chosen (context_paths contexts) path context.path
+    same : (context : ContextPolicy) → (is_at_or_below context.path path && not (ltb (length context.path) longest)) ≡ is_chosen (context_paths contexts) path context.path
     same context = rw (longer (length context.path)) refl
 
 -- ---- there is a chosen one where one serves
@@ -86,7 +86,7 @@ weaken t u weaker (x ∷ xs) h = elim (or_cases (t x) (list_any t xs) h) [ inl e
 
 module _ (path : List ℕ) where
   abbrev serves : List ℕ → Bool
-  serves context = is_within context path
+  serves context = is_at_or_below context path
 
   longest_of : List (List ℕ) → ℕ
   longest_of [] = 0
@@ -123,12 +123,12 @@ module _ (path : List ℕ) where
       (λ below. weaken (λ other. serves other && ltb (length context) (length other)) serves (λ other e. (and_parts _ _ e).0) rest (longer_than (length context) rest ∙ below))
       h
 
-pub chosen_where_served : (contexts : List (List ℕ)) (path : List ℕ) → list_any (is_chosen contexts path) contexts ≡ list_any (λ context. is_within context path) contexts
+pub chosen_where_served : (contexts : List (List ℕ)) (path : List ℕ) → list_any (is_chosen contexts path) contexts ≡ list_any (λ context. is_at_or_below context path) contexts
 chosen_where_served contexts path =
-    elim (cases_Bool (list_any (λ context. is_within context path) contexts)) [
+    elim (cases_Bool (list_any (λ context. is_at_or_below context path) contexts)) [
       | inl e ↦ ap (λ test. list_any test contexts) (λ i context. same context i) ∙ attained path contexts e ∙ sym e
-      | inr e ↦ false_from_ne_true _ (λ h. both_ways _ e (weaken (is_chosen contexts path) (λ context. is_within context path) (λ context f. (and_parts _ _ f).0) contexts h)) ∙ sym e
+      | inr e ↦ false_from_ne_true _ (λ h. both_ways _ e (weaken (is_chosen contexts path) (λ context. is_at_or_below context path) (λ context f. (and_parts _ _ f).0) contexts h)) ∙ sym e
     ]
   where
-    same : (context : List ℕ) → is_chosen contexts path context ≡ (is_within context path && not (ltb (length context) (longest_of path contexts)))
+    same : (context : List ℕ) → is_chosen contexts path context ≡ (is_at_or_below context path && not (ltb (length context) (longest_of path contexts)))
     same context = rw (longer_than path (length context) contexts) refl

@@ -5,7 +5,7 @@ use Rattle.std.specs.Str.{bytes_eq}
 use Rattle.std.proofs.lemmas.Bool.{and_from, and_parts, both_ways, false_from_ne_true}
 use Rattle.std.proofs.lemmas.List.Sums.{AllPass-from_list_all, list_all-from_AllPass}
 use Rattle.http_header.specs.Token.{IsToken, is_token_byte}
-use Rattle.sv_explain.specs.Explanation.{is_method}
+use Rattle.sv_explain.specs.Explanation.{is_token}
 
 some_from_len : (text : List ℕ) → 0 < length text → not (bytes_eq text []) ≡ true
 some_from_len [] h = absurd (omega arith)
@@ -15,9 +15,9 @@ len_from_some : (text : List ℕ) → not (bytes_eq text []) ≡ true → 0 < le
 len_from_some [] h = cc
 len_from_some (x ∷ xs) h = omega arith
 
-pub method_token : (r : Bool) (text : List ℕ) → IsTrue r ↔ IsToken text → r ≡ is_method text
-method_token true text h =
+pub is_token_text : (r : Bool) (text : List ℕ) → IsTrue r ↔ IsToken text → r ≡ is_token text
+is_token_text true text h =
     let token : IsToken text = h.0 refl in
     sym (and_from _ _ (some_from_len text token.0) (list_all-from_AllPass is_token_byte text token.1))
-method_token false text h =
+is_token_text false text h =
     sym (false_from_ne_true _ (λ e. let parts = and_parts _ _ e in both_ways _ refl (h.1 (len_from_some text parts.0, AllPass-from_list_all is_token_byte text parts.1))))

@@ -1,9 +1,15 @@
--- Why there is no explanation, apart from want of memory.
-use Rattle.std.specs.Prelude.{Option, Some, None}
+-- Why there is no explanation.
+use Rattle.std.specs.Prelude.{ℕ, List, codes, Option, Some, None}
 use Rattle.sv_explain.specs.declared.fault.ExplainFault.{ExplainFault}
 use Rattle.sv_explain.specs.declared.fault.ExplainFault.TheVariants.{BadMethod, NoSuchUser, NoMemory}
 
+-- the fault, apart from want of memory
 abbrev pub explain_fault : ExplainFault → Option ExplainFault
 explain_fault BadMethod = Some BadMethod
 explain_fault NoSuchUser = Some NoSuchUser
 explain_fault NoMemory = None
+
+abbrev pub fault_name : ExplainFault → List ℕ
+fault_name BadMethod = codes "BadMethod"
+fault_name NoSuchUser = codes "NoSuchUser"
+fault_name NoMemory = codes "NoMemory"

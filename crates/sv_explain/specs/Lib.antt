@@ -1,7 +1,6 @@
 pub mod ContextPath
 pub mod Context
 pub mod Protected
-pub mod Decision
 pub mod Text
 pub mod Fault
 pub mod Explanation

@@ -2,17 +2,11 @@
 use Rattle.std.specs.Prelude.{ℕ, List, [], ◌++◌, codes, if◌then◌else◌}
 use Rattle.std.specs.Str.{bytes_eq}
 use Rattle.sv_uri.specs.Fault.{fault_name}
-use Rattle.sv_constraints.specs.Decision.{grounds_text}
-use Rattle.sv_explain.specs.Decision.{grounds_of, why_of, word}
-use Rattle.sv_explain.specs.declared.decision.OwnedWhy.{OwnedWhy}
+use Rattle.sv_constraints.specs.Decision.{why_of, why_text, word}
 use Rattle.sv_explain.specs.declared.explanation.Explanation.{Explanation}
 use Rattle.sv_explain.specs.declared.explanation.Explanation.TheVariants.{Refused, Hidden, Decided}
 use Rattle.sv_explain.specs.declared.explanation.HiddenCause.{HiddenCause}
 use Rattle.sv_explain.specs.declared.explanation.HiddenCause.TheVariants.{NoContext, Protected}
-
--- `pattern=P constraint=N cause=NAME`
-abbrev pub why_text : OwnedWhy → List ℕ
-why_text why = grounds_text (grounds_of why)
 
 abbrev pub hidden_name : HiddenCause → List ℕ
 hidden_name NoContext = codes "NoContext"

@@ -3,11 +3,11 @@
 ghost use Rattle.std.specs.Prelude.{◌≡◌, IfSome, IsTrue, ℕ, ◌&&◌, not, nat_lt, length, find};
 ghost use Rattle.std.specs.List.{list_any};
 ghost use Rattle.std.specs.Option.{option_copied};
-ghost use Rattle.sv_mapping.specs.Pattern.{is_within};
+ghost use Rattle.sv_mapping.specs.Pattern.{is_at_or_below};
 ghost use Rattle.sv_explain.specs.Context.{context_of};
 
-use crate::context_path::serves;
 use sv_descriptor::Descriptor;
+use sv_mapping::is_at_or_below;
 use sv_realm::Realm;
 use sv_text::Text;
 
@@ -25,7 +25,7 @@ pub struct ContextPolicy {
 /// The context of a path: of those whose context paths serve it the one with the longest, and of equal ones the first.
 pub fn context_of<'a>(contexts: &'a [ContextPolicy], path: &str) -> Option<&'a ContextPolicy>
     ensures chosen { option_copied result ≡ context_of contexts.now path.now }
-    ensures serves { IfSome result (λ context. IsTrue (is_within context.now.path path.now)) }
+    ensures above { IfSome result (λ context. IsTrue (is_at_or_below context.now.path path.now)) }
 {
     first_as_long(contexts, longest_path(contexts, path), path)
 }
@@ -36,7 +36,7 @@ fn first_as_long<'a>(
     len: usize,
     path: &str,
 ) -> Option<&'a ContextPolicy>
-    ensures { option_copied result ≡ find (λ context. is_within context.path path.now && not (nat_lt (length context.path) len)) contexts.now }
+    ensures { option_copied result ≡ find (λ context. is_at_or_below context.path path.now && not (nat_lt (length context.path) len)) contexts.now }
 {
     contexts
         .iter()
@@ -45,7 +45,7 @@ fn first_as_long<'a>(
 
 /// The length of the longest context path that serves the path, 0 where none does.
 fn longest_path(contexts: &[ContextPolicy], path: &str) -> usize
-    ensures { (len : ℕ) → list_any (λ context. is_within context.path path.now && nat_lt len (length context.path)) contexts.now ≡ nat_lt len result }
+    ensures { (len : ℕ) → list_any (λ context. is_at_or_below context.path path.now && nat_lt len (length context.path)) contexts.now ≡ nat_lt len result }
 {
     let mut longest = 0;
     for context in contexts {
@@ -57,15 +57,15 @@ fn longest_path(contexts: &[ContextPolicy], path: &str) -> usize
 }
 
 fn is_longer(context: &ContextPolicy, longest: usize, path: &str) -> bool
-    ensures { result ≡ (is_within context.now.path path.now && nat_lt longest (length context.now.path)) }
+    ensures { result ≡ (is_at_or_below context.now.path path.now && nat_lt longest (length context.now.path)) }
 {
     let context_path = context.path.as_str();
-    serves(context_path, path) && context_path.len() > longest
+    is_at_or_below(context_path, path) && context_path.len() > longest
 }
 
 fn is_as_long(context: &ContextPolicy, len: usize, path: &str) -> bool
-    ensures { result ≡ (is_within context.now.path path.now && not (nat_lt (length context.now.path) len)) }
+    ensures { result ≡ (is_at_or_below context.now.path path.now && not (nat_lt (length context.now.path) len)) }
 {
     let context_path = context.path.as_str();
-    serves(context_path, path) && context_path.len() >= len
+    is_at_or_below(context_path, path) && context_path.len() >= len
 }

@@ -1,24 +1,21 @@
 //! The explanation of a request.
 
-ghost use Rattle.std.specs.Prelude.{◌≡◌, IfOk, IsTrue};
+ghost use Rattle.std.specs.Prelude.{◌≡◌, IsTrue};
 ghost use Rattle.std.specs.Option.{option_copied, option_map};
 ghost use Rattle.sv_text.specs.Gives.{Gives, GivesAnswer};
-ghost use Rattle.sv_mapping.specs.Pattern.{is_within};
+ghost use Rattle.sv_mapping.specs.Pattern.{is_at_or_below};
 ghost use Rattle.sv_explain.specs.Explanation as spec;
 ghost use Rattle.sv_explain.specs.Fault.{explain_fault};
 
 use crate::context::{ContextPolicy, context_of};
 use crate::context_path::path_within;
-use crate::decision::OwnedDecision;
 use crate::explanation::{Explanation, HiddenCause};
 use crate::fault::ExplainFault;
 use crate::protected::is_protected;
-use http_header::is_token;
 use std::alloc::Global;
-use sv_constraints::{Rules, decide_plain};
-use sv_descriptor::Descriptor;
+use sv_constraints::{OwnedDecision, decide_plain};
 use sv_realm::{Caller, Realm};
-use sv_text::{Listed, NoMemory, Text};
+use sv_text::{NoMemory, Text};
 use sv_uri::canon;
 use sv_uri::fault::CanonFault;
 
@@ -39,7 +36,7 @@ pub fn explain_parts(
 ) -> Result<Explanation, ExplainFault>
     ensures { Gives explain_fault result (spec.explanation contexts.now method.now target.now (option_copied user.entry)) }
 {
-    if !is_method(method) {
+    if !is_token(method) {
         return Err(ExplainFault::BadMethod);
     }
     let canonical = match canon(alloc, target) {
@@ -61,7 +58,7 @@ fn explain_within(
     path: &str,
     user: Option<&str>,
 ) -> Result<Explanation, ExplainFault>
-    requires { IsTrue (is_within context.now.path path.now) }
+    requires { IsTrue (is_at_or_below context.now.path path.now) }
     ensures { Gives explain_fault result (spec.explanation_within context.now method.now path.now (option_copied user.entry)) }
 {
     let Some(caller) = caller_as(&context.realm, user) else {
@@ -94,9 +91,9 @@ fn decided(
 ) -> Result<Explanation, NoMemory>
     ensures { GivesAnswer result (spec.decided context.now method.now path.now (option_copied caller.entry)) }
 {
-    let rules = rules_of(alloc, &context.descriptor)?;
-    let constraints = context.descriptor.constraints.as_slice();
-    let decision = decide_plain(constraints, &rules, method, path, caller);
+    let web_app = context.descriptor.web_app();
+    let constraints = web_app.constraints.as_slice();
+    let decision = decide_plain(constraints, &web_app.rules, method, path, caller);
     Ok(Explanation::Decided {
         context: Text::copy_of(alloc, context.path.as_str())?,
         path: Text::copy_of(alloc, path)?,
@@ -104,29 +101,9 @@ fn decided(
     })
 }
 
-/// What a descriptor says beside its constraints.
-fn rules_of(alloc: Global, descriptor: &Descriptor) -> Result<Rules, NoMemory>
-    ensures { GivesAnswer result (spec.rules_of descriptor.now) }
+/// Whether the text is a token, as every method is (RFC 9110, sections 5.6.2 and 9.1).
+fn is_token(text: &str) -> bool
+    ensures { result ≡ spec.is_token text.now }
 {
-    Ok(Rules {
-        declared: Listed::from_vec(copied_texts(alloc, descriptor.roles.as_slice())?),
-        deny_uncovered: descriptor.deny_uncovered,
-    })
-}
-
-fn copied_texts(alloc: Global, texts: &[Text]) -> Result<Vec<Text>, NoMemory>
-    ensures { IfOk result (λ copies. copies.items ≡ texts.now) }
-{
-    let mut copies = Vec::with_capacity(alloc, texts.len())?;
-    for text in texts {
-        copies.push(Text::copy_of(alloc, text.as_str())?)?;
-    }
-    Ok(copies)
-}
-
-/// Whether the text is a method: a token (RFC 9110, sections 5.6.2 and 9.1).
-fn is_method(text: &str) -> bool
-    ensures { result ≡ spec.is_method text.now }
-{
-    is_token(text.as_bytes())
+    http_header::is_token(text.as_bytes())
 }

@@ -1,17 +1,15 @@
 //! What would become of a request, and its text.
 
-ghost use Rattle.std.specs.Prelude.{◌≡◌, Some, codes, unwrap_or};
-ghost use Rattle.std.specs.Option.{option_map_or};
-ghost use Rattle.std.specs.Fmt.{decimal};
+ghost use Rattle.std.specs.Prelude.{◌≡◌, Some};
 ghost use Rattle.sv_explain.specs.Text as spec;
 
-use crate::decision::{OwnedDecision, OwnedWhy};
 use std::fmt;
+use sv_constraints::OwnedDecision;
 use sv_text::Text;
 use sv_uri::fault::PathFault;
 
 /// What would become of a request.
-#[derive(Debug, Drop)]
+#[derive(Drop)]
 pub enum Explanation {
     /// It is refused: its target has no canonical path.
     Refused(PathFault),
@@ -29,48 +27,12 @@ pub enum Explanation {
 }
 
 /// Why a request is answered as if nothing were there.
-#[derive(Clone, Copy, Debug, PartialEq, Eq)]
+#[derive(Clone, Copy)]
 pub enum HiddenCause {
     /// No context path serves the path.
     NoContext,
     /// The path within the context leads into a folder that is served to no client.
     Protected,
-}
-
-impl fmt::Display for OwnedWhy {
-    ghost output = { λ why. Some (spec.why_text why) };
-
-    fn fmt<W: fmt::Write>(&self, f: &mut fmt::Formatter<W>) -> fmt::Result {
-        let pattern = text_or_dash(&self.pattern);
-        let number = OrDash(self.number);
-        let cause = self.cause;
-        write!(f, "pattern={pattern} constraint={number} cause={cause}")
-    }
-}
-
-/// Prints a number, or `-` where there is none.
-#[derive(Clone, Copy)]
-struct OrDash(Option<u64>);
-
-impl fmt::Display for OrDash {
-    ghost output = { λ shown. Some (option_map_or decimal shown.0 (codes "-")) };
-
-    fn fmt<W: fmt::Write>(&self, f: &mut fmt::Formatter<W>) -> fmt::Result {
-        match self.0 {
-            Some(number) => number.fmt(f),
-            None => f.write_str("-"),
-        }
-    }
-}
-
-/// The text, or `-` where there is none.
-fn text_or_dash(text: &Option<Text>) -> &str
-    ensures { result.now ≡ unwrap_or text.now (codes "-") }
-{
-    match text {
-        Some(text) => text.as_str(),
-        None => "-",
-    }
 }
 
 impl fmt::Display for HiddenCause {

@@ -4,7 +4,6 @@
 
 mod context;
 mod context_path;
-mod decision;
 mod explain;
 mod explanation;
 mod fault;
@@ -12,7 +11,6 @@ mod laws;
 mod protected;
 
 pub use context::ContextPolicy;
-pub use decision::{OwnedDecision, OwnedWhy};
 pub use explain::explain_parts;
 pub use explanation::{Explanation, HiddenCause, shown_context};
 pub use fault::ExplainFault;

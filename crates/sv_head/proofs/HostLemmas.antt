@@ -1,5 +1,6 @@
 -- The bytes of a host are those of a value.
-use Rattle.std.proofs.Common.{◌≡◌, ℕ, zero, suc, ◌+◌, ◌<◌, ◌≤◌, Bool, true, ◌||◌, not, ◌⊎◌, List, [], ◌∷◌, ◌++◌, length, get_or, set, take, drop, map, ◌∙◌, refl, ap, subst, inl, inr, eqb, leb, codes, arith}
+use Rattle.std.proofs.Common.{◌≡◌, ℕ, zero, suc, ◌+◌, ◌<◌, ◌≤◌, Bool, true, ◌||◌, not, ◌⊎◌, List, [], ◌∷◌, ◌++◌, length, get_or, set, take, drop, map, ◌∙◌, refl, ap, subst, inl, inr, eqb, leb, codes, arith, Result, Ok, Err}
+use Rattle.std.specs.Prelude.{OnErr}
 use Rattle.std.specs.List.{list_all, list_any}
 use Rattle.std.specs.Char.{is_ascii_alphanumeric}
 use Rattle.std.specs.Int.{is_in_range}
@@ -69,3 +70,17 @@ module _ {X : Type 0} (f : X → X) where
       let at : x ≡ get_or xs i x = here ∙ ap (λ ys. get_or ys i x) is ∙ replaced_at xs i x inside in
       let next : i + 1 ≡ suc i = omega arith in
       rw (is, made, next) (ap (λ y. set (map f (take i xs) ++ drop i xs) i (f y)) at ∙ replaced_next xs i x inside)
+
+on_err : {A E : Type 0} (r : Result A E) (P : Type 0) → P → OnErr r P
+on_err (Ok a) P holds = tt
+on_err (Err e) P holds = holds
+
+set_kept : {X : Type 0} (xs : List X) (i : ℕ) (x : X) → x ≡ get_or xs i x → set xs i x ≡ xs
+set_kept [] i x is = refl
+set_kept (y ∷ xs) zero x is = ap (λ z. z ∷ xs) is
+set_kept (y ∷ xs) (suc i) x is = ap (λ zs. y ∷ zs) (set_kept xs i x is)
+
+-- an item that stays leaves the list as it is
+pub replaced_kept : {X A E : Type 0} (f : X → X) (r : Result A E) (xs items : List X) (i : ℕ) (x new : X) → items ≡ map f (take i xs) ++ drop i xs
+    → x ≡ get_or items i x → new ≡ x → OnErr r ((k : ℕ) × (set items i new ≡ map f (take k xs) ++ drop k xs))
+replaced_kept f r xs items i x new is here kept = on_err r _ (i, ap (set items i) kept ∙ set_kept items i x here ∙ is)

@@ -4,7 +4,6 @@ use Rattle.std.specs.List.{starts_with, position_or_len}
 use Rattle.http_header.specs.Token.{lowercase}
 use Rattle.sv_head.specs.declared.target.TargetForm.{TargetForm}
 use Rattle.sv_head.specs.declared.target.TargetForm.TheVariants.{Origin, Absolute, Star, Unknown}
-use Rattle.sv_head.specs.declared.target.TheConstants.{SCHEME_LEN}
 use Rattle.sv_head.specs.Host.{is_host}
 
 -- a path begins with a slash
@@ -15,9 +14,16 @@ is_path target = starts_with nat_eq target (codes "/")
 abbrev pub is_behind_authority : ℕ → Bool
 is_behind_authority b = b == 47 || b == 63
 
+-- the scheme of an absolute form, and what stands behind it
+abbrev pub scheme : List ℕ
+scheme = codes "http://"
+
+abbrev pub behind_scheme : List ℕ → List ℕ
+behind_scheme target = drop (length scheme) target
+
 -- whether a target begins with the scheme, in any case
 abbrev pub has_scheme : List ℕ → Bool
-has_scheme target = bytes_eq (lowercase (take SCHEME_LEN target)) (codes "http://")
+has_scheme target = bytes_eq (lowercase (take (length scheme) target)) scheme
 
 -- how long the authority is in what stands behind the scheme
 abbrev pub authority_len : List ℕ → ℕ
@@ -25,7 +31,7 @@ authority_len behind = position_or_len is_behind_authority behind
 
 -- the authority of an absolute form
 abbrev pub authority_of : List ℕ → List ℕ
-authority_of target = take (authority_len (drop SCHEME_LEN target)) (drop SCHEME_LEN target)
+authority_of target = take (authority_len (behind_scheme target)) (behind_scheme target)
 
 -- a path and a query with a slash before an empty path
 abbrev pub with_slash : List ℕ → List ℕ
@@ -33,7 +39,7 @@ with_slash path = if is_path path then path else codes "/" ++ path
 
 -- the path of an absolute form, and its query
 abbrev pub path_of : List ℕ → List ℕ
-path_of target = with_slash (drop (authority_len (drop SCHEME_LEN target)) (drop SCHEME_LEN target))
+path_of target = with_slash (drop (authority_len (behind_scheme target)) (behind_scheme target))
 
 -- an authority is a host that is not empty
 abbrev pub is_authority : List ℕ → Bool
@@ -43,7 +49,7 @@ is_authority text = nat_lt 0 (length text) && is_host text
 abbrev pub target_form : List ℕ → List ℕ → TargetForm
 target_form method target =
     if is_path target then Origin
-    else if has_scheme target && is_authority (authority_of target) then Absolute (authority_len (drop SCHEME_LEN target))
+    else if has_scheme target && is_authority (authority_of target) then Absolute (authority_len (behind_scheme target))
     else if bytes_eq target (codes "*") && bytes_eq method (codes "OPTIONS") then Star
     else Unknown
 
@@ -51,6 +57,6 @@ target_form method target =
 abbrev pub FitsForm : TargetForm → List ℕ → Type 0
 FitsForm Origin target = ⊤
 FitsForm (Absolute len) target =
-    (len ≡ authority_len (drop SCHEME_LEN target)) × (SCHEME_LEN + len ≤ length target) × (is_host (authority_of target) ≡ true)
+    (len ≡ authority_len (behind_scheme target)) × (length scheme + len ≤ length target) × (is_host (authority_of target) ≡ true)
 FitsForm Star target = ⊤
 FitsForm Unknown target = ⊤

@@ -11,7 +11,7 @@ use crate::field::Field;
 use crate::members::{is_in_lower_case, trim_blanks};
 
 /// What the codings of a body are where `chunked` alone is known (RFC 9112, section 6.1).
-#[derive(Clone, Copy, Debug, PartialEq, Eq)]
+#[derive(Clone, Copy)]
 pub enum Codings {
     /// `chunked` is the only one.
     Chunked,

@@ -1,6 +1,6 @@
 //! One field of a message.
 
-ghost use Rattle.std.specs.Prelude.{◌≡◌, true, OnOk};
+ghost use Rattle.std.specs.Prelude.{◌≡◌, true, OnOk, OnErr};
 ghost use Rattle.http_header.specs.FieldName.{IsFieldName};
 ghost use Rattle.http_header.specs.FieldValue.{IsFieldValue, plain_value};
 ghost use Rattle.http_header.specs.Token.{lowercase};
@@ -12,7 +12,7 @@ use std::alloc::Global;
 use sv_text::NoMemory;
 
 /// One field of a message (RFC 9110, section 5): its name in lower case, and its value without the blanks around it.
-#[derive(Debug, Drop)]
+#[derive(Drop)]
 pub struct Field {
     pub name: HeaderName,
     pub value: HeaderValue,
@@ -50,7 +50,8 @@ impl Field {
     /// Gives a Host field that host in place of what it says. Another field stays as it is.
     pub(crate) fn take_host(&mut self, alloc: Global, host: &[u8]) -> Result<(), NoMemory>
         requires { is_host host.now ≡ true }
-        ensures { OnOk result (self.new ≡ with_host host.now self.old) }
+        ensures ok { OnOk result (self.new ≡ with_host host.now self.old) }
+        ensures no_memory { OnErr result (self.new ≡ self.old) }
     {
         if self.is_named("host") {
             self.value = read_host(alloc, host)?;

@@ -1,6 +1,6 @@
 //! The Host fields of a request.
 
-ghost use Rattle.std.specs.Prelude.{◌≡◌, true, codes, length, OnOk};
+ghost use Rattle.std.specs.Prelude.{◌≡◌, ℕ, ◌++◌, true, codes, length, take, drop, OnOk, OnErr};
 ghost use Rattle.std.specs.List.{list_all, filter};
 ghost use Rattle.sv_head.specs.Fields.{values_of, is_named};
 ghost use Rattle.sv_head.specs.Host.{is_host_byte, is_host, accepts_hosts, with_hosts};
@@ -18,10 +18,12 @@ pub fn accepts_hosts(minor: u8, fields: &[Field]) -> bool
     are_hosts_valid(fields) && if minor == 1 { count == 1 } else { count <= 1 }
 }
 
-/// Gives each Host field that host in place of what it says (RFC 9112, section 3.2.2). After `NoMemory` some have it.
+/// Gives each Host field that host in place of what it says (RFC 9112, section 3.2.2). After [`NoMemory`] the fields before
+/// the one that took no copy have it, and all others are as before.
 pub fn replace_hosts(alloc: Global, fields: &mut [Field], host: &[u8]) -> Result<(), NoMemory>
     requires { is_host host.now ≡ true }
-    ensures { OnOk result (fields.new ≡ with_hosts host.now fields.old) }
+    ensures ok { OnOk result (fields.new ≡ with_hosts host.now fields.old) }
+    ensures no_memory { OnErr result ((k : ℕ) × (fields.new ≡ with_hosts host.now (take k fields.old) ++ drop k fields.old)) }
 {
     for field in fields {
         field.take_host(alloc, host)?;

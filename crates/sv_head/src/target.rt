@@ -1,7 +1,7 @@
 //! The forms of a request's target.
 
 ghost use Rattle.std.specs.Prelude.{◌≡◌, ◌≤◌, true, length};
-ghost use Rattle.sv_head.specs.TargetForm.{target_form, has_scheme, authority_len, is_authority, is_behind_authority, FitsForm};
+ghost use Rattle.sv_head.specs.TargetForm.{scheme, target_form, has_scheme, authority_len, is_authority, is_behind_authority, FitsForm};
 
 use crate::host::is_host;
 use crate::members::is_in_lower_case;
@@ -9,10 +9,10 @@ use crate::members::is_in_lower_case;
 const SCHEME: &[u8] = b"http://";
 
 /// How long the scheme of an absolute form is.
-pub const SCHEME_LEN: usize = 7;
+pub const SCHEME_LEN: usize = SCHEME.len();
 
 /// The form of a request's target (RFC 9112, section 3.2).
-#[derive(Clone, Copy, Debug, PartialEq, Eq)]
+#[derive(Clone, Copy)]
 pub enum TargetForm {
     /// A path.
     Origin,
@@ -48,7 +48,7 @@ pub fn target_form(method: &[u8], target: &[u8]) -> TargetForm
 /// Whether a target begins with the scheme, in any case.
 fn has_scheme(target: &[u8]) -> bool
     ensures value { result ≡ has_scheme target.now }
-    ensures fits { result ≡ true → SCHEME_LEN ≤ length target.now }
+    ensures fits { result ≡ true → length scheme ≤ length target.now }
 {
     target.len() >= SCHEME_LEN && is_in_lower_case(&target[..SCHEME_LEN], SCHEME)
 }

@@ -1,5 +1,6 @@
+mod Arguments
 mod Faults
-mod FirstRequest
-mod ShortLists
+mod FirstRead
+mod PolicyRun
+mod Readings
 mod Steps
-mod Words

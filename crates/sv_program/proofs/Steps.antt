@@ -1,6 +1,7 @@
 -- A step for each item of a list, as far as a loop has come.
 use Rattle.std.proofs.Common.{◌≡◌, ◌∙◌, ℕ, ◌+◌, ◌<◌, List, [], ◌∷◌, ◌++◌, length, drop, get_or, drop-cons, add-one, Ok, Err, refl, suc, sym, ap, append_assoc}
-use Rattle.sv_program.specs.Configuration.{Step, ◌>>=◌, each}
+use Rattle.sv_text.specs.Steps.{◌>>=◌}
+use Rattle.sv_program.specs.Configuration.{Step, each}
 
 after : {A : Type 0} (bs : List A) (b : A) (rest : Step (List A))
     → (rest >>= λ more. Ok ((bs ++ b ∷ []) ++ more)) ≡ ((rest >>= λ more. Ok (b ∷ more)) >>= λ more. Ok (bs ++ more))

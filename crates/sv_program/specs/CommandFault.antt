@@ -1,12 +1,12 @@
 -- The lines and exit statuses of faults.
-use Rattle.std.specs.Prelude.{ℕ, List, [], ◌++◌, codes, if◌then◌else◌, Option, Some, None}
+use Rattle.std.specs.Prelude.{ℕ, List, [], ◌++◌, codes, if◌then◌else◌, Option, Some, None, MatchOption, Result, Ok, Err}
 use Rattle.std.specs.Fmt.{decimal}
 use Rattle.std.specs.Str.{bytes_eq}
 use Rattle.sv_schema.specs.Fault.{number}
 use Rattle.sv_schema.specs.declared.fault.DescriptorFault.{DescriptorFault}
 use Rattle.sv_explain.specs.Text.{shown_context}
 use Rattle.sv_program.specs.declared.command_fault.CommandFault.{CommandFault}
-use Rattle.sv_program.specs.declared.command_fault.CommandFault.TheVariants.{Usage, Input, Output, File, Server, Descriptor, Users, User, Method, NoMemory}
+use Rattle.sv_program.specs.declared.command_fault.CommandFault.TheVariants.{Input, Output, File, Server, Descriptor, Users, User, Method, NoMemory}
 
 -- the key at which a configuration file is wrong, `-` where the whole text is
 abbrev pub key_text : List ℕ → List ℕ
@@ -18,7 +18,6 @@ fault_text fault = decimal (number fault.code) ++ codes " " ++ key_text fault.ke
 
 -- the line on standard error
 abbrev pub fault_line : CommandFault → List ℕ
-fault_line Usage = codes "sv: usage"
 fault_line Input = codes "sv: file stdin"
 fault_line Output = codes "sv: file stdout"
 fault_line (File name) = codes "sv: file " ++ name
@@ -31,7 +30,6 @@ fault_line NoMemory = codes "sv: no memory"
 
 -- the exit status: 1 for a file, 2 for the arguments, 3 for want of memory
 abbrev pub status_of : CommandFault → ℕ
-status_of Usage = 2
 status_of Input = 1
 status_of Output = 1
 status_of (File name) = 1
@@ -47,8 +45,7 @@ abbrev pub command_fault : CommandFault → Option CommandFault
 command_fault NoMemory = None
 command_fault other = Some other
 
--- a fault that ends the reading of the input
-abbrev pub IsReadFault : CommandFault → Type 0
-IsReadFault Input = Unit {0}
-IsReadFault NoMemory = Unit {0}
-IsReadFault other = ⊥
+-- the fact holds, unless memory ran out
+abbrev pub UnlessNoMemory : {A : Type 0} → Result A CommandFault → Type 0 → Type 0
+UnlessNoMemory (Ok a) fact = fact
+UnlessNoMemory (Err fault) fact = MatchOption (command_fault fault) (Unit {0}) (λ _. fact)

@@ -1,6 +1,7 @@
 -- The contexts of a server, by the texts of its files: the server file, and for each context its descriptor and its users file.
 use Rattle.std.specs.Prelude.{ℕ, List, [], ◌∷◌, Option, Some, None, Result, Ok, Err}
 use Rattle.std.specs.Option.{ok_or}
+use Rattle.sv_text.specs.Steps.{◌>>=◌}
 use Rattle.sv_realm.specs.declared.user.User.{User}
 use Rattle.sv_schema.specs.Fault.{Reads}
 use Rattle.sv_schema.specs.declared.fault.DescriptorFault.{DescriptorFault}
@@ -8,7 +9,7 @@ use Rattle.sv_settings.specs.Server.{server_of}
 use Rattle.sv_settings.specs.Users.{users_of}
 use Rattle.sv_settings.specs.declared.server.Server.{Server}
 use Rattle.sv_descriptor.specs.Descriptor.{descriptor_of}
-use Rattle.sv_descriptor.specs.declared.descriptor.Descriptor.{Descriptor}
+use Rattle.sv_descriptor.specs.declared.web_app.WebApp.{WebApp}
 use Rattle.sv_explain.specs.declared.context.ContextPolicy.{ContextPolicy}
 use Rattle.sv_program.specs.declared.command_fault.CommandFault.{CommandFault}
 use Rattle.sv_program.specs.declared.command_fault.CommandFault.TheVariants as fault
@@ -17,11 +18,6 @@ use Rattle.sv_program.specs.declared.configuration.ContextTexts.{ContextTexts}
 -- what a step gives, or the fault that ends the command
 abbrev pub Step : Type 0 → Type 0
 Step A = Result A CommandFault
-
-infixl 10 ◌>>=◌
-abbrev pub ◌>>=◌ : {A B : Type 0} → Step A → (A → Step B) → Step B
-Ok a >>= next = next a
-Err fault >>= next = Err fault
 
 -- a step for each, in order
 abbrev pub each : {A B : Type 0} → (A → Step B) → List A → Step (List B)
@@ -45,7 +41,7 @@ server_in name file = do
   text ← text_of name file
   told fault.Server (server_of text)
 
-abbrev pub descriptor_in : ContextTexts → Step Descriptor
+abbrev pub descriptor_in : ContextTexts → Step WebApp
 descriptor_in texts = do
   text ← text_of texts.context.descriptor texts.descriptor
   told (fault.Descriptor texts.context.path) (descriptor_of text)

@@ -1,5 +1,5 @@
 -- The line of the command `first`: RFC 9112 reads the request, Jakarta Servlet 6.0 section 3.5 its path, section 13.8 decides.
-use Rattle.std.specs.Prelude.{◌≡◌, ℕ, Bool, List, ◌∷◌, [], ◌++◌, Option, Some, None, Result, Ok, Err, codes, take, IfSome}
+use Rattle.std.specs.Prelude.{◌≡◌, ℕ, Bool, List, ◌∷◌, [], ◌++◌, Option, Some, None, Result, Ok, Err, codes, take, IfSome, if◌then◌else◌}
 use Rattle.std.specs.Io.KnownBytes.{Appends}
 use Rattle.sv_wire.specs.Reads.{Reads}
 use Rattle.sv_wire.specs.Items.{first_item}
@@ -17,7 +17,13 @@ use Rattle.sv_uri.specs.declared.fault.PathFault.{PathFault}
 use Rattle.sv_uri.specs.Fault as path_fault
 use Rattle.sv_constraints.specs.Verdict.{verdict}
 use Rattle.sv_constraints.specs.Decision.{decision_text}
+use Rattle.sv_program.specs.declared.command_fault.CommandFault.{CommandFault}
+use Rattle.sv_program.specs.declared.command_fault.CommandFault.TheVariants.{Input, Output, NoMemory}
 use Rattle.sv_program.specs.ExamplePolicy.{example_constraints, example_rules}
+
+-- the options of the command
+abbrev pub first_options : Bool → List (List ℕ)
+first_options deny_uncovered = if deny_uncovered then codes "deny" ∷ [] else []
 
 -- a request that is refused before a decision
 abbrev pub refused_line : List ℕ → List ℕ
@@ -57,6 +63,18 @@ abbrev pub WritesFirstLine : List ℕ → Bool → Option (List ℕ) → Option 
 WritesFirstLine stream deny_uncovered old new =
     (line : List ℕ) × IsFirstLine stream deny_uncovered line × Appends old new (line ++ 10 ∷ [])
 
+-- the faults of reading
+abbrev pub IsReadFault : CommandFault → Type 0
+IsReadFault Input = Unit {0}
+IsReadFault NoMemory = Unit {0}
+IsReadFault other = ⊥
+
+-- the faults of the command
+abbrev pub IsFirstFault : CommandFault → Type 0
+IsFirstFault Output = Unit {0}
+IsFirstFault other = IsReadFault other
+
 -- the command's run: of a reader's known bytes the first 65,536 are read
-abbrev pub RunsFirst : Bool → Option (List ℕ) → Option (List ℕ) → Option (List ℕ) → Type 0
-RunsFirst deny_uncovered stream old new = IfSome stream (λ bytes. WritesFirstLine (take 65536 bytes) deny_uncovered old new)
+abbrev pub RunsFirst : Bool → Result (Unit {0}) CommandFault → Option (List ℕ) → Option (List ℕ) → Option (List ℕ) → Type 0
+RunsFirst deny_uncovered (Ok done) stream old new = IfSome stream (λ bytes. WritesFirstLine (take 65536 bytes) deny_uncovered old new)
+RunsFirst deny_uncovered (Err fault) stream old new = IsFirstFault fault

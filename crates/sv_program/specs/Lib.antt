@@ -1,5 +1,8 @@
+pub mod Arguments
 pub mod CommandFault
 pub mod Configuration
+pub mod FileStore
+pub mod ConfigurationFiles
 pub mod ExamplePolicy
 pub mod FirstLine
 pub mod Policy

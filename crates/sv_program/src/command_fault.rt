@@ -14,8 +14,6 @@ use sv_text::{NoMemory, Text};
 /// leaves standard output unwritten.
 #[derive(Debug, Drop)]
 pub enum CommandFault {
-    /// The arguments name no command: `sv: usage`, status 2. Nothing was read.
-    Usage,
     /// Standard input could not be read: `sv: file stdin`, status 1.
     Input,
     /// Standard output could not be written: `sv: file stdout`, status 1. A part of the output may have been written.
@@ -59,7 +57,7 @@ impl CommandFault {
             | CommandFault::Server(_)
             | CommandFault::Descriptor { .. }
             | CommandFault::Users { .. } => 1,
-            CommandFault::Usage | CommandFault::User | CommandFault::Method => 2,
+            CommandFault::User | CommandFault::Method => 2,
             CommandFault::NoMemory => 3,
         }
     }
@@ -70,7 +68,6 @@ impl fmt::Display for CommandFault {
 
     fn fmt<W: fmt::Write>(&self, f: &mut fmt::Formatter<W>) -> fmt::Result {
         match self {
-            CommandFault::Usage => f.write_str("sv: usage"),
             CommandFault::Input => f.write_str("sv: file stdin"),
             CommandFault::Output => f.write_str("sv: file stdout"),
             CommandFault::File(name) => write!(f, "sv: file {name}"),

@@ -17,7 +17,7 @@ use sv_settings::{ContextEntry, Server, read_server, read_users};
 use sv_text::{Listed, Text};
 
 /// A context of a server file, with the texts of the files that it names.
-#[derive(Debug, Drop)]
+#[derive(Drop)]
 pub struct ContextTexts {
     /// The context as the server file has it.
     pub context: ContextEntry,

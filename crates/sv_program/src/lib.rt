@@ -4,9 +4,12 @@
 mod command;
 mod command_fault;
 mod configuration;
+mod configuration_files;
+mod disk;
 mod example_policy;
-mod files;
-mod first_request;
+mod file_store;
+mod first_command;
+mod laws;
 mod limits;
 mod output;
 mod policy_command;
@@ -15,10 +18,13 @@ mod question;
 pub use command::Command;
 pub use command_fault::CommandFault;
 pub use configuration::{ContextTexts, configured_contexts, server_in};
-pub use first_request::{first, first_line};
+pub use configuration_files::{read_contexts, read_server_file};
+pub use disk::Disk;
+pub use file_store::FileStore;
+pub use first_command::{first, first_line};
+pub use laws::limits_are_as_stated;
 pub use limits::MAX_INPUT_BYTES;
 pub use policy_command::{policy, policy_line};
 pub use question::Question;
-pub use sv_explain::{
-    ContextPolicy, ExplainFault, Explanation, HiddenCause, OwnedDecision, OwnedWhy, explain_parts,
-};
+pub use sv_constraints::{OwnedDecision, OwnedWhy};
+pub use sv_explain::{ContextPolicy, ExplainFault, Explanation, HiddenCause, explain_parts};

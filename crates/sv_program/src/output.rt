@@ -1,13 +1,27 @@
 //! Lines on a writer.
 
-ghost use Rattle.std.specs.Prelude.{[], ◌∷◌, ◌++◌, OnOk};
+ghost use Rattle.std.specs.Prelude.{◌≡◌, [], ◌∷◌, ◌++◌, IfErr, OnOk};
 ghost use Rattle.std.specs.Io.KnownBytes.{Appends};
 
+use crate::command_fault::CommandFault;
 use std::io;
 use std::io::Write;
 
 /// Writes the line and a line feed, and flushes the writer.
-pub fn write_line<W: Write>(writer: &mut W, line: &str) -> io::Result<()>
+///
+/// # Errors
+/// [`CommandFault::Output`], when a part may have been written.
+pub fn print_line<W: Write>(writer: &mut W, line: &str) -> Result<(), CommandFault>
+    ensures written { OnOk result (Appends (W.contents writer.old) (W.contents writer.new) (line.now ++ 10 ∷ [])) }
+    ensures fault { IfErr result (λ fault. fault ≡ CommandFault.Output) }
+{
+    match write_line(writer, line) {
+        Ok(()) => Ok(()),
+        Err(_) => Err(CommandFault::Output),
+    }
+}
+
+fn write_line<W: Write>(writer: &mut W, line: &str) -> io::Result<()>
     ensures { OnOk result (Appends (W.contents writer.old) (W.contents writer.new) (line.now ++ 10 ∷ [])) }
 {
     writer.writeln(line)?;

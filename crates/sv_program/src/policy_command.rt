@@ -7,13 +7,13 @@ ghost use Rattle.sv_program.specs.CommandFault.{command_fault};
 ghost use Rattle.sv_program.specs.Policy as spec;
 
 use crate::command_fault::CommandFault;
-use crate::configuration::{ContextTexts, configured_contexts, server_in};
-use crate::files::{read_contexts, read_text};
-use crate::output::write_line;
+use crate::configuration::{ContextTexts, configured_contexts};
+use crate::configuration_files::{read_contexts, read_server_file};
+use crate::file_store::FileStore;
+use crate::output::print_line;
 use crate::question::Question;
 use std::alloc::Global;
 use std::io::Write;
-use std::rt::Files;
 use sv_explain::{ContextPolicy, ExplainFault, Explanation, explain_parts};
 use sv_text::Text;
 
@@ -24,23 +24,30 @@ use sv_text::Text;
 /// # Errors
 /// The first fault: [`CommandFault::File`] or [`CommandFault::Server`] for the server file, and then those of
 /// [`policy_line`]. After [`CommandFault::Output`] a part of the line may have been written, after any other fault none.
-pub fn policy<R: Files + AllocGlobal, W: Write>(
-    rt: &R,
+pub fn policy<S: FileStore, W: Write>(
+    alloc: Global,
+    store: &mut S,
     writer: &mut W,
     question: &Question<'_>,
 ) -> Result<(), CommandFault>
-    ensures written { spec.RunsPolicy question.now result (W.contents writer.old) (W.contents writer.new) }
-    ensures faults { IfErr result (λ fault. fault ≢ CommandFault.Usage) }
+    ensures run { spec.RunsPolicy S.gives_text question.now result store.old store.new (W.contents writer.old) (W.contents writer.new) }
     ensures untouched { IfErr result (λ fault. fault ≢ CommandFault.Output → writer.new ≡ writer.old) }
 {
-    let text = read_text(rt, question.config)?;
-    let server = server_in(rt.alloc(), question.config, text.as_ref())?;
-    let texts = read_contexts(rt, question.config, server.contexts)?;
-    let line = policy_line(rt.alloc(), texts.as_slice(), question)?;
-    match write_line(writer, line.as_str()) {
-        Ok(()) => Ok(()),
-        Err(_) => Err(CommandFault::Output),
-    }
+    let line = asked_line(alloc, store, question)?;
+    print_line(writer, line.as_str())
+}
+
+/// The line of the question, by the files that the store gives.
+fn asked_line<S: FileStore>(
+    alloc: Global,
+    store: &mut S,
+    question: &Question<'_>,
+) -> Result<Text, CommandFault>
+    ensures { spec.FindsLine S.gives_text question.now result store.old store.new }
+{
+    let server = read_server_file(alloc, store, question.config)?;
+    let texts = read_contexts(alloc, store, question.config, server.contexts)?;
+    policy_line(alloc, texts.as_slice(), question)
 }
 
 /// The line that the command `policy` prints where the contexts of the server file have files of these texts: the text of

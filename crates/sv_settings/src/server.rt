@@ -16,7 +16,7 @@ use sv_text::{Bytes, Listed, Text};
 use toml::Table;
 
 /// What a server serves, and where.
-#[derive(Debug, Drop)]
+#[derive(Drop)]
 pub struct Server {
     /// The port, 0 for any that is free.
     pub port: u16,
@@ -27,7 +27,7 @@ pub struct Server {
 }
 
 /// A context of a server. File names are as they were written, to be taken from the folder of the server file.
-#[derive(Debug, Drop)]
+#[derive(Drop)]
 pub struct ContextEntry {
     /// The context path: empty, or a canonical path that does not end in `/`.
     pub path: Text,

@@ -1,5 +1,7 @@
 pub mod EmptyLinesLemmas
+pub mod ExistenceLemmas
 pub mod HeadLemmas
+pub mod LimitLemmas
 pub mod PendingLemmas
 pub mod ReadingLemmas
 pub mod ReadsLemmas

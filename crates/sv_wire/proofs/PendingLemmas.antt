@@ -7,12 +7,12 @@ use Rattle.sv_body.specs.declared.framing.Framing.{Framing}
 use Rattle.sv_body.specs.declared.body_reader.BodyEnd.{BodyEnd}
 use Rattle.sv_body.specs.declared.body_reader.BodyEnd.TheVariants.{Complete, Broken}
 use Rattle.sv_body.specs.declared.body_reader.Progress.TheVariants.{Awaits, Ended}
-use Rattle.sv_body.specs.declared.cut.Cut.TheVariants.{Whole, Endless, Unended}
+use Rattle.sv_text.specs.declared.front.Cut.TheVariants.{Whole, Endless, Unended}
 use Rattle.sv_body.specs.Body.{Awaited, ReadsBody}
 use Rattle.sv_body.specs.Chunks.{Body, unfinished}
-use Rattle.sv_body.specs.Cut.{cut_at}
+use Rattle.sv_text.specs.Front.{cut_at}
 use Rattle.sv_body.specs.Progress.{ended, ReadsOn}
-use Rattle.sv_body.proofs.CutLemmas.{cut-whole, shortest_front_some}
+use Rattle.sv_text.proofs.FrontLemmas.{cut-whole, shortest_front_some}
 use Rattle.sv_wire.specs.declared.item.Item.{Item}
 use Rattle.sv_wire.specs.declared.item.Item.TheVariants.{Continue, Refuse}
 use Rattle.sv_wire.specs.declared.limits.TheConstants.{MAX_HEAD_LEN}

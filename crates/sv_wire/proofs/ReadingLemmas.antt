@@ -3,9 +3,9 @@ use Rattle.std.proofs.Common.{◌≡◌, ℕ, ◌+◌, ◌<◌, ◌≤◌, Bool,
 use Rattle.std.proofs.lemmas.Bool.{or_from}
 use Rattle.std.proofs.lemmas.List.{append_assoc, append-nil, take-append-le}
 use Rattle.std.proofs.lemmas.List.Folds.{list_any-append}
-use Rattle.sv_body.specs.declared.cut.Cut.TheVariants.{Unended}
+use Rattle.sv_text.specs.declared.front.Cut.TheVariants.{Unended}
 use Rattle.sv_body.proofs.BoolLemmas.{MatchBool-from_true, MatchBool-from_false}
-use Rattle.sv_body.proofs.CutLemmas.{cut_unended-fronts}
+use Rattle.sv_text.proofs.FrontLemmas.{cut_unended-fronts}
 use Rattle.sv_wire.specs.declared.inbox.State.{State}
 use Rattle.sv_wire.specs.declared.inbox.State.TheVariants as state
 use Rattle.sv_wire.specs.declared.item.Item.{Item}

@@ -4,13 +4,13 @@ use Rattle.std.specs.Bool.{MatchBool}
 use Rattle.std.proofs.lemmas.Bool.{MatchBool-at_false, or_parts, or_left, or_right, or_from}
 use Rattle.std.proofs.lemmas.List.{take-append-le, drop-append-le, length-take}
 use Rattle.httparse.proofs.GrammarLemmas.{request_unique}
-use Rattle.sv_body.specs.declared.cut.Cut.{Cut}
-use Rattle.sv_body.specs.declared.cut.Cut.TheVariants.{Whole, Endless, Unended}
+use Rattle.sv_text.specs.declared.front.Cut.{Cut}
+use Rattle.sv_text.specs.declared.front.Cut.TheVariants.{Whole, Endless, Unended}
 use Rattle.sv_body.specs.Body.{ReadsBody}
 use Rattle.sv_body.specs.Chunks.{Body, unfinished, complete, broken}
 use Rattle.sv_body.proofs.BodyLemmas.{and_more, ReadsBody-unique, ReadsBody_more, ReadsBody_front}
 use Rattle.sv_body.proofs.BoolLemmas.{MatchBool-from_true, MatchBool-from_false}
-use Rattle.sv_body.proofs.CutLemmas.{Endless-inverse, cut-whole, cut-append}
+use Rattle.sv_text.proofs.FrontLemmas.{Endless-inverse, cut-whole, cut-append}
 use Rattle.sv_wire.specs.declared.item.Item.{Item}
 use Rattle.sv_wire.specs.declared.item.Item.TheVariants.{Continue, Refuse}
 use Rattle.sv_wire.specs.declared.limits.TheConstants.{MAX_HEAD_LEN}

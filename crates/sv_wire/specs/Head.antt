@@ -1,5 +1,5 @@
 -- The head of a request, and the one verdict on it (RFC 9112, sections 2.1, 3, 5 and 6).
-use Rattle.std.specs.Prelude.{ℕ, Bool, true, false, ◌&&◌, ◌||◌, not, List, [], ◌∷◌, ◌++◌, ◌==◌, nat_eq, nat_lt, codes, slice_get, if◌then◌else◌, Option, None, Some, is_none}
+use Rattle.std.specs.Prelude.{ℕ, Bool, true, false, ◌&&◌, ◌||◌, not, List, [], ◌∷◌, ◌++◌, ◌==◌, nat_eq, nat_lt, codes, if◌then◌else◌, Option, None, Some, is_none, Result, Ok, Err, ⊤}
 use Rattle.std.specs.List.{ends_with}
 use Rattle.httparse.specs.Ascii.{line_feed, carriage_return}
 use Rattle.httparse.specs.Grammar.{RequestHead}
@@ -18,7 +18,7 @@ use Rattle.sv_head.specs.Host.{accepts_hosts, with_hosts}
 use Rattle.sv_head.specs.Length.{content_length}
 use Rattle.sv_head.specs.Persistence.{keeps}
 use Rattle.sv_head.specs.TargetForm.{authority_of, path_of, target_form}
-use Rattle.sv_text.specs.Faults.{when}
+use Rattle.sv_text.specs.Faults.{when, first_or}
 use Rattle.sv_wire.specs.declared.message.Target.{Target}
 use Rattle.sv_wire.specs.declared.message.Target.TheVariants.{Path}
 use Rattle.sv_wire.specs.declared.message.Target.TheVariants as targets
@@ -80,9 +80,9 @@ faults_of minor form fields =
     ++ framing_faults minor fields
     ++ when (is_unknown_expectation minor fields) BadExpect
 
--- the first of them
-abbrev pub first_fault : ℕ → TargetForm → List Field → Option WireFault
-first_fault minor form fields = slice_get (faults_of minor form fields) 0
+-- a head is accepted unless it has a fault: the first of them
+abbrev pub accept : ℕ → TargetForm → List Field → Result ⊤ WireFault
+accept minor form fields = first_or (faults_of minor form fields) tt
 
 -- how the end of the body is found
 abbrev pub framing_of : List Field → Framing
@@ -126,15 +126,15 @@ owed_head form head fields = record {
 }
 
 -- the refusal for a fault, or else the head, whose body is asked for or not
-abbrev pub verdict_of : Option WireFault → Bool → OwedHead → Verdict
-verdict_of (Some fault) asked owed = Refused fault
-verdict_of None true owed = Expecting owed
-verdict_of None false owed = Accepted owed
+abbrev pub verdict_of : Result ⊤ WireFault → Bool → OwedHead → Verdict
+verdict_of (Err fault) asked owed = Refused fault
+verdict_of (Ok accepted) true owed = Expecting owed
+verdict_of (Ok accepted) false owed = Accepted owed
 
 -- the verdict on a head whose target has that form and whose fields are those
 abbrev pub verdict_on : TargetForm → RequestHead → List Field → Verdict
 verdict_on form head fields =
-    verdict_of (first_fault head.minor form fields) (awaits_continue head.minor fields) (owed_head form head fields)
+    verdict_of (accept head.minor form fields) (awaits_continue head.minor fields) (owed_head form head fields)
 
 -- the verdict on a head
 abbrev pub judge : RequestHead → Verdict

@@ -1,7 +1,10 @@
--- The laws of the reading of a stream: three say together that no cut of the stream into pieces matters, one what is stored.
-use Rattle.std.specs.Prelude.{◌≡◌, ℕ, ◌<◌, true, false, ◌⊎◌, List, ◌++◌, length, Option}
-use Rattle.sv_body.specs.declared.cut.Cut.TheVariants.{Unended}
+-- The laws of the reading of a stream: there is one, no cut of the stream into pieces matters to it, and how long bodies and what is stored are.
+use Rattle.std.specs.Prelude.{◌≡◌, ℕ, ◌<◌, ◌≤◌, true, false, ◌⊎◌, List, ◌++◌, length, All, Option, None, Some, ⊤}
+use Rattle.sv_text.specs.declared.front.Cut.TheVariants.{Unended}
+use Rattle.sv_body.specs.declared.limits.TheConstants.{MAX_BODY_LEN}
+use Rattle.sv_body.specs.Body.{FitsLimit}
 use Rattle.sv_wire.specs.declared.item.Item.{Item}
+use Rattle.sv_wire.specs.declared.item.Item.TheVariants.{Continue, Message, Refuse}
 use Rattle.sv_wire.specs.declared.limits.TheConstants.{MAX_HEAD_LEN}
 use Rattle.sv_wire.specs.declared.owed_head.OwedHead.{OwedHead}
 use Rattle.sv_wire.specs.Items.{are_ended}
@@ -17,7 +20,13 @@ ReadingsJoin =
     → Reads next (between ++ second) more left rest
     → Reads owed (first ++ second) (items ++ more) left rest
 
--- a stream has one reading
+-- no stream is without a reading
+abbrev pub ReadingsExist : Type 0
+ReadingsExist =
+    (owed : Option OwedHead) (stream : List ℕ)
+    → ¬ ((items : List Item) (left : Option OwedHead) (rest : List ℕ) → ¬ (Reads owed stream items left rest))
+
+-- a stream has at most one reading
 abbrev pub ReadingsAreUnique : Type 0
 ReadingsAreUnique =
     (owed : Option OwedHead) (stream : List ℕ) (items others : List Item)
@@ -39,3 +48,22 @@ ReadingsSplitAtACut =
 -- a head that has no end yet is shorter than a head may be
 abbrev pub OpenHeadsAreShort : Type 0
 OpenHeadsAreShort = (held : List ℕ) → cut_head held ≡ Unended → length held < MAX_HEAD_LEN
+
+-- a message's body has no more bytes than a body may have
+abbrev pub IsWithinLimit : Item → Type 0
+IsWithinLimit Continue = ⊤
+IsWithinLimit (Message message) = length message.body ≤ MAX_BODY_LEN
+IsWithinLimit (Refuse fault) = ⊤
+
+-- so it will be with the head that is owed, if one is
+abbrev pub OwesWithinLimit : Option OwedHead → Type 0
+OwesWithinLimit None = ⊤
+OwesWithinLimit (Some owed) = FitsLimit owed.framing
+
+-- the body of every message of a stream is within the limit
+abbrev pub BodiesAreWithinTheLimit : Type 0
+BodiesAreWithinTheLimit =
+    (owed : Option OwedHead) (stream : List ℕ) (items : List Item) (left : Option OwedHead) (rest : List ℕ)
+    → OwesWithinLimit owed
+    → Reads owed stream items left rest
+    → All IsWithinLimit items × OwesWithinLimit left

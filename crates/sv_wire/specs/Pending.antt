@@ -2,7 +2,7 @@
 use Rattle.std.specs.Prelude.{◌≡◌, ℕ, Bool, List, [], ◌++◌, length, if◌then◌else◌, Option, None, Some}
 use Rattle.std.specs.Bool.{MatchBool}
 use Rattle.sv_body.specs.declared.body_reader.Progress.{Progress}
-use Rattle.sv_body.specs.declared.cut.Cut.TheVariants.{Whole}
+use Rattle.sv_text.specs.declared.front.Cut.TheVariants.{Whole}
 use Rattle.sv_body.specs.Body.{nothing_came}
 use Rattle.sv_body.specs.Progress.{ReadsOn}
 use Rattle.sv_wire.specs.declared.owed_head.OwedHead.{OwedHead}

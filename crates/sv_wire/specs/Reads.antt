@@ -5,11 +5,11 @@ use Rattle.httparse.specs.Ascii.{line_feed}
 use Rattle.httparse.specs.Grammar.{RequestHead, ReadsRequest}
 use Rattle.sv_body.specs.declared.body_reader.BodyEnd.{BodyEnd}
 use Rattle.sv_body.specs.declared.body_reader.BodyEnd.TheVariants.{Complete, Broken}
-use Rattle.sv_body.specs.declared.cut.Cut.{Cut}
-use Rattle.sv_body.specs.declared.cut.Cut.TheVariants.{Whole, Endless, Unended}
+use Rattle.sv_text.specs.declared.front.Cut.{Cut}
+use Rattle.sv_text.specs.declared.front.Cut.TheVariants.{Whole, Endless, Unended}
 use Rattle.sv_body.specs.Body.{ReadsBody}
 use Rattle.sv_body.specs.Chunks.{Body, unfinished, complete, broken}
-use Rattle.sv_body.specs.Cut.{cut}
+use Rattle.sv_text.specs.Front.{cut}
 use Rattle.sv_wire.specs.declared.item.Item.{Item}
 use Rattle.sv_wire.specs.declared.item.Item.TheVariants.{Continue, Message, Refuse}
 use Rattle.sv_wire.specs.declared.limits.TheConstants.{MAX_HEAD_LEN, MAX_FIELD_LINES}

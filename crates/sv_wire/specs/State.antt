@@ -1,7 +1,7 @@
 -- What contracts see of what an inbox awaits (RFC 9112, section 8).
 use Rattle.std.specs.Prelude.{◌≡◌, ℕ, false, List, [], ◌∷◌, Option, None, Some}
 use Rattle.std.specs.Bool.{MatchBool}
-use Rattle.sv_body.specs.declared.cut.Cut.TheVariants.{Unended}
+use Rattle.sv_text.specs.declared.front.Cut.TheVariants.{Unended}
 use Rattle.sv_wire.specs.declared.inbox.State.{State}
 use Rattle.sv_wire.specs.declared.inbox.State.TheVariants.{Spent, Head, Body}
 use Rattle.sv_wire.specs.declared.item.Item.{Item}

@@ -1,13 +1,31 @@
 //! Where a head ends.
 
 ghost use Rattle.std.specs.Prelude.{◌≡◌, ℕ, ◌<◌, false, take};
-ghost use Rattle.sv_body.specs.Cut.{shortest_front};
 ghost use Rattle.sv_wire.specs.Head.{ends_head};
 ghost use Rattle.sv_wire.specs.Reads.{cut_head};
 ghost use Rattle.sv_wire.specs.Next.{HoldsText};
 
 use crate::limits::MAX_HEAD_LEN;
-use sv_body::Cut;
+use sv_text::{Cut, Delimited, cut_front};
+
+/// The text of a head, which has an end (RFC 9112, section 2.1).
+struct HeadText;
+
+impl Delimited for HeadText {
+    ghost use Rattle.sv_wire.specs.declared.limits.TheConstants.{MAX_HEAD_LEN};
+
+    ghost ends = { λ _ text. ends_head text };
+
+    ghost limit = { λ _. MAX_HEAD_LEN };
+
+    fn is_ended(&self, bytes: &[u8]) -> bool {
+        bytes.ends_with(b"\n\n") || bytes.ends_with(b"\n\r\n")
+    }
+
+    fn limit(&self) -> usize {
+        MAX_HEAD_LEN
+    }
+}
 
 /// Where the head ends that the stream begins with. No front of fewer than `from` bytes ends it.
 pub(crate) fn cut_head(stream: &[u8], from: usize) -> Cut
@@ -15,29 +33,5 @@ pub(crate) fn cut_head(stream: &[u8], from: usize) -> Cut
     ensures value { result ≡ cut_head stream.now }
     ensures holds { HoldsText stream.now result }
 {
-    match head_len(&stream[..stream.len().min(MAX_HEAD_LEN)], from) {
-        Some(len) => Cut::Whole(len),
-        None if stream.len() < MAX_HEAD_LEN => Cut::Unended,
-        None => Cut::Endless,
-    }
-}
-
-/// The length of the shortest front that ends a head. No front of fewer than `from` bytes does.
-fn head_len(text: &[u8], from: usize) -> Option<usize>
-    requires { (k : ℕ) → k < from → ends_head (take k text.now) ≡ false }
-    ensures { result ≡ shortest_front ends_head text.now }
-{
-    for len in from..=text.len() {
-        if ends_head(&text[..len]) {
-            return Some(len);
-        }
-    }
-    None
-}
-
-/// Whether a text ends as a head does.
-fn ends_head(text: &[u8]) -> bool
-    ensures { result ≡ ends_head text.now }
-{
-    text.ends_with(b"\n\n") || text.ends_with(b"\n\r\n")
+    cut_front(&HeadText, stream, from)
 }

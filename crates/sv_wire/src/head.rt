@@ -1,11 +1,12 @@
 //! The head of a request, and the verdict on it.
 
-ghost use Rattle.std.specs.Prelude.{◌≡◌, ◌≤◌, length, map, All, IfOk, OnOk, slice_get};
+ghost use Rattle.std.specs.Prelude.{◌≡◌, ◌≤◌, length, map, All, IfOk, OnOk};
 ghost use Rattle.http_header.specs.Token.{IsToken};
 ghost use Rattle.httparse.specs.Grammar.{RequestHead};
 ghost use Rattle.sv_head.specs.TargetForm.{FitsForm, with_slash};
+ghost use Rattle.sv_text.specs.Faults.{first_or};
 ghost use Rattle.sv_text.specs.Gives.{GivesAnswer};
-ghost use Rattle.sv_wire.specs.Head.{awaits_continue, faults_by_kind, fields_beside, first_fault, framing_faults, framing_of, has_codings, has_length, is_unknown_expectation, judge, target_in};
+ghost use Rattle.sv_wire.specs.Head.{accept, awaits_continue, faults_by_kind, fields_beside, framing_faults, framing_of, has_codings, has_length, is_unknown, is_unknown_expectation, judge, target_in};
 ghost use Rattle.sv_wire.specs.declared.message.Target.TheVariants.{Path};
 ghost use Rattle.sv_wire.specs.Reads.{ReadsHead, has_too_many_lines};
 ghost use Rattle.sv_wire.specs.Spans.{field_at, IsFieldAt, AreHeadSpans, ShowHead};
@@ -67,7 +68,7 @@ fn judge(
     let method = head.method.of(text);
     let target = head.path.of(text);
     let form = target_form(method, target);
-    if let Some(fault) = first_fault(head.version, form, &fields) {
+    if let Err(fault) = accept(head.version, form, &fields) {
         return Ok(Verdict::Refused(fault));
     }
     let framing = framing_of(&fields);
@@ -90,50 +91,57 @@ fn judge(
     })
 }
 
-/// The first fault of a head, in the order in which they are judged.
-fn first_fault(minor: u8, form: TargetForm, fields: &[Field]) -> Option<WireFault>
-    ensures { result ≡ first_fault minor form fields.now }
+/// Accepts a head, or answers the first of its faults in the order in which they are judged.
+fn accept(minor: u8, form: TargetForm, fields: &[Field]) -> Result<(), WireFault>
+    ensures { result ≡ accept minor form fields.now }
 {
     if !accepts_hosts(minor, fields) {
-        return Some(WireFault::BadHost);
+        return Err(WireFault::BadHost);
     }
-    if form == TargetForm::Unknown {
-        return Some(WireFault::BadTarget);
+    if is_unknown(form) {
+        return Err(WireFault::BadTarget);
     }
-    if let Some(fault) = framing_fault(minor, fields) {
-        return Some(fault);
+    if let Err(fault) = accept_framing(minor, fields) {
+        return Err(fault);
     }
     if is_unknown_expectation(minor, fields) {
-        return Some(WireFault::BadExpect);
+        return Err(WireFault::BadExpect);
     }
-    None
+    Ok(())
 }
 
-/// The first fault of a body's framing.
-fn framing_fault(minor: u8, fields: &[Field]) -> Option<WireFault>
-    ensures { result ≡ slice_get (framing_faults minor fields.now) 0 }
+/// Whether a target is in no form that is served.
+fn is_unknown(form: TargetForm) -> bool
+    ensures { result ≡ is_unknown form }
+{
+    matches!(form, TargetForm::Unknown)
+}
+
+/// Accepts a body's framing, or answers the first of its faults.
+fn accept_framing(minor: u8, fields: &[Field]) -> Result<(), WireFault>
+    ensures { result ≡ first_or (framing_faults minor fields.now) tt }
 {
     if has_codings(fields) {
         if minor != 1 || has_length(fields) {
-            return Some(WireFault::BadFraming);
+            return Err(WireFault::BadFraming);
         }
-        return fault_by_kind(coding_kind(fields));
+        return accept_codings(coding_kind(fields));
     }
     match content_length(fields) {
-        Some(len) if len > MAX_BODY_LEN => Some(WireFault::BodyTooLarge),
-        None if has_length(fields) => Some(WireFault::BadFraming),
-        _ => None,
+        Some(len) if len > MAX_BODY_LEN => Err(WireFault::BodyTooLarge),
+        None if has_length(fields) => Err(WireFault::BadFraming),
+        _ => Ok(()),
     }
 }
 
-/// The fault of codings of that kind.
-fn fault_by_kind(kind: Codings) -> Option<WireFault>
-    ensures { result ≡ slice_get (faults_by_kind kind) 0 }
+/// Accepts codings of that kind, or answers their fault.
+fn accept_codings(kind: Codings) -> Result<(), WireFault>
+    ensures { result ≡ first_or (faults_by_kind kind) tt }
 {
     match kind {
-        Codings::Chunked => None,
-        Codings::Unknown => Some(WireFault::UnknownCoding),
-        Codings::Bad => Some(WireFault::BadFraming),
+        Codings::Chunked => Ok(()),
+        Codings::Unknown => Err(WireFault::UnknownCoding),
+        Codings::Bad => Err(WireFault::BadFraming),
     }
 }
 

@@ -6,7 +6,7 @@ ghost use Rattle.sv_wire.specs.Items.{are_ended};
 ghost use Rattle.sv_wire.specs.Pending.{IsSound, owed_by, rest_of};
 ghost use Rattle.sv_wire.specs.Reads.{Reads, cut_head, item_of};
 ghost use Rattle.sv_wire.specs.State.{held_of, IsSoundState, ReadsAfter, ReadsTo};
-ghost use Rattle.sv_body.specs.declared.cut.Cut.TheVariants.{Unended};
+ghost use Rattle.sv_text.specs.declared.front.Cut.TheVariants.{Unended};
 
 use crate::item::Item;
 use crate::pending::PendingBox;
@@ -18,7 +18,7 @@ use sv_body::{BodyEnd, Progress};
 use sv_text::NoMemory;
 
 /// What the end of a stream means.
-#[derive(Clone, Copy, Debug, PartialEq, Eq)]
+#[derive(Clone, Copy)]
 pub enum Ended {
     /// No byte of an unfinished message was held.
     Clean,

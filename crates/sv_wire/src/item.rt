@@ -6,7 +6,7 @@ use crate::message::Message;
 use crate::wire_fault::WireFault;
 
 /// One thing that a stream says.
-#[derive(Debug, Drop)]
+#[derive(Drop)]
 pub enum Item {
     /// A head whose body is awaited asks for `100 Continue` (RFC 9110, section 10.1.1).
     Continue,

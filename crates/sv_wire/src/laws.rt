@@ -1,13 +1,27 @@
 //! The laws of the reading of a stream, each the contract of a function that does nothing.
 
-ghost use Rattle.sv_wire.specs.Laws.{ReadingsJoin, ReadingsAreUnique, ReadingsSplitAtACut, OpenHeadsAreShort};
+ghost use Rattle.std.specs.Prelude.{◌≡◌};
+ghost use Rattle.sv_wire.specs.Laws.{BodiesAreWithinTheLimit, ReadingsJoin, ReadingsAreUnique, ReadingsExist, ReadingsSplitAtACut, OpenHeadsAreShort};
+
+use crate::limits::{MAX_FIELD_LINES, MAX_HEAD_LEN};
+
+/// The limits as numbers: definitions and code cite the constants, so that both would move with one.
+pub fn limits_are_as_stated()
+    ensures head { MAX_HEAD_LEN ≡ 65536 }
+    ensures field_lines { MAX_FIELD_LINES ≡ 128 }
+{}
 
 /// A reading goes on with the reading of its rest and of what follows, unless it has ended.
 pub fn readings_join()
     ensures { ReadingsJoin }
 {}
 
-/// A stream has one reading.
+/// No stream is without a reading, whichever head is owed.
+pub fn readings_exist()
+    ensures { ReadingsExist }
+{}
+
+/// A stream has at most one reading.
 pub fn readings_are_unique()
     ensures { ReadingsAreUnique }
 {}
@@ -21,4 +35,10 @@ pub fn readings_split_at_a_cut()
 /// holds of a head has no end.
 pub fn open_heads_are_short()
     ensures { OpenHeadsAreShort }
+{}
+
+/// The body of every message is within the limit: of a stream from its start, and of one that goes on where the head that is
+/// owed says no greater length.
+pub fn bodies_are_within_the_limit()
+    ensures { BodiesAreWithinTheLimit }
 {}

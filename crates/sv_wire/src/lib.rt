@@ -18,7 +18,10 @@ mod wire_fault;
 
 pub use inbox::{Ended, Inbox};
 pub use item::Item;
-pub use laws::{open_heads_are_short, readings_are_unique, readings_join, readings_split_at_a_cut};
+pub use laws::{
+    bodies_are_within_the_limit, limits_are_as_stated, open_heads_are_short, readings_are_unique,
+    readings_exist, readings_join, readings_split_at_a_cut,
+};
 pub use limits::{MAX_FIELD_LINES, MAX_HEAD_LEN};
 pub use message::{Message, Target};
 pub use owed_head::OwedHead;

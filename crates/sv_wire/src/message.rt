@@ -8,7 +8,7 @@ use sv_head::Field;
 use sv_text::{Bytes, Listed};
 
 /// A whole request (RFC 9112, section 2).
-#[derive(Debug, Drop)]
+#[derive(Drop)]
 pub struct Message {
     pub method: Method,
     pub target: Target,
@@ -32,7 +32,7 @@ impl Message {
 }
 
 /// What a request asks for (RFC 9112, section 3.2).
-#[derive(Debug, Drop)]
+#[derive(Drop)]
 pub enum Target {
     /// `*`: the server itself.
     Star,

@@ -8,7 +8,7 @@ use crate::wire_fault::WireFault;
 use sv_body::Framing;
 
 /// A head whose body is awaited: the message without its body, and how its end is found (RFC 9112, section 6).
-#[derive(Debug, Drop)]
+#[derive(Drop)]
 pub struct OwedHead {
     pub message: Message,
     pub framing: Framing,

@@ -16,8 +16,8 @@ use crate::owed_head::Verdict;
 use crate::pending::PendingBox;
 use crate::wire_fault::WireFault;
 use std::alloc::Global;
-use sv_body::{Cut, Progress};
-use sv_text::NoMemory;
+use sv_body::Progress;
+use sv_text::{Cut, NoMemory};
 
 /// What comes next in a stream.
 #[derive(Drop)]

@@ -7,7 +7,7 @@ use sv_head::Field;
 use sv_text::{Bytes, Listed, Text};
 
 /// A response whose body is whole (RFC 9110, section 6).
-#[derive(Debug, Drop)]
+#[derive(Drop)]
 pub struct Response {
     /// The status code. A response is written where it is from 100 to 999.
     pub status: u16,
@@ -19,7 +19,7 @@ pub struct Response {
 }
 
 /// A session cookie, as a response sets it (RFC 6265, section 4.1; Jakarta Servlet 6.0, section 7.1.1).
-#[derive(Debug, Drop)]
+#[derive(Drop)]
 pub struct Cookie {
     /// The session's id.
     pub id: Text,

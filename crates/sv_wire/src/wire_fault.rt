@@ -3,11 +3,12 @@
 ghost use Rattle.std.specs.Prelude.{◌≡◌, Some};
 ghost use Rattle.sv_wire.specs.WireFault.{fault_name, fault_of, fault_status};
 
+use std::error::Error;
 use std::fmt;
 use sv_body::BodyFault;
 
 /// Why a message is refused. A refusal is the last item of a stream: nothing behind it is read.
-#[derive(Clone, Copy, Debug, PartialEq, Eq)]
+#[derive(Clone, Copy, Debug)]
 pub enum WireFault {
     /// The head is not in the form of a request (RFC 9112, section 2.1).
     BadHead = 1,
@@ -72,3 +73,5 @@ impl fmt::Display for WireFault {
         })
     }
 }
+
+impl Error for WireFault {}

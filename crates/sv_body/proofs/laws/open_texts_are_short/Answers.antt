@@ -1,11 +1,11 @@
 use Rattle.std.proofs.Common.{ℕ, ◌<◌, List, length, ap, arith}
-use Rattle.sv_body.specs.declared.cut.Text.TheVariants as text
+use Rattle.sv_body.specs.declared.text_kind.TextKind.TheVariants as text
 use Rattle.sv_body.specs.declared.limits.TheConstants.{MAX_TRAILER_LEN}
 use Rattle.sv_body.specs.declared.machine.Stage.{Stage}
 use Rattle.sv_body.specs.declared.machine.Stage.TheVariants.{Plain, SizeLine, Data, DataEnd, Trailer}
 use Rattle.sv_body.specs.Chunks.{text_limit}
 use Rattle.sv_body.specs.Machine.{FitsStage}
-use Rattle.sv_body.proofs.CutLemmas.{Unended-inverse}
+use Rattle.sv_text.proofs.FrontLemmas.{Unended-inverse}
 use Rattle.sv_body.proofs.laws.open_texts_are_short.Goals as goal
 
 is_short : (stage : Stage) (held bytes : List ℕ) → FitsStage stage held bytes → length held < MAX_TRAILER_LEN

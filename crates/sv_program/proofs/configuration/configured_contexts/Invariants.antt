@@ -1,5 +1,6 @@
 use Rattle.std.proofs.Common.{◌≡◌, ◌++◌, drop, Ok}
-use Rattle.sv_program.specs.Configuration.{◌>>=◌, configured_context, each}
+use Rattle.sv_text.specs.Steps.{◌>>=◌}
+use Rattle.sv_program.specs.Configuration.{configured_context, each}
 use Rattle.sv_program.proofs.configuration.configured_contexts.Given as goal
 
 -- what is left gives the rest of the contexts

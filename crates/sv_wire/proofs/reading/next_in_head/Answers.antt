@@ -1,6 +1,6 @@
 use Rattle.std.proofs.Common.{◌≡◌, ◌-◌, ◌≤◌, length, drop, None, refl, ap, ◌∙◌, subst, arith}
 use Rattle.std.proofs.lemmas.List.{take_rest}
-use Rattle.sv_body.specs.declared.cut.Cut.TheVariants.{Whole}
+use Rattle.sv_text.specs.declared.front.Cut.TheVariants.{Whole}
 use Rattle.sv_wire.specs.EmptyLines.{drop_empty_lines}
 use Rattle.sv_wire.specs.Next.{HoldsText, ComesNext}
 use Rattle.sv_wire.specs.Reads.{cut_head}

@@ -1,6 +1,6 @@
 use Rattle.std.proofs.Common.{◌≡◌, ◌-◌, length, take, sym, ap, ◌∙◌, rules}
-use Rattle.sv_body.specs.declared.cut.Cut.TheVariants.{Whole, Endless, Unended}
-use Rattle.sv_body.specs.declared.cut.Text.TheVariants as text
+use Rattle.sv_text.specs.declared.front.Cut.TheVariants.{Whole, Endless, Unended}
+use Rattle.sv_body.specs.declared.text_kind.TextKind.TheVariants as text
 use Rattle.sv_body.specs.declared.machine.Stage.TheVariants.{SizeLine}
 use Rattle.sv_body.specs.Chunks.{ReadsSize}
 use Rattle.sv_body.specs.Machine.{CutsOpen, BeginsChunk}

@@ -1,6 +1,6 @@
 use Rattle.std.proofs.Common.{◌≡◌, length, ap, ◌∙◌, rules}
-use Rattle.sv_body.specs.declared.cut.Cut.TheVariants.{Whole, Endless, Unended}
-use Rattle.sv_body.specs.declared.cut.Text.TheVariants as text
+use Rattle.sv_text.specs.declared.front.Cut.TheVariants.{Whole, Endless, Unended}
+use Rattle.sv_body.specs.declared.text_kind.TextKind.TheVariants as text
 use Rattle.sv_body.specs.declared.machine.Stage.TheVariants.{Trailer}
 use Rattle.sv_body.specs.Machine.{CutsOpen}
 use Rattle.sv_body.proofs.TextLemmas.{trailer_whole, trailer_endless, trailer_awaits, awaits_at}

@@ -1,0 +1,49 @@
+//! Why the program ended early: its line on standard error and its exit status.
+
+ghost use Rattle.std.specs.Prelude.{◌≡◌, Some};
+ghost use Rattle.sv.specs.ProgramFault.{program_fault_line, program_status};
+
+use std::fmt;
+use sv_program::CommandFault;
+
+/// Why the program ended early. Its text is the line that it writes on standard error.
+#[derive(Drop)]
+pub enum ProgramFault {
+    /// The arguments name no command, or cannot be read: `sv: usage`, status 2. Nothing was read or written.
+    Usage,
+    /// The command ended with this fault: its line and its status.
+    Command(CommandFault),
+}
+
+impl ProgramFault {
+    /// The exit status of the program that ends with this fault.
+    pub fn status(&self) -> u8
+        ensures { result ≡ program_status self.now }
+    {
+        match self {
+            ProgramFault::Usage => 2,
+            ProgramFault::Command(fault) => fault.status(),
+        }
+    }
+}
+
+impl fmt::Display for ProgramFault {
+    ghost output = { λ fault. Some (program_fault_line fault) };
+
+    fn fmt<W: fmt::Write>(&self, f: &mut fmt::Formatter<W>) -> fmt::Result {
+        match self {
+            ProgramFault::Usage => f.write_str("sv: usage"),
+            ProgramFault::Command(fault) => fault.fmt(f),
+        }
+    }
+}
+
+impl From<CommandFault> for ProgramFault {
+    ghost use Rattle.sv.specs.declared.program_fault.ProgramFault.TheVariants.{Command};
+
+    ghost from_gives = { λ fault ended. ended ≡ Command fault };
+
+    fn from(fault: CommandFault) -> ProgramFault {
+        ProgramFault::Command(fault)
+    }
+}

@@ -1,0 +1,46 @@
+//! A filter that leaves its name.
+
+use crate::plain::unless_refused;
+use std::alloc::Global;
+use sv_component::{Config, Exchange, Filter, Gate, Init};
+use sv_text::{NoMemory, Text};
+
+/// Adds a field `x-mark` with the filter's name, and lets everything pass. A name that no field can hold is left out.
+#[derive(Drop)]
+pub struct Mark {
+    name: Text,
+}
+
+impl Mark {
+    /// A filter to be initialised.
+    pub fn new(alloc: Global) -> Mark {
+        Mark {
+            name: Text::from_string(String::new(alloc)),
+        }
+    }
+}
+
+impl Filter for Mark {
+    fn init(&mut self, alloc: Global, config: &Config) -> Init {
+        match Text::copy_of(alloc, config.name.as_str()) {
+            Ok(name) => {
+                self.name = name;
+                Init::Ready
+            }
+            Err(_) => Init::NoMemory,
+        }
+    }
+
+    fn before(&mut self, _alloc: Global, exchange: &mut Exchange) -> Gate {
+        match unless_refused(exchange.add_header("x-mark", self.name.as_str())) {
+            Ok(()) => Gate::Pass,
+            Err(_) => Gate::NoMemory,
+        }
+    }
+
+    fn after(&mut self, _alloc: Global, _exchange: &mut Exchange) -> Result<(), NoMemory> {
+        Ok(())
+    }
+
+    fn destroy(&mut self) {}
+}

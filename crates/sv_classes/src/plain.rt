@@ -1,0 +1,22 @@
+//! Plain text.
+
+ghost use Rattle.sv_exchange.specs.Changing.{Changes};
+
+use sv_component::{Exchange, ExchangeFault};
+use sv_text::NoMemory;
+
+/// Says that the answer is plain text, and writes the text. What an exchange ignores or refuses otherwise than for memory is left out.
+pub(crate) fn write_plain(exchange: &mut Exchange, text: &[u8]) -> Result<(), NoMemory>
+    ensures { Changes exchange.old exchange.new }
+{
+    unless_refused(exchange.set_header("content-type", "text/plain"))?;
+    unless_refused(exchange.write(text))
+}
+
+/// What a changing call refused for memory comes to; the other faults are passed over.
+pub(crate) fn unless_refused(done: Result<bool, ExchangeFault>) -> Result<(), NoMemory> {
+    match done {
+        Err(ExchangeFault::NoMemory) => Err(NoMemory),
+        Err(ExchangeFault::BadHeader) | Err(ExchangeFault::TooLarge) | Ok(_) => Ok(()),
+    }
+}

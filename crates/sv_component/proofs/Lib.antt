@@ -1,0 +1,4 @@
+pub mod Boxing
+pub mod Journalling
+pub mod Moving
+pub mod Running

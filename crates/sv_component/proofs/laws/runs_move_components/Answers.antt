@@ -1,0 +1,5 @@
+use Rattle.sv_component.proofs.Moving.{components_moved}
+use Rattle.sv_component.proofs.laws.runs_move_components.Goals as goal
+
+pub returns : goal.returns
+returns g c = components_moved g.S.Servlet.servlet_step g.F.Filter.filter_step g.L.Listener.listener_step

@@ -1,0 +1,80 @@
+-- Runs of components: a list of records, each of which moves one component by one call and has its entry noted.
+use Rattle.std.specs.Prelude.{◌≡◌, ℕ, ◌<◌, zero, suc, List, [], ◌∷◌, ◌++◌, length, slice_index_or, slice_set}
+use Rattle.sv_component.specs.Call.{Call, Heard}
+use Rattle.sv_component.specs.Noted.{filter_entry, servlet_entry}
+use Rattle.sv_component.specs.World.{World, name_at}
+use Rattle.sv_component.specs.declared.named.Named.{Named}
+use Rattle.sv_journal.specs.Entry.{heard}
+use Rattle.sv_journal.specs.Journal.{Takes}
+use Rattle.sv_journal.specs.declared.entry.Entry.{Entry}
+use Rattle.sv_journal.specs.declared.event.Event.{Event}
+
+-- a call of the servlet or filter at a place, or an event that the listener at a place hears; places are those of the descriptor, from 0
+pub data Record : Type 0 where
+  OfServlet : ℕ → Call → Record
+  OfFilter : ℕ → Call → Record
+  OfListener : ℕ → Event → Record
+
+-- the value at the place takes the step, and no other value changes
+pub record MovesAt {A : Type 0} (step : A → Call → A → Type 0) (before : List A) (place : ℕ) (call : Call) (after : List A) : Type 0 where
+  pub old : A
+  pub moved : A
+  pub there : place < length before
+  pub is_old : old ≡ slice_index_or before place old
+  pub steps : step old call moved
+  pub is : after ≡ slice_set before place moved
+
+-- the step of a component that has a name: the name stays
+pub record NamedStep {C : Type 0} (step : C → Call → C → Type 0) (before : Named C) (call : Call) (after : Named C) : Type 0 where
+  pub steps : step before.component call after.component
+  pub name : after.name ≡ before.name
+
+-- the entry of a record
+abbrev pub entry_of : {S F L : Type 0} → World S F L → Record → Entry
+entry_of world (OfServlet place call) = servlet_entry world.context (name_at world.servlets place) call
+entry_of world (OfFilter place call) = filter_entry world.context (name_at world.filters place) call
+entry_of world (OfListener place event) = heard world.context place event
+
+-- the component of the record moves, and no other
+abbrev pub MovesComponent : {S F L : Type 0} → (S → Call → S → Type 0) → (F → Call → F → Type 0) → (L → Call → L → Type 0) → World S F L → Record → World S F L → Type 0
+MovesComponent servlet_step filter_step listener_step before (OfServlet place call) after =
+    MovesAt (NamedStep servlet_step) before.servlets place call after.servlets
+    × (after.filters ≡ before.filters) × (after.listeners ≡ before.listeners)
+MovesComponent servlet_step filter_step listener_step before (OfFilter place call) after =
+    MovesAt (NamedStep filter_step) before.filters place call after.filters
+    × (after.servlets ≡ before.servlets) × (after.listeners ≡ before.listeners)
+MovesComponent servlet_step filter_step listener_step before (OfListener place event) after =
+    MovesAt listener_step before.listeners place (Heard event) after.listeners
+    × (after.servlets ≡ before.servlets) × (after.filters ≡ before.filters)
+
+-- the component of the record moves, and the journal takes its entry
+pub record Moves {S F L : Type 0} (servlet_step : S → Call → S → Type 0) (filter_step : F → Call → F → Type 0) (listener_step : L → Call → L → Type 0) (before : World S F L) (made : Record) (after : World S F L) : Type 0 where
+  pub component : MovesComponent servlet_step filter_step listener_step before made after
+  pub journal : Takes before.journal (entry_of before made) after.journal
+  pub context : after.context ≡ before.context
+
+-- the records are made one after another
+unfoldable pub Runs : {S F L : Type 0} → (S → Call → S → Type 0) → (F → Call → F → Type 0) → (L → Call → L → Type 0) → World S F L → List Record → World S F L → Type 0
+Runs servlet_step filter_step listener_step before [] after = after ≡ before
+Runs {S} {F} {L} servlet_step filter_step listener_step before (made ∷ others) after =
+    (middle : World S F L) × Moves servlet_step filter_step listener_step before made middle × Runs servlet_step filter_step listener_step middle others after
+
+-- whatever was made before, this is made behind it
+abbrev pub Grows : {S F L : Type 0} → (S → Call → S → Type 0) → (F → Call → F → Type 0) → (L → Call → L → Type 0) → World S F L → (List Record → List Record) → World S F L → Type 0
+Grows {S} {F} {L} servlet_step filter_step listener_step before more after =
+    (from : World S F L) (done : List Record) → Runs servlet_step filter_step listener_step from done before → Runs servlet_step filter_step listener_step from (more done) after
+
+-- one record more
+abbrev pub then_made : Record → List Record → List Record
+then_made made done = done ++ made ∷ []
+
+-- behind what was done, the first so many of the records
+unfoldable pub each : (ℕ → Record) → ℕ → List Record → List Record
+each records zero done = done
+each records (suc count) done = each records count done ++ records count ∷ []
+
+-- no component came or went
+pub record SameCounts {S F L : Type 0} (before after : World S F L) : Type 0 where
+  pub servlets : length after.servlets ≡ length before.servlets
+  pub filters : length after.filters ≡ length before.filters
+  pub listeners : length after.listeners ≡ length before.listeners

@@ -1,0 +1,19 @@
+//! The interfaces of components, and what is said of their calls.
+#![tactic(auto)]
+
+mod answers;
+mod boxes;
+mod components;
+mod config;
+mod laws;
+mod named;
+mod noted;
+
+pub use answers::{Gate, Init, Step};
+pub use components::{Filter, Listener, Servlet};
+pub use config::{Config, Param};
+pub use laws::{runs_are_journalled, runs_join, runs_move_components};
+pub use named::Named;
+pub use noted::{gate_answer, init_answer, step_answer};
+pub use sv_exchange::{Exchange, ExchangeFault};
+pub use sv_journal::Event;

@@ -1,0 +1,68 @@
+-- The attributes of a request: those that components set, and those that dispatches set (Jakarta Servlet 6.0, sections 3.3, 9.3.1,
+-- 9.4.2 and 10.9.1).
+use Rattle.std.specs.Prelude.{ℕ, Bool, List, [], ◌∷◌, length, drop, reverse, bytes_eq, nat_eq, codes, Option, None, Some, if◌then◌else◌}
+use Rattle.std.specs.List.{starts_with}
+use Rattle.std.specs.Option.{option_map_or}
+use Rattle.sv_mapping.specs.declared.kind.Kind.{Kind}
+use Rattle.sv_mapping.specs.declared.kind.Kind.TheVariants as kinds
+use Rattle.sv_exchange.specs.declared.attribute.Attribute.{Attribute}
+use Rattle.sv_exchange.specs.declared.dispatch.Dispatch.{Dispatch}
+use Rattle.sv_exchange.specs.declared.dispatch.Paths.{Paths}
+use Rattle.sv_exchange.specs.State.{State}
+
+-- names that dispatches alone set
+abbrev pub is_reserved_attribute : List ℕ → Bool
+is_reserved_attribute name = starts_with nat_eq name (codes "jakarta.servlet.")
+
+-- the value of the attribute of that name
+abbrev pub value_named : List ℕ → List Attribute → Option (List ℕ)
+value_named name [] = None
+value_named name (attribute ∷ attributes) =
+    if bytes_eq attribute.name name then Some attribute.value else value_named name attributes
+
+-- the attribute of that name gets the value, or there is one more
+abbrev pub set_value : List ℕ → List ℕ → List Attribute → List Attribute
+set_value name value [] = (record { name = name; value = value }) ∷ []
+set_value name value (attribute ∷ attributes) =
+    if bytes_eq attribute.name name then (record { name = name; value = value }) ∷ attributes
+    else attribute ∷ set_value name value attributes
+
+-- what stands behind a front
+abbrev pub behind : List ℕ → List ℕ → Option (List ℕ)
+behind front name = if starts_with nat_eq name front then Some (drop (length front) name) else None
+
+-- the rest of a name that dispatches of that kind set
+abbrev pub rest_of : Kind → List ℕ → Option (List ℕ)
+rest_of kinds.Request name = None
+rest_of kinds.Forward name = behind (codes "jakarta.servlet.forward.") name
+rest_of kinds.Include name = behind (codes "jakarta.servlet.include.") name
+rest_of kinds.Error name = behind (codes "jakarta.servlet.error.") name
+
+-- what paths tell under the rest of a name
+abbrev pub told_of : List ℕ → List ℕ → Paths → Option (List ℕ)
+told_of rest context_path paths =
+    if bytes_eq rest (codes "request_uri") then Some paths.uri
+    else if bytes_eq rest (codes "context_path") then Some context_path
+    else if bytes_eq rest (codes "servlet_path") then paths.servlet_path
+    else if bytes_eq rest (codes "path_info") then paths.path_info
+    else if bytes_eq rest (codes "query_string") then paths.query
+    else None
+
+-- what a dispatch tells under the rest of a name: a forward tells of what the client asked for, an include of what is included, and an
+-- error page of where the error arose
+abbrev pub told_by : Kind → Paths → State → List ℕ → Option (List ℕ)
+told_by kinds.Request paths x rest = None
+told_by kinds.Forward paths x rest = told_of rest x.context_path x.client
+told_by kinds.Include paths x rest = told_of rest x.context_path paths
+told_by kinds.Error paths x rest = if bytes_eq rest (codes "request_uri") then Some x.client.uri else None
+
+-- what the innermost dispatch tells that sets names of that front
+abbrev pub told_innermost : State → List ℕ → List Dispatch → Option (List ℕ)
+told_innermost x name [] = None
+told_innermost x name (dispatch ∷ outer) =
+    option_map_or (told_by dispatch.kind dispatch.paths x) (rest_of dispatch.kind name) (told_innermost x name outer)
+
+-- the value of the attribute of that name
+abbrev pub attribute_of : List ℕ → State → Option (List ℕ)
+attribute_of name x =
+    if is_reserved_attribute name then told_innermost x name (reverse x.dispatches) else value_named name x.attributes

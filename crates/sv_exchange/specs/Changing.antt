@@ -1,0 +1,83 @@
+-- What the changing calls of an exchange do (Jakarta Servlet 6.0, chapters 3, 5 and 9).
+use Rattle.std.specs.Prelude.{◌≡◌, ℕ, ◌+◌, Bool, true, false, not, ◌&&◌, List, [], ◌∷◌, ◌++◌, length, ◌==◌, nat_le, Result, Ok, Err, if◌then◌else◌}
+use Rattle.sv_exchange.specs.declared.exchange_fault.ExchangeFault.{ExchangeFault}
+use Rattle.sv_exchange.specs.declared.exchange_fault.ExchangeFault.TheVariants as faults
+use Rattle.sv_exchange.specs.declared.limits.TheConstants.{MAX_BODY_LEN, LEAST_STATUS, MAX_STATUS, RESET_CONTENT, NOT_MODIFIED}
+use Rattle.sv_exchange.specs.Attributes.{is_reserved_attribute, set_value}
+use Rattle.sv_exchange.specs.Dispatches.{is_within_include}
+use Rattle.sv_exchange.specs.Fields.{add_field, is_field, is_reserved_field, set_field}
+use Rattle.sv_exchange.specs.State.{State}
+
+-- a changing call with its arguments
+pub data Change : Type 0 where
+  SetStatus : ℕ → Change
+  SetHeader : List ℕ → List ℕ → Change
+  AddHeader : List ℕ → List ℕ → Change
+  Write : List ℕ → Change
+  SetAttribute : List ℕ → List ℕ → Change
+  Flush : Change
+
+-- whether status and fields can be changed: neither once the response is committed, nor within an include
+abbrev pub is_open : State → Bool
+is_open before = not before.committed && not (is_within_include before)
+
+-- whether a component may set the status
+abbrev pub is_settable : ℕ → Bool
+is_settable status =
+    nat_le LEAST_STATUS status && nat_le status MAX_STATUS && not (status == RESET_CONTENT) && not (status == NOT_MODIFIED)
+
+-- whether a field of that name can be set
+abbrev pub is_free : List ℕ → State → Bool
+is_free name before = is_open before && not (is_reserved_field name)
+
+-- what setting a field answers: where it is not ignored, its name and value have to be those of a field
+abbrev pub field_answer : List ℕ → List ℕ → State → Result Bool ExchangeFault
+field_answer name value before =
+    if is_free name before then (if is_field name value then Ok true else Err faults.BadHeader) else Ok false
+
+-- whether the body can take that many bytes more
+abbrev pub has_room : ℕ → State → Bool
+has_room count before = nat_le (length before.buffer + count) MAX_BODY_LEN
+
+-- what the call answers, unless memory ran out: `false` says that it is ignored
+abbrev pub answer : Change → State → Result Bool ExchangeFault
+answer (SetStatus status) before = Ok (is_open before && is_settable status)
+answer (SetHeader name value) before = field_answer name value before
+answer (AddHeader name value) before = field_answer name value before
+answer (Write bytes) before = if has_room (length bytes) before then Ok true else Err faults.TooLarge
+answer (SetAttribute name value) before = Ok (not (is_reserved_attribute name))
+answer Flush before = Ok true
+
+-- what the call changes where it is not ignored
+abbrev pub changed : Change → State → State
+changed (SetStatus status) before = record before { status = status }
+changed (SetHeader name value) before = record before { fields = set_field name value before.fields }
+changed (AddHeader name value) before = record before { fields = add_field name value before.fields }
+changed (Write bytes) before = record before { buffer = before.buffer ++ bytes }
+changed (SetAttribute name value) before = record before { attributes = set_value name value before.attributes }
+changed Flush before = record before { committed = true }
+
+-- what a call that answered leaves: the change, or all as it was
+abbrev pub left_by : Result Bool ExchangeFault → Change → State → State
+left_by (Ok true) change before = changed change before
+left_by (Ok false) change before = before
+left_by (Err fault) change before = before
+
+-- the call answered as it had to, and left what it had to: a refusal changes nothing
+abbrev pub Does : Change → Result Bool ExchangeFault → State → State → Type 0
+Does change (Ok done) before after = (answer change before ≡ Ok done) × (after ≡ left_by (Ok done) change before)
+Does change (Err faults.NoMemory) before after = (answer change before ≡ Ok true) × (after ≡ before)
+Does change (Err fault) before after = (answer change before ≡ Err fault) × (after ≡ before)
+
+-- the calls made one after another, none refused for want of memory
+abbrev pub after_all : List Change → State → State
+after_all [] before = before
+after_all (change ∷ changes) before = after_all changes (left_by (answer change before) change before)
+
+-- reached by changing calls alone
+unfoldable pub Reaches : State → State → Type 0
+Reaches before after = (changes : List Change) × (after ≡ after_all changes before)
+
+-- the same, in the form that composes without a middle
+abbrev pub Changes : State → State → Type 0
+Changes before after = (from : State) → Reaches from before → Reaches from after

@@ -1,0 +1,75 @@
+-- The dispatches of an exchange and the paths that they show (Jakarta Servlet 6.0, sections 3.5, 9.3 and 9.4).
+use Rattle.std.specs.Prelude.{◌≡◌, ℕ, Bool, true, false, List, [], ◌∷◌, ◌++◌, reverse, Option, unwrap_or, if◌then◌else◌}
+use Rattle.std.specs.List.{list_any}
+use Rattle.sv_mapping.specs.declared.kind.Kind.{Kind}
+use Rattle.sv_mapping.specs.declared.kind.Kind.TheVariants as kinds
+use Rattle.sv_exchange.specs.declared.dispatch.Dispatch.{Dispatch}
+use Rattle.sv_exchange.specs.declared.dispatch.Paths.{Paths}
+use Rattle.sv_exchange.specs.State.{State}
+
+-- the paths of a path in a context
+abbrev pub paths_at : List ℕ → List ℕ → Option (List ℕ) → Option (List ℕ) → Option (List ℕ) → Paths
+paths_at context_path path servlet_path path_info query = record {
+  uri = context_path ++ path;
+  path = path;
+  servlet_path = servlet_path;
+  path_info = path_info;
+  query = query;
+}
+
+abbrev pub is_include_kind : Kind → Bool
+is_include_kind kinds.Include = true
+is_include_kind kinds.Request = false
+is_include_kind kinds.Forward = false
+is_include_kind kinds.Error = false
+
+abbrev pub is_include : Dispatch → Bool
+is_include dispatch = is_include_kind dispatch.kind
+
+-- whether an include is under way, at any depth
+abbrev pub is_within_include : State → Bool
+is_within_include x = list_any is_include x.dispatches
+
+-- the kind of the innermost dispatch
+abbrev pub innermost_kind : List Dispatch → Kind
+innermost_kind [] = kinds.Request
+innermost_kind (dispatch ∷ outer) = dispatch.kind
+
+abbrev pub kind_of : State → Kind
+kind_of x = innermost_kind (reverse x.dispatches)
+
+-- the paths that are shown: those of the innermost dispatch that is no include, or else the client's
+abbrev pub innermost_paths : Paths → List Dispatch → Paths
+innermost_paths client [] = client
+innermost_paths client (dispatch ∷ outer) = if is_include dispatch then innermost_paths client outer else dispatch.paths
+
+abbrev pub paths_of : State → Paths
+paths_of x = innermost_paths x.client (reverse x.dispatches)
+
+abbrev pub path_of : State → List ℕ
+path_of x = (paths_of x).path
+
+abbrev pub servlet_path_of : State → List ℕ
+servlet_path_of x = unwrap_or (paths_of x).servlet_path []
+
+abbrev pub path_info_of : State → Option (List ℕ)
+path_info_of x = (paths_of x).path_info
+
+abbrev pub query_of : State → Option (List ℕ)
+query_of x = (paths_of x).query
+
+-- what the client asked for, once its own dispatch begins
+abbrev pub client_in : Kind → Paths → Paths → Paths
+client_in kinds.Request paths client = record client { servlet_path = paths.servlet_path; path_info = paths.path_info }
+client_in kind paths client = client
+
+-- a dispatch begins
+abbrev pub entered : Kind → Paths → State → State
+entered kind paths before = record before {
+  client = client_in kind paths before.client;
+  dispatches = before.dispatches ++ (record { kind = kind; paths = paths }) ∷ [];
+}
+
+-- the innermost dispatch ends, and what it set is taken back
+abbrev pub Leaves : State → State → Type 0
+Leaves before after = (dispatch : Dispatch) × (before ≡ record after { dispatches = after.dispatches ++ dispatch ∷ [] })

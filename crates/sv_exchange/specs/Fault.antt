@@ -1,0 +1,9 @@
+-- The names of the faults of changing calls.
+use Rattle.std.specs.Prelude.{ℕ, List, codes}
+use Rattle.sv_exchange.specs.declared.exchange_fault.ExchangeFault.{ExchangeFault}
+use Rattle.sv_exchange.specs.declared.exchange_fault.ExchangeFault.TheVariants.{NoMemory, BadHeader, TooLarge}
+
+abbrev pub fault_name : ExchangeFault → List ℕ
+fault_name NoMemory = codes "NoMemory"
+fault_name BadHeader = codes "BadHeader"
+fault_name TooLarge = codes "TooLarge"

@@ -1,0 +1,60 @@
+//! Why a changing call was refused.
+
+ghost use Rattle.std.specs.Prelude.{◌≡◌, Some};
+ghost use Rattle.sv_exchange.specs.declared.exchange_fault.ExchangeFault.TheVariants as faults;
+ghost use Rattle.sv_exchange.specs.Fault.{fault_name};
+
+use std::alloc::{AllocError, AllocFailed};
+use std::error::Error;
+use std::fmt;
+use sv_text::NoMemory;
+
+/// Why a changing call was refused. Nothing changes after it. Of several faults the one answered is the first of `BadHeader`,
+/// `TooLarge` and `NoMemory`, and each comes only where the call would not be ignored. It is printed as its name.
+#[derive(Clone, Copy, Debug, PartialEq, Eq)]
+pub enum ExchangeFault {
+    /// A growth was refused; the same call may succeed later.
+    NoMemory = 5,
+    /// The name or the value is none of a field (RFC 9110, sections 5.1 and 5.5).
+    BadHeader = 6,
+    /// The body would be longer than [`MAX_BODY_LEN`](crate::MAX_BODY_LEN).
+    TooLarge = 7,
+}
+
+impl fmt::Display for ExchangeFault {
+    ghost output = { λ fault. Some (fault_name fault) };
+
+    fn fmt<W: fmt::Write>(&self, f: &mut fmt::Formatter<W>) -> fmt::Result {
+        f.write_str(match self {
+            ExchangeFault::NoMemory => "NoMemory",
+            ExchangeFault::BadHeader => "BadHeader",
+            ExchangeFault::TooLarge => "TooLarge",
+        })
+    }
+}
+
+impl Error for ExchangeFault {}
+
+impl From<NoMemory> for ExchangeFault {
+    ghost from_gives = { λ _ fault. fault ≡ faults.NoMemory };
+
+    fn from(_error: NoMemory) -> ExchangeFault {
+        ExchangeFault::NoMemory
+    }
+}
+
+impl From<AllocError> for ExchangeFault {
+    ghost from_gives = { λ _ fault. fault ≡ faults.NoMemory };
+
+    fn from(_error: AllocError) -> ExchangeFault {
+        ExchangeFault::NoMemory
+    }
+}
+
+impl<T: Drop> From<AllocFailed<T>> for ExchangeFault {
+    ghost from_gives = { λ _ fault. fault ≡ faults.NoMemory };
+
+    fn from(_error: AllocFailed<T>) -> ExchangeFault {
+        ExchangeFault::NoMemory
+    }
+}

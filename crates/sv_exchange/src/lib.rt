@@ -1,0 +1,21 @@
+//! The exchange: a request with the answer that components make of it.
+#![tactic(auto)]
+
+mod attribute;
+mod attributes;
+mod changing;
+mod dispatch;
+mod dispatching;
+mod exchange;
+mod exchange_fault;
+mod fields;
+mod laws;
+mod limits;
+mod reading;
+
+pub use attribute::Attribute;
+pub use dispatch::{Dispatch, Paths};
+pub use exchange::Exchange;
+pub use exchange_fault::ExchangeFault;
+pub use laws::changes_are_calls;
+pub use limits::{LEAST_STATUS, MAX_BODY_LEN, MAX_STATUS, NOT_MODIFIED, OK, RESET_CONTENT};

@@ -1,0 +1,50 @@
+//! Which component was called, and how.
+
+ghost use Rattle.std.specs.Prelude.{Some};
+ghost use Rattle.sv_journal.specs.Called.{call_text, component_text};
+
+use std::fmt;
+use sv_text::Text;
+
+/// A component by its name. It is printed as the word for its interface with its name.
+#[derive(Debug, Drop)]
+pub enum Component {
+    Servlet(Text),
+    Filter(Text),
+}
+
+/// A call of a component. It is printed as the method's name.
+#[derive(Clone, Copy, Debug, PartialEq, Eq)]
+pub enum CallName {
+    Init,
+    /// With its turn, which is printed behind the name.
+    Service(u32),
+    Before,
+    After,
+    Destroy,
+}
+
+impl fmt::Display for Component {
+    ghost output = { λ component. Some (component_text component) };
+
+    fn fmt<W: fmt::Write>(&self, f: &mut fmt::Formatter<W>) -> fmt::Result {
+        match self {
+            Component::Servlet(name) => write!(f, "servlet {name}"),
+            Component::Filter(name) => write!(f, "filter {name}"),
+        }
+    }
+}
+
+impl fmt::Display for CallName {
+    ghost output = { λ call. Some (call_text call) };
+
+    fn fmt<W: fmt::Write>(&self, f: &mut fmt::Formatter<W>) -> fmt::Result {
+        match self {
+            CallName::Init => write!(f, "init"),
+            CallName::Service(turn) => write!(f, "service {turn}"),
+            CallName::Before => write!(f, "before"),
+            CallName::After => write!(f, "after"),
+            CallName::Destroy => write!(f, "destroy"),
+        }
+    }
+}

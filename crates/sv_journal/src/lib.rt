@@ -1,0 +1,18 @@
+//! The journal of what the container did: what was called, told, refused and let in.
+#![tactic(auto)]
+
+mod answer;
+mod called;
+mod context;
+mod entry;
+mod event;
+mod journal;
+mod refusal_cause;
+
+pub use answer::Answer;
+pub use called::{CallName, Component};
+pub use context::shown_context;
+pub use entry::Entry;
+pub use event::Event;
+pub use journal::Journal;
+pub use refusal_cause::RefusalCause;

@@ -1,0 +1,106 @@
+//! Why a message is answered by the container itself.
+
+ghost use Rattle.std.specs.Prelude.{◌≡◌, Some};
+ghost use Rattle.sv_journal.specs.RefusalCause.{cause_number, cause_text, path_number, wire_number};
+
+use std::fmt;
+use sv_constraints::OwnedWhy;
+use sv_uri::fault::PathFault;
+use sv_wire::WireFault;
+
+/// Why a message is answered by the container itself, with no dispatch to the path that it asks for. Two of the causes are no faults.
+/// It is printed as its name; `Denied` and `NoLogin` have their reason behind it.
+#[derive(Debug, Drop)]
+pub enum RefusalCause {
+    /// The message is none that is served.
+    Wire(WireFault),
+    /// The target has no canonical path.
+    Path(PathFault),
+    /// The target is the server itself (RFC 9110, section 9.3.7).
+    Star,
+    /// No context serves the path.
+    NoContext,
+    /// The path leads into a folder that is served to no client (Jakarta Servlet 6.0, section 10.5).
+    Protected,
+    /// The message was a login that passed (Jakarta Servlet 6.0, section 13.6.3).
+    LoggedIn,
+    /// The message was a login that failed.
+    LoginFailed,
+    /// The message was a login, and no session could be had.
+    NoSession,
+    /// The constraints deny it (Jakarta Servlet 6.0, section 13.8).
+    Denied(OwnedWhy),
+    /// The constraints ask for a login, and the context has none.
+    NoLogin(OwnedWhy),
+}
+
+impl RefusalCause {
+    /// The number of the cause: 1 to 8 for the faults of messages, 11 to 20 for the faults of paths, and 21 to 28 for the others.
+    pub fn number(&self) -> u8
+        ensures { result ≡ cause_number self.now }
+    {
+        match self {
+            RefusalCause::Wire(fault) => wire_number(*fault),
+            RefusalCause::Path(fault) => path_number(*fault),
+            RefusalCause::Star => 21,
+            RefusalCause::NoContext => 22,
+            RefusalCause::Protected => 23,
+            RefusalCause::LoggedIn => 24,
+            RefusalCause::LoginFailed => 25,
+            RefusalCause::NoSession => 26,
+            RefusalCause::Denied(_) => 27,
+            RefusalCause::NoLogin(_) => 28,
+        }
+    }
+}
+
+fn wire_number(fault: WireFault) -> u8
+    ensures { result ≡ wire_number fault }
+{
+    match fault {
+        WireFault::BadHead => 1,
+        WireFault::BadHost => 2,
+        WireFault::BadFraming => 3,
+        WireFault::UnknownCoding => 4,
+        WireFault::HeadTooLarge => 5,
+        WireFault::BodyTooLarge => 6,
+        WireFault::BadExpect => 7,
+        WireFault::BadTarget => 8,
+    }
+}
+
+fn path_number(fault: PathFault) -> u8
+    ensures { result ≡ path_number fault }
+{
+    match fault {
+        PathFault::Fragment => 11,
+        PathFault::NoSlash => 12,
+        PathFault::BadEscape => 13,
+        PathFault::EncodedSlash => 14,
+        PathFault::Backslash => 15,
+        PathFault::Control => 16,
+        PathFault::NotUtf8 => 17,
+        PathFault::DotSegment => 18,
+        PathFault::EmptyParameter => 19,
+        PathFault::Climbs => 20,
+    }
+}
+
+impl fmt::Display for RefusalCause {
+    ghost output = { λ cause. Some (cause_text cause) };
+
+    fn fmt<W: fmt::Write>(&self, f: &mut fmt::Formatter<W>) -> fmt::Result {
+        match self {
+            RefusalCause::Wire(fault) => write!(f, "{fault}"),
+            RefusalCause::Path(fault) => write!(f, "{fault}"),
+            RefusalCause::Star => write!(f, "Star"),
+            RefusalCause::NoContext => write!(f, "NoContext"),
+            RefusalCause::Protected => write!(f, "Protected"),
+            RefusalCause::LoggedIn => write!(f, "LoggedIn"),
+            RefusalCause::LoginFailed => write!(f, "LoginFailed"),
+            RefusalCause::NoSession => write!(f, "NoSession"),
+            RefusalCause::Denied(why) => write!(f, "Denied {why}"),
+            RefusalCause::NoLogin(why) => write!(f, "NoLogin {why}"),
+        }
+    }
+}

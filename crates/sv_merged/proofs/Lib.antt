@@ -1,0 +1,5 @@
+pub mod Lowered
+pub mod Joined
+pub mod Admitted
+pub mod Named
+pub mod Whole

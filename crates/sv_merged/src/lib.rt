@@ -1,0 +1,10 @@
+//! Merged tables: what the constraints on one pattern come to for each method and every caller
+//! (Jakarta Servlet 6.0, section 13.8.1).
+#![tactic(auto)]
+
+mod covering;
+mod merged;
+mod role_numbers;
+mod table;
+
+pub use table::Table;

@@ -1,0 +1,93 @@
+//! The merged table of a pattern.
+
+ghost use Rattle.std.specs.Prelude.{◌≡◌, ◌++◌, ◌∷◌, [], ℕ, List, IfOk, OnOk, map, Some};
+ghost use Rattle.std.specs.BTreeMap.{get_by_text};
+ghost use Rattle.std.specs.Option.{option_copied};
+ghost use Rattle.sv_constraints.specs.Covering.{covering};
+ghost use Rattle.sv_constraints.specs.Findings.{findings_of};
+ghost use Rattle.sv_merged.specs.Table.{HasEntries, IsTable, entry_of};
+
+use crate::covering::named_methods;
+use crate::merged::Merged;
+use std::alloc::Global;
+use std::collections::BTreeMap;
+use sv_constraints::{Constraint, Findings, Rules};
+use sv_mapping::Pattern;
+use sv_realm::Caller;
+use sv_text::NoMemory;
+
+/// What the constraints on a pattern come to: an entry for each method that one of them names there, and one rule for all
+/// other methods.
+#[derive(Drop)]
+pub struct Table {
+    /// The pattern.
+    pub pattern: Pattern,
+    methods: BTreeMap<String, Merged>,
+    rest: Merged,
+}
+
+/// Sees that a method has an entry.
+fn enter(
+    methods: &mut BTreeMap<String, Merged>,
+    alloc: Global,
+    rules: &Rules,
+    members: &[&Constraint],
+    pattern: &str,
+    name: &str,
+) -> Result<(), NoMemory>
+    ensures { OnOk result ((names : List (List ℕ)) →
+        HasEntries rules.now (map (λ member. member.now) members.now) pattern.now (get_by_text methods.old) names →
+        HasEntries rules.now (map (λ member. member.now) members.now) pattern.now (get_by_text methods.new) (names ++ name.now ∷ [])) }
+{
+    if methods.contains_key(name) {
+        return Ok(());
+    }
+    let merged = Merged::gather(alloc, rules, members, pattern, Some(name))?;
+    methods.insert(String::from_str(alloc, name)?, merged)?;
+    Ok(())
+}
+
+impl Table {
+    ghost use Rattle.sv_constraints.specs.declared.constraint.Constraint.{Constraint};
+    ghost use Rattle.sv_constraints.specs.declared.rules.Rules.{Rules};
+
+    /// Merges constraints into the table of a pattern.
+    pub fn merge(
+        alloc: Global,
+        rules: &Rules,
+        pattern: Pattern,
+        members: &[&Constraint],
+    ) -> Result<Table, NoMemory>
+        ensures table { IfOk result (λ table. IsTable rules.now (map (λ member. member.now) members.now) table) }
+        ensures pattern { IfOk result (λ table. table.pattern ≡ pattern) }
+    {
+        let text = pattern.text();
+        let mut methods = BTreeMap::new(alloc);
+        let names = named_methods(alloc, members, text)?;
+        for name in names.as_slice() {
+            enter(&mut methods, alloc, rules, members, text, *name)?;
+        }
+        let rest = Merged::gather(alloc, rules, members, text, None)?;
+        Ok(Table {
+            pattern,
+            methods,
+            rest,
+        })
+    }
+
+    /// The entry of a method.
+    fn entry(&self, method: &str) -> &Merged
+        ensures { result.now ≡ entry_of self.now method.now }
+    {
+        self.methods.get(method).unwrap_or(&self.rest)
+    }
+
+    /// What there is to find in the merged constraints that cover the method at the pattern, by one look-up by method, and
+    /// one for each role of the caller. It takes no memory.
+    pub fn findings(&self, method: &str, caller: Option<&Caller>) -> Findings
+        ensures { (rules : Rules) (constraints : List Constraint) → IsTable rules constraints self.now →
+            result ≡ findings_of rules (option_copied caller.entry) (covering constraints (Some self.now.pattern) method.now) }
+    {
+        self.entry(method).findings(caller)
+    }
+}

@@ -1,0 +1,197 @@
+-- What is found once a pattern is added behind all others.
+use Rattle.std.proofs.Common.{◌≡◌, ◌≢◌, ℕ, Bool, true, false, cond, List, [], ◌∷◌, ◌++◌, eqb, length, refl, sym, subst, ◌∙◌, ap, arith, Option, Some, None, Result, Ok, Err, OnOk, inl, inr}
+use Rattle.std.specs.HashMap.{get_by_text}
+use Rattle.std.specs.Option.{option_or}
+use Rattle.std.specs.Str.{bytes_eq}
+use Rattle.std.proofs.lemmas.Bool.{and_from, and_parts, both_ways, cases_Bool, eqb-true}
+use Rattle.std.proofs.lemmas.Option.{none-some}
+use Rattle.std.specs.List.{ends_with, list_all}
+use Rattle.sv_mapping.specs.Pattern.{is_pattern}
+use Rattle.sv_mapping.proofs.Texts.{same_bytes}
+use Rattle.sv_pattern_table.specs.declared.index.Index.{Index}
+use Rattle.sv_pattern_table.specs.declared.node.Node.{Node}
+use Rattle.sv_pattern_table.specs.Index.{Finds}
+use Rattle.sv_pattern_table.specs.Places.{exact_place, place_of}
+use Rattle.sv_pattern_table.specs.Segments.{is_rooted, path_of, segments_of}
+use Rattle.sv_pattern_table.specs.Trie.{Adds, child, exact, prefix, kept}
+use Rattle.sv_pattern_table.proofs.Classes.{empty_exact, equal, exact-push, exact_exact, fits_exactly, one, or_none, prefix_exact, prefix_prefix, short_prefix, slash_exact, starred_exact, starred_prefix, unequal}
+use Rattle.sv_pattern_table.proofs.Places.{place-push}
+use Rattle.sv_pattern_table.proofs.Rooted.{rooted_back, rooted_front, rooted_pattern}
+
+-- what a trie keeps of the kind f for each rooted path
+abbrev Keeps : (List Node → ℕ → Option ℕ) → List Node → (List ℕ → Option ℕ) → Type 0
+Keeps f nodes places = (path : List ℕ) → is_rooted path ≡ true → kept (child nodes) (f nodes) (segments_of path) ≡ places path
+
+gained : (old new : List Node) (f g : List Node → ℕ → Option ℕ) (target : List ℕ) (n : ℕ) (before after : List ℕ → Option ℕ) (test : List ℕ → Bool) → Adds old new (segments_of target) n f g → is_rooted target ≡ true → Keeps f old before
+    → ((path : List ℕ) → after path ≡ option_or (before path) (one n (test path))) → ((path : List ℕ) → is_rooted path ≡ true → test path ≡ bytes_eq path target) → Keeps f new after
+gained old new f g target n before after test adds rooted_target keeps pushed tests path rooted =
+    elim (cases_Bool (bytes_eq path target)) [
+      | inl e ↦
+          let same = same_bytes path target e in
+          ap (λ p. kept (child new) (f new) (segments_of p)) same
+          ∙ (adds.here ∙ (ap (λ o. option_or o (Some n)) (keeps target rooted_target ∙ ap before (sym same))
+          ∙ (ap (λ t. option_or (before path) (one n t)) (sym (tests path rooted ∙ e)) ∙ sym (pushed path))))
+      | inr e ↦
+          let apart : segments_of path ≢ segments_of target = λ h. both_ways _ e (equal path target (sym (rooted_back path rooted) ∙ (ap path_of h ∙ rooted_back target rooted_target))) in
+          adds.others (segments_of path) apart
+          ∙ (keeps path rooted ∙ (sym (or_none (before path)) ∙ (ap (λ t. option_or (before path) (one n t)) (sym (tests path rooted ∙ e)) ∙ sym (pushed path))))
+    ]
+
+-- where the pattern is not the one, nothing changes
+unmoved : (n : ℕ) (before after : Option ℕ) (test : Bool) → after ≡ option_or before (one n test) → test ≡ false → before ≡ after
+unmoved n before after test pushed none = sym (or_none before) ∙ (ap (λ t. option_or before (one n t)) (sym none) ∙ sym pushed)
+
+spared : (old new : List Node) (f g : List Node → ℕ → Option ℕ) (segments : List (List ℕ)) (n : ℕ) (before after : List ℕ → Option ℕ) (test : List ℕ → Bool) → Adds old new segments n f g → Keeps g old before
+    → ((path : List ℕ) → after path ≡ option_or (before path) (one n (test path))) → ((path : List ℕ) → is_rooted path ≡ true → test path ≡ false) → Keeps g new after
+spared old new f g segments n before after test adds keeps pushed none path rooted =
+    adds.stays (segments_of path) ∙ (keeps path rooted ∙ unmoved n (before path) (after path) (test path) (pushed path) (none path rooted))
+
+all_push : (patterns : List (List ℕ)) (pattern : List ℕ) → list_all is_pattern patterns ≡ true → is_pattern pattern ≡ true → list_all is_pattern (patterns ++ pattern ∷ []) ≡ true
+all_push [] pattern h k = and_from (is_pattern pattern) true k refl
+all_push (p ∷ ps) pattern h k = let parts = and_parts (is_pattern p) (list_all is_pattern ps) h in and_from (is_pattern p) (list_all is_pattern (ps ++ pattern ∷ [])) parts.0 (all_push ps pattern parts.1 k)
+
+module _ (patterns : List (List ℕ)) (pattern : List ℕ) where
+  abbrev grown : List (List ℕ)
+  grown = patterns ++ pattern ∷ []
+
+  abbrev below : List ℕ → List ℕ
+  below path = path ++ 47 ∷ 42 ∷ []
+
+  still : (text : List ℕ) → bytes_eq pattern text ≡ false → place_of patterns text ≡ place_of grown text
+  still text none = unmoved (length patterns) (place_of patterns text) (place_of grown text) (bytes_eq pattern text) (place-push patterns pattern text) none
+
+  module _ (old new : Index) (finds : Finds old patterns) (accepted : is_pattern pattern ≡ true) where
+    -- the pattern is exact for the path `target`
+    pub finds_exact : (target : List ℕ) → is_rooted target ≡ true → Adds old.trie.nodes.items new.trie.nodes.items (segments_of target) (length patterns) exact prefix
+        → ((wanted : List ℕ) → get_by_text new.extensions wanted ≡ get_by_text old.extensions wanted) → new.default ≡ old.default
+        → ((path : List ℕ) → fits_exactly pattern path ≡ bytes_eq path target) → ((path : List ℕ) → bytes_eq pattern (below path) ≡ false) → ((wanted : List ℕ) → bytes_eq pattern (42 ∷ 46 ∷ wanted) ≡ false) → bytes_eq pattern (47 ∷ []) ≡ false
+        → Finds new grown
+    finds_exact target rooted adds extensions default is_exact no_prefix no_extension no_default = record {
+      accepted = all_push patterns pattern finds.accepted accepted;
+      trie = adds.trie;
+      exacts = gained old.trie.nodes.items new.trie.nodes.items exact prefix target (length patterns) (exact_place patterns) (exact_place grown) (fits_exactly pattern) adds rooted finds.exacts (exact-push patterns pattern) (λ path _. is_exact path);
+      prefixes = spared old.trie.nodes.items new.trie.nodes.items exact prefix (segments_of target) (length patterns) (λ path. place_of patterns (below path)) (λ path. place_of grown (below path)) (λ path. bytes_eq pattern (below path)) adds finds.prefixes (λ path. place-push patterns pattern (below path)) (λ path _. no_prefix path);
+      extensions = λ wanted. extensions wanted ∙ (finds.extensions wanted ∙ still (42 ∷ 46 ∷ wanted) (no_extension wanted));
+      default = default ∙ (finds.default ∙ still (47 ∷ []) no_default);
+    }
+
+    -- the pattern is the prefix pattern of `front`
+    pub finds_prefix : (front : List ℕ) → pattern ≡ below front → is_rooted front ≡ true → Adds old.trie.nodes.items new.trie.nodes.items (segments_of front) (length patterns) prefix exact
+        → ((wanted : List ℕ) → get_by_text new.extensions wanted ≡ get_by_text old.extensions wanted) → new.default ≡ old.default
+        → ((wanted : List ℕ) → pattern ≡ 42 ∷ 46 ∷ wanted → ⊥) → (pattern ≡ 47 ∷ [] → ⊥)
+        → Finds new grown
+    finds_prefix front is rooted adds extensions default starless no_slash = record {
+      accepted = all_push patterns pattern finds.accepted accepted;
+      trie = adds.trie;
+      exacts = spared old.trie.nodes.items new.trie.nodes.items prefix exact (segments_of front) (length patterns) (exact_place patterns) (exact_place grown) (fits_exactly pattern) adds finds.exacts (exact-push patterns pattern) (λ path _. ap (λ p. fits_exactly p path) is ∙ prefix_exact front path);
+      prefixes = gained old.trie.nodes.items new.trie.nodes.items prefix exact front (length patterns) (λ path. place_of patterns (below path)) (λ path. place_of grown (below path)) (λ path. bytes_eq pattern (below path)) adds rooted finds.prefixes (λ path. place-push patterns pattern (below path)) (λ path _. ap (λ p. bytes_eq p (below path)) is ∙ prefix_prefix front path);
+      extensions = λ wanted. extensions wanted ∙ (finds.extensions wanted ∙ still (42 ∷ 46 ∷ wanted) (unequal pattern (42 ∷ 46 ∷ wanted) (starless wanted)));
+      default = default ∙ (finds.default ∙ still (47 ∷ []) (unequal pattern (47 ∷ []) no_slash));
+    }
+
+    -- the trie stays
+    aside : (n : ℕ) → (keeps : List ℕ → Option ℕ) (after : List ℕ → Option ℕ) (f : List Node → ℕ → Option ℕ) → new.trie ≡ old.trie → Keeps f old.trie.nodes.items keeps → ((path : List ℕ) → is_rooted path ≡ true → keeps path ≡ after path) → Keeps f new.trie.nodes.items after
+    aside n keeps after f same before moved path rooted = rw same (before path rooted ∙ moved path rooted)
+
+    pub finds_aside : new.trie ≡ old.trie → ((path : List ℕ) → is_rooted path ≡ true → fits_exactly pattern path ≡ false) → ((path : List ℕ) → is_rooted path ≡ true → bytes_eq pattern (below path) ≡ false)
+        → ((wanted : List ℕ) → get_by_text new.extensions wanted ≡ place_of grown (42 ∷ 46 ∷ wanted)) → new.default ≡ place_of grown (47 ∷ [])
+        → Finds new grown
+    finds_aside same no_exact no_prefix extensions default = record {
+      accepted = all_push patterns pattern finds.accepted accepted;
+      trie = rw same finds.trie;
+      exacts = aside 0 (exact_place patterns) (exact_place grown) exact same finds.exacts (λ path rooted. unmoved (length patterns) _ _ (fits_exactly pattern path) (exact-push patterns pattern path) (no_exact path rooted));
+      prefixes = aside 0 (λ path. place_of patterns (below path)) (λ path. place_of grown (below path)) prefix same finds.prefixes (λ path rooted. still (below path) (no_prefix path rooted));
+      extensions = extensions;
+      default = default;
+    }
+
+    pub default_added : new.default ≡ option_or old.default (Some (length patterns)) → bytes_eq pattern (47 ∷ []) ≡ true → new.default ≡ place_of grown (47 ∷ [])
+    default_added is same = is ∙ (ap (λ o. option_or o (Some (length patterns))) finds.default ∙ sym (place-push patterns pattern (47 ∷ []) ∙ ap (λ t. option_or (place_of patterns (47 ∷ [])) (one (length patterns) t)) same))
+
+    pub default_stays : new.default ≡ old.default → bytes_eq pattern (47 ∷ []) ≡ false → new.default ≡ place_of grown (47 ∷ [])
+    default_stays is none = is ∙ (finds.default ∙ still (47 ∷ []) none)
+
+    pub extension_stays : (wanted : List ℕ) → get_by_text new.extensions wanted ≡ get_by_text old.extensions wanted → bytes_eq pattern (42 ∷ 46 ∷ wanted) ≡ false → get_by_text new.extensions wanted ≡ place_of grown (42 ∷ 46 ∷ wanted)
+    extension_stays wanted is none = is ∙ (finds.extensions wanted ∙ still (42 ∷ 46 ∷ wanted) none)
+
+    pub extension_added : (extension wanted : List ℕ) → pattern ≡ 42 ∷ 46 ∷ extension → get_by_text new.extensions wanted ≡ cond (bytes_eq extension wanted) (option_or (get_by_text old.extensions wanted) (Some (length patterns))) (get_by_text old.extensions wanted) → get_by_text new.extensions wanted ≡ place_of grown (42 ∷ 46 ∷ wanted)
+    extension_added extension wanted text is =
+        elim (cases_Bool (bytes_eq extension wanted)) [
+          | inl e ↦
+              is ∙ rw e (ap (λ o. option_or o (Some (length patterns))) (finds.extensions wanted)
+              ∙ sym (place-push patterns pattern (42 ∷ 46 ∷ wanted) ∙ ap (λ t. option_or (place_of patterns (42 ∷ 46 ∷ wanted)) (one (length patterns) t)) (ap (λ p. bytes_eq p (42 ∷ 46 ∷ wanted)) text ∙ e)))
+          | inr e ↦ is ∙ rw e (finds.extensions wanted ∙ still (42 ∷ 46 ∷ wanted) (ap (λ p. bytes_eq p (42 ∷ 46 ∷ wanted)) text ∙ e))
+        ]
+
+pub on_ok : {A E P Q : Type 0} (r : Result A E) → OnOk r P → (P → Q) → OnOk r Q
+on_ok (Ok a) h f = f h
+on_ok (Err e) h f = tt
+
+-- ---- the five kinds of texts
+module _ (patterns : List (List ℕ)) (text : List ℕ) (old new : Index) (finds : Finds old patterns) (accepted : is_pattern text ≡ true) where
+  no_text : eqb (length text) 0 ≡ true → text ≡ []
+  no_text h = empty_from text h
+    where
+      empty_from : (t : List ℕ) → eqb (length t) 0 ≡ true → t ≡ []
+      empty_from [] h = refl
+      empty_from (b ∷ bs) h = absurd (omega (arith, eqb-true (length (b ∷ bs)) 0 h))
+
+  some_text : eqb (length text) 0 ≡ false → text ≡ [] → ⊥
+  some_text h e = both_ways _ h (rw e refl)
+
+  no_slash : bytes_eq text (47 ∷ []) ≡ false → text ≡ 47 ∷ [] → ⊥
+  no_slash h e = both_ways _ h (equal text (47 ∷ []) e)
+
+  pub empty_added : eqb (length text) 0 ≡ true → Adds old.trie.nodes.items new.trie.nodes.items (segments_of (47 ∷ [])) (length patterns) exact prefix → ((wanted : List ℕ) → get_by_text new.extensions wanted ≡ get_by_text old.extensions wanted) → new.default ≡ old.default → Finds new (patterns ++ text ∷ [])
+  empty_added h adds extensions default =
+      let e = no_text h in
+      finds_exact patterns text old new finds accepted (47 ∷ []) refl adds extensions default
+      (λ path. ap (λ p. fits_exactly p path) e ∙ empty_exact path) (λ path. short_prefix text path (omega (arith, ap length e)))
+      (λ wanted. ap (λ p. bytes_eq p (42 ∷ 46 ∷ wanted)) e) (ap (λ p. bytes_eq p (47 ∷ [])) e)
+
+  pub slash_added : bytes_eq text (47 ∷ []) ≡ true → new.trie ≡ old.trie → ((wanted : List ℕ) → get_by_text new.extensions wanted ≡ get_by_text old.extensions wanted) → new.default ≡ option_or old.default (Some (length patterns)) → Finds new (patterns ++ text ∷ [])
+  slash_added h trie extensions default =
+      let e = same_bytes text (47 ∷ []) h in
+      finds_aside patterns text old new finds accepted trie (λ path _. ap (λ p. fits_exactly p path) e ∙ slash_exact path) (λ path _. short_prefix text path (omega (arith, ap length e)))
+      (λ wanted. extension_stays patterns text old new finds accepted wanted (extensions wanted) (ap (λ p. bytes_eq p (42 ∷ 46 ∷ wanted)) e))
+      (default_added patterns text old new finds accepted default h)
+
+  pub starred_added : (extension : List ℕ) → text ≡ 42 ∷ 46 ∷ extension → new.trie ≡ old.trie → ((wanted : List ℕ) → get_by_text new.extensions wanted ≡ cond (bytes_eq extension wanted) (option_or (get_by_text old.extensions wanted) (Some (length patterns))) (get_by_text old.extensions wanted)) → new.default ≡ old.default → Finds new (patterns ++ text ∷ [])
+  starred_added extension e trie extensions default =
+      finds_aside patterns text old new finds accepted trie (λ path rooted. ap (λ p. fits_exactly p path) e ∙ starred_exact extension path rooted) (λ path rooted. ap (λ p. bytes_eq p (path ++ 47 ∷ 42 ∷ [])) e ∙ starred_prefix extension path rooted)
+      (λ wanted. extension_added patterns text old new finds accepted extension wanted e (extensions wanted))
+      (default_stays patterns text old new finds accepted default (ap (λ p. bytes_eq p (47 ∷ [])) e))
+
+  pub prefix_added : (front : List ℕ) → bytes_eq text (47 ∷ []) ≡ false → ((rest : List ℕ) → text ≡ 42 ∷ 46 ∷ rest → ⊥) → text ≡ front ++ 47 ∷ 42 ∷ [] → Adds old.trie.nodes.items new.trie.nodes.items (segments_of front) (length patterns) prefix exact → ((wanted : List ℕ) → get_by_text new.extensions wanted ≡ get_by_text old.extensions wanted) → new.default ≡ old.default → Finds new (patterns ++ text ∷ [])
+  prefix_added front slash starless e adds extensions default =
+      let rooted = rooted_front front (47 ∷ 42 ∷ []) (subst (λ t. is_rooted t ≡ true) e (rooted_pattern text accepted starless)) in
+      finds_prefix patterns text old new finds accepted front e rooted adds extensions default starless (no_slash slash)
+
+  pub exact_added : eqb (length text) 0 ≡ false → bytes_eq text (47 ∷ []) ≡ false → ((rest : List ℕ) → text ≡ 42 ∷ 46 ∷ rest → ⊥) → ((front : List ℕ) → text ≡ front ++ 47 ∷ 42 ∷ [] → ⊥) → Adds old.trie.nodes.items new.trie.nodes.items (segments_of text) (length patterns) exact prefix → ((wanted : List ℕ) → get_by_text new.extensions wanted ≡ get_by_text old.extensions wanted) → new.default ≡ old.default → Finds new (patterns ++ text ∷ [])
+  exact_added some slash starless endless adds extensions default =
+      finds_exact patterns text old new finds accepted text (rooted_pattern text accepted starless) adds extensions default
+      (λ path. exact_exact text path (some_text some) (no_slash slash) endless) (λ path. unequal text (path ++ 47 ∷ 42 ∷ []) (endless path))
+      (λ wanted. unequal text (42 ∷ 46 ∷ wanted) (starless wanted)) slash
+
+-- ---- no patterns
+nowhere : (child : ℕ → List ℕ → Option ℕ) (places : ℕ → Option ℕ) (segments : List (List ℕ)) → ((from : ℕ) (segment : List ℕ) → child from segment ≡ None) → ((from : ℕ) → places from ≡ None) → kept child places segments ≡ None
+nowhere child places [] leaves none = none 0
+nowhere child places (s ∷ ss) leaves none = rw (leaves 0 s) refl
+
+no_exact_place : (path : List ℕ) → exact_place [] path ≡ None
+no_exact_place [] = refl
+no_exact_place (b ∷ bs) =
+    elim (cases_Bool (bytes_eq (b ∷ bs) (47 ∷ []))) [
+      | inl e ↦ rw e refl
+      | inr e ↦ elim (cases_Bool (ends_with eqb (b ∷ bs) (47 ∷ 42 ∷ []))) [ inl f ↦ rw (e, f) refl | inr f ↦ rw (e, f) refl ]
+    ]
+
+pub none_added : (index : Index) → length index.trie.nodes.items ≡ 1 → ((from : ℕ) (segment : List ℕ) → child index.trie.nodes.items from segment ≡ None) → ((from : ℕ) → exact index.trie.nodes.items from ≡ None) → ((from : ℕ) → prefix index.trie.nodes.items from ≡ None) → ((wanted : List ℕ) → get_by_text index.extensions wanted ≡ None) → index.default ≡ None → Finds index []
+none_added index root leaves no_exact no_prefix no_extension no_default = record {
+  accepted = refl;
+  trie = (λ _. [], record { some = omega (arith, root); root = refl; edges = λ from next segment h. absurd (none-some next (sym (leaves from segment) ∙ h)) });
+  exacts = λ path _. nowhere (child index.trie.nodes.items) (exact index.trie.nodes.items) (segments_of path) leaves no_exact ∙ sym (no_exact_place path);
+  prefixes = λ path _. nowhere (child index.trie.nodes.items) (prefix index.trie.nodes.items) (segments_of path) leaves no_prefix;
+  extensions = no_extension;
+  default = no_default;
+}

@@ -1,0 +1,12 @@
+pub mod Added
+pub mod Bare
+pub mod Classes
+pub mod Cuts
+pub mod Found
+pub mod Growth
+pub mod Nodes
+pub mod Paths
+pub mod Places
+pub mod Rooted
+pub mod Trees
+pub mod Ways

@@ -1,0 +1,4 @@
+pub mod Index
+pub mod Places
+pub mod Segments
+pub mod Trie

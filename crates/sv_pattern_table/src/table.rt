@@ -1,0 +1,69 @@
+//! Compiled URL patterns.
+
+ghost use Rattle.std.specs.Prelude.{◌≡◌, ◌<◌, ◌≤◌, ◌+◌, length, IfSome, slice_get};
+ghost use Rattle.std.specs.Option.{option_and_then};
+ghost use Rattle.sv_mapping.specs.BestMatch.{best, best_pattern};
+ghost use Rattle.sv_pattern_table.specs.Segments.{segments};
+ghost use Rattle.sv_text.specs.Gives.{GivesAnswer};
+
+use crate::index::{Index, Looked};
+use std::alloc::Global;
+use std::marker::Model;
+use sv_mapping::Pattern;
+use sv_text::{Listed, NoMemory, Text};
+
+/// URL patterns compiled for look-ups, whose price does not grow with the number of patterns. Contracts see the list of
+/// the patterns' texts.
+#[derive(Drop)]
+pub struct PatternTable {
+    texts: Listed<Text>,
+    index: Index,
+}
+
+impl Model for PatternTable {
+    ghost use Rattle.std.specs.Prelude.{ℕ, List};
+    ghost use Rattle.sv_pattern_table.specs.Index.{Finds};
+
+    ghost Value = { List (List ℕ) };
+
+    ghost view = { λ table. table.texts };
+
+    ghost invariant = { λ table. Finds table.index table.texts };
+}
+
+impl PatternTable {
+    /// Compiles patterns, of which it keeps the texts.
+    pub fn compile(alloc: Global, patterns: &[Pattern]) -> Result<PatternTable, NoMemory>
+        ensures { GivesAnswer result patterns.now }
+    {
+        let mut texts = Vec::new(alloc);
+        let mut index = Index::new(alloc)?;
+        for (place, pattern) in patterns.iter().enumerate() {
+            index.add(alloc, pattern.text(), place)?;
+            texts.push(Text::copy_of(alloc, pattern.text())?)?;
+        }
+        Ok(PatternTable {
+            texts: Listed::from_vec(texts),
+            index,
+        })
+    }
+
+    /// The texts of the patterns, in their order.
+    pub fn texts(&self) -> &[Text]
+        ensures { result.now ≡ self.now }
+    {
+        self.texts.as_slice()
+    }
+
+    /// The best match for a path: the place of the pattern that [`best`](sv_mapping::best) finds. An exact match comes first,
+    /// then the longest prefix, then an extension, then the default pattern; of equal patterns the first. It takes no memory,
+    /// and at most one look-up for each slash of the path, and one more.
+    pub fn lookup(&self, path: &str) -> Looked
+        ensures best { result.best ≡ best self.now path.now }
+        ensures within { IfSome result.best (λ place. place < length self.now) }
+        ensures text { option_and_then (λ place. slice_get self.now place) result.best ≡ best_pattern self.now path.now }
+        ensures probes { result.probes ≤ segments path.now + 1 }
+    {
+        self.index.find(path)
+    }
+}

@@ -1,0 +1,4 @@
+pub mod Listed
+pub mod Whole
+pub mod Deciding
+pub mod Kept

@@ -1,0 +1,58 @@
+-- The tables of patterns are whole.
+use Rattle.std.proofs.Common.{arith, subst, ◌≡◌, ℕ, ◌+◌, ◌<◌, Bool, true, false, not, ◌&&◌, List, [], ◌∷◌, ◌++◌, length, take, get_or, map, refl, ap, sym, ◌∙◌, cond, append-nil}
+use Rattle.std.specs.Borrow.{Bor}
+use Rattle.std.specs.Prelude.{All, filter}
+use Rattle.std.proofs.lemmas.List.{append_assoc, map-append}
+use Rattle.std.proofs.lemmas.List.Elements.{filter-append}
+use Rattle.sv_constraints.specs.Covering.{all_patterns, covers, lists}
+use Rattle.sv_constraints.specs.declared.constraint.Constraint.{Constraint}
+use Rattle.sv_constraints.specs.declared.rules.Rules.{Rules}
+use Rattle.sv_merged.proofs.Joined.{seen_more}
+use Rattle.sv_merged.specs.Merged.{IsMerged}
+use Rattle.sv_merged.specs.Table.{IsTable, entry_of}
+use Rattle.sv_merged.specs.declared.table.Table.{Table}
+use Rattle.sv_policy.proofs.Listed.{covers_listed, different_lists, filter_within, passing_lists}
+use Rattle.sv_policy.specs.Patterns.{different, lists_pattern}
+
+-- a table of the constraints that list its pattern is one of all constraints
+pub table_of_all : (rules : Rules) (constraints : List Constraint) (members : List Constraint) (table : Table) (pattern : List ℕ) → members ≡ filter (λ c. lists_pattern c pattern) constraints → pattern ≡ table.pattern → IsTable rules members table → IsTable rules constraints table
+table_of_all rules constraints members table pattern are same is = λ method.
+    subst (λ covering. IsMerged rules covering (entry_of table method))
+    (ap (filter (λ c. covers c table.pattern method)) (are ∙ ap (λ p. filter (λ c. lists_pattern c p) constraints) same)
+    ∙ filter_within (λ c. covers c table.pattern method) (λ c. lists_pattern c table.pattern) (covers_listed table.pattern method) constraints)
+    (is method)
+
+pub nothing_pushed : (texts : List (List ℕ)) (text : List ℕ) (listed : Bool) → not true ≡ listed → texts ≡ texts ++ cond listed (text ∷ []) []
+nothing_pushed texts text listed is = sym (append-nil texts) ∙ ap (λ b. texts ++ cond b (text ∷ []) []) is
+
+pub text_pushed : {A : Type 0} (f : A → List ℕ) (old new : List A) (x : A) (text : List ℕ) (listed : Bool) → new ≡ old ++ x ∷ [] → f x ≡ text → not false ≡ listed → map f new ≡ map f old ++ cond listed (text ∷ []) []
+text_pushed f old new x text listed pushed is listing =
+    ap (map f) pushed ∙ map-append f old (x ∷ []) ∙ ap (λ t. map f old ++ t ∷ []) is ∙ ap (λ b. map f old ++ cond b (text ∷ []) []) listing
+
+-- the texts that pass, of one more
+pub texts_more : (test : List ℕ → Bool) (items : List (Bor (List ℕ))) (i : ℕ) (text : Bor (List ℕ)) (old before after : List (List ℕ)) → i < length items → text ≡ get_or items i text
+    → before ≡ old ++ filter test (map (λ t. t.now) (take i items)) → after ≡ before ++ cond (test text.now) (text.now ∷ []) [] → after ≡ old ++ filter test (map (λ t. t.now) (take (i + 1) items))
+texts_more test items i text old before after within at_i was pushed =
+    pushed ∙ ap (λ xs. xs ++ cond (test text.now) (text.now ∷ []) []) was
+    ∙ append_assoc old (filter test (map (λ t. t.now) (take i items))) (cond (test text.now) (text.now ∷ []) [])
+    ∙ ap (λ xs. old ++ xs) (sym (filter-append test (map (λ t. t.now) (take i items)) (text.now ∷ [])) ∙ ap (filter test) (sym (seen_more (λ t. t.now) items i text within at_i)))
+
+pub all_none : {X : Type 0} (P : X → Type 0) → All P []
+all_none P k d below = let impossible : ⊥ = omega arith in absurd impossible
+
+and_same : (a : Bool) → (a && a) ≡ a
+and_same true = refl
+and_same false = refl
+
+seen_twice : {A B C : Type 0} (f : A → B) (g : B → C) (xs : List A) → map g (map f xs) ≡ map (λ x. g (f x)) xs
+seen_twice f g [] = refl
+seen_twice f g (x ∷ xs) = ap (λ rest. g (f x) ∷ rest) (seen_twice f g xs)
+
+-- the tables of the different patterns of all constraints have all their texts
+pub texts_of_all : {A : Type 0} (value : A → Table) (constraints : List Constraint) (tables : List A) (patterns : List (List ℕ)) → map (λ t. (value t).pattern) tables ≡ filter (λ text. lists (all_patterns (constraints ++ [])) text) patterns → patterns ≡ different (all_patterns constraints)
+    → (text : List ℕ) → lists (map (λ table. table.pattern) (map value tables)) text ≡ lists (all_patterns constraints) text
+texts_of_all value constraints tables patterns are different_ones text =
+    ap (λ texts. lists texts text) (seen_twice value (λ table. table.pattern) tables ∙ are ∙ ap (λ cs. filter (λ t. lists (all_patterns cs) t) patterns) (append-nil constraints))
+    ∙ passing_lists (λ t. lists (all_patterns constraints) t) patterns text
+    ∙ ap (λ b. b && lists (all_patterns constraints) text) (ap (λ texts. lists texts text) different_ones ∙ different_lists (all_patterns constraints) text)
+    ∙ and_same (lists (all_patterns constraints) text)

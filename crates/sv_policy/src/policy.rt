@@ -1,0 +1,123 @@
+//! A compiled policy.
+
+ghost use Rattle.std.specs.Prelude.{◌≡◌, ◌≤◌, ◌+◌, IsTrue, map, slice_get};
+ghost use Rattle.std.specs.Option.{option_and_then, option_copied};
+ghost use Rattle.sv_constraints.specs.Decision.{seen};
+ghost use Rattle.sv_constraints.specs.Verdict.{verdict};
+ghost use Rattle.sv_pattern_table.specs.Segments.{is_slashed, segments};
+ghost use Rattle.sv_policy.specs.Compiled.{compiled, greatest_number};
+ghost use Rattle.sv_text.specs.Gives.{GivesAnswer};
+
+use crate::tables::{index_of, tables_of};
+use std::alloc::Global;
+use std::marker::Model;
+use std::rc::Rc;
+use sv_constraints::{Cause, Constraint, Decision, Rules, Why};
+use sv_merged::Table;
+use sv_pattern_table::PatternTable;
+use sv_realm::Caller;
+use sv_text::NoMemory;
+
+/// Security constraints, compiled for decisions. Contracts see the constraints as they stand.
+#[derive(Drop)]
+pub struct Policy {
+    pub(crate) constraints: Vec<Constraint>,
+    pub(crate) rules: Rules,
+    pub(crate) greatest: u64,
+    pub(crate) rebuilt: u64,
+    pub(crate) tables: Vec<Rc<Table>>,
+    pub(crate) index: PatternTable,
+}
+
+impl Model for Policy {
+    ghost use Rattle.std.specs.Prelude.{◌≡◌, map};
+    ghost use Rattle.sv_policy.specs.Compiled.{AreCompiled, Standing};
+
+    ghost Value = { Standing };
+
+    ghost view = { λ policy. record {
+      constraints = policy.constraints.items;
+      rules = policy.rules;
+      greatest = policy.greatest;
+      rebuilt = policy.rebuilt;
+    } };
+
+    ghost invariant = { λ policy.
+        AreCompiled policy.rules policy.constraints.items (map (λ table. table.value) policy.tables.items)
+        × (policy.index ≡ map (λ table. table.value.pattern) policy.tables.items) };
+}
+
+/// A decision, and what it took.
+#[derive(Clone, Copy)]
+pub struct Decided<'a> {
+    /// The decision.
+    pub decision: Decision<'a>,
+    /// How many segments, extensions and methods were looked up. Look-ups by role are not counted.
+    pub probes: usize,
+}
+
+/// The greatest number of constraints, 0 where there are none.
+fn greatest_number(constraints: &[Constraint]) -> u64
+    ensures { result ≡ greatest_number constraints.now }
+{
+    constraints
+        .iter()
+        .fold(0, |greatest, constraint| greatest.max(constraint.number))
+}
+
+impl Policy {
+    /// Compiles constraints, in any order and with any numbers. Where memory is wanted they are dropped.
+    pub fn compile(
+        alloc: Global,
+        constraints: Vec<Constraint>,
+        rules: Rules,
+    ) -> Result<Policy, NoMemory>
+        ensures { GivesAnswer result (compiled constraints.items rules) }
+    {
+        let tables = tables_of(alloc, &rules, constraints.as_slice())?;
+        let index = index_of(alloc, tables.as_slice())?;
+        Ok(Policy {
+            greatest: greatest_number(constraints.as_slice()),
+            rebuilt: 0,
+            constraints,
+            rules,
+            tables,
+            index,
+        })
+    }
+
+    /// Decides a request as [`decide_plain`](sv_constraints::decide_plain) does by the constraints as they stand, and counts
+    /// its look-ups. The path is any text that begins with `/`, as it stands. It takes no memory, and the
+    /// constraints are not gone over.
+    pub fn decide<'a>(&'a self, method: &str, path: &str, caller: Option<&Caller>) -> Decided<'a>
+        ensures decision { IsTrue (is_slashed path.now) →
+            seen result.decision ≡ verdict self.now.constraints self.now.rules method.now path.now (option_copied caller.entry) }
+        ensures probes { result.probes ≤ segments path.now + 2 }
+    {
+        let looked = self.index.lookup(path);
+        match table_at(self.tables.as_slice(), looked.best) {
+            None => Decided {
+                decision: Decision::Open(Why {
+                    pattern: None,
+                    number: None,
+                    cause: Cause::NoPattern,
+                }),
+                probes: looked.probes,
+            },
+            Some(table) => Decided {
+                decision: table
+                    .findings(method, caller)
+                    .decide(&table.pattern, &self.rules, caller),
+                probes: looked.probes.saturating_add(1),
+            },
+        }
+    }
+}
+
+/// The table at a place.
+fn table_at(tables: &[Rc<Table>], place: Option<usize>) -> Option<&Table>
+    ensures { option_copied result ≡ option_and_then (λ at. slice_get (map (λ table. table.value) tables.now) at) place }
+{
+    let table = tables.get(place?)?;
+    Some(table)
+}

@@ -1,0 +1,51 @@
+-- The configuration files of a server in the order in which they are asked for: the server file, then of each context the descriptor and the users file.
+use Rattle.std.specs.Prelude.{◌≡◌, ℕ, List, [], ◌∷◌, map, flat_map, Option, Some, None, Result, Ok, Err}
+use Rattle.std.specs.Path.{path_with_file_name}
+use Rattle.sv_text.specs.Gives.{Gives}
+use Rattle.sv_settings.specs.declared.server.ContextEntry.{ContextEntry}
+use Rattle.sv_settings.specs.declared.server.Server.{Server}
+use Rattle.sv_program.specs.CommandFault.{command_fault, UnlessNoMemory}
+use Rattle.sv_program.specs.Configuration.{Step, server_in}
+use Rattle.sv_program.specs.FileStore.{AreRead, Giving, Reading}
+use Rattle.sv_program.specs.declared.command_fault.CommandFault.{CommandFault}
+use Rattle.sv_program.specs.declared.configuration.ContextTexts.{ContextTexts}
+
+-- of a file that the server file names: its name is the server file's with this one in the place of its last part, unless this one begins with a slash
+abbrev pub reading_beside : List ℕ → List ℕ → Option (List ℕ) → Reading
+reading_beside config name text = record { name = path_with_file_name config name; text = text }
+
+-- the reading of a file that may not be named
+abbrev pub named_readings : List ℕ → Option (List ℕ) → Option (List ℕ) → List Reading
+named_readings config None text = []
+named_readings config (Some name) text = reading_beside config name text ∷ []
+
+abbrev pub context_readings : List ℕ → ContextTexts → List Reading
+context_readings config texts =
+    reading_beside config texts.context.descriptor texts.descriptor ∷ named_readings config texts.context.users texts.users
+
+abbrev pub readings : List ℕ → Option (List ℕ) → List ContextTexts → List Reading
+readings config file texts = record { name = config; text = file } ∷ flat_map (context_readings config) texts
+
+-- the contexts of a server file, none where it is not one of its format
+abbrev pub contexts_in : Step Server → List ContextEntry
+contexts_in (Ok server) = server.contexts
+contexts_in (Err fault) = []
+
+-- the server file is read, and is this
+abbrev pub ReadsServer : {S : Type 0} → Giving S → List ℕ → S → Result Server CommandFault → S → Type 0
+ReadsServer gives config before result after =
+    UnlessNoMemory result ((file : Option (List ℕ)) × gives before config file after × Gives command_fault result (server_in config file))
+
+-- the file is read where it is named
+abbrev pub ReadsNamed : {S : Type 0} → Giving S → List ℕ → Option (List ℕ) → S → Option (List ℕ) → S → Type 0
+ReadsNamed gives config name before text after = AreRead gives before (named_readings config name text) after
+
+-- the files of a context are read
+abbrev pub ReadsContext : {S : Type 0} → Giving S → List ℕ → ContextEntry → S → ContextTexts → S → Type 0
+ReadsContext gives config context before texts after =
+    (texts.context ≡ context) × AreRead gives before (context_readings config texts) after
+
+-- the files of the contexts are read
+abbrev pub ReadsContexts : {S : Type 0} → Giving S → List ℕ → List ContextEntry → S → List ContextTexts → S → Type 0
+ReadsContexts gives config contexts before texts after =
+    (map (λ text. text.context) texts ≡ contexts) × AreRead gives before (flat_map (context_readings config) texts) after

@@ -1,0 +1,90 @@
+//! The configuration files of a server, as a store gives them.
+
+ghost use Rattle.std.specs.Prelude.{IfOk};
+ghost use Rattle.std.specs.Path.{path_with_file_name};
+ghost use Rattle.sv_program.specs.ConfigurationFiles.{ReadsContext, ReadsContexts, ReadsNamed, ReadsServer};
+
+use crate::command_fault::CommandFault;
+use crate::configuration::{ContextTexts, server_in};
+use crate::file_store::FileStore;
+use std::alloc::Global;
+use std::path::Path;
+use sv_settings::{ContextEntry, Server};
+use sv_text::{Listed, NoMemory, Text};
+
+/// Reads the server file of this name.
+///
+/// # Errors
+/// [`CommandFault::File`], [`CommandFault::Server`], or [`CommandFault::NoMemory`].
+pub fn read_server_file<S: FileStore>(
+    alloc: Global,
+    store: &mut S,
+    config: &str,
+) -> Result<Server, CommandFault>
+    ensures { ReadsServer S.gives_text config.now store.old result store.new }
+{
+    let text = store.read_text(alloc, config)?;
+    server_in(alloc, config, text.as_ref())
+}
+
+/// Reads the files of the contexts of the server file `config` in their order, of each the descriptor and then the users
+/// file, where it names one.
+pub fn read_contexts<S: FileStore>(
+    alloc: Global,
+    store: &mut S,
+    config: &str,
+    contexts: Listed<ContextEntry>,
+) -> Result<Listed<ContextTexts>, NoMemory>
+    ensures { IfOk result (λ texts. ReadsContexts S.gives_text config.now contexts store.old texts store.new) }
+{
+    let mut texts = Vec::new(alloc);
+    for context in contexts.into_vec() {
+        texts.push(read_context(alloc, store, config, context)?)?;
+    }
+    Ok(Listed::from_vec(texts))
+}
+
+fn read_context<S: FileStore>(
+    alloc: Global,
+    store: &mut S,
+    config: &str,
+    context: ContextEntry,
+) -> Result<ContextTexts, NoMemory>
+    ensures { IfOk result (λ texts. ReadsContext S.gives_text config.now context store.old texts store.new) }
+{
+    let descriptor = read_beside(alloc, store, config, context.descriptor.as_str())?;
+    let users = read_named(alloc, store, config, &context.users)?;
+    Ok(ContextTexts {
+        context,
+        descriptor,
+        users,
+    })
+}
+
+/// The text of a file that may not be named.
+fn read_named<S: FileStore>(
+    alloc: Global,
+    store: &mut S,
+    config: &str,
+    name: &Option<Text>,
+) -> Result<Option<Text>, NoMemory>
+    ensures { IfOk result (λ text. ReadsNamed S.gives_text config.now name.now store.old text store.new) }
+{
+    match name {
+        Some(name) => read_beside(alloc, store, config, name.as_str()),
+        None => Ok(None),
+    }
+}
+
+/// The text of a file that the server file `config` names: the name is taken from the folder of the server file.
+fn read_beside<S: FileStore>(
+    alloc: Global,
+    store: &mut S,
+    config: &str,
+    name: &str,
+) -> Result<Option<Text>, NoMemory>
+    ensures { IfOk result (λ text. S.gives_text store.old (path_with_file_name config.now name.now) text store.new) }
+{
+    let path = Path::new(config).with_file_name(alloc, name)?;
+    store.read_text(alloc, path.as_str())
+}

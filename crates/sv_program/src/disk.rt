@@ -1,0 +1,39 @@
+//! The files of the operating system. What they hold is known to no contract.
+
+ghost use Rattle.std.specs.Prelude.{◌≡◌};
+
+use crate::file_store::FileStore;
+use std::alloc::Global;
+use std::io::ErrorKind;
+use std::rt::Files;
+use std::{fs, io};
+use sv_text::{NoMemory, Text};
+
+/// The files that a handle opens, relative names from the folder where the program runs.
+#[derive(Clone, Copy)]
+pub struct Disk<'a, F> {
+    files: &'a F,
+}
+
+impl<'a, F: Files> Disk<'a, F> {
+    /// The files that this handle opens.
+    pub fn new(files: &'a F) -> Disk<'a, F>
+        ensures { result.files ≡ files.entry }
+    {
+        Disk { files }
+    }
+}
+
+impl<F: Files> FileStore for Disk<'_, F> {
+    fn read_text(&mut self, alloc: Global, name: &str) -> Result<Option<Text>, NoMemory> {
+        match read_whole(alloc, self.files, name) {
+            Ok(text) => Ok(Some(Text::from_string(text))),
+            Err(error) if error.kind() == ErrorKind::OutOfMemory => Err(NoMemory),
+            Err(_) => Ok(None),
+        }
+    }
+}
+
+fn read_whole<F: Files>(alloc: Global, files: &F, name: &str) -> io::Result<String> {
+    io::read_to_string(alloc, fs::open(files, name)?)
+}

@@ -1,0 +1,10 @@
+//! The limits in numbers, each a clause of a function that does nothing.
+
+ghost use Rattle.std.specs.Prelude.{◌≡◌};
+
+use crate::limits::MAX_INPUT_BYTES;
+
+/// The limits of this crate as numbers.
+pub fn limits_are_as_stated()
+    ensures input { MAX_INPUT_BYTES ≡ 65536 }
+{}
