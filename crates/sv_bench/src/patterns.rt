@@ -6,9 +6,9 @@ use sv_mapping::{Pattern, best};
 
 /// Paths whose best matches among a hundred patterns have four forms: a prefix, an extension, an exact pattern, none.
 pub const PATHS: [&str; 4] = [
-    "/area/55/items/list.html",
-    "/other/report.e87",
-    "/exact/page/99",
+    "/area/57/items/list.html",
+    "/other/report.e83",
+    "/exact/page/92",
     "/nowhere/at/all.txt",
 ];
 
@@ -25,7 +25,7 @@ impl Work for Matching {
     }
 }
 
-/// Patterns of these numbers: of ten six prefixes, three extensions and an exact one.
+/// Patterns of these numbers: of a hundred sixty prefixes, thirty extensions and ten exact ones.
 pub fn numbered_patterns(alloc: Global, from: u32, until: u32) -> Option<Vec<Pattern>> {
     let mut patterns = Vec::new(alloc);
     for number in from..until {
@@ -35,9 +35,9 @@ pub fn numbered_patterns(alloc: Global, from: u32, until: u32) -> Option<Vec<Pat
 }
 
 fn numbered_pattern(alloc: Global, number: u32) -> Option<Pattern> {
-    let text = match number % 10 {
-        0..=5 => format!(in alloc; "/area/{number}/*").ok()?,
-        6..=8 => format!(in alloc; "*.e{number}").ok()?,
+    let text = match number % 100 {
+        0..=59 => format!(in alloc; "/area/{number}/*").ok()?,
+        60..=89 => format!(in alloc; "*.e{number}").ok()?,
         _ => format!(in alloc; "/exact/page/{number}").ok()?,
     };
     Pattern::parse(alloc, text.as_str()).ok()

@@ -1,7 +1,7 @@
 //! What the elements of a descriptor say of one another, and the order in which the faults between them are found.
 
 /// Lines of a descriptor, its fault: names that are declared twice.
-const NAMES: &str = r#"
+pub const NAMES: &str = r#"
 servlet = [{ servlet-name = "a", servlet-class = "A" }, { servlet-name = "b", servlet-class = "A" }]        | read
 servlet = [{ servlet-name = "a", servlet-class = "A" }, { servlet-name = "a", servlet-class = "B" }]        | DuplicateName servlet-name
 servlet = [{ servlet-name = "a", servlet-class = "A" }, { servlet-name = "A", servlet-class = "A" }]        | read
@@ -33,11 +33,11 @@ servlet = [<2*{ servlet-name = "a", servlet-class = "A" },>] ; version = 2      
 "#;
 
 /// Servlets a and b and filters f and g.
-const MAPPINGS_FRAME: &str =
+pub const MAPPINGS_FRAME: &str =
     "servlet = [{ servlet-name = \"a\", servlet-class = \"A\" }, { servlet-name = \"b\", servlet-class = \"B\" }] ; filter = [{ filter-name = \"f\", filter-class = \"F\" }, { filter-name = \"g\", filter-class = \"G\" }] ; %";
 
 /// Lines of a descriptor with declared servlets a and b and declared filters f and g, its fault.
-const MAPPINGS: &str = r#"
+pub const MAPPINGS: &str = r#"
 -- servlet mappings: their servlets are declared
 servlet-mapping = [{ servlet-name = "a", url-pattern = ["/x"] }, { servlet-name = "b", url-pattern = ["/y"] }] | read
 servlet-mapping = [{ servlet-name = "a", url-pattern = ["/x"] }, { servlet-name = "a", url-pattern = ["/y"] }] | read
@@ -90,7 +90,7 @@ servlet-mapping = [{ servlet-name = "c", url-pattern = ["/x"] }] ; security-cons
 "#;
 
 /// Entries of the list of servlets, its fault: the entries in the order of the file, each whole before the next.
-const ENTRIES: &str = r#"
+pub const ENTRIES: &str = r#"
 { servlet-name = "" }, {}                                                         | BadValue servlet-name
 {}, { servlet-name = "" }                                                         | MissingKey servlet-name
 { servlet-name = "a", servlet-class = 1 }, { x = 1 }                              | WrongType servlet-class
@@ -100,10 +100,3 @@ const ENTRIES: &str = r#"
 { servlet-name = "a", servlet-class = "A", load-on-startup = 2147483648 }, {}     | BadValue load-on-startup
 { b = 1 }, { a = 1 }                                                              | UnknownKey b
 "#;
-
-/// The tables and where their rows stand.
-pub const TABLES: [(&str, &str); 3] = [
-    ("%", NAMES),
-    (MAPPINGS_FRAME, MAPPINGS),
-    ("servlet = [%]", ENTRIES),
-];

@@ -1,7 +1,7 @@
 //! The table of a security constraint, and the tables within it.
 
 /// Lines of a constraint's table, its fault.
-const CONSTRAINTS: &str = r#"
+pub const CONSTRAINTS: &str = r#"
 web-resource-collection = [{ url-pattern = ["/x"] }]                                  | read
 web-resource-collection = [{ url-pattern = ["/x"] }, { url-pattern = ["/x"] }]        | read
 web-resource-collection = [{ url-pattern = ["/x"] }] ; auth-constraint = {}           | read
@@ -44,11 +44,11 @@ web-resource-collection = [{ url-pattern = ["/x"] }] ; auth-constraint = 1 ; use
 "#;
 
 /// A collection of a constraint.
-const COLLECTION_FRAME: &str =
+pub const COLLECTION_FRAME: &str =
     "[[security-constraint]] ; [[security-constraint.web-resource-collection]] ; %";
 
 /// Lines of a collection's table, its fault.
-const COLLECTIONS: &str = r#"
+pub const COLLECTIONS: &str = r#"
 url-pattern = ["/x"]                                                        | read
 url-pattern = ["/x"] ; http-method = ["GET"]                                | read
 url-pattern = ["/x"] ; http-method-omission = ["GET"]                       | read
@@ -129,11 +129,11 @@ url-pattern = ["/x"] ; http-method = ["GET"] ; http-method-omission = [<1001*"P"
 "#;
 
 /// The authorization constraint of a constraint.
-const AUTHORIZATION_FRAME: &str =
+pub const AUTHORIZATION_FRAME: &str =
     "[[security-constraint]] ; web-resource-collection = [{ url-pattern = [\"/x\"] }] ; [security-constraint.auth-constraint] ; %";
 
 /// Lines of an authorization constraint's table, its fault: roles that are not declared, and `*` and `**`, are names.
-const AUTHORIZATIONS: &str = r#"
+pub const AUTHORIZATIONS: &str = r#"
 ""                                      | read
 role-name = []                          | read
 role-name = ["a"]                       | read
@@ -154,11 +154,11 @@ role-name = [""] ; role-names = []      | UnknownKey role-names
 "#;
 
 /// The user data constraint of a constraint.
-const TRANSPORT_FRAME: &str =
+pub const TRANSPORT_FRAME: &str =
     "[[security-constraint]] ; web-resource-collection = [{ url-pattern = [\"/x\"] }] ; [security-constraint.user-data-constraint] ; %";
 
 /// Lines of a user data constraint's table, its fault.
-const TRANSPORTS: &str = r#"
+pub const TRANSPORTS: &str = r#"
 transport-guarantee = "NONE"            | read
 transport-guarantee = "INTEGRAL"        | read
 transport-guarantee = "CONFIDENTIAL"    | read
@@ -173,11 +173,3 @@ transport-guarantee = {}                | WrongType transport-guarantee
 x = 1                                   | UnknownKey x
 transport-guarantee = "" ; transport = 1 | UnknownKey transport
 "#;
-
-/// The tables and where their rows stand.
-pub const TABLES: [(&str, &str); 4] = [
-    ("[[security-constraint]] ; %", CONSTRAINTS),
-    (COLLECTION_FRAME, COLLECTIONS),
-    (AUTHORIZATION_FRAME, AUTHORIZATIONS),
-    (TRANSPORT_FRAME, TRANSPORTS),
-];

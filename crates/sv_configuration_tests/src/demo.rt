@@ -141,15 +141,14 @@ const USERS_SUMMARY: &str = "user ann salt 61 digest \
 
 #[test]
 fn the_files_of_the_demonstration_are_read(rt: HostRuntime) -> Result<(), NoMemory> {
-    let alloc = rt.alloc();
-    let server = summary_of(alloc, Format::Server, SERVER)?;
-    let root = summary_of(alloc, Format::Descriptor, ROOT)?;
-    let two = summary_of(alloc, Format::Descriptor, TWO)?;
-    let users = summary_of(alloc, Format::Users, USERS)?;
-    assert_eq!(rt; server.as_str(), SERVER_SUMMARY);
-    assert_eq!(rt; root.as_str(), ROOT_SUMMARY);
-    assert_eq!(rt; two.as_str(), TWO_SUMMARY);
-    assert_eq!(rt; users.as_str(), USERS_SUMMARY);
+    for (format, text, wanted) in [
+        (Format::Server, SERVER, SERVER_SUMMARY),
+        (Format::Descriptor, ROOT, ROOT_SUMMARY),
+        (Format::Descriptor, TWO, TWO_SUMMARY),
+        (Format::Users, USERS, USERS_SUMMARY),
+    ] {
+        assert_eq!(rt; summary_of(rt.alloc(), format, text)?.as_str(), wanted);
+    }
     Ok(())
 }
 

@@ -38,11 +38,18 @@ impl Asks for NumberedFaults {
 
     fn answer(&self, alloc: Global, row: &str, answer: &mut Vec<u8>) -> Result<(), NoMemory> {
         let text = text_of(alloc, cell(row, 0))?;
-        if let Err(ReadFault::Fault(fault)) = read_descriptor(alloc, text.as_str()) {
-            let number = fault.code.number();
-            let found = format!(in alloc; "{number} {} {:?}", fault.code, fault.key.as_str())?;
-            answer.extend_from_slice(found.as_bytes())?;
-        }
+        let fault = read_descriptor(alloc, text.as_str()).err();
+        answer.extend_from_slice(numbered(alloc, &fault)?.as_bytes())?;
         Ok(())
+    }
+}
+
+fn numbered(alloc: Global, fault: &Option<ReadFault>) -> Result<String, NoMemory> {
+    match fault {
+        Some(ReadFault::Fault(fault)) => {
+            let (number, code, key) = (fault.code.number(), fault.code, fault.key.as_str());
+            Ok(format!(in alloc; "{number} {code} {key:?}")?)
+        }
+        _ => Err(NoMemory),
     }
 }

@@ -1,7 +1,7 @@
 //! The tables of listeners, sessions, welcome files, error pages, roles and the login.
 
 /// Lines of a listener's table, its fault.
-const LISTENERS: &str = r#"
+pub const LISTENERS: &str = r#"
 listener-class = "L"                    | read
 ""                                      | MissingKey listener-class
 listener-class = 1                      | WrongType listener-class
@@ -16,7 +16,7 @@ listener-class = "L" ; init-param = {}  | UnknownKey init-param
 "#;
 
 /// Lines of the table of sessions, its fault.
-const SESSIONS: &str = r#"
+pub const SESSIONS: &str = r#"
 ""                                      | read
 session-timeout = 30                    | read
 session-timeout = 0                     | read
@@ -40,7 +40,7 @@ session-timeout = 30 ; tracking-mode = ["COOKIE"] | UnknownKey tracking-mode
 "#;
 
 /// Lines of the table of welcome files, its fault.
-const WELCOME_FILES: &str = r#"
+pub const WELCOME_FILES: &str = r#"
 welcome-file = ["index.html"]           | read
 welcome-file = ["a/b/c", "a//b", ".", "..", "*", " "] | read
 welcome-file = ["a", "a"]               | read
@@ -63,7 +63,7 @@ welcome-file = [""] ; welcome-files = [] | UnknownKey welcome-files
 "#;
 
 /// Lines of an error page's table, its fault.
-const ERROR_PAGES: &str = r#"
+pub const ERROR_PAGES: &str = r#"
 location = "/e"                                     | read
 location = "/e" ; error-code = 404                  | read
 location = "/e" ; exception-type = "K"              | read
@@ -142,7 +142,7 @@ error-code = 404 ; exception-type = "K" ; location = "e" | BadValue exception-ty
 "#;
 
 /// Lines of a declared role's table, its fault.
-const ROLES: &str = r#"
+pub const ROLES: &str = r#"
 role-name = "a"                         | read
 role-name = "***"                       | read
 role-name = "*a"                        | read
@@ -163,7 +163,7 @@ role-name = "a" ; role-link = "b"       | UnknownKey role-link
 "#;
 
 /// Lines of the login's table, its fault.
-const LOGINS: &str = r#"
+pub const LOGINS: &str = r#"
 auth-method = "FORM" ; form-login-config = { form-login-page = "/l", form-error-page = "/e" } | read
 
 form-login-config = { form-login-page = "/l", form-error-page = "/e" }                        | MissingKey auth-method
@@ -194,11 +194,11 @@ auth-method = "BASIC"                                         | BadValue auth-me
 "#;
 
 /// The pages of a login.
-const LOGIN_PAGES_FRAME: &str =
+pub const LOGIN_PAGES_FRAME: &str =
     "[login-config] ; auth-method = \"FORM\" ; [login-config.form-login-config] ; %";
 
 /// Lines of the table of the login's pages, its fault.
-const LOGIN_PAGES: &str = r#"
+pub const LOGIN_PAGES: &str = r#"
 form-login-page = "/l" ; form-error-page = "/e"               | read
 form-login-page = "/" ; form-error-page = "/"                 | read
 form-login-page = "/a//b/../l?q" ; form-error-page = "/e;x"   | read
@@ -229,14 +229,3 @@ form-login-page = "l" ; form-error-page = 1                   | BadValue form-lo
 form-login-page = 1                                           | WrongType form-login-page
 form-login-page = "l" ; form-error-page = "e"                 | BadValue form-login-page
 "#;
-
-/// The tables and where their rows stand.
-pub const TABLES: [(&str, &str); 7] = [
-    ("[[listener]] ; %", LISTENERS),
-    ("[session-config] ; %", SESSIONS),
-    ("[welcome-file-list] ; %", WELCOME_FILES),
-    ("[[error-page]] ; %", ERROR_PAGES),
-    ("[[security-role]] ; %", ROLES),
-    ("[login-config] ; %", LOGINS),
-    (LOGIN_PAGES_FRAME, LOGIN_PAGES),
-];

@@ -1,7 +1,7 @@
 //! The tables of filters and of their mappings.
 
 /// Lines of a filter's table, its fault.
-const FILTERS: &str = r#"
+pub const FILTERS: &str = r#"
 filter-name = "f" ; filter-class = "F"                                  | read
 filter-name = "f" ; filter-class = "F" ; init-param = { p = "v" }       | read
 
@@ -40,11 +40,11 @@ filter-class = "" ; filter-name = "f" ; init-param = { p = 1 }          | BadVal
 "#;
 
 /// The mapping of a declared filter f, beside a declared servlet a.
-const MAPPING_FRAME: &str =
+pub const MAPPING_FRAME: &str =
     "servlet = [{ servlet-name = \"a\", servlet-class = \"A\" }] ; filter = [{ filter-name = \"f\", filter-class = \"F\" }] ; [[filter-mapping]] ; %";
 
 /// Lines of the mapping of a declared filter f, beside a declared servlet a, its fault.
-const MAPPINGS: &str = r#"
+pub const MAPPINGS: &str = r#"
 filter-name = "f" ; url-pattern = ["/*"]                                | read
 filter-name = "f" ; servlet-name = ["a"]                                | read
 filter-name = "f" ; url-pattern = ["/*"] ; servlet-name = ["a"] ; dispatcher = ["REQUEST"] | read
@@ -121,6 +121,3 @@ filter-name = "f" ; dispatcher = 1 ; servlet-name = 1                   | WrongT
 filter-name = "f" ; dispatcher = ["X"] ; servlet-name = ["b"]           | BadValue dispatcher
 filter-name = "g" ; servlet-name = ["b"]                                | UnknownFilter filter-name
 "#;
-
-/// The tables and where their rows stand.
-pub const TABLES: [(&str, &str); 2] = [("[[filter]] ; %", FILTERS), (MAPPING_FRAME, MAPPINGS)];

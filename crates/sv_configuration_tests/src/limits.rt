@@ -2,7 +2,7 @@
 
 /// A descriptor, its fault. A list has at most 1,000 items, which is seen behind the type of all of them and before any of
 /// them is judged.
-const LISTS: &str = r#"
+pub const LISTS: &str = r#"
 servlet = [<1000*{ servlet-name = "s@", servlet-class = "S" },>]                      | read
 servlet = [<1001*{ servlet-name = "s@", servlet-class = "S" },>]                      | TooMany servlet
 servlet = [<1001*{},>]                                                                | TooMany servlet
@@ -62,14 +62,14 @@ security-constraint = [{ web-resource-collection = [{ url-pattern = ["/x"], http
 "#;
 
 /// The only constraint.
-const PATTERNS_FRAME: &str = "[[security-constraint]] ; web-resource-collection = [%]";
+pub const PATTERNS_FRAME: &str = "[[security-constraint]] ; web-resource-collection = [%]";
 
 /// A constraint behind another one, whose patterns do not count.
-const SECOND_PATTERNS_FRAME: &str =
+pub const SECOND_PATTERNS_FRAME: &str =
     "[[security-constraint]] ; web-resource-collection = [{ url-pattern = [\"/a\", \"/b\"] }] ; [[security-constraint]] ; web-resource-collection = [%]";
 
 /// The collections of a constraint, its fault: they have at most 64 patterns together, counted as they are listed.
-const PATTERNS: &str = r#"
+pub const PATTERNS: &str = r#"
 { url-pattern = [<64*"/@",>] }                                                        | read
 { url-pattern = [<65*"/@",>] }                                                        | TooMany url-pattern
 { url-pattern = [<64*"/x",>] }                                                        | read
@@ -105,10 +105,3 @@ const PATTERNS: &str = r#"
 <1001*{},>                                                                            | TooMany web-resource-collection
 <1001*1,>                                                                             | WrongType web-resource-collection
 "#;
-
-/// The tables and where their rows stand.
-pub const TABLES: [(&str, &str); 3] = [
-    ("%", LISTS),
-    (PATTERNS_FRAME, PATTERNS),
-    (SECOND_PATTERNS_FRAME, PATTERNS),
-];

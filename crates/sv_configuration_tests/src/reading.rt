@@ -73,17 +73,16 @@ fn add_found(answer: &mut Vec<u8>, found: &[u8]) -> Result<(), NoMemory> {
     Ok(())
 }
 
-/// Says which rows of tables are not read as they say. A table is a frame and rows. A row is lines of a text, which stand
+/// Says which rows of tables are not read as they say. A table is a format, a frame and rows. A row is lines of a text, which stand
 /// in the frame in the place of `%`, and the fault of the text, or `read`.
 pub fn are_read<R: Eprint + AllocGlobal>(
     rt: &R,
-    format: Format,
     orders: &[Order],
-    tables: &[(&str, &str)],
+    tables: &[(Format, &str, &str)],
 ) -> Result<(), Strays> {
-    for (frame, table) in tables {
+    for (format, frame, table) in tables {
         let faults = Faults {
-            format,
+            format: *format,
             orders,
             frame,
         };

@@ -1,7 +1,7 @@
 //! The tables of a server file.
 
 /// Lines of a server file, its fault.
-const SERVERS: &str = r#"
+pub const SERVERS: &str = r#"
 port = 0 ; seed = "<64*0>" ; context = []                   | read
 port = 0 ; seed = "<64*0>" ; context = [{ path = "", descriptor = "d", files = "f" }] | read
 
@@ -72,10 +72,10 @@ port = 0 ; seed = 1 ; context = [{}]                        | WrongType seed
 "#;
 
 /// A context of a server.
-const CONTEXT_FRAME: &str = "port = 0 ; seed = \"<64*0>\" ; [[context]] ; %";
+pub const CONTEXT_FRAME: &str = "port = 0 ; seed = \"<64*0>\" ; [[context]] ; %";
 
 /// Lines of a context's table, its fault.
-const CONTEXTS: &str = r#"
+pub const CONTEXTS: &str = r#"
 path = "/a" ; descriptor = "d" ; files = "f"                | read
 path = "/a" ; descriptor = "d" ; files = "f" ; users = "u"  | read
 path = "/a" ; descriptor = "" ; files = "" ; users = ""     | read
@@ -153,10 +153,10 @@ path = "/a" ; descriptor = "d" ; files = 1 ; users = 1      | WrongType files
 "#;
 
 /// The contexts of a server.
-const PATHS_FRAME: &str = "port = 0 ; seed = \"<64*0>\" ; context = [%]";
+pub const PATHS_FRAME: &str = "port = 0 ; seed = \"<64*0>\" ; context = [%]";
 
 /// The list of contexts, its fault: no two paths are equal, which is seen behind the faults of every single context.
-const PATHS: &str = r#"
+pub const PATHS: &str = r#"
 { path = "", descriptor = "d", files = "" }, { path = "/a", descriptor = "d", files = "" }     | read
 { path = "/a", descriptor = "d", files = "" }, { path = "/A", descriptor = "d", files = "" }   | read
 { path = "/a", descriptor = "d", files = "" }, { path = "/a/a", descriptor = "d", files = "" } | read
@@ -169,10 +169,3 @@ const PATHS: &str = r#"
 { path = "/a", descriptor = "d" }, { path = "a", descriptor = "d", files = "" }                | MissingKey files
 { path = "a", descriptor = "d", files = "" }, { path = "/a", descriptor = "d" }                | BadValue path
 "#;
-
-/// The tables and where their rows stand.
-pub const TABLES: [(&str, &str); 3] = [
-    ("%", SERVERS),
-    (CONTEXT_FRAME, CONTEXTS),
-    (PATHS_FRAME, PATHS),
-];

@@ -1,7 +1,7 @@
 //! The tables of servlets and of their mappings.
 
 /// Lines of a servlet's table, its fault.
-const SERVLETS: &str = r#"
+pub const SERVLETS: &str = r#"
 servlet-name = "a" ; servlet-class = "A"                                | read
 servlet-name = "a" ; servlet-class = "A" ; load-on-startup = 1 ; init-param = { p = "v" } | read
 
@@ -85,11 +85,11 @@ servlet-name = "a" ; servlet-class = "A" ; load-on-startup = 1.5 ; init-param = 
 "#;
 
 /// The mapping of a declared servlet a.
-const MAPPING_FRAME: &str =
+pub const MAPPING_FRAME: &str =
     "servlet = [{ servlet-name = \"a\", servlet-class = \"A\" }] ; [[servlet-mapping]] ; %";
 
 /// Lines of the mapping of a declared servlet a, its fault.
-const MAPPINGS: &str = r#"
+pub const MAPPINGS: &str = r#"
 servlet-name = "a" ; url-pattern = ["/x"]                               | read
 servlet-name = "a" ; url-pattern = ["/x", "/y/*", "*.z", "/", ""]       | read
 
@@ -153,6 +153,3 @@ url-pattern = ["x"] ; servlet-name = "b"                                | BadPat
 url-pattern = ["/x", "/x"] ; servlet-name = "b"                         | UnknownServlet servlet-name
 url-pattern = [<1001*"x",>] ; servlet-name = ""                         | BadValue servlet-name
 "#;
-
-/// The tables and where their rows stand.
-pub const TABLES: [(&str, &str); 2] = [("[[servlet]] ; %", SERVLETS), (MAPPING_FRAME, MAPPINGS)];

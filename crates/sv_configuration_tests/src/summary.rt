@@ -14,28 +14,50 @@ use sv_text::{Listed, NoMemory, Text};
 
 /// The lines of what is read of a text, or its fault.
 pub fn summary_of(alloc: Global, format: Format, text: &str) -> Result<String, NoMemory> {
-    let mut lines = String::new(alloc);
     match format {
-        Format::Descriptor => {
-            if let Ok(descriptor) = read_descriptor(alloc, text) {
-                add_web_app(&mut lines, descriptor.web_app())?;
-                return Ok(lines);
-            }
-        }
-        Format::Server => {
-            if let Ok(server) = read_server(alloc, text) {
-                add_server(&mut lines, &server)?;
-                return Ok(lines);
-            }
-        }
-        Format::Users => {
-            if let Ok(users) = read_users(alloc, text) {
-                add_users(&mut lines, users.as_slice())?;
-                return Ok(lines);
-            }
-        }
+        Format::Descriptor => summary_of_descriptor(alloc, text),
+        Format::Server => summary_of_server(alloc, text),
+        Format::Users => summary_of_users(alloc, text),
     }
-    found_in(alloc, format, text)
+}
+
+fn summary_of_descriptor(alloc: Global, text: &str) -> Result<String, NoMemory> {
+    match read_descriptor(alloc, text) {
+        Ok(descriptor) => lines_of_web_app(alloc, descriptor.web_app()),
+        Err(_) => found_in(alloc, Format::Descriptor, text),
+    }
+}
+
+fn summary_of_server(alloc: Global, text: &str) -> Result<String, NoMemory> {
+    match read_server(alloc, text) {
+        Ok(server) => lines_of_server(alloc, &server),
+        Err(_) => found_in(alloc, Format::Server, text),
+    }
+}
+
+fn summary_of_users(alloc: Global, text: &str) -> Result<String, NoMemory> {
+    match read_users(alloc, text) {
+        Ok(users) => lines_of_users(alloc, users.as_slice()),
+        Err(_) => found_in(alloc, Format::Users, text),
+    }
+}
+
+fn lines_of_web_app(alloc: Global, app: &WebApp) -> Result<String, NoMemory> {
+    let mut text = String::new(alloc);
+    add_web_app(&mut text, app)?;
+    Ok(text)
+}
+
+fn lines_of_server(alloc: Global, server: &Server) -> Result<String, NoMemory> {
+    let mut text = String::new(alloc);
+    add_server(&mut text, server)?;
+    Ok(text)
+}
+
+fn lines_of_users(alloc: Global, users: &[User]) -> Result<String, NoMemory> {
+    let mut text = String::new(alloc);
+    add_users(&mut text, users)?;
+    Ok(text)
 }
 
 /// The lines of a descriptor.

@@ -7,7 +7,7 @@ use sv_rows::{Asks, Strays, cell, hold, unescaped};
 use sv_text::NoMemory;
 
 /// A descriptor, its fault.
-const ROWS: &str = r#"
+pub const ROWS: &str = r#"
 -- an empty text, comments and blanks
 ""                                                                     | read
 # a comment                                                            | read
@@ -169,9 +169,6 @@ servlet.servlet-name = "a"                                             | WrongTy
 [[security-role]] ; role-name = "<16*\U0001F600>"                      | read
 [[security-role]] ; role-name = "<16*\U0001F600>a"                     | BadValue role-name
 "#;
-
-/// The table and where its rows stand.
-pub const TABLES: [(&str, &str); 1] = [("%", ROWS)];
 
 /// A text with escapes, its fault.
 const BYTES: &str = r#"

@@ -1,7 +1,7 @@
 //! The keys at the top of a descriptor.
 
 /// Lines of a descriptor, its fault.
-const ROWS: &str = r#"
+pub const ROWS: &str = r#"
 ""                                                          | read
 version = 1                                                 | read
 deny-uncovered-http-methods = true                          | read
@@ -63,7 +63,7 @@ deny-uncovered-http-methods = 1 ; login-config = 1          | WrongType deny-unc
 "#;
 
 /// A line at the top, its fault: the lists of tables, and the tables of which there is one at most.
-const SHAPES: &str = r#"
+pub const SHAPES: &str = r#"
 servlet = []                                | read
 servlet = 1                                 | WrongType servlet
 servlet = "a"                               | WrongType servlet
@@ -116,7 +116,7 @@ login-config = false                        | WrongType login-config
 
 /// Lines at the top with faults in two elements, the fault: the elements in the format's order, each with all that it holds
 /// before the next.
-const ELEMENT_ORDER: &str = r#"
+pub const ELEMENT_ORDER: &str = r#"
 servlet = [{}] ; servlet-mapping = 1                                 | MissingKey servlet-name
 servlet = 1 ; servlet-mapping = [{ a = 1 }]                          | WrongType servlet
 servlet-mapping = [{}] ; filter = 1                                  | MissingKey servlet-name
@@ -145,7 +145,7 @@ servlet = [{}] ; listener = [<1001*{},>]                             | MissingKe
 
 /// A descriptor, its fault: every element may have a description and a display name, whatever they hold. In the table of
 /// parameters, which is no element, they are names of parameters.
-const DESCRIPTIONS: &str = r#"
+pub const DESCRIPTIONS: &str = r#"
 servlet = [{ description = 1, display-name = {}, servlet-name = "a", servlet-class = "A" }]              | read
 servlet = [{ description = [1, "a"], servlet-class = "A" }]                                              | MissingKey servlet-name
 servlet = [{ servlet-name = "a", servlet-class = "A", init-param = { description = "x" } }]              | read
@@ -161,11 +161,3 @@ security-constraint = [{ description = 1, display-name = 1, web-resource-collect
 security-role = [{ role-name = "a", description = 1, display-name = 1 }]                                 | read
 login-config = { description = 1, display-name = 1, auth-method = "FORM", form-login-config = { description = 1, display-name = 1, form-login-page = "/l", form-error-page = "/e" } } | read
 "#;
-
-/// The tables and where their rows stand.
-pub const TABLES: [(&str, &str); 4] = [
-    ("%", ROWS),
-    ("%", SHAPES),
-    ("%", ELEMENT_ORDER),
-    ("%", DESCRIPTIONS),
-];

@@ -1,7 +1,7 @@
 //! The tables of a users file.
 
 /// Lines of a users file, its fault.
-const FILES: &str = r#"
+pub const FILES: &str = r#"
 user = []                                   | read
 ""                                          | MissingKey user
 user = 1                                    | WrongType user
@@ -25,7 +25,7 @@ user = [<1000*{},>1]                        | WrongType user
 "#;
 
 /// Lines of a user's table, its fault.
-const USERS: &str = r#"
+pub const USERS: &str = r#"
 name = "a" ; salt = "61" ; digest = "<64*0>" ; roles = ["r"]            | read
 
 salt = "" ; digest = "<64*0>" ; roles = []                              | MissingKey name
@@ -113,7 +113,7 @@ name = "a" ; salt = "" ; digest = "" ; roles = [<1001*"r",>]            | BadVal
 "#;
 
 /// The list of users, its fault: no two names are equal, which is seen behind the faults of every single user.
-const NAMES: &str = r#"
+pub const NAMES: &str = r#"
 { name = "a", salt = "", digest = "<64*0>", roles = [] }, { name = "b", salt = "", digest = "<64*0>", roles = [] }   | read
 { name = "a", salt = "", digest = "<64*0>", roles = [] }, { name = "A", salt = "", digest = "<64*0>", roles = [] }   | read
 { name = "a", salt = "", digest = "<64*0>", roles = [] }, { name = "a", salt = "00", digest = "<64*1>", roles = ["r"] } | DuplicateName name
@@ -123,10 +123,3 @@ const NAMES: &str = r#"
 { name = "a", salt = "0", digest = "<64*0>", roles = [] }, { x = 1 }                                                 | BadValue salt
 { x = 1 }, { name = "a", salt = "0", digest = "<64*0>", roles = [] }                                                 | UnknownKey x
 "#;
-
-/// The tables and where their rows stand.
-pub const TABLES: [(&str, &str); 3] = [
-    ("%", FILES),
-    ("[[user]] ; %", USERS),
-    ("user = [%]", NAMES),
-];
