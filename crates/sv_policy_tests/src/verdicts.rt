@@ -194,9 +194,5 @@ POST /acme/retail/1   | -                 | login pattern=/acme/retail/* constra
 fn the_example_of_the_specification_is_decided_as_its_table_says(
     rt: HostRuntime,
 ) -> Result<(), Strays> {
-    hold(
-        &rt,
-        &[SPECIFICATION_ROWS],
-        &Requests(SPECIFICATION_EXAMPLE),
-    )
+    hold(&rt, &[SPECIFICATION_ROWS], &Requests(SPECIFICATION_EXAMPLE))
 }
