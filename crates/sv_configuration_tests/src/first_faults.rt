@@ -7,8 +7,8 @@ use crate::{
 };
 use sv_rows::Strays;
 
-/// What an element of a descriptor may be.
-const ELEMENTS: [(Format, &str, &str); 19] = [
+/// What a descriptor itself and its components may be.
+const COMPONENTS: [(Format, &str, &str); 9] = [
     (Format::Descriptor, "%", top_table::ROWS),
     (Format::Descriptor, "%", top_table::SHAPES),
     (Format::Descriptor, "%", top_table::ELEMENT_ORDER),
@@ -34,6 +34,17 @@ const ELEMENTS: [(Format, &str, &str); 19] = [
         "[[listener]] ; %",
         element_tables::LISTENERS,
     ),
+];
+
+#[test]
+fn a_component_of_a_descriptor_is_refused_by_its_first_fault(
+    rt: HostRuntime,
+) -> Result<(), Strays> {
+    are_read(&rt, &ELEMENT, &COMPONENTS)
+}
+
+/// What the other elements of a descriptor may be.
+const ELEMENTS: [(Format, &str, &str); 10] = [
     (
         Format::Descriptor,
         "[session-config] ; %",
@@ -87,7 +98,9 @@ const ELEMENTS: [(Format, &str, &str); 19] = [
 ];
 
 #[test]
-fn an_element_of_a_descriptor_is_refused_by_its_first_fault(rt: HostRuntime) -> Result<(), Strays> {
+fn another_element_of_a_descriptor_is_refused_by_its_first_fault(
+    rt: HostRuntime,
+) -> Result<(), Strays> {
     are_read(&rt, &ELEMENT, &ELEMENTS)
 }
 
