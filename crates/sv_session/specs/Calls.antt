@@ -1,0 +1,106 @@
+-- Jakarta Servlet 6.0, chapter 7: what each call on the sessions of a context answers and leaves.
+use Rattle.std.specs.Prelude.{◌≡◌, ℕ, ◌+◌, ◌∷◌, Bool, ◌||◌, ◌&&◌, not, ◌==◌, nat_lt, nat_le, List, [], ◌++◌, length, map, min, Option, None, Some, is_none, slice_get}
+use Rattle.std.specs.List.{reduce}
+use Rattle.std.specs.Option.{option_map, option_and_then}
+use Rattle.sv_text.specs.Faults.{when}
+use Rattle.sv_session.specs.declared.attribute.Attribute.{Attribute}
+use Rattle.sv_session.specs.declared.ended_session.EndedSession.{EndedSession}
+use Rattle.sv_session.specs.declared.session_fault.SessionFault.{SessionFault}
+use Rattle.sv_session.specs.declared.session_fault.SessionFault.TheVariants.{TooMany, SerialSpent, NoSuch, NoMemory, TooLarge}
+use Rattle.sv_session.specs.declared.limits.TheConstants.{MAX_ATTRIBUTES, MAX_NAME_BYTES, MAX_VALUE_BYTES, GREATEST_SERIAL}
+use Rattle.sv_session.specs.Attributes.{names_one, with_named, without_named, value_named}
+use Rattle.sv_session.specs.Expiry.{first_expired}
+use Rattle.sv_session.specs.Id.{id_text}
+use Rattle.sv_session.specs.Lists.{without_first}
+use Rattle.sv_session.specs.Store.{Session, Store, is_numbered, numbered, attributes_of, changed}
+
+-- a refusal tells the first of the faults and changes nothing; want of memory is told where there is no other
+abbrev pub Refuses : List SessionFault → SessionFault → Store → Store → Type 0
+Refuses faults NoMemory before after = (faults ≡ []) × (after ≡ before)
+Refuses faults fault before after = (slice_get faults 0 ≡ Some fault) × (after ≡ before)
+
+abbrev pub is_spent : Store → Bool
+is_spent store = store.serial == GREATEST_SERIAL
+
+-- a session is opened: it has the next serial as its number, and was accessed
+abbrev pub opening_faults : Store → List SessionFault
+opening_faults store = when (nat_le store.limit (length store.sessions)) TooMany ++ when (is_spent store) SerialSpent
+
+abbrev pub session_opened : ℕ × ℕ → ℕ → ℕ → Session
+session_opened words serial now =
+    record { number = serial; id = id_text words serial; last_access = now; caller = None; saved = None; attributes = [] }
+
+abbrev pub opened : ℕ × ℕ → ℕ → Store → Store
+opened words now store =
+    record store { serial = store.serial + 1; sessions = store.sessions ++ session_opened words (store.serial + 1) now ∷ [] }
+
+-- a session has an id of the next serial
+abbrev pub missing : ℕ → Store → List SessionFault
+missing number store = when (is_none (numbered number store)) NoSuch
+
+abbrev pub renaming_faults : ℕ → Store → List SessionFault
+renaming_faults number store = missing number store ++ when (is_spent store) SerialSpent
+
+abbrev pub renamed : ℕ → ℕ × ℕ → Store → Store
+renamed number words store =
+    record (changed number (λ session. record session { id = id_text words (store.serial + 1) }) store) { serial = store.serial + 1 }
+
+abbrev pub id_of : ℕ → Store → Option (List ℕ)
+id_of number store = option_map (λ session. session.id) (numbered number store)
+
+-- a session was accessed
+abbrev pub touched : ℕ → ℕ → Store → Store
+touched number now = changed number (λ session. record session { last_access = now })
+
+-- its caller, and the target that a login interrupted
+abbrev pub with_caller : ℕ → Option ℕ → Store → Store
+with_caller number caller = changed number (λ session. record session { caller = caller })
+
+abbrev pub with_saved : ℕ → Option (List ℕ) → Store → Store
+with_saved number saved = changed number (λ session. record session { saved = saved })
+
+abbrev pub caller_of : ℕ → Store → Option ℕ
+caller_of number store = option_and_then (λ session. session.caller) (numbered number store)
+
+abbrev pub saved_of : ℕ → Store → Option (List ℕ)
+saved_of number store = option_and_then (λ session. session.saved) (numbered number store)
+
+-- its attributes
+abbrev pub is_too_large : List ℕ → List ℕ → List Attribute → Bool
+is_too_large name value attributes =
+    nat_lt MAX_NAME_BYTES (length name) || nat_lt MAX_VALUE_BYTES (length value)
+    || (nat_le MAX_ATTRIBUTES (length attributes) && not (names_one name attributes))
+
+abbrev pub setting_faults : ℕ → List ℕ → List ℕ → Store → List SessionFault
+setting_faults number name value store = missing number store ++ when (is_too_large name value (attributes_of number store)) TooLarge
+
+abbrev pub with_attribute : ℕ → List ℕ → List ℕ → Store → Store
+with_attribute number name value = changed number (λ session. record session { attributes = with_named name value session.attributes })
+
+abbrev pub without_attribute : ℕ → List ℕ → Store → Store
+without_attribute number name = changed number (λ session. record session { attributes = without_named name session.attributes })
+
+abbrev pub value_of : ℕ → List ℕ → Store → Option (List ℕ)
+value_of number name store = value_named name (attributes_of number store)
+
+-- the end of a session, and of the first one that has expired
+abbrev pub without : ℕ → Store → Store
+without number store = record store { sessions = without_first (is_numbered number) store.sessions }
+
+abbrev pub ended : Session → EndedSession
+ended session = record { number = session.number; attributes = session.attributes }
+
+abbrev pub expired_number : ℕ → Store → Option ℕ
+expired_number now store = option_map (λ session. session.number) (first_expired now store)
+
+-- what ends where a number is given, and what is left
+abbrev pub ended_at : Option ℕ → Store → Option EndedSession
+ended_at number store = option_and_then (λ n. option_map ended (numbered n store)) number
+
+abbrev pub left_at : Option ℕ → Store → Store
+left_at None store = store
+left_at (Some number) store = without number store
+
+-- the least number of a session
+abbrev pub least_number : Store → Option ℕ
+least_number store = reduce min (map (λ session. session.number) store.sessions)

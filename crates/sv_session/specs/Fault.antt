@@ -1,0 +1,11 @@
+-- The names of faults.
+use Rattle.std.specs.Prelude.{ℕ, List, codes}
+use Rattle.sv_session.specs.declared.session_fault.SessionFault.{SessionFault}
+use Rattle.sv_session.specs.declared.session_fault.SessionFault.TheVariants.{TooMany, SerialSpent, NoSuch, NoMemory, TooLarge}
+
+abbrev pub fault_name : SessionFault → List ℕ
+fault_name TooMany = codes "TooMany"
+fault_name SerialSpent = codes "SerialSpent"
+fault_name NoSuch = codes "NoSuch"
+fault_name NoMemory = codes "NoMemory"
+fault_name TooLarge = codes "TooLarge"

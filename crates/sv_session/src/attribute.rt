@@ -1,0 +1,12 @@
+//! An attribute of a session.
+
+use sv_text::Text;
+
+/// A named value that a session keeps (Jakarta Servlet 6.0, section 7.4).
+#[derive(Drop)]
+pub struct Attribute {
+    /// The name, at most `MAX_NAME_BYTES` long in a session.
+    pub name: Text,
+    /// The value, at most `MAX_VALUE_BYTES` long in a session.
+    pub value: Text,
+}

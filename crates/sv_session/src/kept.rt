@@ -1,0 +1,199 @@
+//! A session as it is kept.
+
+ghost use Rattle.std.specs.Prelude.{◌≡◌, ◌<◌, ℕ, IfOk, IfSome, None, OnErr, OnOk, Some, length, position};
+ghost use Rattle.std.specs.Option.{option_copied};
+ghost use Rattle.sv_session.specs.Attributes.{is_named, value_named, with_named, without_named};
+ghost use Rattle.sv_session.specs.Calls.{ended, is_too_large, session_opened};
+ghost use Rattle.sv_session.specs.Expiry.{ends_before, has_expired};
+
+use crate::attribute::Attribute;
+use crate::ended_session::EndedSession;
+use crate::id::id_of;
+use crate::limits::{MAX_ATTRIBUTES, MAX_NAME_BYTES, MAX_VALUE_BYTES};
+use std::alloc::Global;
+use std::marker::Model;
+use std::mem;
+use sv_text::{Listed, NoMemory, Text};
+
+/// A session as it is kept. Contracts see it as plain data.
+#[derive(Drop)]
+pub struct Kept {
+    pub number: u64,
+    pub id: Text,
+    pub last_access: u64,
+    pub caller: Option<u32>,
+    pub saved: Option<Text>,
+    pub attributes: Vec<Attribute>,
+}
+
+impl Model for Kept {
+    ghost use Rattle.sv_session.specs.Store.{Session};
+
+    ghost Value = { Session };
+
+    ghost view = { λ k. record {
+        number = k.number;
+        id = k.id;
+        last_access = k.last_access;
+        caller = k.caller;
+        saved = k.saved;
+        attributes = k.attributes.items
+    } };
+}
+
+impl Kept {
+    /// A session that is opened at a moment, with a serial as its number.
+    pub fn open(alloc: Global, words: (u64, u64), serial: u64, now: u64) -> Result<Kept, NoMemory>
+        ensures { IfOk result (λ kept. kept ≡ session_opened words serial now) }
+    {
+        Ok(Kept {
+            number: serial,
+            id: id_of(alloc, words, serial)?,
+            last_access: now,
+            caller: None,
+            saved: None,
+            attributes: Vec::new(alloc),
+        })
+    }
+
+    /// The session's number.
+    pub fn number(&self) -> u64
+        ensures { result ≡ self.now.number }
+    {
+        self.number
+    }
+
+    /// The session's id.
+    pub fn id(&self) -> &str
+        ensures { result.now ≡ self.now.id }
+    {
+        self.id.as_str()
+    }
+
+    /// Gives the session another id.
+    pub fn rename(&mut self, id: Text)
+        ensures { self.new ≡ record self.old { id = id } }
+    {
+        self.id = id;
+    }
+
+    /// Whether the session was not accessed for as long as the interval, which is in seconds, 0 for ever.
+    pub fn has_expired(&self, interval: u32, now: u64) -> bool
+        ensures { result ≡ has_expired interval now self.now }
+    {
+        interval > 0 && now.saturating_sub(self.last_access) >= u64::from(interval)
+    }
+
+    /// Whether the session has an earlier deadline than another, or the same and a lesser number.
+    pub fn ends_before(&self, other: &Kept) -> bool
+        ensures { (interval : ℕ) → result ≡ ends_before interval self.now other.now }
+    {
+        self.last_access < other.last_access
+            || (self.last_access == other.last_access && self.number < other.number)
+    }
+
+    /// Notes an access.
+    pub fn touch(&mut self, now: u64)
+        ensures { self.new ≡ record self.old { last_access = now } }
+    {
+        self.last_access = now;
+    }
+
+    /// The number of the session's caller in the realm.
+    pub fn caller(&self) -> Option<u32>
+        ensures { result ≡ self.now.caller }
+    {
+        self.caller
+    }
+
+    /// Gives the session a caller, or none.
+    pub fn enter_caller(&mut self, caller: Option<u32>)
+        ensures { self.new ≡ record self.old { caller = caller } }
+    {
+        self.caller = caller;
+    }
+
+    /// Keeps the target that a login interrupted.
+    pub fn save(&mut self, target: Text)
+        ensures { self.new ≡ record self.old { saved = Some target } }
+    {
+        self.saved = Some(target);
+    }
+
+    /// Takes that target out.
+    pub fn take_saved(&mut self) -> Option<Text>
+        ensures taken { result ≡ self.old.saved }
+        ensures left { self.new ≡ record self.old { saved = None } }
+    {
+        self.saved.take()
+    }
+
+    /// Whether the name or the value is too long, or the session has as many other attributes as it may have.
+    pub fn is_too_large(&self, name: &str, value: &str) -> bool
+        ensures { result ≡ is_too_large name.now value.now self.now.attributes }
+    {
+        name.len() > MAX_NAME_BYTES
+            || value.len() > MAX_VALUE_BYTES
+            || (self.attributes.len() >= MAX_ATTRIBUTES && self.place(name).is_none())
+    }
+
+    /// The value of the attribute of this name.
+    pub fn value(&self, name: &str) -> Option<&str>
+        ensures { option_copied result ≡ value_named name.now self.now.attributes }
+    {
+        let attribute = self.attributes.iter().find(|attribute| attribute.name.as_str() == name)?;
+        Some(attribute.value.as_str())
+    }
+
+    /// Sets the attribute of this name, and gives the value that it had. Nothing changes where memory is wanted.
+    pub fn set_value(
+        &mut self,
+        alloc: Global,
+        name: &str,
+        value: &str,
+    ) -> Result<Option<Text>, NoMemory>
+        ensures value { IfOk result (λ old. old ≡ value_named name.now self.old.attributes) }
+        ensures set { OnOk result (self.new ≡ record self.old { attributes = with_named name.now value.now self.old.attributes }) }
+        ensures refused { OnErr result (self.new ≡ self.old) }
+    {
+        let value = Text::copy_of(alloc, value)?;
+        match self.place(name) {
+            Some(place) => Ok(Some(mem::replace(&mut self.attributes[place].value, value))),
+            None => {
+                let name = Text::copy_of(alloc, name)?;
+                self.attributes.push(Attribute { name, value })?;
+                Ok(None)
+            }
+        }
+    }
+
+    /// Takes the attribute of this name out, and gives its value.
+    pub fn remove_value(&mut self, name: &str) -> Option<Text>
+        ensures value { result ≡ value_named name.now self.old.attributes }
+        ensures left { self.new ≡ record self.old { attributes = without_named name.now self.old.attributes } }
+    {
+        let place = self.place(name)?;
+        let Attribute { name: _, value } = self.attributes.remove(place);
+        Some(value)
+    }
+
+    /// The session as its listeners are told of its end.
+    pub fn end(self) -> EndedSession
+        ensures { result ≡ ended self }
+    {
+        EndedSession {
+            number: self.number,
+            attributes: Listed::from_vec(self.attributes),
+        }
+    }
+
+    /// The place of the attribute of this name.
+    fn place(&self, name: &str) -> Option<usize>
+        ensures place { result ≡ position (is_named name.now) self.now.attributes }
+        ensures bound { IfSome result (λ place. place < length self.now.attributes) }
+    {
+        self.attributes
+            .iter()
+            .position(|attribute| attribute.name.as_str() == name)
+    }
+}
