@@ -1,1 +1,7 @@
+mod AttributeLemmas
+mod ExpiryLemmas
 mod FirstLemmas
+mod IdLemmas
+mod OrderLemmas
+mod RunLemmas
+mod StoreLemmas

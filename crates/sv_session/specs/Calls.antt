@@ -1,7 +1,7 @@
 -- Jakarta Servlet 6.0, chapter 7: what each call on the sessions of a context answers and leaves.
 use Rattle.std.specs.Prelude.{◌≡◌, ℕ, ◌+◌, ◌∷◌, Bool, ◌||◌, ◌&&◌, not, ◌==◌, nat_lt, nat_le, List, [], ◌++◌, length, map, min, Option, None, Some, is_none, slice_get}
 use Rattle.std.specs.List.{reduce}
-use Rattle.std.specs.Option.{option_map, option_and_then}
+use Rattle.std.specs.Option.{option_map, option_map_or, option_and_then}
 use Rattle.sv_text.specs.Faults.{when}
 use Rattle.sv_session.specs.declared.attribute.Attribute.{Attribute}
 use Rattle.sv_session.specs.declared.ended_session.EndedSession.{EndedSession}
@@ -83,23 +83,25 @@ without_attribute number name = changed number (λ session. record session { att
 abbrev pub value_of : ℕ → List ℕ → Store → Option (List ℕ)
 value_of number name store = value_named name (attributes_of number store)
 
--- the end of a session, and of the first one that has expired
-abbrev pub without : ℕ → Store → Store
-without number store = record store { sessions = without_first (is_numbered number) store.sessions }
-
+-- the end of a session
 abbrev pub ended : Session → EndedSession
 ended session = record { number = session.number; attributes = session.attributes }
 
+abbrev pub ending : ℕ → Store → Option EndedSession
+ending number store = option_map ended (numbered number store)
+
+abbrev pub without : ℕ → Store → Store
+without number store = record store { sessions = without_first (is_numbered number) store.sessions }
+
+-- the end of the first session that has expired at a moment
 abbrev pub expired_number : ℕ → Store → Option ℕ
 expired_number now store = option_map (λ session. session.number) (first_expired now store)
 
--- what ends where a number is given, and what is left
-abbrev pub ended_at : Option ℕ → Store → Option EndedSession
-ended_at number store = option_and_then (λ n. option_map ended (numbered n store)) number
+abbrev pub expiring : ℕ → Store → Option EndedSession
+expiring now store = option_and_then (λ number. ending number store) (expired_number now store)
 
-abbrev pub left_at : Option ℕ → Store → Store
-left_at None store = store
-left_at (Some number) store = without number store
+abbrev pub left_by_expiry : ℕ → Store → Store
+left_by_expiry now store = option_map_or (λ number. without number store) (expired_number now store) store
 
 -- the least number of a session
 abbrev pub least_number : Store → Option ℕ

@@ -3,5 +3,7 @@ pub mod Calls
 pub mod Expiry
 pub mod Fault
 pub mod Id
+pub mod Laws
 pub mod Lists
+pub mod Runs
 pub mod Store

@@ -1,5 +1,5 @@
 -- Jakarta Servlet 6.0, chapter 7: the sessions of a context, as a list of records in the order in which they were opened.
-use Rattle.std.specs.Prelude.{ℕ, Bool, ◌==◌, List, [], Option, find}
+use Rattle.std.specs.Prelude.{ℕ, ◌<◌, ◌≤◌, Bool, ◌==◌, List, [], ◌∷◌, Option, find}
 use Rattle.std.specs.Option.{option_map, option_map_or}
 use Rattle.std.specs.Str.{bytes_eq}
 use Rattle.sv_session.specs.declared.attribute.Attribute.{Attribute}
@@ -45,3 +45,12 @@ number_of id store = option_map (λ session. session.number) (find (has_id id) s
 -- the session of the number changes, and no other
 abbrev pub changed : ℕ → (Session → Session) → Store → Store
 changed number change store = record store { sessions = on_first (is_numbered number) change store.sessions }
+
+-- each number is above the one before it, from above the first bound up to the second
+abbrev pub NumbersRise : ℕ → ℕ → List Session → Type 0
+NumbersRise low high [] = low ≤ high
+NumbersRise low high (session ∷ sessions) = (low < session.number) × NumbersRise session.number high sessions
+
+-- the sessions stand in the order of their numbers, none of which is above the serial
+abbrev pub IsOrderly : Store → Type 0
+IsOrderly store = NumbersRise 0 store.serial store.sessions

@@ -2,7 +2,7 @@
 
 ghost use Rattle.std.specs.Prelude.{◌≡◌, ◌<◌, ℕ, IfOk, IfSome, None, OnErr, OnOk, Some, length, position};
 ghost use Rattle.std.specs.Option.{option_copied};
-ghost use Rattle.sv_session.specs.Attributes.{is_named, value_named, with_named, without_named};
+ghost use Rattle.sv_session.specs.Attributes.{is_named, names_one, value_named, with_named, without_named};
 ghost use Rattle.sv_session.specs.Calls.{ended, is_too_large, session_opened};
 ghost use Rattle.sv_session.specs.Expiry.{ends_before, has_expired};
 
@@ -32,12 +32,12 @@ impl Model for Kept {
     ghost Value = { Session };
 
     ghost view = { λ k. record {
-        number = k.number;
-        id = k.id;
-        last_access = k.last_access;
-        caller = k.caller;
-        saved = k.saved;
-        attributes = k.attributes.items
+      number = k.number;
+      id = k.id;
+      last_access = k.last_access;
+      caller = k.caller;
+      saved = k.saved;
+      attributes = k.attributes.items;
     } };
 }
 
@@ -134,14 +134,26 @@ impl Kept {
     {
         name.len() > MAX_NAME_BYTES
             || value.len() > MAX_VALUE_BYTES
-            || (self.attributes.len() >= MAX_ATTRIBUTES && self.place(name).is_none())
+            || (self.attributes.len() >= MAX_ATTRIBUTES && !self.has(name))
+    }
+
+    /// Whether the session has an attribute of this name.
+    fn has(&self, name: &str) -> bool
+        ensures { result ≡ names_one name.now self.now.attributes }
+    {
+        self.attributes
+            .iter()
+            .any(|attribute| attribute.name.as_str() == name)
     }
 
     /// The value of the attribute of this name.
     pub fn value(&self, name: &str) -> Option<&str>
         ensures { option_copied result ≡ value_named name.now self.now.attributes }
     {
-        let attribute = self.attributes.iter().find(|attribute| attribute.name.as_str() == name)?;
+        let attribute = self
+            .attributes
+            .iter()
+            .find(|attribute| attribute.name.as_str() == name)?;
         Some(attribute.value.as_str())
     }
 

@@ -114,8 +114,8 @@ impl Sessions {
 
     /// Ends the first session that has expired at a moment, by deadline and then number. None where none has.
     pub fn expire(&mut self, now: u64) -> Option<EndedSession>
-        ensures ended { result ≡ calls.ended_at (calls.expired_number now self.old) self.old }
-        ensures left { self.new ≡ calls.left_at (calls.expired_number now self.old) self.old }
+        ensures ended { result ≡ calls.expiring now self.old }
+        ensures left { self.new ≡ calls.left_by_expiry now self.old }
     {
         let number = first_expired(self.sessions.as_slice(), self.interval, now)?;
         self.end(number)
@@ -123,7 +123,7 @@ impl Sessions {
 
     /// Ends a session. None where no such session lives.
     pub fn end(&mut self, number: u64) -> Option<EndedSession>
-        ensures ended { result ≡ calls.ended_at (Some number) self.old }
+        ensures ended { result ≡ calls.ending number self.old }
         ensures left { self.new ≡ calls.without number self.old }
     {
         let place = self.place(number)?;
@@ -207,10 +207,15 @@ impl Sessions {
     ///
     /// # Errors
     /// [`SessionFault::NoSuch`], [`SessionFault::TooLarge`], [`SessionFault::NoMemory`], in that order; nothing has changed.
-    pub fn set(&mut self, number: u64, name: &str, value: &str) -> Result<Option<Text>, SessionFault>
+    pub fn set(
+        &mut self,
+        number: u64,
+        name: &str,
+        value: &str,
+    ) -> Result<Option<Text>, SessionFault>
         ensures { MatchResult result
             (λ old. (calls.setting_faults number name.now value.now self.old ≡ []) × (old ≡ calls.value_of number name.now self.old)
-                × (self.new ≡ calls.with_attribute number name.now value.now self.old))
+            × (self.new ≡ calls.with_attribute number name.now value.now self.old))
             (λ fault. Refuses (calls.setting_faults number name.now value.now self.old) fault self.old self.new) }
     {
         let Some(place) = self.place(number) else {
@@ -219,10 +224,10 @@ impl Sessions {
         if self.sessions[place].is_too_large(name, value) {
             return Err(SessionFault::TooLarge);
         }
-        match self.sessions[place].set_value(self.alloc, name, value) {
-            Ok(old) => Ok(old),
-            Err(_) => Err(SessionFault::NoMemory),
-        }
+        let Ok(old) = self.sessions[place].set_value(self.alloc, name, value) else {
+            return Err(SessionFault::NoMemory);
+        };
+        Ok(old)
     }
 
     /// Takes an attribute of a session out, and gives its value.
@@ -238,7 +243,9 @@ impl Sessions {
     fn session(&self, number: u64) -> Option<&Kept>
         ensures { option_copied result ≡ numbered number self.now }
     {
-        self.sessions.iter().find(|session| session.number() == number)
+        self.sessions
+            .iter()
+            .find(|session| session.number() == number)
     }
 
     /// The place of the session of a number.
@@ -246,6 +253,8 @@ impl Sessions {
         ensures place { result ≡ position (is_numbered number) self.now.sessions }
         ensures bound { IfSome result (λ place. place < length self.now.sessions) }
     {
-        self.sessions.iter().position(|session| session.number() == number)
+        self.sessions
+            .iter()
+            .position(|session| session.number() == number)
     }
 }

@@ -1,0 +1,44 @@
+-- Jakarta Servlet 6.0, chapter 7: the laws of the calls on the sessions of a context.
+use Rattle.std.specs.Prelude.{◌≡◌, ◌≢◌, ◌↔◌, ℕ, false, List, Option, Some, None, map}
+use Rattle.std.specs.List.{AllPairs}
+use Rattle.sv_session.specs.declared.ended_session.EndedSession.{EndedSession}
+use Rattle.sv_session.specs.Calls.{ended, expiring, session_opened, touched}
+use Rattle.sv_session.specs.Expiry.{HasNoneExpired, by_deadline, expired, has_expired, unexpired}
+use Rattle.sv_session.specs.Runs.{Call, Expires, IsAt, ids_given, left_by}
+use Rattle.sv_session.specs.Store.{IsOrderly, Session, Store, empty_store, numbered}
+
+-- of the ids that a context gives no two are the same, whatever is called
+abbrev pub NoIdIsGivenTwice : Type 0
+NoIdIsGivenTwice = (limit interval : ℕ) (calls : List Call) → AllPairs (λ a b. a ≢ b) (ids_given calls (empty_store limit interval))
+
+-- there is order at first, and each call leaves it
+abbrev pub EmptyIsOrderly : Type 0
+EmptyIsOrderly = (limit interval : ℕ) → IsOrderly (empty_store limit interval)
+
+abbrev pub CallsLeaveOrder : Type 0
+CallsLeaveOrder = (call : Call) (store : Store) → IsOrderly store → IsOrderly (left_by call store)
+
+-- a session that was opened or touched at a moment has not expired at it
+abbrev pub OpenedHasNotExpired : Type 0
+OpenedHasNotExpired = (words : ℕ × ℕ) (interval serial now : ℕ) → has_expired interval now (session_opened words serial now) ≡ false
+
+abbrev pub TouchedHasNotExpired : Type 0
+TouchedHasNotExpired = (number now : ℕ) (store : Store) (session : Session) → numbered number (touched number now store) ≡ Some session
+    → has_expired store.interval now session ≡ false
+
+-- where none has expired at a moment, no call of that moment leaves one that has
+abbrev pub CallsLeaveNoneExpired : Type 0
+CallsLeaveNoneExpired = (now : ℕ) (call : Call) (store : Store) → IsAt now call → HasNoneExpired now store → HasNoneExpired now (left_by call store)
+
+-- `expire` ends none exactly where none has expired
+abbrev pub ExpiryEndsWhereNoneHasExpired : Type 0
+ExpiryEndsWhereNoneHasExpired = (now : ℕ) (store : Store) → (expiring now store ≡ None) ↔ HasNoneExpired now store
+
+-- until it ends none, it ends exactly the expired sessions, by deadline and then number, and leaves the others as they stood
+abbrev pub ExpiryEndsTheExpired : Type 0
+ExpiryEndsTheExpired = (now : ℕ) (before after : Store) (sessions : List EndedSession) → IsOrderly before → Expires now before sessions after
+    → (sessions ≡ map ended (by_deadline before.interval (expired now before))) × (after ≡ record before { sessions = unexpired now before })
+
+-- and at the same moment again it ends none
+abbrev pub ExpiryEndsNoneAgain : Type 0
+ExpiryEndsNoneAgain = (now : ℕ) (before after : Store) (sessions : List EndedSession) → Expires now before sessions after → expiring now after ≡ None

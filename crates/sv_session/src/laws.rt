@@ -1,0 +1,54 @@
+//! The laws of the sessions of a context, each the contract of a function that does nothing.
+
+ghost use Rattle.std.specs.Prelude.{◌≡◌};
+ghost use Rattle.sv_session.specs.Laws.{
+  CallsLeaveNoneExpired,
+  CallsLeaveOrder,
+  EmptyIsOrderly,
+  ExpiryEndsNoneAgain,
+  ExpiryEndsTheExpired,
+  ExpiryEndsWhereNoneHasExpired,
+  NoIdIsGivenTwice,
+  OpenedHasNotExpired,
+  TouchedHasNotExpired,
+};
+
+use crate::limits::{GREATEST_SERIAL, MAX_ATTRIBUTES, MAX_NAME_BYTES, MAX_VALUE_BYTES};
+
+/// The limits as numbers: definitions and code cite the constants, so that both would move with one.
+pub fn limits_are_as_stated()
+    ensures attributes { MAX_ATTRIBUTES ≡ 64 }
+    ensures name { MAX_NAME_BYTES ≡ 64 }
+    ensures value { MAX_VALUE_BYTES ≡ 4096 }
+    ensures serial { GREATEST_SERIAL ≡ 18446744073709551615 }
+{}
+
+/// Of the ids that a context gives no two are the same, whatever is called and whichever words are drawn.
+pub fn no_id_is_given_twice()
+    ensures { NoIdIsGivenTwice }
+{}
+
+/// The sessions stand in the order of their numbers, none of which is above the serial: at first, and behind each call.
+pub fn sessions_stay_in_order()
+    ensures empty { EmptyIsOrderly }
+    ensures call { CallsLeaveOrder }
+{}
+
+/// A session that was opened or touched at a moment has not expired at it.
+pub fn an_accessed_session_has_not_expired()
+    ensures opened { OpenedHasNotExpired }
+    ensures touched { TouchedHasNotExpired }
+{}
+
+/// Where no session has expired at a moment, no call of that moment leaves one that has.
+pub fn no_call_leaves_an_expired_session()
+    ensures { CallsLeaveNoneExpired }
+{}
+
+/// `expire` ends none exactly where no session has expired; until then it ends exactly those that have, by deadline and then number; and at
+/// the same moment again it ends none.
+pub fn expiry_ends_exactly_the_expired_sessions()
+    ensures none { ExpiryEndsWhereNoneHasExpired }
+    ensures all { ExpiryEndsTheExpired }
+    ensures again { ExpiryEndsNoneAgain }
+{}
