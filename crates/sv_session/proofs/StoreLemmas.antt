@@ -1,16 +1,24 @@
 -- What the calls do to the list of sessions, by the place of a session.
-use Rattle.std.proofs.Common.{◌≡◌, ℕ, ◌+◌, ◌<◌, Bool, true, false, List, [], length, Option, Some, None, get_or, set, refl, sym, ◌∙◌, ap, subst, eq-eqb}
+use Rattle.std.proofs.Common.{◌≡◌, ℕ, ◌+◌, ◌<◌, Bool, true, false, List, [], ◌∷◌, length, Option, Some, None, get_or, set, refl, sym, ◌∙◌, ap, subst, eq-eqb}
 use Rattle.std.specs.List.{position, remove, slice_get}
 use Rattle.std.specs.Option.{is_some, option_and_then, option_map}
-use Rattle.std.proofs.lemmas.Bool.{ne_eqb}
+use Rattle.std.proofs.lemmas.Bool.{lt-leb, ne_eqb}
 use Rattle.sv_session.specs.declared.limits.TheConstants.{GREATEST_SERIAL}
 use Rattle.sv_session.specs.declared.session_fault.SessionFault.TheVariants.{NoSuch, SerialSpent, TooLarge}
-use Rattle.sv_session.specs.Calls.{ended, ending, is_too_large, renamed, renaming_faults, setting_faults, value_of, without}
+use Rattle.sv_session.specs.Calls.{ended, ending, is_too_large, opening_faults, renamed, renaming_faults, setting_faults, value_of, without}
 use Rattle.sv_session.specs.Attributes.{value_named}
 use Rattle.sv_session.specs.Id.{id_text}
 use Rattle.sv_session.specs.Lists.{on_first}
 use Rattle.sv_session.specs.Store.{Session, Store, changed, is_numbered, numbered}
 use Rattle.sv_session.proofs.FirstLemmas.{IsFirstAt, found_at, missed_at}
+
+-- ---- the greatest serial
+pub spent_opening : (store : Store) → store.serial ≡ GREATEST_SERIAL → length store.sessions < store.limit → opening_faults store ≡ SerialSpent ∷ []
+spent_opening store spent room = rw (lt-leb store.limit (length store.sessions) room, eq-eqb store.serial GREATEST_SERIAL spent) refl
+
+pub spent_renaming : (store : Store) → store.serial ≡ GREATEST_SERIAL → (number : ℕ) (session : Session) → numbered number store ≡ Some session
+    → renaming_faults number store ≡ SerialSpent ∷ []
+spent_renaming store spent number session found = rw (found, eq-eqb store.serial GREATEST_SERIAL spent) refl
 
 -- ---- no session of the number
 module _ (number : ℕ) (store : Store) (missed : None ≡ position (is_numbered number) store.sessions) where

@@ -1,8 +1,9 @@
 -- Jakarta Servlet 6.0, chapter 7: the laws of the calls on the sessions of a context.
-use Rattle.std.specs.Prelude.{◌≡◌, ◌≢◌, ◌↔◌, ℕ, false, List, Option, Some, None, map}
+use Rattle.std.specs.Prelude.{◌≡◌, ◌≢◌, ◌↔◌, ◌<◌, ℕ, false, List, [], ◌∷◌, length, Option, Some, None, map}
 use Rattle.std.specs.List.{AllPairs}
 use Rattle.sv_session.specs.declared.ended_session.EndedSession.{EndedSession}
-use Rattle.sv_session.specs.Calls.{ended, expiring, session_opened, touched}
+use Rattle.sv_session.specs.declared.session_fault.SessionFault.TheVariants.{SerialSpent}
+use Rattle.sv_session.specs.Calls.{ended, expiring, opening_faults, renaming_faults, session_opened, touched}
 use Rattle.sv_session.specs.Expiry.{HasNoneExpired, by_deadline, expired, has_expired, unexpired}
 use Rattle.sv_session.specs.Runs.{Call, Expires, IsAt, ids_given, left_by}
 use Rattle.sv_session.specs.Store.{IsOrderly, Session, Store, empty_store, numbered}
@@ -10,6 +11,12 @@ use Rattle.sv_session.specs.Store.{IsOrderly, Session, Store, empty_store, numbe
 -- of the ids that a context gives no two are the same, whatever is called
 abbrev pub NoIdIsGivenTwice : Type 0
 NoIdIsGivenTwice = (limit interval : ℕ) (calls : List Call) → AllPairs (λ a b. a ≢ b) (ids_given calls (empty_store limit interval))
+
+-- behind the greatest serial no session is opened and none renamed
+abbrev pub NoneFollowsTheGreatest : Type 0
+NoneFollowsTheGreatest = (store : Store) → store.serial ≡ 18446744073709551615
+    → (length store.sessions < store.limit → opening_faults store ≡ SerialSpent ∷ [])
+    × ((number : ℕ) (session : Session) → numbered number store ≡ Some session → renaming_faults number store ≡ SerialSpent ∷ [])
 
 -- there is order at first, and each call leaves it
 abbrev pub EmptyIsOrderly : Type 0

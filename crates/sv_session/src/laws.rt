@@ -9,6 +9,7 @@ ghost use Rattle.sv_session.specs.Laws.{
   ExpiryEndsTheExpired,
   ExpiryEndsWhereNoneHasExpired,
   NoIdIsGivenTwice,
+  NoneFollowsTheGreatest,
   OpenedHasNotExpired,
   TouchedHasNotExpired,
 };
@@ -26,6 +27,11 @@ pub fn limits_are_as_stated()
 /// Of the ids that a context gives no two are the same, whatever is called and whichever words are drawn.
 pub fn no_id_is_given_twice()
     ensures { NoIdIsGivenTwice }
+{}
+
+/// Behind the greatest serial no session is opened and none renamed.
+pub fn no_serial_follows_the_greatest()
+    ensures { NoneFollowsTheGreatest }
 {}
 
 /// The sessions stand in the order of their numbers, none of which is above the serial: at first, and behind each call.
