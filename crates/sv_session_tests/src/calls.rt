@@ -1,0 +1,168 @@
+//! Calls on the sessions of a context, as the rows write them.
+
+use std::alloc::Global;
+use sv_rows::unescaped;
+use sv_session::{EndedSession, SessionFault, Sessions};
+use sv_text::{NoMemory, Text};
+
+/// The word of a call at a place from 0.
+fn word(call: &str, place: usize) -> &str {
+    call.split_whitespace().nth(place).unwrap_or("")
+}
+
+/// The number at a place of a call.
+fn number(call: &str, place: usize) -> u64 {
+    word(call, place).parse::<u64>().unwrap_or(0)
+}
+
+/// The text at a place of a call, with its escapes read. `""` stands for the empty text.
+fn text(alloc: Global, call: &str, place: usize) -> Result<Text, NoMemory> {
+    let word = word(call, place);
+    let bytes = unescaped(alloc, if word == "\"\"" { "" } else { word })?;
+    Text::copy_of(alloc, str::from_utf8(bytes.as_slice()).unwrap_or(""))
+}
+
+/// Makes a call that its first word names, and tells its answer.
+pub fn answer(alloc: Global, sessions: &mut Sessions, call: &str) -> Result<String, NoMemory> {
+    match word(call, 0) {
+        "crowd" => crowded(alloc, sessions, call),
+        "fill" => filled(alloc, sessions, call),
+        "set" => set(alloc, sessions, call),
+        "get" | "remove" | "find" => named(alloc, sessions, call),
+        "open" | "rename" | "id" | "least" => identity(alloc, sessions, call),
+        "touch" | "expire" | "end" => ending(alloc, sessions, call),
+        _ => login(alloc, sessions, call),
+    }
+}
+
+/// `open MOMENT [WORD WORD]`, `rename NUMBER [WORD WORD]`, `id NUMBER`, `least`.
+fn identity(alloc: Global, sessions: &mut Sessions, call: &str) -> Result<String, NoMemory> {
+    let words = (number(call, 2), number(call, 3));
+    match word(call, 0) {
+        "open" => told_number(alloc, sessions.open(words, number(call, 1))),
+        "rename" => match sessions.rename(number(call, 1), words) {
+            Ok(()) => Ok(String::from_str(alloc, "ok")?),
+            Err(fault) => told_fault(alloc, fault),
+        },
+        "id" => told_text(alloc, sessions.id(number(call, 1))),
+        _ => told_some(alloc, sessions.least()),
+    }
+}
+
+/// `touch NUMBER MOMENT`, `expire MOMENT`, `end NUMBER`.
+fn ending(alloc: Global, sessions: &mut Sessions, call: &str) -> Result<String, NoMemory> {
+    match word(call, 0) {
+        "touch" => told_flag(alloc, sessions.touch(number(call, 1), number(call, 2))),
+        "expire" => told_ended(alloc, sessions.expire(number(call, 1))),
+        _ => told_ended(alloc, sessions.end(number(call, 1))),
+    }
+}
+
+/// `get NUMBER NAME`, `remove NUMBER NAME`, `find ID`.
+fn named(alloc: Global, sessions: &mut Sessions, call: &str) -> Result<String, NoMemory> {
+    let key = text(alloc, call, if word(call, 0) == "find" { 1 } else { 2 })?;
+    match word(call, 0) {
+        "get" => told_text(alloc, sessions.get(number(call, 1), key.as_str())),
+        "remove" => told_value(alloc, sessions.remove(number(call, 1), key.as_str())),
+        _ => told_some(alloc, sessions.find(key.as_str())),
+    }
+}
+
+/// `enter NUMBER CALLER` (`none` for none), `caller NUMBER`, `save NUMBER TARGET`, `take NUMBER`.
+fn login(alloc: Global, sessions: &mut Sessions, call: &str) -> Result<String, NoMemory> {
+    match word(call, 0) {
+        "enter" => {
+            let caller = word(call, 2).parse::<u32>().ok();
+            told_flag(alloc, sessions.enter_caller(number(call, 1), caller))
+        }
+        "caller" => told_some(alloc, sessions.caller(number(call, 1)).map(u64::from)),
+        "save" => {
+            let target = Text::copy_of(alloc, word(call, 2))?;
+            told_flag(alloc, sessions.save(number(call, 1), target))
+        }
+        _ => told_value(alloc, sessions.take_saved(number(call, 1))),
+    }
+}
+
+/// `set NUMBER NAME VALUE`.
+fn set(alloc: Global, sessions: &mut Sessions, call: &str) -> Result<String, NoMemory> {
+    let (name, value) = (text(alloc, call, 2)?, text(alloc, call, 3)?);
+    told_set(
+        alloc,
+        sessions.set(number(call, 1), name.as_str(), value.as_str()),
+    )
+}
+
+/// `fill NUMBER COUNT`: as many attributes with the names `a0`, `a1` and so on, all with the value `v`. The answer is that to the last.
+fn filled(alloc: Global, sessions: &mut Sessions, call: &str) -> Result<String, NoMemory> {
+    let mut last = String::new(alloc);
+    for place in 0..number(call, 2) {
+        let name = format!(in alloc; "a{place}")?;
+        last = told_set(alloc, sessions.set(number(call, 1), name.as_str(), "v"))?;
+    }
+    Ok(last)
+}
+
+/// `crowd COUNT MOMENT`: as many sessions. The answer is that to the last.
+fn crowded(alloc: Global, sessions: &mut Sessions, call: &str) -> Result<String, NoMemory> {
+    let mut last = Err(SessionFault::NoSuch);
+    for _ in 0..number(call, 1) {
+        last = sessions.open((0, 0), number(call, 2));
+    }
+    told_number(alloc, last)
+}
+
+fn told_fault(alloc: Global, fault: SessionFault) -> Result<String, NoMemory> {
+    Ok(format!(in alloc; "{fault}")?)
+}
+
+fn told_flag(alloc: Global, flag: bool) -> Result<String, NoMemory> {
+    Ok(String::from_str(alloc, if flag { "yes" } else { "no" })?)
+}
+
+fn told_text(alloc: Global, text: Option<&str>) -> Result<String, NoMemory> {
+    Ok(String::from_str(alloc, text.unwrap_or("-"))?)
+}
+
+fn told_value(alloc: Global, value: Option<Text>) -> Result<String, NoMemory> {
+    match value {
+        Some(value) => Ok(value.into_string()),
+        None => told_text(alloc, None),
+    }
+}
+
+fn told_some(alloc: Global, number: Option<u64>) -> Result<String, NoMemory> {
+    match number {
+        Some(number) => Ok(format!(in alloc; "{number}")?),
+        None => told_text(alloc, None),
+    }
+}
+
+fn told_number(alloc: Global, number: Result<u64, SessionFault>) -> Result<String, NoMemory> {
+    match number {
+        Ok(number) => told_some(alloc, Some(number)),
+        Err(fault) => told_fault(alloc, fault),
+    }
+}
+
+/// `new`, or `was` and the value that was there.
+fn told_set(alloc: Global, old: Result<Option<Text>, SessionFault>) -> Result<String, NoMemory> {
+    match old {
+        Ok(None) => Ok(String::from_str(alloc, "new")?),
+        Ok(Some(old)) => Ok(format!(in alloc; "was {}", old.as_str())?),
+        Err(fault) => told_fault(alloc, fault),
+    }
+}
+
+/// The number of the session that ended, and behind it its attributes in their order.
+fn told_ended(alloc: Global, ended: Option<EndedSession>) -> Result<String, NoMemory> {
+    let Some(ended) = ended else {
+        return told_text(alloc, None);
+    };
+    let mut told = told_some(alloc, Some(ended.number))?;
+    for attribute in ended.attributes.as_slice() {
+        let (name, value) = (attribute.name.as_str(), attribute.value.as_str());
+        told.push_str(format!(in alloc; " {name}={value}")?.as_str())?;
+    }
+    Ok(told)
+}
