@@ -75,12 +75,12 @@ pairs_differ low (id ∷ ids) above zero (suc j) d less within = λ same.
 pairs_differ low (id ∷ ids) above (suc i) (suc j) d less within = pairs_differ above.1 ids above.5 i j d (omega (arith, less)) (omega (arith, within))
 
 -- ---- the ids that calls give
-nothing_behind : {F : Type 0} (front : List F) (test : Bool) (fault : F) → front ++ when test fault ≡ [] → test ≡ false
+pub nothing_behind : {F : Type 0} (front : List F) (test : Bool) (fault : F) → front ++ when test fault ≡ [] → test ≡ false
 nothing_behind front false fault none = refl
 nothing_behind [] true fault none = cc
 nothing_behind (x ∷ xs) true fault none = cc
 
-rises_unspent : (serial : ℕ) → serial ≤ GREATEST_SERIAL → eqb serial GREATEST_SERIAL ≡ false → (serial + 1 ≤ GREATEST_SERIAL) × (serial + 1 < 2 ^ 64)
+pub rises_unspent : (serial : ℕ) → serial ≤ GREATEST_SERIAL → eqb serial GREATEST_SERIAL ≡ false → (serial + 1 ≤ GREATEST_SERIAL) × (serial + 1 < 2 ^ 64)
 rises_unspent serial within unspent =
     let other : serial ≡ GREATEST_SERIAL → ⊥ = eqb-false serial GREATEST_SERIAL unspent in
     (omega (arith, other), omega (arith, other))

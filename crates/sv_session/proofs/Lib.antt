@@ -2,6 +2,7 @@ mod AttributeLemmas
 mod ExpiryLemmas
 mod FirstLemmas
 mod IdLemmas
+mod LiveIdLemmas
 mod OrderLemmas
 mod RunLemmas
 mod StoreLemmas

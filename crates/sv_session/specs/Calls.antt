@@ -19,6 +19,7 @@ abbrev pub Refuses : List SessionFault → SessionFault → Store → Store → 
 Refuses faults NoMemory before after = (faults ≡ []) × (after ≡ before)
 Refuses faults fault before after = (slice_get faults 0 ≡ Some fault) × (after ≡ before)
 
+-- the greatest serial was given
 abbrev pub is_spent : Store → Bool
 is_spent store = store.serial == GREATEST_SERIAL
 
@@ -34,10 +35,11 @@ abbrev pub opened : ℕ × ℕ → ℕ → Store → Store
 opened words now store =
     record store { serial = store.serial + 1; sessions = store.sessions ++ session_opened words (store.serial + 1) now ∷ [] }
 
--- a session has an id of the next serial
+-- no session of the number lives
 abbrev pub missing : ℕ → Store → List SessionFault
 missing number store = when (is_none (numbered number store)) NoSuch
 
+-- a session gets an id of the next serial
 abbrev pub renaming_faults : ℕ → Store → List SessionFault
 renaming_faults number store = missing number store ++ when (is_spent store) SerialSpent
 

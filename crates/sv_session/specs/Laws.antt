@@ -5,12 +5,18 @@ use Rattle.sv_session.specs.declared.ended_session.EndedSession.{EndedSession}
 use Rattle.sv_session.specs.declared.session_fault.SessionFault.TheVariants.{SerialSpent}
 use Rattle.sv_session.specs.Calls.{ended, expiring, opening_faults, renaming_faults, session_opened, touched}
 use Rattle.sv_session.specs.Expiry.{HasNoneExpired, by_deadline, expired, has_expired, unexpired}
-use Rattle.sv_session.specs.Runs.{Call, Expires, IsAt, ids_given, left_by}
-use Rattle.sv_session.specs.Store.{IsOrderly, Session, Store, empty_store, numbered}
+use Rattle.sv_session.specs.Runs.{Call, Expires, IsAt, ids_given, left_after, left_by}
+use Rattle.sv_session.specs.Store.{IsOrderly, Session, Store, empty_store, number_of, numbered}
 
 -- of the ids that a context gives no two are the same, whatever is called
 abbrev pub NoIdIsGivenTwice : Type 0
 NoIdIsGivenTwice = (limit interval : ℕ) (calls : List Call) → AllPairs (λ a b. a ≢ b) (ids_given calls (empty_store limit interval))
+
+-- and of the sessions that live each is found by its own
+abbrev pub IdNamesItsSession : Type 0
+IdNamesItsSession = (limit interval : ℕ) (calls : List Call) (number : ℕ) (session : Session)
+    → numbered number (left_after calls (empty_store limit interval)) ≡ Some session
+    → number_of session.id (left_after calls (empty_store limit interval)) ≡ Some number
 
 -- behind the greatest serial no session is opened and none renamed
 abbrev pub NoneFollowsTheGreatest : Type 0

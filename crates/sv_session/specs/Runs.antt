@@ -37,7 +37,12 @@ left_by (TakeSaved number) store = with_saved number None store
 left_by (Set number name value) store = unless (setting_faults number name value store) (with_attribute number name value store) store
 left_by (Remove number name) store = without_attribute number name store
 
--- the id that it gives, if it gives one
+-- what calls leave one after another
+abbrev pub left_after : List Call → Store → Store
+left_after [] store = store
+left_after (call ∷ calls) store = left_after calls (left_by call store)
+
+-- the id that a call gives, if it gives one
 abbrev pub id_given : Call → Store → List (List ℕ)
 id_given (Open words now) store = unless (opening_faults store) (id_text words (store.serial + 1) ∷ []) []
 id_given (Rename number words) store = unless (renaming_faults number store) (id_text words (store.serial + 1) ∷ []) []

@@ -8,6 +8,7 @@ ghost use Rattle.sv_session.specs.Laws.{
   ExpiryEndsNoneAgain,
   ExpiryEndsTheExpired,
   ExpiryEndsWhereNoneHasExpired,
+  IdNamesItsSession,
   NoIdIsGivenTwice,
   NoneFollowsTheGreatest,
   OpenedHasNotExpired,
@@ -27,6 +28,11 @@ pub fn limits_are_as_stated()
 /// Of the ids that a context gives no two are the same, whatever is called and whichever words are drawn.
 pub fn no_id_is_given_twice()
     ensures { NoIdIsGivenTwice }
+{}
+
+/// Of the sessions that live each is found by its own id, whatever is called.
+pub fn an_id_names_its_session()
+    ensures { IdNamesItsSession }
 {}
 
 /// Behind the greatest serial no session is opened and none renamed.

@@ -14,9 +14,10 @@ mod sessions;
 pub use attribute::Attribute;
 pub use ended_session::EndedSession;
 pub use laws::{
-    an_accessed_session_has_not_expired, expiry_ends_exactly_the_expired_sessions,
-    limits_are_as_stated, no_call_leaves_an_expired_session, no_id_is_given_twice,
-    no_serial_follows_the_greatest, sessions_stay_in_order,
+    an_accessed_session_has_not_expired, an_id_names_its_session,
+    expiry_ends_exactly_the_expired_sessions, limits_are_as_stated,
+    no_call_leaves_an_expired_session, no_id_is_given_twice, no_serial_follows_the_greatest,
+    sessions_stay_in_order,
 };
 pub use limits::{GREATEST_SERIAL, MAX_ATTRIBUTES, MAX_NAME_BYTES, MAX_VALUE_BYTES};
 pub use session_fault::SessionFault;
