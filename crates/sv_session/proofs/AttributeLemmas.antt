@@ -1,5 +1,5 @@
 -- What the calls do to the attributes of a session, by the place of an attribute.
-use Rattle.std.proofs.Common.{◌≡◌, ℕ, ◌<◌, List, [], ◌∷◌, ◌++◌, length, Option, Some, None, get_or, set, refl, sym, ◌∙◌, ap, subst}
+use Rattle.std.proofs.Common.{◌≡◌, ℕ, ◌<◌, List, [], ◌∷◌, ◌++◌, length, Some, None, get_or, set, refl, sym, ◌∙◌, ap, subst}
 use Rattle.std.specs.List.{position, remove}
 use Rattle.sv_session.specs.declared.attribute.Attribute.{Attribute}
 use Rattle.sv_session.specs.Attributes.{is_named, value_named, with_named, without_named}

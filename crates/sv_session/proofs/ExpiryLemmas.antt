@@ -1,17 +1,17 @@
 -- The first of some sessions to end, and what ends one after another.
-use Rattle.std.proofs.Common.{◌≡◌, ◌≢◌, ◌↔◌, ℕ, ◌+◌, ◌<◌, Bool, true, false, not, cond, ◌&&◌, ◌||◌, eqb, ltb, ◌⊎◌, inl, inr, List, [], ◌∷◌, map, Option, Some, None, refl, sym, ◌∙◌, ap, subst, arith}
-use Rattle.std.specs.List.{filter, find, fold, list_any, reduce}
+use Rattle.std.proofs.Common.{◌≡◌, ℕ, ◌+◌, Bool, true, false, not, ◌&&◌, ◌||◌, eqb, ltb, inl, inr, List, [], ◌∷◌, map, Option, Some, None, refl, sym, ◌∙◌, ap, subst, arith}
+use Rattle.std.specs.List.{filter, find, fold, list_any}
 use Rattle.std.specs.Option.{option_map}
-use Rattle.std.proofs.lemmas.Bool.{both_ways, cases_Bool, or_from, or_parts}
+use Rattle.std.proofs.lemmas.Bool.{both_ways, cases_Bool, or_parts}
 use Rattle.std.proofs.lemmas.Bool.Decides.{nat_tests}
 use Rattle.std.proofs.lemmas.Option.{none-some, same_Some}
 use Rattle.sv_session.specs.declared.ended_session.EndedSession.{EndedSession}
-use Rattle.sv_session.specs.Calls.{ended, ending, expired_number, expiring, left_by_expiry, without}
-use Rattle.sv_session.specs.Expiry.{HasNoneExpired, by_deadline, earlier, ends_before, expired, first_expired, has_expired, put_in_order, unexpired}
+use Rattle.sv_session.specs.Calls.{ended, ending, expiring, left_by_expiry, without}
+use Rattle.sv_session.specs.Expiry.{HasNoneExpired, by_deadline, earlier, ends_before, expired, has_expired, unexpired}
 use Rattle.sv_session.specs.Lists.{without_first}
 use Rattle.sv_session.specs.Runs.{Expires}
 use Rattle.sv_session.specs.Store.{IsOrderly, NumbersRise, Session, Store, is_numbered}
-use Rattle.sv_session.proofs.OrderLemmas.{IsIn, above_all, filter_same, filter_without, find_in, in_filter, is_another, is_itself, rise_filter, rise_without}
+use Rattle.sv_session.proofs.OrderLemmas.{IsIn, filter_same, filter_without, find_in, in_filter, is_another, is_itself, rise_filter, rise_without}
 
 -- ---- the order of ends
 chain : (da na db nb dc nc : ℕ) → (ltb db da || (eqb db da && ltb nb na)) ≡ true → (ltb dc db || (eqb dc db && ltb nc nb)) ≡ true

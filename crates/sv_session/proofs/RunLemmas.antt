@@ -1,5 +1,5 @@
 -- What calls leave: order, and none that has expired.
-use Rattle.std.proofs.Common.{◌≡◌, ℕ, ◌+◌, ◌-◌, ◌<◌, ◌≤◌, Bool, true, false, ◌&&◌, ◌||◌, inl, inr, List, [], ◌∷◌, ◌++◌, Option, Some, None, refl, sym, ◌∙◌, ap, subst, ltb, leb, arith}
+use Rattle.std.proofs.Common.{◌≡◌, ℕ, ◌+◌, ◌-◌, Bool, false, ◌&&◌, inl, inr, List, [], ◌∷◌, ◌++◌, Option, Some, None, refl, sym, ◌∙◌, subst, ltb, leb, arith}
 use Rattle.std.specs.List.{find, list_any}
 use Rattle.std.specs.Option.{option_map_or}
 use Rattle.std.proofs.lemmas.Bool.{cases_Bool, or_from, or_parts}
@@ -8,12 +8,12 @@ use Rattle.std.proofs.lemmas.List.Folds.{list_any-append}
 use Rattle.std.proofs.lemmas.Option.{none-some, same_Some}
 use Rattle.sv_session.specs.declared.session_fault.SessionFault.{SessionFault}
 use Rattle.sv_session.specs.Attributes.{with_named, without_named}
-use Rattle.sv_session.specs.Calls.{expired_number, opened, opening_faults, renamed, renaming_faults, session_opened, setting_faults, touched, with_attribute, without}
+use Rattle.sv_session.specs.Calls.{expired_number, opened, opening_faults, renamed, renaming_faults, session_opened, setting_faults, with_attribute, without}
 use Rattle.sv_session.specs.Expiry.{HasNoneExpired, has_expired}
 use Rattle.sv_session.specs.Id.{id_text}
 use Rattle.sv_session.specs.Lists.{on_first, without_first}
 use Rattle.sv_session.specs.Runs.{Call, Open, Touch, Expire, End, Rename, EnterCaller, Save, TakeSaved, Set, Remove, IsAt, left_by, unless}
-use Rattle.sv_session.specs.Store.{IsOrderly, Session, Store, is_numbered, numbered}
+use Rattle.sv_session.specs.Store.{IsOrderly, Session, Store, is_numbered}
 use Rattle.sv_session.proofs.OrderLemmas.{rise_above, rise_changed, rise_push, rise_without}
 
 -- what holds of the one and of the other holds where either may stand

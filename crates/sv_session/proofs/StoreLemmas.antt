@@ -1,7 +1,7 @@
 -- What the calls do to the list of sessions, by the place of a session.
-use Rattle.std.proofs.Common.{◌≡◌, ℕ, ◌+◌, ◌<◌, Bool, true, false, List, [], ◌∷◌, length, Option, Some, None, get_or, set, refl, sym, ◌∙◌, ap, subst, eq-eqb}
+use Rattle.std.proofs.Common.{◌≡◌, ℕ, ◌+◌, ◌<◌, true, false, List, [], ◌∷◌, length, Option, Some, None, get_or, set, refl, sym, ◌∙◌, ap, subst, eq-eqb}
 use Rattle.std.specs.List.{position, remove, slice_get}
-use Rattle.std.specs.Option.{is_some, option_and_then, option_map}
+use Rattle.std.specs.Option.{is_some, option_and_then}
 use Rattle.std.proofs.lemmas.Bool.{lt-leb, ne_eqb}
 use Rattle.sv_session.specs.declared.limits.TheConstants.{GREATEST_SERIAL}
 use Rattle.sv_session.specs.declared.session_fault.SessionFault.TheVariants.{NoSuch, SerialSpent, TooLarge}

@@ -1,5 +1,5 @@
 -- Jakarta Servlet 6.0, chapter 7: the laws of the calls on the sessions of a context.
-use Rattle.std.specs.Prelude.{◌≡◌, ◌≢◌, ◌↔◌, ◌<◌, ℕ, false, List, [], ◌∷◌, length, Option, Some, None, map}
+use Rattle.std.specs.Prelude.{◌≡◌, ◌≢◌, ◌↔◌, ◌<◌, ℕ, false, List, [], ◌∷◌, length, Some, None, map}
 use Rattle.std.specs.List.{AllPairs}
 use Rattle.sv_session.specs.declared.ended_session.EndedSession.{EndedSession}
 use Rattle.sv_session.specs.declared.session_fault.SessionFault.TheVariants.{SerialSpent}

@@ -1,5 +1,4 @@
 use Rattle.std.proofs.Common.{Some, ◌∙◌, ap}
-use Rattle.sv_session.specs.Store.{Store}
 use Rattle.sv_session.proofs.StoreLemmas.{ended_at, left_at, nothing_ended, nothing_left_out}
 use Rattle.sv_session.proofs.sessions.Sessions.end.Goals as goal
 
