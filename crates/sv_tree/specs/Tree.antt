@@ -111,10 +111,10 @@ module _ (site : Site) (room : ℕ) (inner : Kind → Canon → Does Finished) w
   Serves place before calls after result = (left : ℕ) × Turns place left 0 before calls after result
 
   -- the servlet or the file, where all filters passed
-  abbrev pub Answers : Resource → Kind → Canon → Option Finished → Does Finished
-  Answers resource kind canon (Some result) = gives result
-  Answers (Servlet place) kind canon None = Serves place
-  Answers Files kind canon None = do
+  abbrev pub Responds : Resource → Kind → Canon → Option Finished → Does Finished
+  Responds resource kind canon (Some result) = gives result
+  Responds (Servlet place) kind canon None = Serves place
+  Responds Files kind canon None = do
     wants_memory
     sees λ state. Filed site kind (site.file canon state.exchange.method kind)
 
@@ -123,7 +123,7 @@ module _ (site : Site) (room : ℕ) (inner : Kind → Canon → Does Finished) w
   Within resource kind canon = do
     wants_memory
     reached ← Befores site resource [] (site.chain canon.path (name_of site resource) kind)
-    result ← Answers resource kind canon reached.ended
+    result ← Responds resource kind canon reached.ended
     Afters reached.passed
     gives result
 
@@ -136,6 +136,6 @@ module _ (site : Site) (room : ℕ) (inner : Kind → Canon → Does Finished) w
     gives result
 
 -- a dispatch, and the dispatches within it, as deep as there is room
-abbrev pub Tree : Site → ℕ → Kind → Canon → Does Finished
+unfoldable pub Tree : Site → ℕ → Kind → Canon → Does Finished
 Tree site zero kind canon = never
 Tree site (suc room) kind canon = Dispatch site room (Tree site room) kind canon
