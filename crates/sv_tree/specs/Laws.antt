@@ -174,12 +174,16 @@ EndingsAreKept site =
     → Tree site room kind canon before calls after (Some finished)
     → KeepsEnding finished after.kept
 
--- what was written before the first call
+-- a `before` or a `service` that finds so much written
+abbrev pub Finds : List ℕ → Record → Type 0
+Finds written (OfFilter place (Entered before gate after)) = before.buffer ≡ written
+Finds written (OfServlet place (Serviced before turn step after)) = before.buffer ≡ written
+Finds written made = ⊥
+
+-- the first call, if there is one, finds so much written
 abbrev pub BeginsWith : List ℕ → List Record → Type 0
 BeginsWith written [] = Unit {0}
-BeginsWith written (OfFilter place (Entered before gate after) ∷ others) = before.buffer ≡ written
-BeginsWith written (OfServlet place (Serviced before turn step after) ∷ others) = before.buffer ≡ written
-BeginsWith written (made ∷ others) = ⊥
+BeginsWith written (made ∷ others) = Finds written made
 
 -- the buffer is empty where a forward begins: its first call, which is a `before` or a `service`, finds it so (section 9.4)
 abbrev pub ForwardsBeginEmpty : Site → Type 0
