@@ -1,6 +1,6 @@
 -- The answer to a request is bounded, with its error page.
 use Rattle.std.specs.Prelude.{codes, length}
-use Rattle.std.proofs.Common.{◌≡◌, ◌⊎◌, inl, inr, ℕ, ◌+◌, ◌≤◌, Bool, true, false, List, [], ◌∷◌, ◌++◌, Option, None, Some, refl, sym, ap, ◌∙◌, subst, arith, lit≤, zero-add}
+use Rattle.std.proofs.Common.{◌≡◌, ℕ, ◌+◌, ◌≤◌, Bool, true, List, [], Option, None, Some, refl, sym, subst, arith, lit≤, zero-add}
 use Rattle.sv_component.specs.Runs.{Record}
 use Rattle.sv_exchange.specs.Changing.{SetHeader, SetStatus, Write}
 use Rattle.sv_mapping.specs.declared.kind.Kind.{Kind}
@@ -18,7 +18,7 @@ use Rattle.sv_tree.specs.declared.limits.TheConstants.{INTERNAL_SERVER_ERROR, MA
 use Rattle.sv_tree.proofs.Counting as counting
 use Rattle.sv_tree.proofs.Counting.{Counts, calls_are_counted}
 use Rattle.sv_tree.proofs.Doing.{chosen_then}
-use Rattle.sv_tree.proofs.Keeping.{Keeps, Steps, becomes_keeps, came, gives_keeps, makes_keeps, then_keeps}
+use Rattle.sv_tree.proofs.Keeping.{Keeps, Steps, becomes_keeps, gives_keeps, makes_keeps, then_keeps}
 use Rattle.sv_tree.proofs.Nesting.{Nests, nests, nests_tree}
 use Rattle.sv_uri.specs.declared.path.Canon.{Canon}
 
@@ -74,7 +74,7 @@ module _ (site : Site) (Q : ℕ → State → List Record → State → Bool →
 pub requests_are_bounded : (site : Site) → RequestsAreBounded site
 requests_are_bounded site kind canon x y r result fresh outermost h =
     let counted = served_keeps site Counts (counting.law site) MAX_NESTING (λ x. (sym (zero-add x.calls), λ below. below))
-      (λ kind canon. calls_are_counted site MAX_NESTING kind canon) kind canon x y r result h in
+    (λ kind canon. calls_are_counted site MAX_NESTING kind canon) kind canon x y r result h in
     let nested = served_keeps site Nests (nests site) MAX_NESTING (λ x. (λ _. refl, tt)) (λ kind canon. nests_tree site MAX_NESTING kind canon) kind canon x y r result h in
     let sum : y.calls ≡ count_all r + x.calls = counted.0 in
     let below : y.calls ≤ MAX_CALLS = counted.1 (subst (λ n. n ≤ MAX_CALLS) (sym fresh) (lit≤ tt)) in (

@@ -1,13 +1,11 @@
 -- What changing calls leave as it is.
-use Rattle.std.specs.Prelude.{◌==◌, not, ◌&&◌, nat_le, IsTrue}
-use Rattle.std.proofs.Common.{◌≡◌, ◌||◌, ℕ, Bool, true, false, List, [], ◌∷◌, ◌++◌, length, Result, Ok, Err, refl, sym, ap, ◌∙◌, subst, if◌then◌else◌}
+use Rattle.std.specs.Prelude.{not, ◌&&◌}
+use Rattle.std.proofs.Common.{◌≡◌, ◌||◌, Bool, true, false, List, [], ◌∷◌, ◌++◌, Result, Ok, Err, refl, sym, ap, ◌∙◌, subst, if◌then◌else◌}
 use Rattle.std.specs.List.{list_any}
 use Rattle.std.proofs.lemmas.List.Folds.{list_any-append}
-use Rattle.sv_exchange.specs.Changing.{Change, SetStatus, SetHeader, AddHeader, Write, SetAttribute, Flush, Changes, Reaches, after_all, answer, changed, field_answer, is_free, is_open, is_settable, left_by}
+use Rattle.sv_exchange.specs.Changing.{Change, SetStatus, SetHeader, AddHeader, Write, SetAttribute, Flush, Changes, Reaches, after_all, answer, changed, is_free, is_open, is_settable, left_by}
 use Rattle.sv_exchange.specs.Dispatches.{Leaves, entered, is_include, is_include_kind, is_within_include}
 use Rattle.sv_exchange.specs.Fields.{is_field, is_reserved_field}
-use Rattle.sv_exchange.specs.declared.dispatch.Dispatch.{Dispatch}
-use Rattle.sv_exchange.specs.declared.dispatch.Paths.{Paths}
 use Rattle.sv_exchange.specs.declared.exchange_fault.ExchangeFault.{ExchangeFault}
 use Rattle.sv_exchange.specs.declared.exchange_fault.ExchangeFault.TheVariants as faults
 use Rattle.sv_mapping.specs.declared.kind.Kind.{Kind}

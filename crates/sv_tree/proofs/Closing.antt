@@ -1,14 +1,12 @@
 -- Each filter that passed is called just once more, the last first.
-use Rattle.std.proofs.Common.{◌≡◌, ◌⊎◌, inl, inr, ℕ, suc, Bool, true, false, List, [], ◌∷◌, ◌++◌, Option, None, Some, refl, sym, ap, ◌∙◌, subst, if◌then◌else◌, ◌==◌, eq-eqb}
-use Rattle.sv_component.specs.Call.{Destroyed}
-use Rattle.sv_component.specs.Runs.{Record, OfServlet}
+use Rattle.std.proofs.Common.{◌≡◌, inl, inr, ℕ, Bool, true, List, [], ◌∷◌, ◌++◌, Option, None, Some, refl, sym, ap, ◌∙◌, subst, if◌then◌else◌, eq-eqb}
+use Rattle.sv_component.specs.Runs.{Record}
 use Rattle.sv_component.specs.declared.answers.Gate.{Gate}
 use Rattle.sv_component.specs.declared.answers.Gate.TheVariants as gates
 use Rattle.sv_component.specs.declared.answers.Step.{Step}
-use Rattle.sv_component.specs.declared.answers.Step.TheVariants as steps
 use Rattle.sv_mapping.specs.declared.kind.Kind.{Kind}
 use Rattle.sv_mapping.specs.declared.kind.Kind.TheVariants as kinds
-use Rattle.sv_tree.specs.Does.{Does, Then, ◌>>=◌, ◌>>◌, asks, becomes, choose, gives, refuses, wants_memory}
+use Rattle.sv_tree.specs.Does.{Does, ◌>>=◌, ◌>>◌, asks, becomes, gives, refuses}
 use Rattle.sv_tree.specs.Endings as endings
 use Rattle.sv_tree.specs.Filters as filters
 use Rattle.sv_tree.specs.Filters.{Reached, after_of, before_of}
@@ -22,7 +20,6 @@ use Rattle.sv_tree.specs.declared.finished.Finished.TheVariants.{Done}
 use Rattle.sv_tree.proofs.Doing.{absurd_result, becomes_then, chosen_then, not_true, same_result, wants_then}
 use Rattle.sv_tree.proofs.Keeping.{Opens, Steps, WithinKeeps, tree_keeps}
 use Rattle.sv_tree.proofs.Silence.{Silent, fails_silent, faults_silent, gives_silent}
-use Rattle.sv_uri.specs.declared.path.Canon.{Canon}
 
 owed-None : (s : List Record) → owed_then s None ≡ None
 owed-None [] = refl
@@ -71,9 +68,9 @@ ends_none : (passed : List ℕ) (ending : Does Finished) (x y : State) (r : List
     → filters.ends_behind passed ending x r y (Some reached) → (r ≡ []) × (reached.passed ≡ passed)
 ends_none passed ending x y r reached none (inr t) = absurd_result reached (sym t.1)
 ends_none passed ending x y r reached none (inl t) = (
-    t.is_joined ∙ ap (λ back. t.front ++ back) t.goes_on.0 ∙ ap (λ front. front ++ []) (none x t.between t.front (Some t.given) t.begins),
-    ap (λ reached. reached.passed) (same_result reached (record { passed = passed; ended = Some t.given }) t.goes_on.2),
-  )
+  t.is_joined ∙ ap (λ back. t.front ++ back) t.goes_on.0 ∙ ap (λ front. front ++ []) (none x t.between t.front (Some t.given) t.begins),
+  ap (λ reached. reached.passed) (same_result reached (record { passed = passed; ended = Some t.given }) t.goes_on.2),
+)
 
 module _ (site : Site) (resource : Resource) where
   ended_owes : (passed : List ℕ) (filter : ℕ) (gate : Gate) (ending : Does Finished) (before after : Exchange) (x y : State) (r : List Record) (reached : Reached) (owed : List ℕ)
@@ -86,7 +83,7 @@ module _ (site : Site) (resource : Resource) where
 
   gated_owes : (passed : List ℕ) (filter : ℕ) (gate : Gate) (next : Does Reached) (before after : Exchange)
       → ((x y : State) (r : List Record) (reached : Reached) (owed : List ℕ) → next x r y (Some reached)
-        → owed_then r (Some ((filter ∷ passed) ++ owed)) ≡ Some (reached.passed ++ owed))
+      → owed_then r (Some ((filter ∷ passed) ++ owed)) ≡ Some (reached.passed ++ owed))
       → (x y : State) (r : List Record) (reached : Reached) (owed : List ℕ) → filters.Gated site resource passed gate next x r y (Some reached)
       → owed_then (before_of filter before gate after ∷ r) (Some (passed ++ owed)) ≡ Some (reached.passed ++ owed)
   gated_owes passed filter gates.Pass next before after h x y r reached owed done = h x y r reached owed done
@@ -108,21 +105,21 @@ module _ (site : Site) (resource : Resource) where
       let call = (asks (before_of filter) >>= λ gate. filters.Gated site resource passed gate next) in
       chosen_then (is_full x) (filters.ends_behind passed ending) (becomes counted >> call) x y r (Some reached)
       (λ _ full. let none = ends_none passed ending x y r reached (faults_silent site resource DispatchLimit) full in
-        ap (λ s. owed_then s (Some (passed ++ owed))) none.0 ∙ ap (λ p. Some (p ++ owed)) (sym none.1))
+      ap (λ s. owed_then s (Some (passed ++ owed))) none.0 ∙ ap (λ p. Some (p ++ owed)) (sym none.1))
       (λ _ made. called (befores_owe (filter ∷ passed) chain) (becomes_then counted (λ _. call) x y r (Some reached) made)) h
     where
       called : ((x y : State) (r : List Record) (reached : Reached) (owed : List ℕ) → filters.Befores site resource (filter ∷ passed) chain x r y (Some reached)
-            → owed_then r (Some ((filter ∷ passed) ++ owed)) ≡ Some (reached.passed ++ owed))
+          → owed_then r (Some ((filter ∷ passed) ++ owed)) ≡ Some (reached.passed ++ owed))
           → (asks (before_of filter) >>= λ gate. filters.Gated site resource passed gate (filters.Befores site resource (filter ∷ passed) chain)) (counted x) r y (Some reached)
           → owed_then r (Some (passed ++ owed)) ≡ Some (reached.passed ++ owed)
       called rest (inr t) = absurd_result reached (sym t.1)
       called rest (inl t) =
           let asked = t.begins in
           elim asked.ends [
-            inl same ↦ ap (λ s. owed_then s (Some (passed ++ owed))) (t.is_joined ∙ ap (λ front. front ++ t.back) asked.is_made)
-              ∙ gated_owes passed filter asked.answer (filters.Befores site resource (filter ∷ passed) chain) x.exchange asked.exchange rest t.between y t.back reached owed
-              (subst (λ gate. filters.Gated site resource passed gate (filters.Befores site resource (filter ∷ passed) chain) t.between t.back y (Some reached))
-              (same_result t.given asked.answer same) t.goes_on)
+            | inl same ↦ ap (λ s. owed_then s (Some (passed ++ owed))) (t.is_joined ∙ ap (λ front. front ++ t.back) asked.is_made)
+                ∙ gated_owes passed filter asked.answer (filters.Befores site resource (filter ∷ passed) chain) x.exchange asked.exchange rest t.between y t.back reached owed
+                (subst (λ gate. filters.Gated site resource passed gate (filters.Befores site resource (filter ∷ passed) chain) t.between t.back y (Some reached))
+                (same_result t.given asked.answer same) t.goes_on)
             | inr none ↦ absurd_result t.given (sym none)
           ]
 
@@ -143,24 +140,27 @@ within_owes : (site : Site) → WithinKeeps site Closes
 within_owes site room inner resource kind canon responds x y r None h e = not_true e
 within_owes site room inner resource kind canon responds x y r (Some result) h e = λ owed.
     elim (wants_then (λ _. filters.Befores site resource [] chain >>= behind) x y r (Some result) h) [
-      inr not ↦ absurd_result result (sym not.2)
+      | inr not ↦ absurd_result result (sym not.2)
       | inl (inr t) ↦ absurd_result result (sym t.1)
       | inl (inl t) ↦ subst (λ s. owed_then s (Some owed) ≡ Some owed) (sym t.is_joined)
-        (owes-append t.front t.back owed (t.given.passed ++ owed) owed
-        (befores_owe site resource [] chain x t.between t.front t.given owed t.begins)
-        (rest owed t.between t.back t.given t.goes_on))
+          (owes-append t.front t.back owed (t.given.passed ++ owed) owed
+          (befores_owe site resource [] chain x t.between t.front t.given owed t.begins)
+          (rest owed t.between t.back t.given t.goes_on))
     ]
   where
     chain : List ℕ
     chain = site.chain canon.path (name_of site resource) kind
+
     behind : Reached → Does Finished
     behind reached = tree.Responds site room inner resource kind canon reached.ended >>= λ result. filters.Afters reached.passed >> gives result
+
     final : (owed : List ℕ) (passed : List ℕ) (value : Finished) (x y : State) (r : List Record)
         → (filters.Afters passed >> gives value) x r y (Some result) → owed_then r (Some (passed ++ owed)) ≡ Some owed
     final owed passed value x y r (inr t) = absurd_result result (sym t.1)
     final owed passed value x y r (inl t) =
         ap (λ s. owed_then s (Some (passed ++ owed))) (t.is_joined ∙ ap (λ back. t.front ++ back) t.goes_on.0)
         ∙ owes-append t.front [] (passed ++ owed) owed owed (afters_owe passed x t.between t.front t.given owed t.begins) refl
+
     rest : (owed : List ℕ) (x : State) (r : List Record) (reached : Reached) → behind reached x r y (Some result) → owed_then r (Some (reached.passed ++ owed)) ≡ Some owed
     rest owed x r reached (inr u) = absurd_result result (sym u.1)
     rest owed x r reached (inl u) =

@@ -1,19 +1,17 @@
 -- Calls are counted.
-use Rattle.std.proofs.Common.{◌≡◌, ℕ, zero, suc, ◌+◌, ◌≤◌, ◌<◌, Bool, true, false, List, [], ◌∷◌, ◌++◌, Option, None, Some, refl, sym, ap, ◌∙◌, subst, arith, zero-add}
+use Rattle.std.proofs.Common.{◌≡◌, ℕ, suc, ◌+◌, ◌≤◌, ◌<◌, Bool, true, false, List, [], ◌∷◌, ◌++◌, None, Some, sym, arith, zero-add}
 use Rattle.std.proofs.lemmas.Bool.{leb-false}
 use Rattle.sv_component.specs.Runs.{Record}
 use Rattle.sv_component.specs.declared.answers.Step.{Step}
 use Rattle.sv_component.specs.declared.answers.Step.TheVariants as steps
 use Rattle.sv_mapping.specs.declared.kind.Kind.{Kind}
 use Rattle.sv_mapping.specs.declared.kind.Kind.TheVariants as kinds
-use Rattle.sv_tree.specs.Laws.{CallsAreCounted, count, count_all}
+use Rattle.sv_tree.specs.Laws.{CallsAreCounted, count_all}
 use Rattle.sv_tree.specs.Site.{Site}
 use Rattle.sv_tree.specs.State.{Exchange, State, is_full}
-use Rattle.sv_tree.specs.Tree.{Tree, service_of}
-use Rattle.sv_tree.specs.declared.finished.Finished.{Finished}
+use Rattle.sv_tree.specs.Tree.{service_of}
 use Rattle.sv_tree.specs.declared.limits.TheConstants.{MAX_CALLS}
-use Rattle.sv_tree.proofs.Keeping.{FilterSteps, Keeps, Opens, Steps, away_by, called, came, tree_keeps, within_keeps}
-use Rattle.sv_uri.specs.declared.path.Canon.{Canon}
+use Rattle.sv_tree.proofs.Keeping.{FilterSteps, Opens, Steps, away_by, called, tree_keeps, within_keeps}
 
 abbrev pub Counts : ℕ → State → List Record → State → Bool → Type 0
 Counts room x r y b = (y.calls ≡ count_all r + x.calls) × (x.calls ≤ MAX_CALLS → y.calls ≤ MAX_CALLS)
@@ -47,10 +45,10 @@ module _ (site : Site) where
   law = record {
     stays = λ room x b. none_more x;
     joins = λ room x y z r s b one two.
-      let e : count_all (r ++ s) ≡ count_all r + count_all s = count-append r s in
-      let first : y.calls ≡ count_all r + x.calls = one.0 in
-      let second : z.calls ≡ count_all s + y.calls = two.0 in
-      (omega arith, λ h. two.1 (one.1 h));
+        let e : count_all (r ++ s) ≡ count_all r + count_all s = count-append r s in
+        let first : y.calls ≡ count_all r + x.calls = one.0 in
+        let second : z.calls ≡ count_all s + y.calls = two.0 in
+        (omega arith, λ h. two.1 (one.1 h));
     keeps = λ room x kept. none_more x;
     makes = λ room x change. none_more x;
     empties = λ room x. none_more x;

@@ -1,7 +1,7 @@
 -- What was done, step by step.
-use Rattle.std.proofs.Common.{◌≡◌, ◌⊎◌, inl, inr, ℕ, Bool, true, false, List, [], ◌∷◌, ◌++◌, Option, None, Some, refl, sym, ap, ◌∙◌, subst}
+use Rattle.std.proofs.Common.{◌≡◌, ◌⊎◌, inl, inr, Bool, true, false, List, [], ◌++◌, Option, None, Some, refl, sym, ap, ◌∙◌, subst}
 use Rattle.sv_component.specs.Runs.{Record}
-use Rattle.sv_tree.specs.Does.{Does, Then, ◌>>=◌, choose, gives, becomes, tries, wants_memory}
+use Rattle.sv_tree.specs.Does.{Does, ◌>>=◌, choose, becomes, tries, wants_memory}
 use Rattle.sv_tree.specs.State.{State}
 
 pub absurd_result : {A P : Type 0} (value : A) → None ≡ Some value → P
@@ -33,8 +33,8 @@ pub tries_then : {B : Type 0} (change : State → State) (next : Unit {0} → Do
     → next tt (change before) calls after result ⊎ ((calls ≡ []) × (after ≡ before) × (result ≡ None))
 tries_then change next before after calls result (inl t) =
     inl (elim t.begins.1 [
-      inl done ↦ subst (λ s. next tt s calls after result) done.0
-        (subst (λ r. next tt t.between r after result) (sym (t.is_joined ∙ ap (λ front. front ++ t.back) t.begins.0)) t.goes_on)
+      | inl done ↦ subst (λ s. next tt s calls after result) done.0
+          (subst (λ r. next tt t.between r after result) (sym (t.is_joined ∙ ap (λ front. front ++ t.back) t.begins.0)) t.goes_on)
       | inr not ↦ absurd_result tt (sym not.1)
     ])
 tries_then change next before after calls result (inr t) =

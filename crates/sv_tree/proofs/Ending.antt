@@ -1,6 +1,6 @@
 -- In what a dispatch ends, and what is kept of it.
 use Rattle.std.specs.Prelude.{codes, decimal, length}
-use Rattle.std.proofs.Common.{◌≡◌, ◌⊎◌, inl, inr, ℕ, zero, suc, ◌-◌, Bool, true, false, List, [], ◌∷◌, ◌++◌, Option, None, Some, Result, Ok, Err, refl, sym, ap, ◌∙◌, subst}
+use Rattle.std.proofs.Common.{◌≡◌, inl, inr, ℕ, zero, suc, ◌-◌, Bool, true, false, List, [], ◌∷◌, Option, None, Some, Result, Ok, Err, refl, sym, ap, ◌∙◌, subst}
 use Rattle.sv_component.specs.Runs.{Record}
 use Rattle.sv_component.specs.declared.answers.Gate.{Gate}
 use Rattle.sv_component.specs.declared.answers.Gate.TheVariants as gates
@@ -10,14 +10,14 @@ use Rattle.sv_exchange.specs.Changing.{SetHeader, SetStatus, Write, has_room}
 use Rattle.sv_exchange.specs.Dispatches.{Leaves, is_within_include}
 use Rattle.sv_mapping.specs.declared.kind.Kind.{Kind}
 use Rattle.sv_mapping.specs.declared.kind.Kind.TheVariants as kinds
-use Rattle.sv_tree.specs.Does.{Does, Then, ◌>>=◌, ◌>>◌, asks, becomes, choose, gives, leaves, makes, refuses, tries, wants_memory}
+use Rattle.sv_tree.specs.Does.{Does, ◌>>=◌, ◌>>◌, asks, becomes, choose, gives, leaves, makes, refuses, tries, wants_memory}
 use Rattle.sv_tree.specs.Endings as endings
 use Rattle.sv_tree.specs.Endings.{error_status}
 use Rattle.sv_tree.specs.Faults.{fault_name}
 use Rattle.sv_tree.specs.Files as files
 use Rattle.sv_tree.specs.Filters as filters
 use Rattle.sv_tree.specs.Filters.{Reached, after_of, before_of}
-use Rattle.sv_tree.specs.Laws.{EndingsAreKept, IncludesEndInNoError, KeepsEnding, SameRequest, is_error, is_included}
+use Rattle.sv_tree.specs.Laws.{EndingsAreKept, IncludesEndInNoError, KeepsEnding, SameRequest, is_error}
 use Rattle.sv_tree.specs.Site.{Resource, Servlet, Files, FileAnswer, File, Redirect, Missing, NotAllowed, Site, begun, chosen, name_of}
 use Rattle.sv_tree.specs.State.{Exchange, Kept, State, Standing, Serving, Gone, Away, away_for, counted, is_full, on_exchange, standing_at, with_exchange, with_kept}
 use Rattle.sv_tree.specs.Tree as tree
@@ -27,7 +27,7 @@ use Rattle.sv_tree.specs.declared.dispatch_fault.DispatchFault.TheVariants.{Disp
 use Rattle.sv_tree.specs.declared.finished.Finished.{Finished}
 use Rattle.sv_tree.specs.declared.finished.Finished.TheVariants.{Done, Error, Failed}
 use Rattle.sv_tree.specs.declared.limits.TheConstants.{FOUND, INTERNAL_SERVER_ERROR, METHOD_NOT_ALLOWED, NOT_FOUND, SERVICE_UNAVAILABLE}
-use Rattle.sv_tree.proofs.Changing.{same_dispatches, still_within, unchanged, within_begun, within_left}
+use Rattle.sv_tree.proofs.Changing.{still_within, unchanged, within_begun, within_left}
 use Rattle.sv_tree.proofs.Doing.{absurd_result, chosen_then, same_result, tries_then}
 use Rattle.sv_tree.proofs.Keeping.{inside_keeps, within_keeps}
 use Rattle.sv_tree.proofs.Nesting.{Shows, filters_show, shows}
@@ -80,7 +80,7 @@ module _ (site : Site) (P : State → Finished → Type 0) where
       → (endings.keeps kept >> gives value) x r y (Some finished) → P y finished
   kept_ends kept value x y r finished h does =
       elim (tries_then (with_kept kept) (λ _. gives value) x y r (Some finished) does) [
-        inl done ↦ given_ends value (with_kept kept x) y r finished h done
+        | inl done ↦ given_ends value (with_kept kept x) y r finished h done
         | inr not ↦ absurd_result finished (sym not.2)
       ]
 
@@ -246,7 +246,7 @@ module _ (site : Site) (P : State → Finished → Type 0) where
       afters_same (filter ∷ chain) x y r given (inr t) = absurd_result given (sym t.1)
       afters_same (filter ∷ chain) x y r given (inl t) =
           let rest = chosen_then t.given (filters.Afters chain) refuses t.between y t.back (Some given)
-            (λ _ on. afters_same chain t.between y t.back given on) (λ _ ended. absurd_result given (sym ended.2)) t.goes_on in (
+          (λ _ on. afters_same chain t.between y t.back given on) (λ _ ended. absurd_result given (sym ended.2)) t.goes_on in (
             rest.0 ∙ ap (λ s. s.kept) t.begins.is,
             rest.1 ∙ (ap (λ s. s.exchange.dispatches) t.begins.is ∙ (unchanged x.exchange t.begins.exchange t.begins.changes).0.dispatches),
           )
@@ -270,12 +270,12 @@ module _ (site : Site) (P : State → Finished → Type 0) where
           let chain = site.chain canon.path (name_of site resource) kind in
           then_ends wants_memory
           (λ _. filters.Befores site resource [] chain
-            >>= λ reached. tree.Responds site room inner resource kind canon reached.ended >>= λ result. filters.Afters reached.passed >> gives result)
+          >>= λ reached. tree.Responds site room inner resource kind canon reached.ended >>= λ result. filters.Afters reached.passed >> gives result)
           (λ _ x y r finished h. opened chain x y r finished h)
         where
           opened : (chain : List ℕ) (x y : State) (r : List Record) (finished : Finished)
               → (filters.Befores site resource [] chain
-                >>= λ reached. tree.Responds site room inner resource kind canon reached.ended >>= λ result. filters.Afters reached.passed >> gives result) x r y (Some finished)
+              >>= λ reached. tree.Responds site room inner resource kind canon reached.ended >>= λ result. filters.Afters reached.passed >> gives result) x r y (Some finished)
               → P y finished
           opened chain x y r finished (inr t) = absurd_result finished (sym t.1)
           opened chain x y r finished (inl t) =
@@ -311,14 +311,14 @@ module _ (site : Site) (P : State → Finished → Type 0) where
     inside_ends R zero kind canon x y r finished from h = absurd h
     inside_ends R (suc room) kind canon x y r finished from h =
         elim (tries_then (on_exchange (begun site kind canon))
-            (λ _. tree.Within site room (Tree site room) (chosen site canon.path).resource kind canon >>= λ finished. leaves >> gives finished) x y r (Some finished) h) [
-          inr not ↦ absurd_result finished (sym not.2)
+        (λ _. tree.Within site room (Tree site room) (chosen site canon.path).resource kind canon >>= λ finished. leaves >> gives finished) x y r (Some finished) h) [
+          | inr not ↦ absurd_result finished (sym not.2)
           | inl (inr t) ↦ absurd_result finished (sym t.1)
           | inl (inl t) ↦ let same = same_end t.given t.between y t.back t.goes_on in
-            from t.between
-            (inside_keeps site Shows (shows site) (within_keeps site Shows (shows site) (filters_show site)) room kind canon
+              from t.between
+              (inside_keeps site Shows (shows site) (within_keeps site Shows (shows site) (filters_show site)) room kind canon
               (on_exchange (begun site kind canon) x) t.between t.front (Some t.given) t.begins refl)
-            (subst (P t.between) (sym same) (within_ends room (Tree site room) (tree_ends room) (chosen site canon.path).resource kind canon
+              (subst (P t.between) (sym same) (within_ends room (Tree site room) (tree_ends room) (chosen site canon.path).resource kind canon
               (on_exchange (begun site kind canon) x) t.between t.front t.given t.begins))
         ]
       where

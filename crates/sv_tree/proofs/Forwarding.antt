@@ -1,13 +1,11 @@
 -- A forward begins with an empty buffer.
-use Rattle.std.proofs.Common.{◌≡◌, ◌⊎◌, inl, inr, ℕ, zero, suc, ◌-◌, Bool, true, false, List, [], ◌∷◌, ◌++◌, Option, None, Some, refl, sym, ap, ◌∙◌, subst}
+use Rattle.std.proofs.Common.{◌≡◌, ◌⊎◌, inl, inr, ℕ, zero, suc, ◌-◌, List, [], ◌∷◌, ◌++◌, Option, None, Some, refl, sym, ap, ◌∙◌, subst}
 use Rattle.std.specs.Prelude.{codes, decimal}
 use Rattle.std.proofs.lemmas.List.{append-nil}
 use Rattle.sv_component.specs.Runs.{Record}
-use Rattle.sv_component.specs.declared.answers.Gate.{Gate}
-use Rattle.sv_component.specs.declared.answers.Step.{Step}
 use Rattle.sv_mapping.specs.declared.kind.Kind.{Kind}
 use Rattle.sv_mapping.specs.declared.kind.Kind.TheVariants as kinds
-use Rattle.sv_tree.specs.Does.{Does, Then, ◌>>=◌, ◌>>◌, asks, becomes, choose, gives, leaves, wants_memory}
+use Rattle.sv_tree.specs.Does.{Does, ◌>>=◌, ◌>>◌, asks, becomes, gives, leaves}
 use Rattle.sv_tree.specs.Endings as endings
 use Rattle.sv_tree.specs.Files as files
 use Rattle.sv_tree.specs.Filters as filters
@@ -56,9 +54,9 @@ module _ (site : Site) (resource : Resource) where
   behind_passes : (ending : Does Finished) → Silent ending → (x y : State) (r : List Record) (result : Option Reached)
       → filters.ends_behind [] ending x r y result → Passes x y r result
   behind_passes ending silent x y r result (inl t) = (
-      behind_silent [] ending silent x y r result (inl t),
-      inr (record { passed = []; ended = Some t.given }, t.goes_on.2, refl, inl (t.given, refl)),
-    )
+    behind_silent [] ending silent x y r result (inl t),
+    inr (record { passed = []; ended = Some t.given }, t.goes_on.2, refl, inl (t.given, refl)),
+  )
   behind_passes ending silent x y r result (inr t) = (behind_silent [] ending silent x y r result (inr t), inl t.1)
 
   befores_begin : (chain : List ℕ) (x y : State) (r : List Record) (result : Option Reached) → x.exchange.buffer ≡ []
@@ -74,11 +72,11 @@ module _ (site : Site) (resource : Resource) where
     where
       called : (asks (before_of filter) >>= λ gate. filters.Gated site resource [] gate (filters.Befores site resource (filter ∷ []) chain)) (counted x) r y result → Begun r
       called (inl t) = (
-          before_of filter x.exchange t.begins.answer t.begins.exchange,
-          t.back,
-          t.is_joined ∙ ap (λ front. front ++ t.back) t.begins.is_made,
-          empty,
-        )
+        before_of filter x.exchange t.begins.answer t.begins.exchange,
+        t.back,
+        t.is_joined ∙ ap (λ front. front ++ t.back) t.begins.is_made,
+        empty,
+      )
       called (inr t) = (before_of filter x.exchange t.0.answer t.0.exchange, [], t.0.is_made, empty)
 
 module _ (site : Site) (room : ℕ) (inner : Kind → Canon → Does Finished) where
@@ -103,11 +101,11 @@ module _ (site : Site) (room : ℕ) (inner : Kind → Canon → Does Finished) w
     where
       called : (asks (service_of place turn) >>= tree.Stepped site room inner place) (counted x) r y result → Begun r
       called (inl t) = (
-          service_of place turn x.exchange t.begins.answer t.begins.exchange,
-          t.back,
-          t.is_joined ∙ ap (λ front. front ++ t.back) t.begins.is_made,
-          empty,
-        )
+        service_of place turn x.exchange t.begins.answer t.begins.exchange,
+        t.back,
+        t.is_joined ∙ ap (λ front. front ++ t.back) t.begins.is_made,
+        empty,
+      )
       called (inr t) = (service_of place turn x.exchange t.0.answer t.0.exchange, [], t.0.is_made, empty)
 
   continued_none : (ended : Option Finished) (finished : Finished) (next : Does Finished) (x y : State) (r : List Record) (result : Option Finished) → ended ≡ Some finished
@@ -120,7 +118,7 @@ module _ (site : Site) (room : ℕ) (inner : Kind → Canon → Does Finished) w
   turns_begin place (suc left) x y r result empty (inr t) = elim (turn_begins place 0 x y r None empty t.0) [ inl begins ↦ inl begins | inr ended ↦ inr ended.0 ]
   turns_begin place (suc left) x y r result empty (inl t) =
       elim (turn_begins place 0 x t.between t.front (Some t.given) empty t.begins) [
-        inl begins ↦ inl (begun_more r t.front t.back t.is_joined begins)
+        | inl begins ↦ inl (begun_more r t.front t.back t.is_joined begins)
         | inr ended ↦ inr (t.is_joined ∙ ap (λ s. s ++ t.back) ended.0 ∙ rest ended.1)
       ]
     where
@@ -133,7 +131,7 @@ module _ (site : Site) (room : ℕ) (inner : Kind → Canon → Does Finished) w
   responds_begins (Servlet place) kind canon x y r result empty h = turns_begin place h.0 x y r result empty h.1
   responds_begins Files kind canon x y r result empty h =
       elim (wants_then (λ _ state. files.Filed site kind (site.file canon state.exchange.method kind) state) x y r result h) [
-        inl done ↦ inr (filed_silent site kind (site.file canon x.exchange.method kind) x y r result done)
+        | inl done ↦ inr (filed_silent site kind (site.file canon x.exchange.method kind) x y r result done)
         | inr not ↦ inr not.0
       ]
 
@@ -164,8 +162,8 @@ module _ (site : Site) (room : ℕ) (inner : Kind → Canon → Does Finished) w
       → (tree.Responds site room inner resource kind canon reached.ended >>= λ value. filters.Afters reached.passed >> gives value) x r y result → Begun r ⊎ (r ≡ [])
   behind_begins resource kind canon reached x y r result empty none going (inl t) =
       elim (responds_begins resource kind canon x t.between t.front (Some t.given) empty
-          (subst (λ o. tree.Responds site room inner resource kind canon o x t.front t.between (Some t.given)) going t.begins)) [
-        inl begins ↦ inl (begun_more r t.front t.back t.is_joined begins)
+      (subst (λ o. tree.Responds site room inner resource kind canon o x t.front t.between (Some t.given)) going t.begins)) [
+        | inl begins ↦ inl (begun_more r t.front t.back t.is_joined begins)
         | inr silent ↦ inr (t.is_joined ∙ ap (λ s. t.front ++ s) (afters_none reached.passed t.given t.between y t.back result none t.goes_on) ∙ ap (λ s. s ++ []) silent)
       ]
   behind_begins resource kind canon reached x y r result empty none going (inr t) =
@@ -175,24 +173,26 @@ module _ (site : Site) (room : ℕ) (inner : Kind → Canon → Does Finished) w
       → tree.Within site room inner resource kind canon x r y result → BeginsWith [] r
   within_begins resource kind canon x y r result empty h =
       elim (wants_then (λ _. filters.Befores site resource [] chain >>= behind) x y r result h) [
-        inr not ↦ none_begins r not.0
+        | inr not ↦ none_begins r not.0
         | inl (inr t) ↦ elim (befores_begin site resource chain x y r None empty t.0) [
-          inl begins ↦ begun_begins r begins
+          | inl begins ↦ begun_begins r begins
           | inr passes ↦ none_begins r passes.0
         ]
         | inl (inl t) ↦ elim (befores_begin site resource chain x t.between t.front (Some t.given) empty t.begins) [
-          inl begins ↦ begun_begins r (begun_more r t.front t.back t.is_joined begins)
+          | inl begins ↦ begun_begins r (begun_more r t.front t.back t.is_joined begins)
           | inr passes ↦ rest t.given t.between t.back t.goes_on passes.1 (t.is_joined ∙ ap (λ s. s ++ t.back) passes.0)
         ]
       ]
     where
       chain : List ℕ
       chain = site.chain canon.path (name_of site resource) kind
+
       behind : Reached → Does Finished
       behind reached = tree.Responds site room inner resource kind canon reached.ended >>= λ value. filters.Afters reached.passed >> gives value
+
       rest : (given : Reached) (between : State) (back : List Record) → behind given between back y result
           → ((Some given ≡ None) ⊎ ((reached : Reached) × (Some given ≡ Some reached) × (reached.passed ≡ [])
-            × (((finished : Finished) × (reached.ended ≡ Some finished)) ⊎ ((reached.ended ≡ None) × (between ≡ x)))))
+          × (((finished : Finished) × (reached.ended ≡ Some finished)) ⊎ ((reached.ended ≡ None) × (between ≡ x)))))
           → r ≡ back → BeginsWith [] r
       rest given between back done (inl none) joined = absurd_result given (sym none)
       rest given between back done (inr (reached, is, none, inl ended)) joined =
@@ -202,19 +202,19 @@ module _ (site : Site) (room : ℕ) (inner : Kind → Canon → Does Finished) w
       rest given between back done (inr (reached, is, none, inr going)) joined =
           let same = same_result given reached is in
           elim (behind_begins resource kind canon given between y back result (ap (λ s. s.exchange.buffer) going.1 ∙ empty)
-              (ap (λ g. g.passed) same ∙ none) (ap (λ g. g.ended) same ∙ going.0) done) [
-            inl begins ↦ begun_begins r (subst Begun (sym joined) begins)
+          (ap (λ g. g.passed) same ∙ none) (ap (λ g. g.ended) same ∙ going.0) done) [
+            | inl begins ↦ begun_begins r (subst Begun (sym joined) begins)
             | inr silent ↦ none_begins r (joined ∙ silent)
           ]
 
   dispatch_begins : (canon : Canon) (x y : State) (r : List Record) (result : Option Finished) → tree.Dispatch site room inner kinds.Forward canon x r y result → BeginsWith [] r
   dispatch_begins canon x y r result h =
       elim (tries_then (on_exchange (begun site kinds.Forward canon))
-          (λ _. tree.Within site room inner (chosen site canon.path).resource kinds.Forward canon >>= λ finished. leaves >> gives finished) x y r result h) [
-        inr not ↦ none_begins r not.0
+      (λ _. tree.Within site room inner (chosen site canon.path).resource kinds.Forward canon >>= λ finished. leaves >> gives finished) x y r result h) [
+        | inr not ↦ none_begins r not.0
         | inl (inr t) ↦ within_begins (chosen site canon.path).resource kinds.Forward canon (on_exchange (begun site kinds.Forward canon) x) y r None refl t.0
         | inl (inl t) ↦ subst (BeginsWith []) (sym (t.is_joined ∙ ap (λ s. t.front ++ s) (left_none t.given t.between t.back t.goes_on) ∙ append-nil t.front))
-          (within_begins (chosen site canon.path).resource kinds.Forward canon (on_exchange (begun site kinds.Forward canon) x) t.between t.front (Some t.given) refl t.begins)
+            (within_begins (chosen site canon.path).resource kinds.Forward canon (on_exchange (begun site kinds.Forward canon) x) t.between t.front (Some t.given) refl t.begins)
       ]
     where
       left_none : (value : Finished) (x : State) (r : List Record) → (leaves >> gives value) x r y result → r ≡ []

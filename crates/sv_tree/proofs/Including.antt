@@ -1,5 +1,5 @@
 -- Includes change neither status nor fields.
-use Rattle.std.proofs.Common.{◌≡◌, ℕ, zero, suc, Bool, true, false, List, [], ◌∷◌, ◌++◌, Option, None, Some, refl, sym, ap, ◌∙◌, subst}
+use Rattle.std.proofs.Common.{◌≡◌, ℕ, Bool, true, false, List, None, Some, refl, sym, ap, ◌∙◌}
 use Rattle.sv_component.specs.Runs.{Record}
 use Rattle.sv_component.specs.declared.answers.Step.{Step}
 use Rattle.sv_component.specs.declared.answers.Step.TheVariants as steps
@@ -10,10 +10,9 @@ use Rattle.sv_mapping.specs.declared.kind.Kind.TheVariants as kinds
 use Rattle.sv_tree.specs.Laws.{IncludesKeep, is_included}
 use Rattle.sv_tree.specs.Site.{Site, begun, paths_in}
 use Rattle.sv_tree.specs.State.{Exchange, State, on_exchange}
-use Rattle.sv_tree.specs.declared.finished.Finished.{Finished}
 use Rattle.sv_tree.proofs.Changing.{SameHead, Unchanged, emptied_head, emptied_unchanged, made_unchanged, same_dispatches, still_within, unchanged, within_begun, within_inner}
 use Rattle.sv_tree.proofs.Doing.{not_true}
-use Rattle.sv_tree.proofs.Keeping.{FilterSteps, Opens, Steps, away_by, called, came, tree_gives, within_keeps}
+use Rattle.sv_tree.proofs.Keeping.{FilterSteps, Opens, Steps, away_by, called, tree_gives, within_keeps}
 use Rattle.sv_uri.specs.declared.path.Canon.{Canon}
 
 abbrev Includes : ℕ → State → List Record → State → Bool → Type 0

@@ -1,7 +1,7 @@
 -- What each step keeps, a dispatch keeps.
 use Rattle.std.specs.Prelude.{codes, decimal, length}
 use Rattle.std.proofs.lemmas.List.{append-nil}
-use Rattle.std.proofs.Common.{◌≡◌, ◌⊎◌, inl, inr, ℕ, zero, suc, ◌-◌, Bool, true, false, List, [], ◌∷◌, ◌++◌, Option, None, Some, Result, Ok, Err, refl, sym, ap, ◌∙◌, subst}
+use Rattle.std.proofs.Common.{◌≡◌, inl, inr, ℕ, zero, suc, ◌-◌, Bool, true, false, List, [], ◌∷◌, ◌++◌, Option, None, Some, Result, Ok, Err, refl, sym, ap, ◌∙◌, subst}
 use Rattle.sv_component.specs.Call.{Destroyed}
 use Rattle.sv_component.specs.Runs.{Record, OfServlet}
 use Rattle.sv_component.specs.declared.answers.Gate.{Gate}
@@ -12,7 +12,7 @@ use Rattle.sv_exchange.specs.Changing.{Change, SetHeader, SetStatus, Write, Chan
 use Rattle.sv_exchange.specs.Dispatches.{Leaves, is_within_include}
 use Rattle.sv_mapping.specs.declared.kind.Kind.{Kind}
 use Rattle.sv_mapping.specs.declared.kind.Kind.TheVariants as kinds
-use Rattle.sv_tree.specs.Does.{Does, Then, ◌>>=◌, ◌>>◌, Asks, asks, becomes, choose, gives, leaves, makes, refuses, tries, wants_memory}
+use Rattle.sv_tree.specs.Does.{Does, ◌>>=◌, ◌>>◌, Asks, asks, becomes, choose, gives, leaves, makes, refuses, tries, wants_memory}
 use Rattle.sv_tree.specs.Endings as endings
 use Rattle.sv_tree.specs.Endings.{error_status}
 use Rattle.sv_tree.specs.Faults.{fault_name}
@@ -29,7 +29,7 @@ use Rattle.sv_tree.specs.declared.finished.Finished.{Finished}
 use Rattle.sv_tree.specs.declared.finished.Finished.TheVariants.{Done, Error, Failed}
 use Rattle.sv_tree.specs.declared.limits.TheConstants.{FOUND, METHOD_NOT_ALLOWED, NOT_FOUND, SERVICE_UNAVAILABLE, INTERNAL_SERVER_ERROR}
 use Rattle.sv_tree.proofs.Changing.{unchanged}
-use Rattle.sv_tree.proofs.Doing.{absurd_result, becomes_then, chosen_then, tries_then, wants_then}
+use Rattle.sv_tree.proofs.Doing.{absurd_result, becomes_then, chosen_then, tries_then}
 use Rattle.sv_uri.specs.declared.path.Canon.{Canon}
 use Rattle.sv_wire.specs.ResponseText.{phrase_of}
 
@@ -113,7 +113,7 @@ module _ (site : Site) (Q : ℕ → State → List Record → State → Bool →
     pub tries_keeps : (change : State → State) → ((x : State) → Q room x [] (change x) true) → Keeps room (tries change)
     tries_keeps change kept x y r result h =
         elim h.1 [
-          inl done ↦ changed_keeps change x y r tt result (kept x) h.0 done.0 done.1
+          | inl done ↦ changed_keeps change x y r tt result (kept x) h.0 done.0 done.1
           | inr not ↦ same_keeps x y r result h.0 not.0
         ]
 
@@ -292,10 +292,10 @@ module _ (site : Site) (Q : ℕ → State → List Record → State → Bool →
       made place turn x y r result left serving (inl t) =
           let call = t.begins in
           elim call.ends [
-            inl same ↦ subst (λ s. Q room x s y (came result)) (sym (t.is_joined ∙ ap (λ front. front ++ t.back) call.is_made))
-              (stepped_keeps place turn x call.exchange left serving call.changes call.answer y t.back result
-              (subst (λ s. tree.Stepped site room inner place call.answer s t.back y result) call.is
-              (subst (λ step. tree.Stepped site room inner place step t.between t.back y result) (given same) t.goes_on)))
+            | inl same ↦ subst (λ s. Q room x s y (came result)) (sym (t.is_joined ∙ ap (λ front. front ++ t.back) call.is_made))
+                (stepped_keeps place turn x call.exchange left serving call.changes call.answer y t.back result
+                (subst (λ s. tree.Stepped site room inner place call.answer s t.back y result) call.is
+                (subst (λ step. tree.Stepped site room inner place step t.between t.back y result) (given same) t.goes_on)))
             | inr none ↦ absurd_result t.given (sym none)
           ]
         where
@@ -429,7 +429,7 @@ module _ (site : Site) (Q : ℕ → State → List Record → State → Bool →
     dispatch_gives inner kept x y r result h =
         let within = tree.Within site room inner (chosen site canon.path).resource kind canon in
         elim (tries_then (on_exchange (begun site kind canon)) (λ _. within >>= λ finished. leaves >> gives finished) x y r result h) [
-          inr not ↦ subst (λ o. given x r y (came o)) (sym not.2) (subst (λ s. given x r s false) (sym not.1) (subst (λ s. given x s x false) (sym not.0) (opens.stays x)))
+          | inr not ↦ subst (λ o. given x r y (came o)) (sym not.2) (subst (λ s. given x r s false) (sym not.1) (subst (λ s. given x s x false) (sym not.0) (opens.stays x)))
           | inl done ↦ begun_gives within x y r result kept done
         ]
 

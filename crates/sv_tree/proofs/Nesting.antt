@@ -1,6 +1,6 @@
 -- Dispatches stand one within another, and what they show lasts to their end.
 use Rattle.std.specs.Prelude.{length}
-use Rattle.std.proofs.Common.{◌≡◌, ℕ, zero, suc, ◌+◌, ◌≤◌, Bool, true, false, List, [], ◌∷◌, ◌++◌, Option, None, Some, refl, sym, ap, ◌∙◌, subst, arith}
+use Rattle.std.proofs.Common.{◌≡◌, ℕ, suc, ◌+◌, ◌≤◌, Bool, true, List, [], ◌∷◌, ◌++◌, Option, None, Some, refl, sym, ap, ◌∙◌, subst, arith}
 use Rattle.std.proofs.lemmas.List.{length-append}
 use Rattle.sv_component.specs.Runs.{Record}
 use Rattle.sv_component.specs.declared.answers.Step.{Step}
@@ -16,7 +16,7 @@ use Rattle.sv_tree.specs.Tree.{Tree, service_of}
 use Rattle.sv_tree.specs.declared.finished.Finished.{Finished}
 use Rattle.sv_tree.proofs.Changing.{begun_dispatches, emptied_request, emptied_unchanged, made_unchanged, request_then, same_dispatches, same_request, unchanged}
 use Rattle.sv_tree.proofs.Doing.{not_true}
-use Rattle.sv_tree.proofs.Keeping.{FilterSteps, Opens, OpensTo, Steps, away_by, called, came, inside_keeps, tree_gives, tree_keeps, within_keeps}
+use Rattle.sv_tree.proofs.Keeping.{FilterSteps, Opens, Steps, away_by, called, came, tree_gives, tree_keeps, within_keeps}
 use Rattle.sv_uri.specs.declared.path.Canon.{Canon}
 
 -- what an exchange shows stays
@@ -52,7 +52,13 @@ module _ (site : Site) where
   forward_shows room canon = record {
     stays = λ x b. not_true b;
     ends = λ x y z r h left b. let same = dispatch_shows kinds.Forward canon x.exchange y.exchange z (h refl) left in record {
-      method = same.method; context_path = same.context_path; request_fields = same.request_fields; moment = same.moment; client = same.client; dispatches = same.dispatches };
+      method = same.method;
+      context_path = same.context_path;
+      request_fields = same.request_fields;
+      moment = same.moment;
+      client = same.client;
+      dispatches = same.dispatches;
+    };
     breaks = λ x y r h b. not_true b;
   }
 
@@ -60,7 +66,13 @@ module _ (site : Site) where
   include_shows room canon = record {
     stays = λ x b. not_true b;
     ends = λ x y z r h left b. let same = dispatch_shows kinds.Include canon x.exchange y.exchange z (h refl) left in record {
-      method = same.method; context_path = same.context_path; request_fields = same.request_fields; moment = same.moment; client = same.client; dispatches = same.dispatches };
+      method = same.method;
+      context_path = same.context_path;
+      request_fields = same.request_fields;
+      moment = same.moment;
+      client = same.client;
+      dispatches = same.dispatches;
+    };
     breaks = λ x y r h b. not_true b;
   }
 
@@ -118,7 +130,7 @@ module _ (site : Site) where
       → length (begun site kind canon x).dispatches + room ≡ length x.dispatches + suc room
   deeper room kind canon x =
       let longer : length (begun site kind canon x).dispatches ≡ length x.dispatches + 1 =
-        ap length (begun_dispatches site kind canon x) ∙ length-append x.dispatches ((record { kind = kind; paths = paths_in site canon x }) ∷ []) in
+      ap length (begun_dispatches site kind canon x) ∙ length-append x.dispatches ((record { kind = kind; paths = paths_in site canon x }) ∷ []) in
       omega arith
 
   pub nest_opens : (kind : Kind) → Opens site Nests kind

@@ -1,8 +1,7 @@
 -- Servlets are called only while they are in service.
 use Rattle.std.specs.Prelude.{slice_set}
-use Rattle.std.proofs.Common.{◌≡◌, ℕ, zero, suc, ◌+◌, Bool, true, false, List, [], ◌∷◌, ◌++◌, Option, None, Some, refl, sym, ap, ◌∙◌, subst}
-use Rattle.sv_component.specs.Call.{Destroyed}
-use Rattle.sv_component.specs.Runs.{Record, OfServlet}
+use Rattle.std.proofs.Common.{◌≡◌, ℕ, ◌+◌, Bool, true, false, List, [], ◌∷◌, ◌++◌, None, Some, refl, sym, ap, ◌∙◌, subst}
+use Rattle.sv_component.specs.Runs.{Record}
 use Rattle.sv_component.specs.declared.answers.Step.{Step}
 use Rattle.sv_component.specs.declared.answers.Step.TheVariants as steps
 use Rattle.sv_exchange.specs.Changing.{Changes}
@@ -13,7 +12,6 @@ use Rattle.sv_tree.specs.Laws.{AreOfServing, OnlyServingAreCalled, stands_after,
 use Rattle.sv_tree.specs.Site.{Site, begun, paths_in}
 use Rattle.sv_tree.specs.State.{Exchange, State, Standing, Serving, Away, on_exchange}
 use Rattle.sv_tree.specs.Tree.{service_of}
-use Rattle.sv_tree.specs.declared.finished.Finished.{Finished}
 use Rattle.sv_tree.proofs.Changing.{emptied_request, emptied_unchanged, made_unchanged, unchanged}
 use Rattle.sv_tree.proofs.Doing.{not_true}
 use Rattle.sv_tree.proofs.Keeping.{FilterSteps, Opens, Steps, away_by, called, came, stands, tree_keeps, within_keeps}
@@ -39,9 +37,9 @@ serve_joins : (room : ℕ) (x y z : State) (r s : List Record) (b : Bool) → Se
 serve_joins room x y z r s b one two =
     let moment = x.exchange.moment in
     let second = subst (λ standings. AreOfServing y.exchange.moment standings s × (b ≡ true → z.standings ≡ stands_after_all y.exchange.moment s standings))
-      (one.1 refl) (two.0, two.1) in
+    (one.1 refl) (two.0, two.1) in
     let last = subst (λ m. AreOfServing m (stands_after_all moment r x.standings) s × (b ≡ true → z.standings ≡ stands_after_all m s (stands_after_all moment r x.standings)))
-      one.2 second in (
+    one.2 second in (
       serving-append moment r s x.standings one.0 last.0,
       λ h. last.1 h ∙ sym (stands-append moment r s x.standings),
       two.2 ∙ one.2,
@@ -51,10 +49,10 @@ served : (x : State) (place turn : ℕ) (step : Step) (e : Exchange) → stands 
     → Serves 0 x (service_of place turn x.exchange step e ∷ []) (away_by place step (called e x)) true
 served x place turn (steps.Unavailable None) e serving changes = ((serving, tt), λ _. refl, (unchanged x.exchange e changes).0.moment)
 served x place turn (steps.Unavailable (Some seconds)) e serving changes = (
-    (serving, tt),
-    λ _. ap (λ m. slice_set x.standings place (Away (m + seconds))) (unchanged x.exchange e changes).0.moment,
-    (unchanged x.exchange e changes).0.moment,
-  )
+  (serving, tt),
+  λ _. ap (λ m. slice_set x.standings place (Away (m + seconds))) (unchanged x.exchange e changes).0.moment,
+  (unchanged x.exchange e changes).0.moment,
+)
 served x place turn steps.Done e serving changes = ((serving, tt), λ _. refl, (unchanged x.exchange e changes).0.moment)
 served x place turn (steps.Forward text) e serving changes = ((serving, tt), λ _. refl, (unchanged x.exchange e changes).0.moment)
 served x place turn (steps.Include text) e serving changes = ((serving, tt), λ _. refl, (unchanged x.exchange e changes).0.moment)
@@ -76,7 +74,7 @@ module _ (site : Site) where
   opens kind room canon = record {
     stays = λ x. (tt, λ _. refl, refl);
     ends = λ x y z r h left. let same = same_moment kind canon room x y r true h in
-      (same.0, same.1, sym (ap (λ e. e.moment) left.1) ∙ same.2);
+        (same.0, same.1, sym (ap (λ e. e.moment) left.1) ∙ same.2);
     breaks = λ x y r h. same_moment kind canon room x y r false h;
   }
 

@@ -1,12 +1,12 @@
 -- What calls no component.
 use Rattle.std.specs.Prelude.{codes, length}
-use Rattle.std.proofs.Common.{◌≡◌, ◌⊎◌, inl, inr, ℕ, Bool, true, false, List, [], ◌∷◌, ◌++◌, Option, None, Some, refl, sym, ap, ◌∙◌, subst}
+use Rattle.std.proofs.Common.{◌≡◌, inl, inr, ℕ, List, [], ◌++◌, Option, None, Some, ap, ◌∙◌}
 use Rattle.sv_component.specs.Runs.{Record}
-use Rattle.sv_exchange.specs.Changing.{Change, SetHeader, SetStatus, Write, answer, has_room, left_by}
+use Rattle.sv_exchange.specs.Changing.{Change, SetHeader, SetStatus, Write, has_room}
 use Rattle.sv_exchange.specs.Dispatches.{is_within_include}
 use Rattle.sv_mapping.specs.declared.kind.Kind.{Kind}
 use Rattle.sv_mapping.specs.declared.kind.Kind.TheVariants as kinds
-use Rattle.sv_tree.specs.Does.{Does, Then, ◌>>=◌, ◌>>◌, becomes, choose, gives, makes, refuses, tries, wants_memory}
+use Rattle.sv_tree.specs.Does.{Does, ◌>>=◌, ◌>>◌, becomes, choose, gives, makes, tries}
 use Rattle.sv_tree.specs.Endings as endings
 use Rattle.sv_tree.specs.Faults.{fault_name}
 use Rattle.sv_tree.specs.Files as files

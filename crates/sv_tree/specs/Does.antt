@@ -21,7 +21,6 @@ pub record Then {A B : Type 0} (first : Does A) (next : A → Does B) (before : 
 
 infixl 1 ◌>>=◌
 infixl 1 ◌>>◌
-
 -- one behind the other; nothing follows where memory ended the first
 abbrev pub ◌>>=◌ : {A B : Type 0} → Does A → (A → Does B) → Does B
 ◌>>=◌ first next before calls after result = Then first next before calls after result ⊎ (first before calls after None × (result ≡ None))

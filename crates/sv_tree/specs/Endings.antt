@@ -1,7 +1,7 @@
 -- How a dispatch ends in an error or in a failure (Jakarta Servlet 6.0, sections 9.5 and 10.9).
-use Rattle.std.specs.Prelude.{ℕ, Bool, ◌&&◌, nat_le, List, codes, decimal, Option, None, Some, if◌then◌else◌}
+use Rattle.std.specs.Prelude.{ℕ, ◌&&◌, nat_le, List, codes, decimal, Option, None, Some, if◌then◌else◌}
 use Rattle.sv_exchange.specs.Dispatches.{is_within_include}
-use Rattle.sv_tree.specs.Does.{Does, ◌>>=◌, ◌>>◌, choose, gives, sees, tries}
+use Rattle.sv_tree.specs.Does.{Does, ◌>>◌, choose, gives, sees, tries}
 use Rattle.sv_tree.specs.Faults.{fault_name}
 use Rattle.sv_tree.specs.Site.{Resource, Site, name_of}
 use Rattle.sv_tree.specs.State.{Kept, with_kept}

@@ -1,9 +1,9 @@
 -- What the file servlet does, which answers where no servlet is mapped (Jakarta Servlet 6.0, sections 9.3, 10.10 and 12.2).
-use Rattle.std.specs.Prelude.{ℕ, Bool, List, [], length, codes, if◌then◌else◌}
+use Rattle.std.specs.Prelude.{ℕ, List, [], length, codes, if◌then◌else◌}
 use Rattle.sv_exchange.specs.Changing.{SetHeader, SetStatus, Write, has_room}
 use Rattle.sv_mapping.specs.declared.kind.Kind.{Kind}
 use Rattle.sv_mapping.specs.declared.kind.Kind.TheVariants as kinds
-use Rattle.sv_tree.specs.Does.{Does, ◌>>=◌, ◌>>◌, becomes, choose, gives, makes, sees}
+use Rattle.sv_tree.specs.Does.{Does, ◌>>◌, becomes, choose, gives, makes, sees}
 use Rattle.sv_tree.specs.Endings.{faults, is_missing, is_not_allowed}
 use Rattle.sv_tree.specs.Site.{Files, Site, FileAnswer, File, Redirect, Missing, NotAllowed}
 use Rattle.sv_tree.specs.State.{Exchange, on_exchange}

@@ -1,7 +1,7 @@
 -- What holds of every dispatch, and of every answer to a request (Jakarta Servlet 6.0, chapters 2, 6 and 9).
 use Rattle.std.specs.Prelude.{◌≡◌, ℕ, ◌+◌, ◌≤◌, ◌==◌, Bool, true, false, ◌||◌, List, [], ◌∷◌, length, Option, None, Some, slice_set, if◌then◌else◌}
 use Rattle.sv_component.specs.Call.{Destroyed, Entered, Left, Serviced}
-use Rattle.sv_component.specs.Runs.{Record, OfFilter, OfListener, OfServlet}
+use Rattle.sv_component.specs.Runs.{Record, OfFilter, OfServlet}
 use Rattle.sv_component.specs.declared.answers.Gate.TheVariants as gates
 use Rattle.sv_component.specs.declared.answers.Step.TheVariants as steps
 use Rattle.sv_exchange.specs.Dispatches.{client_in, is_include_kind, is_within_include}

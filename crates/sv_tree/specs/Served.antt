@@ -1,6 +1,6 @@
 -- The answer to a request (Jakarta Servlet 6.0, sections 9.5 and 10.9): one dispatch, and where that ends in an error that can still be
 -- shown, one of the error's page, or the plain answer.
-use Rattle.std.specs.Prelude.{ℕ, Bool, List, [], ◌++◌, codes, decimal, Option, None, Some}
+use Rattle.std.specs.Prelude.{ℕ, List, [], ◌++◌, codes, decimal, Option, None, Some}
 use Rattle.sv_exchange.specs.Changing.{SetHeader, SetStatus, Write}
 use Rattle.sv_mapping.specs.declared.kind.Kind.{Kind}
 use Rattle.sv_mapping.specs.declared.kind.Kind.TheVariants as kinds

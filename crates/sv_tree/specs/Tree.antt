@@ -11,7 +11,7 @@ use Rattle.sv_tree.specs.Endings.{errs, error_status, fails, faults, is_away_for
 use Rattle.sv_tree.specs.Files.{Filed}
 use Rattle.sv_tree.specs.Filters.{Afters, Befores, within_limit}
 use Rattle.sv_tree.specs.Site.{Resource, Servlet, Files, Site, begun, chosen, name_of}
-use Rattle.sv_tree.specs.State.{Exchange, State, Standing, Serving, Gone, Away, away_for, on_exchange, standing_at, with_standing}
+use Rattle.sv_tree.specs.State.{Exchange, Standing, Serving, Gone, Away, away_for, on_exchange, standing_at, with_standing}
 use Rattle.sv_tree.specs.declared.dispatch_fault.DispatchFault.{DispatchFault}
 use Rattle.sv_tree.specs.declared.dispatch_fault.DispatchFault.TheVariants.{BadDispatchPath, Committed, DispatchLimit}
 use Rattle.sv_tree.specs.declared.finished.Finished.{Finished}
@@ -90,10 +90,10 @@ module _ (site : Site) (room : ℕ) (inner : Kind → Canon → Does Finished) w
   -- a turn of a servlet
   abbrev pub Turn : ℕ → ℕ → Does (Option Finished)
   Turn place turn = sees λ state.
-    Stands place state.exchange.moment (standing_at state.exchange.moment place state.standings)
-    (within_limit (last (faults site (Servlet place) DispatchLimit)) do
-      step ← asks (service_of place turn)
-      Stepped place step)
+      Stands place state.exchange.moment (standing_at state.exchange.moment place state.standings)
+      (within_limit (last (faults site (Servlet place) DispatchLimit)) do
+        step ← asks (service_of place turn)
+        Stepped place step)
 
   abbrev pub Continues : Option Finished → Does Finished → Does Finished
   Continues (Some result) next = gives result
