@@ -1,3 +1,4 @@
+pub mod Answering
 pub mod Bounding
 pub mod Changing
 pub mod Closing

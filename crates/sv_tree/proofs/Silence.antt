@@ -60,7 +60,7 @@ behind_silent passed ending h =
 pub last_silent : (ending : Does Finished) → Silent ending → Silent (last ending)
 last_silent ending h = then_silent ending (λ result. gives (Some result)) h (λ result. gives_silent (Some result))
 
-makes_silent : (change : Change) → Silent (makes change)
+pub makes_silent : (change : Change) → Silent (makes change)
 makes_silent change x y r result h = h.0
 
 sends_silent : (site : Site) (content_type bytes : List ℕ) → Silent (files.Sends site content_type bytes)

@@ -1,5 +1,5 @@
 -- What holds of every dispatch, and of every answer to a request (Jakarta Servlet 6.0, chapters 2, 6 and 9).
-use Rattle.std.specs.Prelude.{◌≡◌, ℕ, ◌+◌, ◌≤◌, ◌==◌, Bool, true, false, ◌||◌, List, [], ◌∷◌, length, Option, None, Some, slice_set, if◌then◌else◌}
+use Rattle.std.specs.Prelude.{◌≡◌, ◌⊎◌, ℕ, ◌+◌, ◌≤◌, ◌==◌, Bool, true, false, ◌||◌, List, [], ◌∷◌, ◌++◌, length, Option, None, Some, slice_set, if◌then◌else◌}
 use Rattle.sv_component.specs.Call.{Destroyed, Entered, Left, Serviced}
 use Rattle.sv_component.specs.Runs.{Record, OfFilter, OfServlet}
 use Rattle.sv_component.specs.declared.answers.Gate.TheVariants as gates
@@ -112,6 +112,29 @@ RequestsAreBounded site =
     → before.calls ≡ 0 → before.exchange.dispatches ≡ []
     → Served site kind canon before calls after result
     → (count_all calls ≤ MAX_CALLS) × AreWithin MAX_NESTING calls
+
+-- no calls, or those of a dispatch to an error page
+abbrev pub PageCalls : Site → List Record → Type 0
+PageCalls site calls =
+    (calls ≡ [])
+    ⊎ ((page : Canon) × (before after : State) × (ended : Option Finished) × Tree site MAX_NESTING kinds.Error page before calls after ended)
+
+-- the calls of one dispatch, and behind them those of at most one error page
+pub record OnePage (site : Site) (kind : Kind) (canon : Canon) (before : State) (calls : List Record) : Type 0 where
+  pub front : List Record
+  pub back : List Record
+  pub are : calls ≡ front ++ back
+  pub between : State
+  pub finished : Option Finished
+  pub dispatch : Tree site MAX_NESTING kind canon before front between finished
+  pub page : PageCalls site back
+
+-- an answer is made by one dispatch, and at most one of an error page
+abbrev pub AnswersOnce : Site → Type 0
+AnswersOnce site =
+    (kind : Kind) (canon : Canon) (before after : State) (calls : List Record) (result : Option (Unit {0}))
+    → Served site kind canon before calls after result
+    → OnePage site kind canon before calls
 
 -- the request and the dispatches under way are the same, and so is all that an exchange shows of them: its kind, its paths and query, and
 -- the attributes that dispatches set

@@ -1,7 +1,7 @@
 //! The laws of dispatches, each the contract of a function that does nothing.
 
 ghost use Rattle.std.specs.Prelude.{◌≡◌};
-ghost use Rattle.sv_tree.specs.Laws.{CallsAreCounted, DispatchesEnd, DispatchesNest, EndingsAreKept, FiltersAreClosed, ForwardsBeginEmpty, IncludesEndInNoError, IncludesKeep, OnlyServingAreCalled, RequestsAreBounded};
+ghost use Rattle.sv_tree.specs.Laws.{AnswersOnce, CallsAreCounted, DispatchesEnd, DispatchesNest, EndingsAreKept, FiltersAreClosed, ForwardsBeginEmpty, IncludesEndInNoError, IncludesKeep, OnlyServingAreCalled, RequestsAreBounded};
 ghost use Rattle.sv_tree.specs.Site.{Site};
 ghost use Rattle.sv_tree.specs.declared.limits.TheConstants.{FOUND, INTERNAL_SERVER_ERROR, LEAST_ERROR, MAX_CALLS, MAX_ERROR, MAX_NESTING, METHOD_NOT_ALLOWED, NOT_FOUND, SERVICE_UNAVAILABLE};
 
@@ -28,6 +28,11 @@ pub fn dispatches_nest()
 /// A request is answered by at most 1,024 calls that count, none of them deeper than 16 dispatches, with its error page.
 pub fn requests_are_bounded()
     ensures { (site : Site) → RequestsAreBounded site }
+{}
+
+/// An answer is made by one dispatch, and at most one of an error page behind it.
+pub fn answers_have_one_page()
+    ensures { (site : Site) → AnswersOnce site }
 {}
 
 /// What an exchange shows of a dispatch lasts to its end.
