@@ -1,0 +1,83 @@
+-- The answer to a request is bounded, with its error page.
+use Rattle.std.specs.Prelude.{codes, length}
+use Rattle.std.proofs.Common.{◌≡◌, ℕ, ◌+◌, ◌≤◌, Bool, true, List, [], Option, None, Some, refl, sym, subst, arith, lit≤, zero-add}
+use Rattle.sv_component.specs.Runs.{Record}
+use Rattle.sv_exchange.specs.Changing.{SetHeader, SetStatus, Write}
+use Rattle.sv_mapping.specs.declared.kind.Kind.{Kind}
+use Rattle.sv_mapping.specs.declared.kind.Kind.TheVariants as kinds
+use Rattle.sv_tree.specs.Does.{Does, ◌>>=◌, ◌>>◌, becomes, gives, makes}
+use Rattle.sv_tree.specs.Laws.{AreWithin, RequestsAreBounded, count_all}
+use Rattle.sv_tree.specs.Served as served
+use Rattle.sv_tree.specs.Served.{Served, kept_field, plain_text, reset}
+use Rattle.sv_tree.specs.Site.{Site}
+use Rattle.sv_tree.specs.State.{State, on_exchange}
+use Rattle.sv_tree.specs.Tree.{Tree}
+use Rattle.sv_tree.specs.declared.finished.Finished.{Finished}
+use Rattle.sv_tree.specs.declared.finished.Finished.TheVariants.{Done, Error, Failed}
+use Rattle.sv_tree.specs.declared.limits.TheConstants.{INTERNAL_SERVER_ERROR, MAX_CALLS, MAX_NESTING}
+use Rattle.sv_tree.proofs.Counting as counting
+use Rattle.sv_tree.proofs.Counting.{Counts, calls_are_counted}
+use Rattle.sv_tree.proofs.Doing.{chosen_then}
+use Rattle.sv_tree.proofs.Keeping.{Keeps, Steps, becomes_keeps, gives_keeps, makes_keeps, then_keeps}
+use Rattle.sv_tree.proofs.Nesting.{Nests, nests, nests_tree}
+use Rattle.sv_uri.specs.declared.path.Canon.{Canon}
+
+module _ (site : Site) (Q : ℕ → State → List Record → State → Bool → Type 0) (law : Steps site Q) (room : ℕ)
+    (resets : (x : State) → Q room x [] (on_exchange reset x) true)
+    (trees : (kind : Kind) (canon : Canon) → Keeps site Q room (Tree site MAX_NESTING kind canon)) where
+  sets_keeps : (field : Option (List ℕ × List ℕ)) → Keeps site Q room (served.sets field)
+  sets_keeps None = gives_keeps site Q law room tt
+  sets_keeps (Some field) = makes_keeps site Q law room (SetHeader field.0 field.1)
+
+  resets_keeps : (status : ℕ) (field : Option (List ℕ × List ℕ)) → Keeps site Q room (served.Resets status field)
+  resets_keeps status field =
+      then_keeps site Q law room (becomes (on_exchange reset)) (λ _. makes (SetStatus status) >> served.sets field)
+      (becomes_keeps site Q law room (on_exchange reset) resets)
+      (λ _. then_keeps site Q law room (makes (SetStatus status)) (λ _. served.sets field) (makes_keeps site Q law room (SetStatus status)) (λ _. sets_keeps field))
+
+  plain_keeps : (status : ℕ) (field : Option (List ℕ × List ℕ)) → Keeps site Q room (served.Plain status field)
+  plain_keeps status field =
+      let typed = SetHeader (codes "content-type") (codes "text/plain") in
+      let written = Write (plain_text status) in
+      then_keeps site Q law room (served.Resets status field) (λ _. makes typed >> makes written) (resets_keeps status field)
+      (λ _. then_keeps site Q law room (makes typed) (λ _. makes written) (makes_keeps site Q law room typed) (λ _. makes_keeps site Q law room written))
+
+  unless_keeps : (next : Does (Unit {0})) → Keeps site Q room next → Keeps site Q room (served.unless_committed next)
+  unless_keeps next h x y r result done =
+      chosen_then x.exchange.committed (gives tt) next x y r result (λ _ none. gives_keeps site Q law room tt x y r result none) (λ _ made. h x y r result made) done
+
+  shown_keeps : (status : ℕ) (field : Option (List ℕ × List ℕ)) (finished : Finished) → Keeps site Q room (served.Shown status field finished)
+  shown_keeps status field Done = gives_keeps site Q law room tt
+  shown_keeps status field (Error other text) = unless_keeps (served.Plain status field) (plain_keeps status field)
+  shown_keeps status field (Failed kind text) = unless_keeps (served.Plain status field) (plain_keeps status field)
+
+  pages_keep : (status : ℕ) (field : Option (List ℕ × List ℕ)) (page : Option Canon) → Keeps site Q room (served.Pages site status field page)
+  pages_keep status field None = plain_keeps status field
+  pages_keep status field (Some page) =
+      then_keeps site Q law room (served.Resets status field) (λ _. Tree site MAX_NESTING kinds.Error page >>= served.Shown status field) (resets_keeps status field)
+      (λ _. then_keeps site Q law room (Tree site MAX_NESTING kinds.Error page) (served.Shown status field) (trees kinds.Error page) (shown_keeps status field))
+
+  shows_keep : (status : ℕ) (kind : Option (List ℕ)) → Keeps site Q room (served.Shows site status kind)
+  shows_keep status kind =
+      unless_keeps (λ state. served.Pages site status (kept_field state.kept) (site.page status kind) state)
+      (λ x y r result h. pages_keep status (kept_field x.kept) (site.page status kind) x y r result h)
+
+  settled_keeps : (finished : Finished) → Keeps site Q room (served.Settled site finished)
+  settled_keeps Done = gives_keeps site Q law room tt
+  settled_keeps (Error status text) = shows_keep status None
+  settled_keeps (Failed kind text) = shows_keep INTERNAL_SERVER_ERROR (Some kind)
+
+  pub served_keeps : (kind : Kind) (canon : Canon) → Keeps site Q room (Served site kind canon)
+  served_keeps kind canon =
+      then_keeps site Q law room (Tree site MAX_NESTING kind canon) (served.Settled site) (trees kind canon) settled_keeps
+
+pub requests_are_bounded : (site : Site) → RequestsAreBounded site
+requests_are_bounded site kind canon x y r result fresh outermost h =
+    let counted = served_keeps site Counts (counting.law site) MAX_NESTING (λ x. (sym (zero-add x.calls), λ below. below))
+    (λ kind canon. calls_are_counted site MAX_NESTING kind canon) kind canon x y r result h in
+    let nested = served_keeps site Nests (nests site) MAX_NESTING (λ x. (λ _. refl, tt)) (λ kind canon. nests_tree site MAX_NESTING kind canon) kind canon x y r result h in
+    let sum : y.calls ≡ count_all r + x.calls = counted.0 in
+    let below : y.calls ≤ MAX_CALLS = counted.1 (subst (λ n. n ≤ MAX_CALLS) (sym fresh) (lit≤ tt)) in (
+      omega (arith, sum, below, fresh),
+      subst (λ dispatches. AreWithin (length dispatches + MAX_NESTING) r) outermost nested.1,
+    )

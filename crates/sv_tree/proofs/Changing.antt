@@ -1,0 +1,198 @@
+-- What changing calls leave as it is.
+use Rattle.std.specs.Prelude.{not, ◌&&◌}
+use Rattle.std.proofs.Common.{◌≡◌, ◌||◌, Bool, true, false, List, [], ◌∷◌, ◌++◌, Result, Ok, Err, refl, sym, ap, ◌∙◌, subst, if◌then◌else◌}
+use Rattle.std.specs.List.{list_any}
+use Rattle.std.proofs.lemmas.List.Folds.{list_any-append}
+use Rattle.sv_exchange.specs.Changing.{Change, SetStatus, SetHeader, AddHeader, Write, SetAttribute, Flush, Changes, Reaches, after_all, answer, changed, is_free, is_open, is_settable, left_by}
+use Rattle.sv_exchange.specs.Dispatches.{Leaves, entered, is_include, is_include_kind, is_within_include}
+use Rattle.sv_exchange.specs.Fields.{is_field, is_reserved_field}
+use Rattle.sv_exchange.specs.declared.exchange_fault.ExchangeFault.{ExchangeFault}
+use Rattle.sv_exchange.specs.declared.exchange_fault.ExchangeFault.TheVariants as faults
+use Rattle.sv_mapping.specs.declared.kind.Kind.{Kind}
+use Rattle.sv_mapping.specs.declared.kind.Kind.TheVariants as kinds
+use Rattle.sv_tree.specs.Files.{emptied}
+use Rattle.sv_tree.specs.Laws.{SameRequest, is_included}
+use Rattle.sv_tree.specs.Site.{Site, begun, emptied_for, paths_in}
+use Rattle.sv_tree.specs.State.{Exchange}
+use Rattle.sv_uri.specs.declared.path.Canon.{Canon}
+
+-- status and fields are the same
+abbrev pub SameHead : Exchange → Exchange → Type 0
+SameHead x y = (y.status ≡ x.status) × (y.fields ≡ x.fields)
+
+-- the request is the same, and within an include status and fields are too
+abbrev pub Unchanged : Exchange → Exchange → Type 0
+Unchanged x y = SameRequest x y × (is_within_include x ≡ true → SameHead x y)
+
+pub same_request : (x y : Exchange) → y ≡ x → SameRequest x y
+same_request x y same = record {
+  method = ap (λ e. e.method) same;
+  context_path = ap (λ e. e.context_path) same;
+  request_fields = ap (λ e. e.request_fields) same;
+  moment = ap (λ e. e.moment) same;
+  client = ap (λ e. e.client) same;
+  dispatches = ap (λ e. e.dispatches) same;
+}
+
+pub request_then : (x y z : Exchange) → SameRequest x y → SameRequest y z → SameRequest x z
+request_then x y z one two = record {
+  method = two.method ∙ one.method;
+  context_path = two.context_path ∙ one.context_path;
+  request_fields = two.request_fields ∙ one.request_fields;
+  moment = two.moment ∙ one.moment;
+  client = two.client ∙ one.client;
+  dispatches = two.dispatches ∙ one.dispatches;
+}
+
+pub still_within : (x y : Exchange) → y.dispatches ≡ x.dispatches → is_within_include x ≡ true → is_within_include y ≡ true
+still_within x y same h = ap (λ dispatches. list_any is_include dispatches) same ∙ h
+
+pub unchanged_then : (x y z : Exchange) → Unchanged x y → Unchanged y z → Unchanged x z
+unchanged_then x y z one two = (
+  request_then x y z one.0 two.0,
+  λ h. let first = one.1 h in let second = two.1 (still_within x y one.0.dispatches h) in (second.0 ∙ first.0, second.1 ∙ first.1),
+)
+
+pub unchanged_same : (x : Exchange) → Unchanged x x
+unchanged_same x = (same_request x x refl, λ h. (refl, refl))
+
+-- a call that is not ignored is not made within an include
+not_open : {P : Type 0} (committed within settable : Bool) → within ≡ true → ((not committed && not within) && settable) ≡ true → P
+not_open true within settable h e = cc
+not_open false true settable h e = cc
+not_open false false settable h e = cc
+
+not_free : (committed within free : Bool) → within ≡ true → ((not committed && not within) && free) ≡ false
+not_free true within free h = refl
+not_free false true free h = refl
+not_free false false free h = cc
+
+abbrev answered : Bool → Bool → Result Bool ExchangeFault
+answered free test = if free then (if test then Ok true else Err faults.BadHeader) else Ok false
+
+not_answered : {P : Type 0} (free test : Bool) → free ≡ false → answered free test ≡ Ok true → P
+not_answered true test h e = cc
+not_answered false test h e = cc
+
+ok_true : (said : Result Bool ExchangeFault) (test : Bool) → said ≡ Ok test → said ≡ Ok true → test ≡ true
+ok_true said test is e = cc
+
+changed_request : (change : Change) (x : Exchange) → SameRequest x (changed change x)
+changed_request (SetStatus status) x = record { method = refl; context_path = refl; request_fields = refl; moment = refl; client = refl; dispatches = refl }
+changed_request (SetHeader name value) x = record { method = refl; context_path = refl; request_fields = refl; moment = refl; client = refl; dispatches = refl }
+changed_request (AddHeader name value) x = record { method = refl; context_path = refl; request_fields = refl; moment = refl; client = refl; dispatches = refl }
+changed_request (Write bytes) x = record { method = refl; context_path = refl; request_fields = refl; moment = refl; client = refl; dispatches = refl }
+changed_request (SetAttribute name value) x = record { method = refl; context_path = refl; request_fields = refl; moment = refl; client = refl; dispatches = refl }
+changed_request Flush x = record { method = refl; context_path = refl; request_fields = refl; moment = refl; client = refl; dispatches = refl }
+
+changed_head : (change : Change) (x : Exchange) → is_within_include x ≡ true → answer change x ≡ Ok true → SameHead x (changed change x)
+changed_head (SetStatus status) x h e =
+    not_open x.committed (is_within_include x) (is_settable status) h (ok_true (answer (SetStatus status) x) (is_open x && is_settable status) refl e)
+changed_head (SetHeader name value) x h e =
+    not_answered (is_free name x) (is_field name value) (not_free x.committed (is_within_include x) (not (is_reserved_field name)) h) e
+changed_head (AddHeader name value) x h e =
+    not_answered (is_free name x) (is_field name value) (not_free x.committed (is_within_include x) (not (is_reserved_field name)) h) e
+changed_head (Write bytes) x h e = (refl, refl)
+changed_head (SetAttribute name value) x h e = (refl, refl)
+changed_head Flush x h e = (refl, refl)
+
+left_unchanged : (said : Result Bool ExchangeFault) (change : Change) (x : Exchange) → answer change x ≡ said → Unchanged x (left_by said change x)
+left_unchanged (Ok true) change x e = (changed_request change x, λ h. changed_head change x h e)
+left_unchanged (Ok false) change x e = unchanged_same x
+left_unchanged (Err fault) change x e = unchanged_same x
+
+pub made_unchanged : (change : Change) (x : Exchange) → Unchanged x (left_by (answer change x) change x)
+made_unchanged change x = left_unchanged (answer change x) change x refl
+
+all_unchanged : (changes : List Change) (x : Exchange) → Unchanged x (after_all changes x)
+all_unchanged [] x = unchanged_same x
+all_unchanged (change ∷ changes) x =
+    let y = left_by (answer change x) change x in
+    unchanged_then x y (after_all changes y) (made_unchanged change x) (all_unchanged changes y)
+
+reaches_to : (x y : Exchange) → Changes x y → (changes : List Change) × (y ≡ after_all changes x)
+unfolding Reaches
+reaches_to x y changing = changing x ([], refl)
+
+pub unchanged : (x y : Exchange) → Changes x y → Unchanged x y
+unchanged x y changing = let reached = reaches_to x y changing in subst (Unchanged x) (sym reached.1) (all_unchanged reached.0 x)
+
+-- what the beginning and the end of a dispatch leave as it is
+pub emptied_request : (kind : Kind) (x : Exchange) → SameRequest x (emptied_for kind x)
+emptied_request kinds.Request x = same_request x x refl
+emptied_request kinds.Forward x = record { method = refl; context_path = refl; request_fields = refl; moment = refl; client = refl; dispatches = refl }
+emptied_request kinds.Include x = same_request x x refl
+emptied_request kinds.Error x = same_request x x refl
+
+pub emptied_head : (kind : Kind) (x : Exchange) → SameHead x (emptied_for kind x)
+emptied_head kinds.Request x = (refl, refl)
+emptied_head kinds.Forward x = (refl, refl)
+emptied_head kinds.Include x = (refl, refl)
+emptied_head kinds.Error x = (refl, refl)
+
+unless : (committed : Bool) (x : Exchange) → Unchanged x (if committed then x else record x { buffer = [] })
+unless true x = unchanged_same x
+unless false x =
+    (record { method = refl; context_path = refl; request_fields = refl; moment = refl; client = refl; dispatches = refl }, λ h. (refl, refl))
+
+pub emptied_unchanged : (x : Exchange) → Unchanged x (emptied x)
+emptied_unchanged x = unless x.committed x
+
+-- the dispatches within a dispatch of that kind
+pub begun_dispatches : (site : Site) (kind : Kind) (canon : Canon) (x : Exchange)
+    → (begun site kind canon x).dispatches ≡ x.dispatches ++ (record { kind = kind; paths = paths_in site canon x }) ∷ []
+begun_dispatches site kind canon x = (emptied_request kind (entered kind (paths_in site canon x) x)).dispatches
+
+pub left_dispatches : (y z : Exchange) (left : Leaves y z) → y.dispatches ≡ z.dispatches ++ left.0 ∷ []
+left_dispatches y z left = ap (λ e. e.dispatches) left.1
+
+without_last : {A : Type 0} → List A → List A
+without_last [] = []
+without_last (x ∷ []) = []
+without_last (x ∷ (x' ∷ xs)) = x ∷ without_last (x' ∷ xs)
+
+without_added : {A : Type 0} (xs : List A) (a : A) → without_last (xs ++ a ∷ []) ≡ xs
+unfolding without_last
+without_added [] a = refl
+without_added (x ∷ []) a = refl
+without_added (x ∷ (x' ∷ xs)) a = ap (λ ys. x ∷ ys) (without_added (x' ∷ xs) a)
+
+pub same_front : {A : Type 0} (xs ys : List A) (a b : A) → xs ++ a ∷ [] ≡ ys ++ b ∷ [] → xs ≡ ys
+same_front xs ys a b h = sym (without_added xs a) ∙ ap without_last h ∙ without_added ys b
+
+-- the dispatches are the same behind a dispatch as before it
+pub same_dispatches : (site : Site) (kind : Kind) (canon : Canon) (x y z : Exchange) → y.dispatches ≡ (begun site kind canon x).dispatches → Leaves y z
+    → z.dispatches ≡ x.dispatches
+same_dispatches site kind canon x y z same left =
+    same_front z.dispatches x.dispatches left.0 (record { kind = kind; paths = paths_in site canon x })
+    (sym (left_dispatches y z left) ∙ same ∙ begun_dispatches site kind canon x)
+
+-- an include is under way within an include, and within what stands within one
+or_first : (a b : Bool) → b ≡ true → (b || a) ≡ true
+or_first a true h = refl
+or_first a false h = cc
+
+or_second : (a b : Bool) → b ≡ true → (a || b) ≡ true
+or_second true b h = refl
+or_second false b h = h
+
+either_within : (outer kind : Bool) → (kind || outer) ≡ true → (outer || (kind || false)) ≡ true
+either_within true kind h = refl
+either_within false true h = refl
+either_within false false h = cc
+
+pub within_begun : (site : Site) (kind : Kind) (canon : Canon) (x : Exchange) → is_included kind x ≡ true → is_within_include (begun site kind canon x) ≡ true
+within_begun site kind canon x h =
+    ap (list_any is_include) (begun_dispatches site kind canon x)
+    ∙ list_any-append is_include x.dispatches ((record { kind = kind; paths = paths_in site canon x }) ∷ [])
+    ∙ either_within (is_within_include x) (is_include_kind kind) h
+
+pub within_inner : (kind : Kind) (x : Exchange) → is_within_include x ≡ true → is_included kind x ≡ true
+within_inner kind x h = or_second (is_include_kind kind) (is_within_include x) h
+
+-- what stands around a dispatch stands around what is within it
+pub within_left : (y z : Exchange) → Leaves y z → is_within_include z ≡ true → is_within_include y ≡ true
+within_left y z left h =
+    ap (list_any is_include) (left_dispatches y z left)
+    ∙ list_any-append is_include z.dispatches (left.0 ∷ [])
+    ∙ or_first (list_any is_include (left.0 ∷ [])) (is_within_include z) h

@@ -1,0 +1,13 @@
+pub mod Answering
+pub mod Bounding
+pub mod Changing
+pub mod Closing
+pub mod Counting
+pub mod Doing
+pub mod Ending
+pub mod Forwarding
+pub mod Including
+pub mod Keeping
+pub mod Nesting
+pub mod Serving
+pub mod Silence

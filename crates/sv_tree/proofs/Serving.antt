@@ -1,0 +1,104 @@
+-- Servlets are called only while they are in service.
+use Rattle.std.specs.Prelude.{slice_set}
+use Rattle.std.proofs.Common.{◌≡◌, ℕ, ◌+◌, Bool, true, false, List, [], ◌∷◌, ◌++◌, None, Some, refl, sym, ap, ◌∙◌, subst}
+use Rattle.sv_component.specs.Runs.{Record}
+use Rattle.sv_component.specs.declared.answers.Step.{Step}
+use Rattle.sv_component.specs.declared.answers.Step.TheVariants as steps
+use Rattle.sv_exchange.specs.Changing.{Changes}
+use Rattle.sv_exchange.specs.Dispatches.{entered}
+use Rattle.sv_mapping.specs.declared.kind.Kind.{Kind}
+use Rattle.sv_mapping.specs.declared.kind.Kind.TheVariants as kinds
+use Rattle.sv_tree.specs.Laws.{AreOfServing, OnlyServingAreCalled, stands_after, stands_after_all}
+use Rattle.sv_tree.specs.Site.{Site, begun, paths_in}
+use Rattle.sv_tree.specs.State.{Exchange, State, Standing, Serving, Away, on_exchange}
+use Rattle.sv_tree.specs.Tree.{service_of}
+use Rattle.sv_tree.proofs.Changing.{emptied_request, emptied_unchanged, made_unchanged, unchanged}
+use Rattle.sv_tree.proofs.Doing.{not_true}
+use Rattle.sv_tree.proofs.Keeping.{FilterSteps, Opens, Steps, away_by, called, came, stands, tree_keeps, within_keeps}
+use Rattle.sv_uri.specs.declared.path.Canon.{Canon}
+
+abbrev Serves : ℕ → State → List Record → State → Bool → Type 0
+Serves room x r y b =
+    AreOfServing x.exchange.moment x.standings r
+    × (b ≡ true → y.standings ≡ stands_after_all x.exchange.moment r x.standings)
+    × (y.exchange.moment ≡ x.exchange.moment)
+
+stands-append : (moment : ℕ) (r s : List Record) (standings : List Standing)
+    → stands_after_all moment (r ++ s) standings ≡ stands_after_all moment s (stands_after_all moment r standings)
+stands-append moment [] s standings = refl
+stands-append moment (call ∷ r) s standings = stands-append moment r s (stands_after moment call standings)
+
+serving-append : (moment : ℕ) (r s : List Record) (standings : List Standing) → AreOfServing moment standings r
+    → AreOfServing moment (stands_after_all moment r standings) s → AreOfServing moment standings (r ++ s)
+serving-append moment [] s standings one two = two
+serving-append moment (call ∷ r) s standings one two = (one.0, serving-append moment r s (stands_after moment call standings) one.1 two)
+
+serve_joins : (room : ℕ) (x y z : State) (r s : List Record) (b : Bool) → Serves room x r y true → Serves room y s z b → Serves room x (r ++ s) z b
+serve_joins room x y z r s b one two =
+    let moment = x.exchange.moment in
+    let second = subst (λ standings. AreOfServing y.exchange.moment standings s × (b ≡ true → z.standings ≡ stands_after_all y.exchange.moment s standings))
+    (one.1 refl) (two.0, two.1) in
+    let last = subst (λ m. AreOfServing m (stands_after_all moment r x.standings) s × (b ≡ true → z.standings ≡ stands_after_all m s (stands_after_all moment r x.standings)))
+    one.2 second in (
+      serving-append moment r s x.standings one.0 last.0,
+      λ h. last.1 h ∙ sym (stands-append moment r s x.standings),
+      two.2 ∙ one.2,
+    )
+
+served : (x : State) (place turn : ℕ) (step : Step) (e : Exchange) → stands place x ≡ Serving → Changes x.exchange e
+    → Serves 0 x (service_of place turn x.exchange step e ∷ []) (away_by place step (called e x)) true
+served x place turn (steps.Unavailable None) e serving changes = ((serving, tt), λ _. refl, (unchanged x.exchange e changes).0.moment)
+served x place turn (steps.Unavailable (Some seconds)) e serving changes = (
+  (serving, tt),
+  λ _. ap (λ m. slice_set x.standings place (Away (m + seconds))) (unchanged x.exchange e changes).0.moment,
+  (unchanged x.exchange e changes).0.moment,
+)
+served x place turn steps.Done e serving changes = ((serving, tt), λ _. refl, (unchanged x.exchange e changes).0.moment)
+served x place turn (steps.Forward text) e serving changes = ((serving, tt), λ _. refl, (unchanged x.exchange e changes).0.moment)
+served x place turn (steps.Include text) e serving changes = ((serving, tt), λ _. refl, (unchanged x.exchange e changes).0.moment)
+served x place turn (steps.Error code text) e serving changes = ((serving, tt), λ _. refl, (unchanged x.exchange e changes).0.moment)
+served x place turn (steps.Failed kind text) e serving changes = ((serving, tt), λ _. refl, (unchanged x.exchange e changes).0.moment)
+served x place turn steps.NoMemory e serving changes = ((serving, tt), λ _. refl, (unchanged x.exchange e changes).0.moment)
+
+module _ (site : Site) where
+  begun_moment : (kind : Kind) (canon : Canon) (x : Exchange) → (begun site kind canon x).moment ≡ x.moment
+  begun_moment kind canon x = (emptied_request kind (entered kind (paths_in site canon x) x)).moment
+
+  same_moment : (kind : Kind) (canon : Canon) (room : ℕ) (x y : State) (r : List Record) (b : Bool) → Serves room (on_exchange (begun site kind canon) x) r y b
+      → Serves room x r y b
+  same_moment kind canon room x y r b h =
+      subst (λ m. AreOfServing m x.standings r × (b ≡ true → y.standings ≡ stands_after_all m r x.standings) × (y.exchange.moment ≡ m))
+      (begun_moment kind canon x.exchange) h
+
+  opens : (kind : Kind) → Opens site Serves kind
+  opens kind room canon = record {
+    stays = λ x. (tt, λ _. refl, refl);
+    ends = λ x y z r h left. let same = same_moment kind canon room x y r true h in
+        (same.0, same.1, sym (ap (λ e. e.moment) left.1) ∙ same.2);
+    breaks = λ x y r h. same_moment kind canon room x y r false h;
+  }
+
+  law : Steps site Serves
+  law = record {
+    stays = λ room x b. (tt, λ _. refl, refl);
+    joins = serve_joins;
+    keeps = λ room x kept. (tt, λ _. refl, refl);
+    makes = λ room x change. (tt, λ _. refl, (made_unchanged change x.exchange).0.moment);
+    empties = λ room x. (tt, λ _. refl, (emptied_unchanged x.exchange).0.moment);
+    breaks = λ room x place turn step e left serving changes. ((serving, tt), not_true, (unchanged x.exchange e changes).0.moment);
+    serves = λ room x place turn step e left serving changes. served x place turn step e serving changes;
+    destroys = λ room x place b serving. ((serving, tt), λ _. refl, refl);
+    forwards = opens kinds.Forward;
+    includes = opens kinds.Include;
+  }
+
+  filters : FilterSteps site Serves
+  filters = record {
+    before = λ room place x gate e b left changes. ((tt, tt), λ _. refl, (unchanged x.exchange e changes).0.moment);
+    after = λ room place x done e b changes. ((tt, tt), λ _. refl, (unchanged x.exchange e changes).0.moment);
+  }
+
+  pub only_serving_are_called : OnlyServingAreCalled site
+  only_serving_are_called room kind canon x y r result h =
+      let kept = tree_keeps site Serves law (within_keeps site Serves law filters) room kind (opens kind) canon x y r result h in
+      (kept.0, λ finished e. kept.1 (ap came e))

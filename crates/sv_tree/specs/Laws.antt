@@ -1,0 +1,216 @@
+-- What holds of every dispatch, and of every answer to a request (Jakarta Servlet 6.0, chapters 2, 6 and 9).
+use Rattle.std.specs.Prelude.{◌≡◌, ◌⊎◌, ℕ, ◌+◌, ◌≤◌, ◌==◌, Bool, true, false, ◌||◌, List, [], ◌∷◌, ◌++◌, length, Option, None, Some, slice_set, if◌then◌else◌}
+use Rattle.sv_component.specs.Call.{Destroyed, Entered, Left, Serviced}
+use Rattle.sv_component.specs.Runs.{Record, OfFilter, OfServlet}
+use Rattle.sv_component.specs.declared.answers.Gate.TheVariants as gates
+use Rattle.sv_component.specs.declared.answers.Step.TheVariants as steps
+use Rattle.sv_exchange.specs.Dispatches.{client_in, is_include_kind, is_within_include}
+use Rattle.sv_mapping.specs.declared.kind.Kind.{Kind}
+use Rattle.sv_mapping.specs.declared.kind.Kind.TheVariants as kinds
+use Rattle.sv_tree.specs.Served.{Served}
+use Rattle.sv_tree.specs.Site.{Site, paths_in}
+use Rattle.sv_tree.specs.State.{Exchange, Kept, State, Standing, Serving, Gone, Away, standing_at}
+use Rattle.sv_tree.specs.Tree.{Tree}
+use Rattle.sv_tree.specs.declared.finished.Finished.{Finished}
+use Rattle.sv_tree.specs.declared.finished.Finished.TheVariants.{Done, Error, Failed}
+use Rattle.sv_tree.specs.declared.limits.TheConstants.{INTERNAL_SERVER_ERROR, MAX_CALLS, MAX_NESTING}
+use Rattle.sv_uri.specs.declared.path.Canon.{Canon}
+
+-- the filter that passed last is the one that is called once more
+abbrev pub close : ℕ → List ℕ → Option (List ℕ)
+close place [] = None
+close place (filter ∷ owed) = if filter == place then Some owed else None
+
+-- the filters that passed and whose `after` is still to come, the last first; none where a call is out of its place
+abbrev pub owed_after : Record → List ℕ → Option (List ℕ)
+owed_after (OfFilter place (Entered before gates.Pass after)) owed = Some (place ∷ owed)
+owed_after (OfFilter place (Entered before gate after)) owed = Some owed
+owed_after (OfFilter place (Left before done after)) owed = close place owed
+owed_after (OfFilter place call) owed = None
+owed_after made owed = Some owed
+
+abbrev pub owed_then : List Record → Option (List ℕ) → Option (List ℕ)
+owed_then [] owed = owed
+owed_then (made ∷ others) None = None
+owed_then (made ∷ others) (Some owed) = owed_then others (owed_after made owed)
+
+-- each filter that passed is called just once more, the last first, within its dispatch; no other is
+abbrev pub FiltersAreClosed : Site → Type 0
+FiltersAreClosed site =
+    (room : ℕ) (kind : Kind) (canon : Canon) (before after : State) (calls : List Record) (finished : Finished) (owed : List ℕ)
+    → Tree site room kind canon before calls after (Some finished)
+    → owed_then calls (Some owed) ≡ Some owed
+
+-- the standings behind a call
+abbrev pub stands_after : ℕ → Record → List Standing → List Standing
+stands_after moment (OfServlet place (Serviced before turn (steps.Unavailable (Some seconds)) after)) standings =
+    slice_set standings place (Away (moment + seconds))
+stands_after moment (OfServlet place Destroyed) standings = slice_set standings place Gone
+stands_after moment made standings = standings
+
+abbrev pub stands_after_all : ℕ → List Record → List Standing → List Standing
+stands_after_all moment [] standings = standings
+stands_after_all moment (made ∷ others) standings = stands_after_all moment others (stands_after moment made standings)
+
+-- a servlet is called, and destroyed, only while it is in service; it is not initialised
+abbrev pub IsOfServing : ℕ → List Standing → Record → Type 0
+IsOfServing moment standings (OfServlet place (Serviced before turn step after)) = standing_at moment place standings ≡ Serving
+IsOfServing moment standings (OfServlet place Destroyed) = standing_at moment place standings ≡ Serving
+IsOfServing moment standings (OfServlet place call) = ⊥
+IsOfServing moment standings made = Unit {0}
+
+abbrev pub AreOfServing : ℕ → List Standing → List Record → Type 0
+AreOfServing moment standings [] = Unit {0}
+AreOfServing moment standings (made ∷ others) = IsOfServing moment standings made × AreOfServing moment (stands_after moment made standings) others
+
+abbrev pub OnlyServingAreCalled : Site → Type 0
+OnlyServingAreCalled site =
+    (room : ℕ) (kind : Kind) (canon : Canon) (before after : State) (calls : List Record) (result : Option Finished)
+    → Tree site room kind canon before calls after result
+    → AreOfServing before.exchange.moment before.standings calls
+    × ((finished : Finished) → result ≡ Some finished → after.standings ≡ stands_after_all before.exchange.moment calls before.standings)
+
+-- the calls that count: `before` and `service`
+abbrev pub count : Record → ℕ
+count (OfFilter place (Entered before gate after)) = 1
+count (OfServlet place (Serviced before turn step after)) = 1
+count made = 0
+
+abbrev pub count_all : List Record → ℕ
+count_all [] = 0
+count_all (made ∷ others) = count made + count_all others
+
+-- each call that counts is counted, and none is made beyond the limit
+abbrev pub CallsAreCounted : Site → Type 0
+CallsAreCounted site =
+    (room : ℕ) (kind : Kind) (canon : Canon) (before after : State) (calls : List Record) (result : Option Finished)
+    → Tree site room kind canon before calls after result
+    → (after.calls ≡ count_all calls + before.calls) × (before.calls ≤ MAX_CALLS → after.calls ≤ MAX_CALLS)
+
+-- how many dispatches a call stands in
+abbrev pub depth : Record → ℕ
+depth (OfFilter place (Entered before gate after)) = length before.dispatches
+depth (OfFilter place (Left before done after)) = length before.dispatches
+depth (OfServlet place (Serviced before turn step after)) = length before.dispatches
+depth made = 0
+
+abbrev pub AreWithin : ℕ → List Record → Type 0
+AreWithin bound [] = Unit {0}
+AreWithin bound (made ∷ others) = (depth made ≤ bound) × AreWithin bound others
+
+-- no call stands in more dispatches than there is room for
+abbrev pub DispatchesNest : Site → Type 0
+DispatchesNest site =
+    (room : ℕ) (kind : Kind) (canon : Canon) (before after : State) (calls : List Record) (result : Option Finished)
+    → Tree site room kind canon before calls after result
+    → AreWithin (length before.exchange.dispatches + room) calls
+
+-- a request is answered by at most 1,024 calls that count, none of them deeper than 16 dispatches
+abbrev pub RequestsAreBounded : Site → Type 0
+RequestsAreBounded site =
+    (kind : Kind) (canon : Canon) (before after : State) (calls : List Record) (result : Option (Unit {0}))
+    → before.calls ≡ 0 → before.exchange.dispatches ≡ []
+    → Served site kind canon before calls after result
+    → (count_all calls ≤ MAX_CALLS) × AreWithin MAX_NESTING calls
+
+-- no calls, or those of a dispatch to an error page
+abbrev pub PageCalls : Site → List Record → Type 0
+PageCalls site calls =
+    (calls ≡ [])
+    ⊎ ((page : Canon) × (before after : State) × (ended : Option Finished) × Tree site MAX_NESTING kinds.Error page before calls after ended)
+
+-- the calls of one dispatch, and behind them those of at most one error page
+pub record OnePage (site : Site) (kind : Kind) (canon : Canon) (before : State) (calls : List Record) : Type 0 where
+  pub front : List Record
+  pub back : List Record
+  pub are : calls ≡ front ++ back
+  pub between : State
+  pub finished : Option Finished
+  pub dispatch : Tree site MAX_NESTING kind canon before front between finished
+  pub page : PageCalls site back
+
+-- an answer is made by one dispatch, and at most one of an error page
+abbrev pub AnswersOnce : Site → Type 0
+AnswersOnce site =
+    (kind : Kind) (canon : Canon) (before after : State) (calls : List Record) (result : Option (Unit {0}))
+    → Served site kind canon before calls after result
+    → OnePage site kind canon before calls
+
+-- the request and the dispatches under way are the same, and so is all that an exchange shows of them: its kind, its paths and query, and
+-- the attributes that dispatches set
+pub record SameRequest (before after : Exchange) : Type 0 where
+  pub method : after.method ≡ before.method
+  pub context_path : after.context_path ≡ before.context_path
+  pub request_fields : after.request_fields ≡ before.request_fields
+  pub moment : after.moment ≡ before.moment
+  pub client : after.client ≡ before.client
+  pub dispatches : after.dispatches ≡ before.dispatches
+
+-- what a dispatch shows lasts to its end; only how the client's own path is split stays known
+abbrev pub DispatchesEnd : Site → Type 0
+DispatchesEnd site =
+    (room : ℕ) (kind : Kind) (canon : Canon) (before after : State) (calls : List Record) (finished : Finished)
+    → Tree site room kind canon before calls after (Some finished)
+    → SameRequest
+    record before.exchange { client = client_in kind (paths_in site canon before.exchange) before.exchange.client }
+    after.exchange
+
+-- an include, or a dispatch within one
+abbrev pub is_included : Kind → Exchange → Bool
+is_included kind exchange = is_include_kind kind || is_within_include exchange
+
+-- an include changes neither status nor fields (section 9.3)
+abbrev pub IncludesKeep : Site → Type 0
+IncludesKeep site =
+    (room : ℕ) (kind : Kind) (canon : Canon) (before after : State) (calls : List Record) (result : Option Finished)
+    → is_included kind before.exchange ≡ true
+    → Tree site room kind canon before calls after result
+    → (after.exchange.status ≡ before.exchange.status) × (after.exchange.fields ≡ before.exchange.fields)
+
+abbrev pub is_error : Finished → Bool
+is_error Done = false
+is_error (Error status text) = true
+is_error (Failed kind text) = false
+
+-- an include never ends in an error
+abbrev pub IncludesEndInNoError : Site → Type 0
+IncludesEndInNoError site =
+    (room : ℕ) (kind : Kind) (canon : Canon) (before after : State) (calls : List Record) (finished : Finished)
+    → is_included kind before.exchange ≡ true
+    → Tree site room kind canon before calls after (Some finished)
+    → is_error finished ≡ false
+
+-- that error is kept, with that status and that text
+abbrev pub IsKept : ℕ → List ℕ → Option Kept → Type 0
+IsKept status text None = ⊥
+IsKept status text (Some kept) = (kept.status ≡ status) × (kept.text ≡ text)
+
+abbrev pub KeepsEnding : Finished → Option Kept → Type 0
+KeepsEnding Done kept = Unit {0}
+KeepsEnding (Error status text) kept = IsKept status text kept
+KeepsEnding (Failed kind text) kept = IsKept INTERNAL_SERVER_ERROR text kept
+
+-- the error that is kept is the one in which the dispatch ended
+abbrev pub EndingsAreKept : Site → Type 0
+EndingsAreKept site =
+    (room : ℕ) (kind : Kind) (canon : Canon) (before after : State) (calls : List Record) (finished : Finished)
+    → Tree site room kind canon before calls after (Some finished)
+    → KeepsEnding finished after.kept
+
+-- a `before` or a `service` that finds so much written
+abbrev pub Finds : List ℕ → Record → Type 0
+Finds written (OfFilter place (Entered before gate after)) = before.buffer ≡ written
+Finds written (OfServlet place (Serviced before turn step after)) = before.buffer ≡ written
+Finds written made = ⊥
+
+-- the first call, if there is one, finds so much written
+abbrev pub BeginsWith : List ℕ → List Record → Type 0
+BeginsWith written [] = Unit {0}
+BeginsWith written (made ∷ others) = Finds written made
+
+-- the buffer is empty where a forward begins: its first call, which is a `before` or a `service`, finds it so (section 9.4)
+abbrev pub ForwardsBeginEmpty : Site → Type 0
+ForwardsBeginEmpty site =
+    (room : ℕ) (canon : Canon) (before after : State) (calls : List Record) (result : Option Finished)
+    → Tree site room kinds.Forward canon before calls after result
+    → BeginsWith [] calls

@@ -1,0 +1,10 @@
+pub mod Does
+pub mod Endings
+pub mod Faults
+pub mod Files
+pub mod Filters
+pub mod Laws
+pub mod Served
+pub mod Site
+pub mod State
+pub mod Tree

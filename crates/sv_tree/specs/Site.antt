@@ -1,0 +1,80 @@
+-- What a dispatch asks of its context, and does not change: who answers a path, behind which filters (Jakarta Servlet 6.0, sections
+-- 6.2.4, 12.1 and 10.9.2).
+use Rattle.std.specs.Prelude.{ℕ, List, [], codes, find, map, Option, None, Some, slice_index_or}
+use Rattle.sv_exchange.specs.Dispatches.{entered, paths_at}
+use Rattle.sv_exchange.specs.declared.dispatch.Paths.{Paths}
+use Rattle.sv_mapping.specs.BestMatch.{is_best}
+use Rattle.sv_mapping.specs.Split.{path_info, servlet_path}
+use Rattle.sv_mapping.specs.declared.kind.Kind.{Kind}
+use Rattle.sv_mapping.specs.declared.kind.Kind.TheVariants as kinds
+use Rattle.sv_tree.specs.State.{Exchange}
+use Rattle.sv_uri.specs.declared.path.Canon.{Canon}
+
+-- who answers behind the filters: the servlet at a place, or the file servlet
+pub data Resource : Type 0 where
+  Servlet : ℕ → Resource
+  Files : Resource
+
+-- what the file servlet has for a path: a content type and the bytes of a file, the location to which it sends the client, nothing, or
+-- nothing that can be asked for by this method
+pub data FileAnswer : Type 0 where
+  File : List ℕ → List ℕ → FileAnswer
+  Redirect : List ℕ → FileAnswer
+  Missing : FileAnswer
+  NotAllowed : FileAnswer
+
+-- a pattern with the place of its servlet
+pub record Mapping : Type 0 where
+  pub pattern : List ℕ
+  pub servlet : ℕ
+
+pub record Site : Type 0 where
+  -- in the descriptor's order
+  pub mappings : List Mapping
+  -- the names of the servlets
+  pub names : List (List ℕ)
+  -- the places of the filters for a path, the name of who answers it, and a kind
+  pub chain : List ℕ → List ℕ → Kind → List ℕ
+  -- what the file servlet has for a path with its query, a method and a kind
+  pub file : Canon → List ℕ → Kind → FileAnswer
+  -- the error page for a status and the kind of a failure
+  pub page : ℕ → Option (List ℕ) → Option Canon
+
+-- who answers a path, and how the path is split
+pub record Chosen : Type 0 where
+  pub resource : Resource
+  pub servlet_path : List ℕ
+  pub path_info : Option (List ℕ)
+
+abbrev pub chosen_by : List ℕ → Option Mapping → Chosen
+chosen_by path (Some mapping) = record {
+  resource = Servlet mapping.servlet;
+  servlet_path = servlet_path mapping.pattern path;
+  path_info = path_info mapping.pattern path;
+}
+chosen_by path None = record { resource = Files; servlet_path = path; path_info = None }
+
+-- the servlet of the pattern that matches best, else the file servlet
+unfoldable pub chosen : Site → List ℕ → Chosen
+chosen site path = chosen_by path (find (λ mapping. is_best (map (λ other. other.pattern) site.mappings) path mapping.pattern) site.mappings)
+
+abbrev pub name_of : Site → Resource → List ℕ
+name_of site (Servlet place) = slice_index_or site.names place []
+name_of site Files = codes "default"
+
+-- what the path calls of the exchange show in a dispatch of that path
+abbrev pub paths_in : Site → Canon → Exchange → Paths
+paths_in site canon exchange =
+    let found = chosen site canon.path in
+    paths_at exchange.context_path canon.path (Some found.servlet_path) found.path_info canon.query
+
+-- a forward finds an empty buffer; the fields stay (section 9.4)
+abbrev pub emptied_for : Kind → Exchange → Exchange
+emptied_for kinds.Forward exchange = record exchange { buffer = [] }
+emptied_for kinds.Request exchange = exchange
+emptied_for kinds.Include exchange = exchange
+emptied_for kinds.Error exchange = exchange
+
+-- a dispatch of that kind to that path begins
+abbrev pub begun : Site → Kind → Canon → Exchange → Exchange
+begun site kind canon exchange = emptied_for kind (entered kind (paths_in site canon exchange) exchange)

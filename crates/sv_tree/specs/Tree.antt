@@ -1,0 +1,141 @@
+-- A dispatch (Jakarta Servlet 6.0, chapters 6 and 9): its filters, the servlet or file behind them, and the dispatches within.
+use Rattle.std.specs.Prelude.{ℕ, zero, suc, ◌-◌, Bool, false, List, [], Option, None, Some, Result, Ok, Err, ◌⊎◌, ◌≡◌, ◌∷◌, if◌then◌else◌}
+use Rattle.sv_component.specs.Call.{Destroyed, Serviced}
+use Rattle.sv_component.specs.Runs.{Record, OfServlet}
+use Rattle.sv_component.specs.declared.answers.Step.{Step}
+use Rattle.sv_component.specs.declared.answers.Step.TheVariants as steps
+use Rattle.sv_mapping.specs.declared.kind.Kind.{Kind}
+use Rattle.sv_mapping.specs.declared.kind.Kind.TheVariants as kinds
+use Rattle.sv_tree.specs.Does.{Does, ◌>>=◌, ◌>>◌, asks, becomes, gives, leaves, never, refuses, sees, tries, wants_memory}
+use Rattle.sv_tree.specs.Endings.{errs, error_status, fails, faults, is_away_for, is_missing}
+use Rattle.sv_tree.specs.Files.{Filed}
+use Rattle.sv_tree.specs.Filters.{Afters, Befores, within_limit}
+use Rattle.sv_tree.specs.Site.{Resource, Servlet, Files, Site, begun, chosen, name_of}
+use Rattle.sv_tree.specs.State.{Exchange, Standing, Serving, Gone, Away, away_for, on_exchange, standing_at, with_standing}
+use Rattle.sv_tree.specs.declared.dispatch_fault.DispatchFault.{DispatchFault}
+use Rattle.sv_tree.specs.declared.dispatch_fault.DispatchFault.TheVariants.{BadDispatchPath, Committed, DispatchLimit}
+use Rattle.sv_tree.specs.declared.finished.Finished.{Finished}
+use Rattle.sv_tree.specs.declared.finished.Finished.TheVariants.{Done, Error, Failed}
+use Rattle.sv_uri.specs.Canonical.{canonical}
+use Rattle.sv_uri.specs.declared.fault.PathFault.{PathFault}
+use Rattle.sv_uri.specs.declared.path.Canon.{Canon}
+
+abbrev pub service_of : ℕ → ℕ → Exchange → Step → Exchange → Record
+service_of place turn before step after = OfServlet place (Serviced before turn step after)
+
+-- the servlet is destroyed, and gone then; memory may end the dispatch behind the call
+abbrev pub destroys : ℕ → Does (Unit {0})
+destroys place before calls after result =
+    (calls ≡ OfServlet place Destroyed ∷ []) × (after ≡ with_standing place Gone before) × ((result ≡ Some tt) ⊎ (result ≡ None))
+
+-- how the dispatch ends, for good
+abbrev pub last : Does Finished → Does (Option Finished)
+last ending = do
+  result ← ending
+  gives (Some result)
+
+-- a servlet goes on behind an include, unless a failure came out of it
+abbrev pub GoesOn : Finished → Does (Option Finished)
+GoesOn Done = gives None
+GoesOn (Error status text) = gives None
+GoesOn (Failed kind text) = gives (Some (Failed kind text))
+
+-- a forward comes too late once the answer is committed
+abbrev pub is_too_late : Kind → Exchange → Bool
+is_too_late kinds.Forward exchange = exchange.committed
+is_too_late kinds.Request exchange = false
+is_too_late kinds.Include exchange = false
+is_too_late kinds.Error exchange = false
+
+-- a path that cannot be read, or for which there is no room
+abbrev pub admitted : Result Canon PathFault → ℕ → Result Canon DispatchFault
+admitted (Err fault) room = Err BadDispatchPath
+admitted (Ok canon) zero = Err DispatchLimit
+admitted (Ok canon) (suc room) = Ok canon
+
+-- the path of a dispatch that a servlet asks for, or the first of what refuses it
+abbrev pub asked_for : ℕ → Kind → List ℕ → Exchange → Result Canon DispatchFault
+asked_for room kind text exchange = if is_too_late kind exchange then Err Committed else admitted (canonical text) room
+
+-- `room` is how many dispatches may still stand one within another, and `inner` is such a dispatch
+module _ (site : Site) (room : ℕ) (inner : Kind → Canon → Does Finished) where
+  -- a dispatch that is refused is a failure of the servlet that asked
+  abbrev pub Admitted : ℕ → Kind → Result Canon DispatchFault → Does Finished
+  Admitted place kind (Ok canon) = inner kind canon
+  Admitted place kind (Err fault) = faults site (Servlet place) fault
+
+  -- a servlet asks for a dispatch (sections 9.1, 9.3 and 9.4)
+  abbrev pub Dispatches : ℕ → Kind → List ℕ → Does Finished
+  Dispatches place kind text = do
+    wants_memory
+    sees λ state. Admitted place kind (asked_for room kind text state.exchange)
+
+  -- what a servlet's answer leads to, and how the dispatch ends with it: none where the servlet goes on
+  abbrev pub Stepped : ℕ → Step → Does (Option Finished)
+  Stepped place steps.Done = last (gives Done)
+  Stepped place (steps.Forward text) = last (Dispatches place kinds.Forward text)
+  Stepped place (steps.Include text) = Dispatches place kinds.Include text >>= GoesOn
+  Stepped place (steps.Error code text) = last (errs site (Servlet place) (error_status code) text None)
+  Stepped place (steps.Failed kind text) = last (fails site (Servlet place) kind text)
+  Stepped place (steps.Unavailable None) = destroys place >> last (is_missing site (Servlet place))
+  Stepped place (steps.Unavailable (Some seconds)) = becomes (away_for place seconds) >> last (is_away_for site (Servlet place) seconds)
+  Stepped place steps.NoMemory = refuses
+
+  -- a servlet that is out of service is not called (section 2.3.3.2)
+  abbrev pub Stands : ℕ → ℕ → Standing → Does (Option Finished) → Does (Option Finished)
+  Stands place moment Serving next = next
+  Stands place moment Gone next = last (is_missing site (Servlet place))
+  Stands place moment (Away until) next = last (is_away_for site (Servlet place) (until - moment))
+
+  -- a turn of a servlet
+  abbrev pub Turn : ℕ → ℕ → Does (Option Finished)
+  Turn place turn = sees λ state.
+      Stands place state.exchange.moment (standing_at state.exchange.moment place state.standings)
+      (within_limit (last (faults site (Servlet place) DispatchLimit)) do
+        step ← asks (service_of place turn)
+        Stepped place step)
+
+  abbrev pub Continues : Option Finished → Does Finished → Does Finished
+  Continues (Some result) next = gives result
+  Continues None next = next
+
+  -- the turns from `turn` on, of which there are at most `left`
+  abbrev pub Turns : ℕ → ℕ → ℕ → Does Finished
+  Turns place zero turn = never
+  Turns place (suc left) turn = do
+    ended ← Turn place turn
+    Continues ended (Turns place left (suc turn))
+
+  -- as many turns as it takes
+  abbrev pub Serves : ℕ → Does Finished
+  Serves place before calls after result = (left : ℕ) × Turns place left 0 before calls after result
+
+  -- the servlet or the file, where all filters passed
+  abbrev pub Responds : Resource → Kind → Canon → Option Finished → Does Finished
+  Responds resource kind canon (Some result) = gives result
+  Responds (Servlet place) kind canon None = Serves place
+  Responds Files kind canon None = do
+    wants_memory
+    sees λ state. Filed site kind (site.file canon state.exchange.method kind)
+
+  -- the filters, and what stands behind them; however it ends, each filter that passed is called once more
+  abbrev pub Within : Resource → Kind → Canon → Does Finished
+  Within resource kind canon = do
+    wants_memory
+    reached ← Befores site resource [] (site.chain canon.path (name_of site resource) kind)
+    result ← Responds resource kind canon reached.ended
+    Afters reached.passed
+    gives result
+
+  -- a dispatch: what it shows lasts to its end
+  abbrev pub Dispatch : Kind → Canon → Does Finished
+  Dispatch kind canon = do
+    tries (on_exchange (begun site kind canon))
+    result ← Within (chosen site canon.path).resource kind canon
+    leaves
+    gives result
+
+-- a dispatch, and the dispatches within it, as deep as there is room
+unfoldable pub Tree : Site → ℕ → Kind → Canon → Does Finished
+Tree site zero kind canon = never
+Tree site (suc room) kind canon = Dispatch site room (Tree site room) kind canon
