@@ -1,15 +1,15 @@
 //! Entries, as the rows of tables spell them.
 
-use crate::table::cell;
 use std::alloc::Global;
 use sv_constraints::{Cause, OwnedWhy};
 use sv_journal::{Answer, CallName, Entry, Event, RefusalCause};
+use sv_rows::cell;
 use sv_text::{NoMemory, Text};
 use sv_uri::fault::PathFault;
 use sv_wire::WireFault;
 
 /// The entry of a row: what happened, the context path, and what the entry is made of.
-pub(crate) fn entry(alloc: Global, row: &str) -> Result<Entry, NoMemory> {
+pub fn entry(alloc: Global, row: &str) -> Result<Entry, NoMemory> {
     let (context, what) = (cell(row, 1), cell(row, 2));
     match cell(row, 0) {
         "entered" => entered(alloc, context, what),
@@ -102,7 +102,7 @@ fn plain_event(name: &str, number: u64) -> Event {
 }
 
 /// The cause of that name.
-pub(crate) fn cause(alloc: Global, name: &str) -> Result<RefusalCause, NoMemory> {
+pub fn cause(alloc: Global, name: &str) -> Result<RefusalCause, NoMemory> {
     match name {
         "Denied" => Ok(RefusalCause::Denied(why(alloc)?)),
         "NoLogin" => Ok(RefusalCause::NoLogin(why(alloc)?)),

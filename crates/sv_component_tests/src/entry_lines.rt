@@ -1,8 +1,9 @@
 //! The lines of the journal, and the numbers of causes.
 
 use crate::entries::{cause, entry};
-use crate::table::{cell, is_row};
-use std::test::Fail;
+use std::alloc::Global;
+use sv_rows::{Asks, Strays, cell, hold};
+use sv_text::NoMemory;
 
 /// What happened, the context path, what the entry is made of, its line with a full stop behind it.
 const LINES: &str = r#"
@@ -52,17 +53,22 @@ filter destroy  | ""   | ""                 | ""         | called / filter f1 de
 "#;
 
 #[test]
-fn an_entry_has_its_line(rt: HostRuntime) -> Result<(), Fail> {
-    let alloc = rt.alloc();
-    for row in LINES.lines().filter(|line| is_row(line)) {
+fn an_entry_has_its_line(rt: HostRuntime) -> Result<(), Strays> {
+    hold(&rt, &[LINES], &Lines)
+}
+
+/// The line of an entry.
+struct Lines;
+
+impl Asks for Lines {
+    const QUESTION: usize = 4;
+
+    fn answer(&self, alloc: Global, row: &str, answer: &mut Vec<u8>) -> Result<(), NoMemory> {
         let entry = entry(alloc, row)?;
-        assert_eq!(rt;
-            format!(in alloc; "{entry}.")?.as_str(),
-            cell(row, 4),
-            "{row}"
-        );
+        let line = format!(in alloc; "{entry}.")?;
+        answer.extend_from_slice(line.as_bytes())?;
+        Ok(())
     }
-    Ok(())
 }
 
 /// A cause, its number.
@@ -82,11 +88,19 @@ NoLogin     | 28
 "#;
 
 #[test]
-fn a_cause_has_its_number(rt: HostRuntime) -> Result<(), Fail> {
-    let alloc = rt.alloc();
-    for row in NUMBERS.lines().filter(|line| is_row(line)) {
-        let cause = cause(alloc, cell(row, 0))?;
-        assert_eq!(rt; cause.number(), cell(row, 1).parse::<u8>()?, "{row}");
+fn a_cause_has_its_number(rt: HostRuntime) -> Result<(), Strays> {
+    hold(&rt, &[NUMBERS], &Numbers)
+}
+
+/// The number of a cause.
+struct Numbers;
+
+impl Asks for Numbers {
+    const QUESTION: usize = 1;
+
+    fn answer(&self, alloc: Global, row: &str, answer: &mut Vec<u8>) -> Result<(), NoMemory> {
+        let number = cause(alloc, cell(row, 0))?.number();
+        answer.extend_from_slice(format!(in alloc; "{number}")?.as_bytes())?;
+        Ok(())
     }
-    Ok(())
 }

@@ -4,7 +4,9 @@
 #[cfg(test)]
 mod ample_memory;
 #[cfg(test)]
-mod bodies;
+mod calls;
+#[cfg(test)]
+mod changes;
 #[cfg(test)]
 mod classes;
 #[cfg(test)]
@@ -12,10 +14,6 @@ mod entries;
 #[cfg(test)]
 mod entry_lines;
 #[cfg(test)]
-mod exchanges;
+mod readings;
 #[cfg(test)]
 mod requests;
-#[cfg(test)]
-mod script;
-#[cfg(test)]
-mod table;

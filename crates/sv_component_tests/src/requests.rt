@@ -1,56 +1,58 @@
-//! The request on which scripts are played.
+//! The request on which calls are made.
 
 use http::Method;
+use http_header::{HeaderName, HeaderValue};
 use std::alloc::Global;
-use std::test::Fail;
 use sv_exchange::Exchange;
 use sv_head::Field;
-use sv_text::{Bytes, Listed, Text};
+use sv_text::{Bytes, Listed, NoMemory, Text};
 use sv_uri::path::Canon;
 use sv_wire::{Message, Target};
 
+/// The fields of the request: a Host, two of one name and one without a value.
+const FIELDS: &str = "host:h,x-two:1,x-two:2,x-none:";
+
 /// An exchange of a GET of `/app/a/b?q=1` in the context `/app`, at the moment 7.
-pub(crate) fn exchange(alloc: Global) -> Result<Exchange, Fail> {
+pub fn exchange(alloc: Global) -> Result<Exchange, NoMemory> {
     let message = message(alloc)?;
-    let canon = Canon {
-        path: Text::copy_of(alloc, "/a/b")?,
-        query: Some(Text::copy_of(alloc, "q=1")?),
-    };
-    Ok(Exchange::begin(alloc, &message, &canon, "/app", 7)?)
+    let canon = canon(alloc)?;
+    Exchange::begin(alloc, &message, &canon, "/app", 7)
 }
 
-fn message(alloc: Global) -> Result<Message, Fail> {
+fn message(alloc: Global) -> Result<Message, NoMemory> {
     Ok(Message {
-        method: Method::from_bytes(alloc, b"GET")?,
-        target: Target::Path(Bytes::from_vec(b"/app/a/b?q=1".to_vec(alloc)?)),
+        method: Method::GET,
+        target: Target::Star,
         minor: 1,
-        fields: Listed::from_vec(request_fields(alloc)?),
+        fields: Listed::from_vec(fields(alloc)?),
         body: Bytes::from_vec(Vec::new(alloc)),
         keep: true,
     })
 }
 
-/// A Host, two fields of one name and one without a value.
-fn request_fields(alloc: Global) -> Result<Vec<Field>, Fail> {
+fn canon(alloc: Global) -> Result<Canon, NoMemory> {
+    Ok(Canon {
+        path: Text::copy_of(alloc, "/a/b")?,
+        query: Some(Text::copy_of(alloc, "q=1")?),
+    })
+}
+
+fn fields(alloc: Global) -> Result<Vec<Field>, NoMemory> {
     let mut fields = Vec::new(alloc);
-    fields.push(Field::copy_of(alloc, b"host", b"h")?)?;
-    fields.push(Field::copy_of(alloc, b"x-two", b"1")?)?;
-    fields.push(Field::copy_of(alloc, b"x-two", b"2")?)?;
-    fields.push(Field::copy_of(alloc, b"x-none", b"")?)?;
+    for line in FIELDS.split(',') {
+        let (name, value) = line.split_once(':').unwrap_or((line, ""));
+        fields.push(field(alloc, name.as_bytes(), value.as_bytes())?)?;
+    }
     Ok(fields)
 }
 
-/// Fields with commas between them.
-pub(crate) fn fields_of(alloc: Global, fields: &[Field]) -> Result<String, Fail> {
-    let mut text = String::new(alloc);
-    for field in fields {
-        if !text.is_empty() {
-            text.push_str(", ")?;
-        }
-        let value = String::from_utf8_lossy(alloc, field.value.as_bytes())?;
-        text.push_str(field.name.as_str())?;
-        text.push_str(": ")?;
-        text.push_str(value.as_str())?;
-    }
-    Ok(text)
+/// A field of a name and a value that are valid.
+fn field(alloc: Global, name: &[u8], value: &[u8]) -> Result<Field, NoMemory> {
+    let Ok(name) = HeaderName::from_bytes(alloc, name) else {
+        return Err(NoMemory);
+    };
+    let Ok(value) = HeaderValue::from_bytes(alloc, value) else {
+        return Err(NoMemory);
+    };
+    Ok(Field { name, value })
 }
