@@ -30,7 +30,7 @@ const PIECES: [(&str, usize); 4] = [
 ];
 
 /// Rounds of quick work.
-fn quick(figures: bool) -> Rounds {
+pub fn quick(figures: bool) -> Rounds {
     Rounds {
         count: if figures { 10_000 } else { 100 },
         figures,

@@ -4,6 +4,8 @@
 
 mod bodies;
 mod constraints;
+mod exchange_figures;
+mod exchanges;
 mod feeding;
 mod figures;
 mod heads;
@@ -31,7 +33,8 @@ fn run<R: Env + Clock + Print + AllocGlobal>(rt: &R) -> Option<()> {
     figures::constraints(rt, wanted)?;
     figures::many_constraints(rt, wanted)?;
     figures::head(rt, wanted)?;
-    figures::body(rt, wanted)
+    figures::body(rt, wanted)?;
+    exchange_figures::exchange(rt, wanted)
 }
 
 fn wants_figures<R: Env + AllocGlobal>(rt: &R) -> Option<bool> {

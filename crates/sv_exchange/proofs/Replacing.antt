@@ -1,9 +1,10 @@
 -- The first item of a list that passes is replaced.
-use Rattle.std.proofs.Common.{◌≡◌, ℕ, ◌+◌, ◌<◌, ◌≤◌, ◌⊎◌, inl, inr, Bool, true, false, not, List, [], ◌∷◌, ◌++◌, length, take, drop, set, None, Some, refl, sym, ◌∙◌, ap, arith}
+use Rattle.std.proofs.Common.{◌≡◌, ℕ, ◌+◌, ◌<◌, ◌≤◌, ◌⊎◌, inl, inr, Bool, true, false, not, List, [], ◌∷◌, ◌++◌, length, drop, set, None, Some, refl, sym, ◌∙◌, ap, arith}
 use Rattle.std.specs.Prelude.{bytes_eq, nat_lt, position}
-use Rattle.std.specs.List.{position_or_len}
+use Rattle.std.specs.List.{insert, position_or_len}
 use Rattle.std.proofs.lemmas.Bool.{cases_Bool, cond-true, cond-false, ltb-true, ltb-false}
-use Rattle.std.proofs.lemmas.List.{append_assoc, drop_at, length-append, set_at, take_at}
+use Rattle.std.proofs.lemmas.List.{drop_at, length-append, set_at, take_at}
+use Rattle.std.proofs.lemmas.List.Filters.{length-filter_both}
 use Rattle.std.proofs.lemmas.Option.{none-some, same_Some}
 use Rattle.sv_head.specs.declared.field.Field.{Field}
 use Rattle.sv_exchange.specs.declared.attribute.Attribute.{Attribute}
@@ -113,26 +114,38 @@ module _ (name value : List ℕ) where
   field_found [] back item fail passes = cond-true _ _ _ passes
   field_found (x ∷ front) back item fail passes = cond-false _ _ _ fail.0 ∙ ap (λ rest. x ∷ rest) (field_found front back item fail.1 passes)
 
-  cut : (front back : List Field) (place : ℕ) → length front ≡ place
-      → take (place + 1) (front ++ field_of name value ∷ back) ++ without name (drop (place + 1) (front ++ field_of name value ∷ back))
-      ≡ front ++ field_of name value ∷ without name back
-  cut front back place long =
-      let one : front ++ field_of name value ∷ back ≡ (front ++ field_of name value ∷ []) ++ back = sym (append_assoc front (field_of name value ∷ []) back) in
-      let all : length (front ++ field_of name value ∷ []) ≡ place + 1 = length-append front (field_of name value ∷ []) ∙ omega (arith, long) in
-      ap (λ xs. take (place + 1) xs ++ without name (drop (place + 1) xs)) one
-      ∙ ap (λ xs. xs ++ without name (drop (place + 1) ((front ++ field_of name value ∷ []) ++ back))) (take_at (front ++ field_of name value ∷ []) back (place + 1) all)
-      ∙ ap (λ xs. (front ++ field_of name value ∷ []) ++ without name xs) (drop_at (front ++ field_of name value ∷ []) back (place + 1) all)
-      ∙ append_assoc front (field_of name value ∷ []) (without name back)
+  front_stays : (front back : List Field) (item : Field) → AllFail (is_called name) front → is_called name item ≡ true
+      → without name (front ++ item ∷ back) ≡ front ++ without name back
+  unfolding AllFail
+  front_stays [] back item fail passes = cond-false _ _ _ (ap not passes)
+  front_stays (x ∷ front) back item fail passes = cond-true _ _ _ (ap not fail.0) ∙ ap (λ rest. x ∷ rest) (front_stays front back item fail.1 passes)
+
+  put_at : (front back : List Field) (item : Field) (place : ℕ) → length front ≡ place → insert (front ++ back) place item ≡ front ++ item ∷ back
+  put_at front back item place there =
+      ap (λ xs. xs ++ item ∷ drop place (front ++ back)) (take_at front back place there)
+      ∙ ap (λ xs. front ++ item ∷ xs) (drop_at front back place there)
 
   pub set_field_found : (xs : List Field) (place : ℕ) → position (is_called name) xs ≡ Some place
-      → take (place + 1) (set xs place (field_of name value)) ++ without name (drop (place + 1) (set xs place (field_of name value))) ≡ set_field name value xs
+      → insert (without name xs) place (field_of name value) ≡ set_field name value xs
   set_field_found xs place found =
       let first = found_at (is_called name) xs place found in
-      let written : set xs place (field_of name value) ≡ first.front ++ field_of name value ∷ first.back =
-      ap (λ all. set all place (field_of name value)) first.is ∙ set_at first.front first.item first.back (field_of name value) place first.there in
-      ap (λ all. take (place + 1) all ++ without name (drop (place + 1) all)) written
-      ∙ cut first.front first.back place first.there
+      ap (λ all. insert (without name all) place (field_of name value)) first.is
+      ∙ ap (λ all. insert all place (field_of name value)) (front_stays first.front first.back first.item first.others first.passes)
+      ∙ put_at first.front (without name first.back) (field_of name value) place first.there
       ∙ sym (ap (set_field name value) first.is ∙ field_found first.front first.back first.item first.others first.passes)
+
+  -- where a field of the name stands, there is room for another one once all of them are removed
+  pub less : (xs : List Field) (place : ℕ) → position (is_called name) xs ≡ Some place
+      → (place ≤ length (without name xs)) × (length (without name xs) < length xs)
+  less xs place found =
+      let first = found_at (is_called name) xs place found in
+      let kept : length (without name xs) ≡ length first.front + length (without name first.back) =
+      ap (λ all. length (without name all)) first.is
+      ∙ ap length (front_stays first.front first.back first.item first.others first.passes)
+      ∙ length-append first.front (without name first.back) in
+      let all : length xs ≡ length first.front + length (first.item ∷ first.back) = ap length first.is ∙ length-append first.front (first.item ∷ first.back) in
+      let parts = length-filter_both (λ field. not (is_called name field)) (λ field. not (not (is_called name field))) (λ field. refl) first.back in
+      (omega (arith, kept, first.there), omega (arith, kept, all, parts))
 
   field_missed : (xs : List Field) → AllFail (is_called name) xs → set_field name value xs ≡ xs ++ field_of name value ∷ []
   unfolding AllFail

@@ -69,7 +69,7 @@ impl Exchange {
     pub fn reset(&mut self)
         ensures { self.new ≡ record self.old { buffer = []; fields = [] } }
     {
-        self.buffer.clear();
+        self.clear();
         self.fields.clear();
     }
 }

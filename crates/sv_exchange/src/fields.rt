@@ -1,8 +1,8 @@
 //! Fields by name.
 
-ghost use Rattle.std.specs.Prelude.{◌≡◌, ◌<◌, ◌≤◌, ◌++◌, length, position, take, drop, IfOk, IfSome, IsTrue, OnOk, OnErr};
+ghost use Rattle.std.specs.Prelude.{◌≡◌, ◌<◌, length, position, IfOk, IfSome, IsTrue, OnOk, OnErr, Some};
 ghost use Rattle.http_header.specs.Token.{is_token_byte, is_value_byte};
-ghost use Rattle.std.specs.List.{list_all};
+ghost use Rattle.std.specs.List.{insert, list_all};
 ghost use Rattle.sv_exchange.specs.Fields.{add_field, field_of, is_called, is_field, is_field_name, is_reserved_field, set_field, without};
 ghost use Rattle.sv_text.specs.Gives.{GivesAnswer};
 
@@ -41,19 +41,14 @@ pub(crate) fn place_of(name: &str, fields: &[Field]) -> Option<usize>
     fields.iter().position(|field| is_called(name, field))
 }
 
-/// Removes the fields of that name from the place on.
-pub(crate) fn remove_from(start: usize, name: &str, fields: &mut Vec<Field>)
-    requires { start ≤ length fields.old.items }
-    ensures { fields.new.items ≡ take start fields.old.items ++ without name.now (drop start fields.old.items) }
+/// Removes the fields of the name, whose first one stands at the place, and puts the field there.
+fn put_for_all(place: usize, name: &str, field: Field, fields: &mut Vec<Field>)
+    requires { position (is_called name.now) fields.old.items ≡ Some place }
+    ensures { fields.new.items ≡ insert (without name.now fields.old.items) place field }
 {
-    let mut place = start;
-    while place < fields.len() {
-        if is_called(name, &fields[place]) {
-            fields.remove(place);
-        } else {
-            place += 1;
-        }
-    }
+    fields.retain(|other| !is_called(name, other));
+    // One field at least was removed, so there is room.
+    let _room = fields.insert(place, field);
 }
 
 /// Whether the server alone writes fields of that name.
@@ -111,10 +106,7 @@ pub(crate) fn set_field(
 {
     let field = field_of(alloc, name, value)?;
     match place_of(name, fields) {
-        Some(place) => {
-            fields[place] = field;
-            remove_from(place + 1, name, fields);
-        }
+        Some(place) => put_for_all(place, name, field, fields),
         None => fields.push(field)?,
     }
     Ok(())

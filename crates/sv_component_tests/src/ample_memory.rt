@@ -1,0 +1,48 @@
+//! A journal and the answers of calls that may be refused memory, with memory at hand.
+
+use std::alloc::Global;
+use sv_journal::{Answer, CallName, Entry, Event, Journal};
+use sv_rows::{Asks, Strays, cell, hold};
+use sv_text::NoMemory;
+
+/// Whether the entry between two others could not be made, and the lines of the journal.
+const ROWS: &str = r#"
+-- formats of entries; an entry that could not be made breaks the journal, which keeps those before it and takes no more
+whole  | told / 1 SessionCreated 3. called / servlet who init Ready. whole
+broken | told / 1 SessionCreated 3. broken
+"#;
+
+#[test]
+fn a_journal_keeps_its_entries_until_it_breaks(rt: HostRuntime) -> Result<(), Strays> {
+    hold(&rt, &[ROWS], &Journals)
+}
+
+/// The lines of a journal, each with a full stop behind it.
+struct Journals;
+
+impl Asks for Journals {
+    const QUESTION: usize = 1;
+
+    fn answer(&self, alloc: Global, row: &str, answer: &mut Vec<u8>) -> Result<(), NoMemory> {
+        let event = Event::copy_of(alloc, &Event::SessionCreated(3))?;
+        let journal = journal(alloc, &event, cell(row, 0) == "broken");
+        for entry in journal.entries() {
+            let line = format!(in alloc; "{entry}. ")?;
+            answer.extend_from_slice(line.as_bytes())?;
+        }
+        let word: &[u8] = if journal.whole() { b"whole" } else { b"broken" };
+        answer.extend_from_slice(word)?;
+        Ok(())
+    }
+}
+
+fn journal(alloc: Global, event: &Event, breaks: bool) -> Journal {
+    let mut journal = Journal::new(alloc);
+    journal.note(Entry::told(alloc, "", 0, event));
+    if breaks {
+        journal.note(Err(NoMemory));
+    }
+    let ready = Ok(Some(Answer::Ready));
+    journal.note(Entry::of_servlet(alloc, "", "who", CallName::Init, ready));
+    journal
+}

@@ -1,0 +1,175 @@
+//! What changing calls do to an exchange.
+
+use crate::calls::made;
+use std::alloc::Global;
+use sv_exchange::Exchange;
+use sv_head::Field;
+use sv_rows::{Asks, Strays, cell, hold};
+use sv_text::NoMemory;
+use sv_wire::Response;
+
+/// Calls, the answer to the last one, and the response: its status, its fields, its body.
+const STATUSES: &str = r#"
+-- Jakarta Servlet 6.0, section 5.1: a status is set until the response is committed, and not within an include
+status 404                     | done      | 404 | ""                | ""
+status 200                     | done      | 200 | ""                | ""
+status 599                     | done      | 599 | ""                | ""
+status 404; status 403         | done      | 403 | ""                | ""
+flush; status 404              | ignored   | 200 | ""                | ""
+status 403; flush; status 404  | ignored   | 403 | ""                | ""
+enter INCLUDE; status 404      | ignored   | 200 | ""                | ""
+enter INCLUDE; enter FORWARD; status 404 | ignored | 200 | ""        | ""
+visit INCLUDE; status 404      | done      | 404 | ""                | ""
+enter FORWARD; status 404      | done      | 404 | ""                | ""
+enter ERROR; status 404        | done      | 404 | ""                | ""
+-- statuses that components may not set
+status 0                       | ignored   | 200 | ""                | ""
+status 100                     | ignored   | 200 | ""                | ""
+status 199                     | ignored   | 200 | ""                | ""
+status 205                     | ignored   | 200 | ""                | ""
+status 304                     | ignored   | 200 | ""                | ""
+status 600                     | ignored   | 200 | ""                | ""
+status 65535                   | ignored   | 200 | ""                | ""
+status 204                     | done      | 204 | ""                | ""
+status 206                     | done      | 206 | ""                | ""
+status 303                     | done      | 303 | ""                | ""
+status 305                     | done      | 305 | ""                | ""
+"#;
+
+/// The same of fields.
+const FIELDS: &str = r#"
+-- Jakarta Servlet 6.0, section 5.2: set replaces the first of its name in place and removes the others, add adds
+set X-A=1                      | done      | 200 | x-a: 1            | ""
+add x=1; add y=2; add X=3; add x=4; set X=5 | done | 200 | x: 5, y: 2 | ""
+add y=2; add x=1; set x=3; add y=4 | done  | 200 | y: 2, x: 3, y: 4  | ""
+add x=1; set y=2               | done      | 200 | x: 1, y: 2        | ""
+add x=1; add x=1               | done      | 200 | x: 1, x: 1        | ""
+set a=                         | done      | 200 | a:\x20            | ""
+add a=                         | done      | 200 | a:\x20            | ""
+set a=1; set a=                | done      | 200 | a:\x20            | ""
+set a=\x20 1\x20               | done      | 200 | a:\x20\x20 1\x20  | ""
+set a=é                        | done      | 200 | a: é              | ""
+set a=\t                       | done      | 200 | a: \t             | ""
+set set-cookie=k=v             | done      | 200 | set-cookie: k=v   | ""
+set location=/x                | done      | 200 | location: /x      | ""
+set allow=GET                  | done      | 200 | allow: GET        | ""
+set retry-after=1              | done      | 200 | retry-after: 1    | ""
+flush; set a=1                 | ignored   | 200 | ""                | ""
+flush; add a=1                 | ignored   | 200 | ""                | ""
+set a=1; flush; set a=2        | ignored   | 200 | a: 1              | ""
+enter INCLUDE; set a=1         | ignored   | 200 | ""                | ""
+enter INCLUDE; add a=1         | ignored   | 200 | ""                | ""
+enter FORWARD; set a=1         | done      | 200 | a: 1              | ""
+enter FORWARD; add a=1         | done      | 200 | a: 1              | ""
+-- fields that the server alone writes, in any case
+set date=1                     | ignored   | 200 | ""                | ""
+set Date=1                     | ignored   | 200 | ""                | ""
+add DATE=1                     | ignored   | 200 | ""                | ""
+set content-length=1           | ignored   | 200 | ""                | ""
+add Content-Length=1           | ignored   | 200 | ""                | ""
+set CONTENT-LENGTH=1           | ignored   | 200 | ""                | ""
+set transfer-encoding=chunked  | ignored   | 200 | ""                | ""
+add Transfer-Encoding=chunked  | ignored   | 200 | ""                | ""
+set tRANSFER-eNCODING=chunked  | ignored   | 200 | ""                | ""
+set connection=close           | ignored   | 200 | ""                | ""
+set Connection=close           | ignored   | 200 | ""                | ""
+add CONNECTION=close           | ignored   | 200 | ""                | ""
+set dates=1                    | done      | 200 | dates: 1          | ""
+-- RFC 9110, sections 5.1 and 5.5: names are tokens, values hold no line end; what is ignored is not judged
+set a b=1                      | BadHeader | 200 | ""                | ""
+add a:=1                       | BadHeader | 200 | ""                | ""
+set =1                         | BadHeader | 200 | ""                | ""
+set é=1                        | BadHeader | 200 | ""                | ""
+set a=1\n2                     | BadHeader | 200 | ""                | ""
+set a=1\r                      | BadHeader | 200 | ""                | ""
+add a=\x00                     | BadHeader | 200 | ""                | ""
+set a=\x7F                     | BadHeader | 200 | ""                | ""
+set a=1; set a=1\n2            | BadHeader | 200 | a: 1              | ""
+set date=1\n2                  | ignored   | 200 | ""                | ""
+flush; set a b=1               | ignored   | 200 | ""                | ""
+enter INCLUDE; add a=1\n2      | ignored   | 200 | ""                | ""
+"#;
+
+/// The same of bodies. One of more than a hundred bytes is told by its length.
+const BODIES: &str = r#"
+-- a body is written whatever else is under way, and emptied for dispatches
+write x                        | done      | 200 | ""                | x
+write x; write                 | done      | 200 | ""                | x
+write x; write yz              | done      | 200 | ""                | xyz
+flush; write x                 | done      | 200 | ""                | x
+enter INCLUDE; write x         | done      | 200 | ""                | x
+visit INCLUDE; write x         | done      | 200 | ""                | x
+flush                          | done      | 200 | ""                | ""
+flush; flush                   | done      | 200 | ""                | ""
+enter INCLUDE; flush           | done      | 200 | ""                | ""
+enter INCLUDE; flush; status 404 | ignored | 200 | ""                | ""
+status 404; set a=1; write x; clear | done | 404 | a: 1              | ""
+status 404; set a=1; write x; reset | done | 404 | ""                | ""
+status 404; flush; reset; status 403 | ignored | 404 | ""            | ""
+-- at most 4 MiB: a write that would pass them writes nothing
+fill 4194304                   | done      | 200 | ""                | 4194304 bytes
+fill 4194305                   | TooLarge  | 200 | ""                | ""
+write ab; fill 4194303         | TooLarge  | 200 | ""                | ab
+write ab; fill 4194302         | done      | 200 | ""                | 4194304 bytes
+fill 4194304; write y          | TooLarge  | 200 | ""                | 4194304 bytes
+fill 4194304; write            | done      | 200 | ""                | 4194304 bytes
+flush; enter INCLUDE; fill 4194305 | TooLarge | 200 | ""             | ""
+write ab; clear; fill 4194304  | done      | 200 | ""                | 4194304 bytes
+"#;
+
+#[test]
+fn an_exchange_is_changed_by_its_calls(rt: HostRuntime) -> Result<(), Strays> {
+    hold(&rt, &[STATUSES, FIELDS, BODIES], &Changes)
+}
+
+/// The answer to the last call of a row, and the response.
+struct Changes;
+
+impl Asks for Changes {
+    const QUESTION: usize = 1;
+
+    fn answer(&self, alloc: Global, row: &str, answer: &mut Vec<u8>) -> Result<(), NoMemory> {
+        let (exchange, said) = made(alloc, cell(row, 0))?;
+        write_outcome(alloc, said, &finished(exchange), answer)
+    }
+}
+
+fn finished(exchange: Exchange) -> Response {
+    exchange.finish()
+}
+
+fn write_outcome(
+    alloc: Global,
+    said: &str,
+    response: &Response,
+    answer: &mut Vec<u8>,
+) -> Result<(), NoMemory> {
+    let front = format!(in alloc; "{said} | {} | ", response.status)?;
+    answer.extend_from_slice(front.as_bytes())?;
+    write_fields(response.fields.as_slice(), answer)?;
+    answer.extend_from_slice(b" | ")?;
+    write_body(alloc, response.body.as_slice(), answer)
+}
+
+/// Writes fields with commas between them.
+pub fn write_fields(fields: &[Field], answer: &mut Vec<u8>) -> Result<(), NoMemory> {
+    let mut front: &[u8] = b"";
+    for field in fields {
+        answer.extend_from_slice(front)?;
+        answer.extend_from_slice(field.name.as_str().as_bytes())?;
+        answer.extend_from_slice(b": ")?;
+        answer.extend_from_slice(field.value.as_bytes())?;
+        front = b", ";
+    }
+    Ok(())
+}
+
+fn write_body(alloc: Global, body: &[u8], answer: &mut Vec<u8>) -> Result<(), NoMemory> {
+    if body.len() <= 100 {
+        answer.extend_from_slice(body)?;
+    } else {
+        let length = format!(in alloc; "{} bytes", body.len())?;
+        answer.extend_from_slice(length.as_bytes())?;
+    }
+    Ok(())
+}

@@ -1,0 +1,106 @@
+//! The lines of the journal, and the numbers of causes.
+
+use crate::entries::{cause, entry};
+use std::alloc::Global;
+use sv_rows::{Asks, Strays, cell, hold};
+use sv_text::NoMemory;
+
+/// What happened, the context path, what the entry is made of, its line with a full stop behind it.
+const LINES: &str = r#"
+entered         | ""   | /who               | ""         | entered / /who.
+entered         | /two | /                  | ""         | entered /two /.
+login           | /two | /a/*               | 2          | login /two pattern=/a/* constraint=2 cause=NeedsCaller.
+login           | ""   | ""                 | 1          | login / pattern= constraint=1 cause=NeedsCaller.
+login           | ""   | -                  | -          | login / pattern=- constraint=- cause=NeedsCaller.
+refused         | ""   | BadHead            | ""         | refused BadHead.
+refused         | ""   | BadTarget          | ""         | refused BadTarget.
+refused         | ""   | Fragment           | ""         | refused Fragment.
+refused         | ""   | Climbs             | ""         | refused Climbs.
+refused         | ""   | Star               | ""         | refused Star.
+refused         | ""   | LoggedIn           | ""         | refused LoggedIn.
+refused         | ""   | LoginFailed        | ""         | refused LoginFailed.
+refused         | ""   | NoSession          | ""         | refused NoSession.
+refused         | ""   | Denied             | ""         | refused Denied pattern=/a/* constraint=2 cause=NeedsCaller.
+refused         | ""   | NoLogin            | ""         | refused NoLogin pattern=/a/* constraint=2 cause=NeedsCaller.
+hidden          | ""   | NoContext          | ""         | hidden NoContext.
+hidden          | ""   | Protected          | ""         | hidden Protected.
+told            | ""   | ContextInitialized | ""         | told / 1 ContextInitialized.
+told            | ""   | ContextDestroyed   | ""         | told / 1 ContextDestroyed.
+told            | ""   | RequestInitialized | ""         | told / 1 RequestInitialized.
+told            | /two | RequestDestroyed   | ""         | told /two 1 RequestDestroyed.
+told            | ""   | SessionCreated     | 1          | told / 1 SessionCreated 1.
+told            | ""   | SessionDestroyed   | 18446744073709551615 | told / 1 SessionDestroyed 18446744073709551615.
+told            | ""   | SessionIdChanged   | 2          | told / 1 SessionIdChanged 2.
+told            | ""   | AttributeAdded     | 1          | told / 1 AttributeAdded 1 n.
+told            | ""   | AttributeReplaced  | 1          | told / 1 AttributeReplaced 1 n.
+told            | ""   | AttributeRemoved   | 1          | told / 1 AttributeRemoved 1 n.
+servlet init    | ""   | Ready              | ""         | called / servlet who init Ready.
+servlet init    | /two | Unavailable        | ""         | called /two servlet who init Unavailable.
+service         | ""   | Done               | ""         | called / servlet who service 0 Done.
+service         | ""   | Forward            | /a?b       | called / servlet who service 0 Forward /a?b.
+service         | ""   | Include            | ""         | called / servlet who service 0 Include .
+service         | ""   | Error              | 700        | called / servlet who service 0 Error 700.
+service         | ""   | Failed             | K          | called / servlet who service 0 Failed K.
+service         | ""   | Failed             | ""         | called / servlet who service 0 Failed .
+service         | ""   | Unavailable        | ""         | called / servlet who service 0 Unavailable.
+service         | ""   | NoMemory           | ""         | called / servlet who service 0 NoMemory.
+servlet destroy | ""   | ""                 | ""         | called / servlet who destroy.
+filter init     | ""   | InitFailed         | ""         | called / filter f1 init Failed.
+before          | ""   | Pass               | ""         | called / filter f1 before Pass.
+before          | ""   | Stop               | ""         | called / filter f1 before Stop.
+after           | ""   | ""                 | ""         | called / filter f1 after.
+filter destroy  | ""   | ""                 | ""         | called / filter f1 destroy.
+"#;
+
+#[test]
+fn an_entry_has_its_line(rt: HostRuntime) -> Result<(), Strays> {
+    hold(&rt, &[LINES], &Lines)
+}
+
+/// The line of an entry.
+struct Lines;
+
+impl Asks for Lines {
+    const QUESTION: usize = 4;
+
+    fn answer(&self, alloc: Global, row: &str, answer: &mut Vec<u8>) -> Result<(), NoMemory> {
+        let entry = entry(alloc, row)?;
+        let line = format!(in alloc; "{entry}.")?;
+        answer.extend_from_slice(line.as_bytes())?;
+        Ok(())
+    }
+}
+
+/// A cause, its number.
+const NUMBERS: &str = r#"
+BadHead     | 1
+BadTarget   | 8
+Fragment    | 11
+Climbs      | 20
+Star        | 21
+NoContext   | 22
+Protected   | 23
+LoggedIn    | 24
+LoginFailed | 25
+NoSession   | 26
+Denied      | 27
+NoLogin     | 28
+"#;
+
+#[test]
+fn a_cause_has_its_number(rt: HostRuntime) -> Result<(), Strays> {
+    hold(&rt, &[NUMBERS], &Numbers)
+}
+
+/// The number of a cause.
+struct Numbers;
+
+impl Asks for Numbers {
+    const QUESTION: usize = 1;
+
+    fn answer(&self, alloc: Global, row: &str, answer: &mut Vec<u8>) -> Result<(), NoMemory> {
+        let number = cause(alloc, cell(row, 0))?.number();
+        answer.extend_from_slice(format!(in alloc; "{number}")?.as_bytes())?;
+        Ok(())
+    }
+}

@@ -1,0 +1,58 @@
+//! The request on which calls are made.
+
+use http::Method;
+use http_header::{HeaderName, HeaderValue};
+use std::alloc::Global;
+use sv_exchange::Exchange;
+use sv_head::Field;
+use sv_text::{Bytes, Listed, NoMemory, Text};
+use sv_uri::path::Canon;
+use sv_wire::{Message, Target};
+
+/// The fields of the request: a Host, two of one name and one without a value.
+const FIELDS: &str = "host:h,x-two:1,x-two:2,x-none:";
+
+/// An exchange of a GET of `/app/a/b?q=1` in the context `/app`, at the moment 7.
+pub fn exchange(alloc: Global) -> Result<Exchange, NoMemory> {
+    let message = message(alloc)?;
+    let canon = canon(alloc)?;
+    Exchange::begin(alloc, &message, &canon, "/app", 7)
+}
+
+fn message(alloc: Global) -> Result<Message, NoMemory> {
+    Ok(Message {
+        method: Method::GET,
+        target: Target::Star,
+        minor: 1,
+        fields: Listed::from_vec(fields(alloc)?),
+        body: Bytes::from_vec(Vec::new(alloc)),
+        keep: true,
+    })
+}
+
+fn canon(alloc: Global) -> Result<Canon, NoMemory> {
+    Ok(Canon {
+        path: Text::copy_of(alloc, "/a/b")?,
+        query: Some(Text::copy_of(alloc, "q=1")?),
+    })
+}
+
+fn fields(alloc: Global) -> Result<Vec<Field>, NoMemory> {
+    let mut fields = Vec::new(alloc);
+    for line in FIELDS.split(',') {
+        let (name, value) = line.split_once(':').unwrap_or((line, ""));
+        fields.push(field(alloc, name.as_bytes(), value.as_bytes())?)?;
+    }
+    Ok(fields)
+}
+
+/// A field of a name and a value that are valid.
+fn field(alloc: Global, name: &[u8], value: &[u8]) -> Result<Field, NoMemory> {
+    let Ok(name) = HeaderName::from_bytes(alloc, name) else {
+        return Err(NoMemory);
+    };
+    let Ok(value) = HeaderValue::from_bytes(alloc, value) else {
+        return Err(NoMemory);
+    };
+    Ok(Field { name, value })
+}
