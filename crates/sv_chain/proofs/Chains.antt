@@ -1,47 +1,21 @@
--- How a chain grows by one mapping, and by one place.
+-- How a chain grows by one place, and that each of its places has a filter.
 use Rattle.std.proofs.Common.{ℕ, ◌≡◌, ◌+◌, ◌<◌, Bool, true, false, not, ◌||◌, cond, eqb, List, [], ◌∷◌, ◌++◌, length, get_or, take, filter, Option, Some, None, IfSome, append-nil, append_assoc, sym, refl, ap, ◌∙◌, ⊎_elim}
 use Rattle.std.specs.List.{All, list_any, flat_map}
 use Rattle.std.specs.Option.{option_to_list}
-use Rattle.std.proofs.lemmas.Bool.{cases_Bool, cond-true, cond-false, cond_both, eqb-true, not_from_true, not_from_false}
+use Rattle.std.proofs.lemmas.Bool.{cases_Bool, cond-true, cond-false, cond_both, eq-eqb, eqb-false, eqb-true, ne_eqb, not_from_true, not_from_false}
 use Rattle.std.proofs.lemmas.List.{take_more}
 use Rattle.std.proofs.lemmas.List.Concat.{flat_map-append}
 use Rattle.std.proofs.lemmas.List.Elements.{All-nil, All-cons, All-head, All-tail, All-append, All-filter, filter-append}
 use Rattle.sv_descriptor.specs.declared.filter.FilterEntry.{FilterEntry}
 use Rattle.sv_descriptor.specs.declared.filter.FilterMapping.{FilterMapping}
+use Rattle.sv_descriptor.specs.declared.web_app.WebApp.{WebApp}
+use Rattle.sv_mapping.specs.declared.kind.Kind.{Kind}
 use Rattle.sv_mapping.proofs.FirstBest.{position_within}
-use Rattle.sv_chain.specs.FilterChain.{filter_place, filters_of, without_doubles}
+use Rattle.sv_chain.specs.FilterChain.{filter_chain, filter_place, maps_path, maps_servlet, without_doubles}
 
 -- the filter of a mapping
 abbrev filter_in : List FilterEntry → FilterMapping → List ℕ
 filter_in filters mapping = option_to_list (filter_place filters mapping.filter_name)
-
-filters_of-append : (filters : List FilterEntry) (test : FilterMapping → Bool) (xs ys : List FilterMapping) → filters_of filters test (xs ++ ys) ≡ filters_of filters test xs ++ filters_of filters test ys
-filters_of-append filters test xs ys = ap (flat_map (filter_in filters)) (filter-append test xs ys) ∙ flat_map-append (filter_in filters) (filter test xs) (filter test ys)
-
-filters_of-one : (filters : List FilterEntry) (test : FilterMapping → Bool) (mapping : FilterMapping) → filters_of filters test (mapping ∷ []) ≡ cond (test mapping) (filter_in filters mapping) []
-filters_of-one filters test mapping =
-    ⊎_elim
-    (λ yes. ap (flat_map (filter_in filters)) (cond-true _ _ _ yes) ∙ (append-nil (filter_in filters mapping) ∙ sym (cond-true _ _ _ yes)))
-    (λ no. ap (flat_map (filter_in filters)) (cond-false _ _ _ no) ∙ sym (cond-false _ _ _ no))
-    (cases_Bool (test mapping))
-
--- one more mapping
-filters_of-more : (filters : List FilterEntry) (test : FilterMapping → Bool) (mappings : List FilterMapping) (mapping : FilterMapping) (i : ℕ) → i < length mappings → mapping ≡ get_or mappings i mapping → filters_of filters test (take (i + 1) mappings) ≡ filters_of filters test (take i mappings) ++ cond (test mapping) (filter_in filters mapping) []
-filters_of-more filters test mappings mapping i within is =
-    ap (filters_of filters test) (take_more mappings i mapping within ∙ ap (λ (m : FilterMapping). take i mappings ++ m ∷ []) (sym is))
-    ∙ (filters_of-append filters test (take i mappings) (mapping ∷ []) ∙ ap (λ places. filters_of filters test (take i mappings) ++ places) (filters_of-one filters test mapping))
-
--- a mapping that passes adds its filter
-pub filters_of-passes : (filters : List FilterEntry) (test : FilterMapping → Bool) (mappings : List FilterMapping) (mapping : FilterMapping) (i : ℕ) (start was now : List ℕ) → i < length mappings → mapping ≡ get_or mappings i mapping → test mapping ≡ true → was ≡ start ++ filters_of filters test (take i mappings) → now ≡ was ++ option_to_list (filter_place filters mapping.filter_name) → now ≡ start ++ filters_of filters test (take (i + 1) mappings)
-filters_of-passes filters test mappings mapping i start was now within is passes before after =
-    after ∙ (ap (λ places. places ++ filter_in filters mapping) before
-    ∙ (append_assoc start (filters_of filters test (take i mappings)) (filter_in filters mapping)
-    ∙ ap (λ places. start ++ places) (sym (filters_of-more filters test mappings mapping i within is ∙ ap (λ places. filters_of filters test (take i mappings) ++ places) (cond-true _ _ _ passes)))))
-
--- any other adds none
-pub filters_of-fails : (filters : List FilterEntry) (test : FilterMapping → Bool) (mappings : List FilterMapping) (mapping : FilterMapping) (i : ℕ) (start was : List ℕ) → i < length mappings → mapping ≡ get_or mappings i mapping → test mapping ≡ false → was ≡ start ++ filters_of filters test (take i mappings) → was ≡ start ++ filters_of filters test (take (i + 1) mappings)
-filters_of-fails filters test mappings mapping i start was within is fails before =
-    before ∙ ap (λ places. start ++ places) (sym (filters_of-more filters test mappings mapping i within is ∙ (ap (λ places. filters_of filters test (take i mappings) ++ places) (cond-false _ _ _ fails) ∙ append-nil _)))
 
 -- ---- places that stand once
 abbrev stands : ℕ → List ℕ → Bool
@@ -80,19 +54,25 @@ without_doubles-push (x ∷ xs) y =
     (cases_Bool (eqb x y))
   where
     eqb-self : (n : ℕ) → eqb n n ≡ true
-    eqb-self n = search rules
+    eqb-self n = eq-eqb n n refl
 
     eqb-turned : (m n : ℕ) → eqb m n ≡ false → eqb n m ≡ false
-    eqb-turned m n apart = ?
+    eqb-turned m n apart = ne_eqb n m (λ same. eqb-false m n apart (sym same))
 
     pushed : (m n : ℕ) (places : List ℕ) (found : Bool) → others m (n ∷ []) ≡ n ∷ [] → m ∷ others m (cond found places (places ++ n ∷ [])) ≡ cond found (m ∷ others m places) (m ∷ (others m places ++ n ∷ []))
     pushed m n places true here = refl
     pushed m n places false here = ap (λ rest. m ∷ rest) (filter-append _ places (n ∷ []) ∙ ap (λ rest. others m places ++ rest) here)
 
-pub doubles-more : (places chain next : List ℕ) (place i : ℕ) → i < length places → place ≡ get_or places i place → chain ≡ without_doubles (take i places) → next ≡ cond (stands place chain) chain (chain ++ place ∷ []) → next ≡ without_doubles (take (i + 1) places)
-doubles-more places chain next place i within is before after =
-    after ∙ (ap (λ all. cond (stands place all) all (all ++ place ∷ [])) before
-    ∙ (sym (without_doubles-push (take i places) place) ∙ ap without_doubles (sym (take_more places i place within ∙ ap (λ p. take i places ++ p ∷ []) (sym is)))))
+-- the next place of a list, where the chain has it and where it has not
+pub doubles-old : (places chain : List ℕ) (i : ℕ) → i < length places → chain ≡ without_doubles (take i places) → stands (get_or places i 0) chain ≡ true → chain ≡ without_doubles (take (i + 1) places)
+doubles-old places chain i within before found =
+    let place = get_or places i 0 in
+    sym (ap without_doubles (take_more places i 0 within) ∙ (without_doubles-push (take i places) place ∙ (ap (λ all. cond (stands place all) all (all ++ place ∷ [])) (sym before) ∙ cond-true _ _ _ found)))
+
+pub doubles-new : (places chain : List ℕ) (i : ℕ) → i < length places → chain ≡ without_doubles (take i places) → stands (get_or places i 0) chain ≡ false → chain ++ get_or places i 0 ∷ [] ≡ without_doubles (take (i + 1) places)
+doubles-new places chain i within before none =
+    let place = get_or places i 0 in
+    sym (ap without_doubles (take_more places i 0 within) ∙ (without_doubles-push (take i places) place ∙ (ap (λ all. cond (stands place all) all (all ++ place ∷ [])) (sym before) ∙ cond-false _ _ _ none)))
 
 -- ---- each place has a filter
 abbrev IsPlace : List FilterEntry → ℕ → Type 0
@@ -114,7 +94,9 @@ once_in filters (place ∷ places) all =
     All-cons (IsPlace filters) place (others place (without_doubles places)) (All-head (IsPlace filters) place places all)
     (All-filter _ (IsPlace filters) (without_doubles places) (once_in filters places (All-tail (IsPlace filters) place places all)))
 
-pub chain_in : (filters : List FilterEntry) (test other : FilterMapping → Bool) (mappings : List FilterMapping) → All (IsPlace filters) (without_doubles (filters_of filters test mappings ++ filters_of filters other mappings))
-chain_in filters test other mappings =
-    once_in filters (filters_of filters test mappings ++ filters_of filters other mappings)
-    (All-append (IsPlace filters) (filters_of filters test mappings) (filters_of filters other mappings) (places_in filters (filter test mappings)) (places_in filters (filter other mappings)))
+pub chain_in : (app : WebApp) (path servlet : List ℕ) (kind : Kind) → All (λ place. place < length app.filters) (filter_chain app path servlet kind)
+chain_in app path servlet kind =
+    let by_path = filter (maps_path kind path) app.filter_mappings in
+    let by_servlet = filter (maps_servlet kind servlet) app.filter_mappings in
+    once_in app.filters (flat_map (filter_in app.filters) by_path ++ flat_map (filter_in app.filters) by_servlet)
+    (All-append (IsPlace app.filters) (flat_map (filter_in app.filters) by_path) (flat_map (filter_in app.filters) by_servlet) (places_in app.filters by_path) (places_in app.filters by_servlet))

@@ -1,6 +1,5 @@
 //! Places that stand once.
 
-ghost use Rattle.sv_text.specs.Gives.{GivesAnswer};
 ghost use Rattle.std.specs.Prelude.{◌≡◌, IfOk};
 ghost use Rattle.sv_chain.specs.FilterChain.{without_doubles};
 
