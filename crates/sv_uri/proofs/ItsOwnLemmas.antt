@@ -46,7 +46,7 @@ pub closing_is : (names : List (List ℕ)) → (closing names ≡ [] ∷ []) ⊎
 closing_is names = ⊎_elim (λ yes. inl (cond-true _ _ _ yes)) (λ no. inr (cond-false _ _ _ no)) (cases_Bool (ends_open (last_or None names)))
 
 -- the parts of a canonical path, taken as names, give the same parts
-parts_again : (names : List (List ℕ)) → (kept (parts_of names) ≡ remaining (kept names)) × (closing (parts_of names) ≡ closing names)
+pub parts_again : (names : List (List ℕ)) → (kept (parts_of names) ≡ remaining (kept names)) × (closing (parts_of names) ≡ closing names)
 parts_again names =
     let left = remaining (kept names) in
     let once = kept_again left (all_kept names) in

@@ -1,6 +1,7 @@
 mod AnswerLemmas
 mod DotSegmentLemmas
 mod ItsOwnLemmas
+mod LocationLemmas
 mod QueryLemmas
 mod SegmentLemmas
 mod ShapeLemmas

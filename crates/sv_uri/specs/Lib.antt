@@ -2,6 +2,7 @@ pub mod Canonical
 pub mod DotSegments
 pub mod Fault
 pub mod Laws
+pub mod LocationField
 pub mod Segment
 pub mod Shape
 pub mod Target

@@ -1,6 +1,7 @@
 //! The laws of canonical paths, each the contract of a function that does nothing.
 
 ghost use Rattle.sv_uri.specs.Laws.{ClimbsByFronts, CanonicalIsItsOwn};
+ghost use Rattle.sv_uri.specs.LocationField.{LocationIsReadBack};
 ghost use Rattle.sv_uri.specs.Shape.{CanonicalHasShape};
 
 /// A path climbs exactly where some front of its segments has more `..` than other names.
@@ -17,4 +18,9 @@ pub fn canonical_is_its_own()
 /// backslash.
 pub fn canonical_has_shape()
     ensures { CanonicalHasShape }
+{}
+
+/// The location of a canonical path has that path as its canonical path, and no query.
+pub fn location_is_read_back()
+    ensures { LocationIsReadBack }
 {}

@@ -1,9 +1,10 @@
-//! Canonical paths of request targets, and the faults for which a target has none.
+//! Canonical paths of request targets, the faults for which a target has none, and paths in Location fields.
 #![tactic(auto)]
 
 mod canonical;
 pub mod fault;
 pub mod laws;
+mod location_field;
 pub mod path;
 mod query;
 mod segment;
@@ -11,3 +12,4 @@ mod separator;
 mod walk;
 
 pub use canonical::canon;
+pub use location_field::location;

@@ -1,0 +1,8 @@
+//! Which filters a dispatch passes, and in which order (Jakarta Servlet 6.0, section 6.2).
+#![tactic(auto)]
+
+mod chain;
+mod doubles;
+mod mapping;
+
+pub use chain::chain_plain;

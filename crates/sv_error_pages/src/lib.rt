@@ -1,0 +1,6 @@
+//! Which page answers an error (Jakarta Servlet 6.0, section 10.9.2).
+#![tactic(auto)]
+
+mod choice;
+
+pub use choice::page_for;

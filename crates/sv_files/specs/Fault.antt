@@ -1,0 +1,42 @@
+-- Which lists of files are refused, and by which fault.
+use Rattle.std.specs.Prelude.{ℕ, Bool, not, ◌||◌, false, nat_lt, List, [], ◌∷◌, ◌++◌, length, map, codes, Option, Some, None, Result}
+use Rattle.std.specs.List.{list_any}
+use Rattle.std.specs.Str.{bytes_eq}
+use Rattle.sv_text.specs.Faults.{when, first_or}
+use Rattle.sv_files.specs.Files.{is_file, is_file_path}
+use Rattle.sv_files.specs.declared.fault.FilesFault.{FilesFault}
+use Rattle.sv_files.specs.declared.fault.FilesFault.TheVariants.{BadPath, Duplicate, TooMany, TooLarge, NoMemory}
+use Rattle.sv_files.specs.declared.file.File.{File}
+use Rattle.sv_files.specs.declared.limits.TheConstants.{MAX_FILES, MAX_FILE_BYTES}
+
+-- two files have one path
+abbrev pub repeats : List File → Bool
+repeats [] = false
+repeats (file ∷ rest) = is_file rest file.path || repeats rest
+
+-- all faults of a list of files, in their order
+abbrev pub list_faults : List File → List FilesFault
+list_faults files = when (list_any (λ file. not (is_file_path file.path)) files) BadPath
+    ++ when (repeats files) Duplicate
+    ++ when (nat_lt MAX_FILES (length files)) TooMany
+    ++ when (list_any (λ file. nat_lt MAX_FILE_BYTES (length file.bytes)) files) TooLarge
+
+-- the files of a list, or its first fault
+abbrev pub files_of : List File → Result (List File) FilesFault
+files_of files = first_or (list_faults files) files
+
+-- a fault of the list, apart from want of memory
+abbrev pub list_fault : FilesFault → Option FilesFault
+list_fault BadPath = Some BadPath
+list_fault Duplicate = Some Duplicate
+list_fault TooMany = Some TooMany
+list_fault TooLarge = Some TooLarge
+list_fault NoMemory = None
+
+-- the text that is printed for a fault
+abbrev pub fault_text : FilesFault → List ℕ
+fault_text BadPath = codes "BadPath"
+fault_text Duplicate = codes "Duplicate"
+fault_text TooMany = codes "TooMany"
+fault_text TooLarge = codes "TooLarge"
+fault_text NoMemory = codes "no memory"

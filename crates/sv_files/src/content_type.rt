@@ -1,0 +1,32 @@
+//! The content types of files.
+
+ghost use Rattle.std.specs.Prelude.{◌≡◌};
+ghost use Rattle.sv_files.specs.ContentType as spec;
+
+use crate::extension::extension_of;
+
+/// The content type of the file of this path, by its extension: what follows the last `.` of its last segment. Extensions are compared
+/// with case, and an unknown one gives `application/octet-stream`.
+pub fn content_type_of(path: &str) -> &'static str
+    ensures { result.now ≡ spec.content_type path.now }
+{
+    match extension_of(path) {
+        Some(extension) => type_of(extension),
+        None => "application/octet-stream",
+    }
+}
+
+#[tactic(auto, unfolding(crate::specs::ContentType::type_of))]
+fn type_of(extension: &str) -> &'static str
+    ensures { result.now ≡ spec.type_of extension.now }
+{
+    match extension {
+        "html" | "htm" => "text/html",
+        "txt" => "text/plain",
+        "css" => "text/css",
+        "js" => "text/javascript",
+        "json" => "application/json",
+        "svg" => "image/svg+xml",
+        _ => "application/octet-stream",
+    }
+}

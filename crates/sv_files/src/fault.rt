@@ -1,0 +1,51 @@
+//! Why a list of files is refused.
+
+ghost use Rattle.std.specs.Prelude.{Some};
+ghost use Rattle.sv_files.specs.Fault.{fault_text};
+
+use std::error::Error;
+use std::fmt;
+use sv_text::NoMemory;
+
+/// Why [`Files::from_list`](crate::Files::from_list) gave no files. Of several faults the one of the least number is answered,
+/// wherever in the list it stands. It is printed as its name, want of memory as `no memory`.
+#[derive(Clone, Copy, Debug, PartialEq, Eq)]
+pub enum FilesFault {
+    /// A path is not the canonical path of its own location, or ends in `/`.
+    BadPath = 1,
+    /// Two files have one path.
+    Duplicate = 2,
+    /// There are more files than [`MAX_FILES`](crate::MAX_FILES).
+    TooMany = 3,
+    /// A file has more bytes than [`MAX_FILE_BYTES`](crate::MAX_FILE_BYTES).
+    TooLarge = 4,
+    /// A growth was refused; the same call may succeed later.
+    NoMemory = 5,
+}
+
+impl fmt::Display for FilesFault {
+    ghost output = { λ fault. Some (fault_text fault) };
+
+    fn fmt<W: fmt::Write>(&self, f: &mut fmt::Formatter<W>) -> fmt::Result {
+        f.write_str(match self {
+            FilesFault::BadPath => "BadPath",
+            FilesFault::Duplicate => "Duplicate",
+            FilesFault::TooMany => "TooMany",
+            FilesFault::TooLarge => "TooLarge",
+            FilesFault::NoMemory => "no memory",
+        })
+    }
+}
+
+impl Error for FilesFault {}
+
+impl From<NoMemory> for FilesFault {
+    ghost use Rattle.std.specs.Prelude.{◌≡◌};
+    ghost use Rattle.sv_files.specs.declared.fault.FilesFault.TheVariants as fault;
+
+    ghost from_gives = { λ _ e. e ≡ fault.NoMemory };
+
+    fn from(_refused: NoMemory) -> FilesFault {
+        Self::NoMemory
+    }
+}

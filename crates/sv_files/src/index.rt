@@ -1,0 +1,88 @@
+//! Look-ups by path, which cost the same however many files there are.
+
+ghost use Rattle.std.specs.Prelude.{◌≡◌, ℕ, List, [], ◌∷◌, ◌++◌, length, not, nat_eq, position, codes, ◌||◌, IfOk, OnOk, OnTrue};
+ghost use Rattle.std.specs.HashSet.{contains_text};
+ghost use Rattle.std.specs.List.{starts_with};
+ghost use Rattle.std.specs.Str.{bytes_eq};
+ghost use Rattle.sv_files.specs.Files as spec;
+ghost use Rattle.sv_files.specs.Index.{IsIndexOf};
+ghost use Rattle.sv_files.specs.Below.{IsClosed, lies_below};
+ghost use Rattle.sv_files.specs.declared.file.File.{File};
+
+use crate::file::File;
+use std::alloc::Global;
+use std::collections::{HashMap, HashSet};
+use sv_text::NoMemory;
+
+/// The places of files by their paths, and the paths of folders.
+#[derive(Drop)]
+pub(crate) struct Index {
+    places: HashMap<String, usize>,
+    folders: HashSet<String>,
+}
+
+impl Index {
+    /// The index of no files.
+    pub(crate) fn new(alloc: Global) -> Index
+        ensures { IsIndexOf result [] }
+    {
+        Index {
+            places: HashMap::new(alloc),
+            folders: HashSet::new(alloc),
+        }
+    }
+
+    /// Enters the file that stands at the place behind all others, and answers whether its path is new. Where it is not, the index is
+    /// as before.
+    pub(crate) fn enter(
+        &mut self,
+        alloc: Global,
+        file: &File,
+        place: usize,
+    ) -> Result<bool, NoMemory>
+        ensures new { (files : List File) → IsIndexOf self.old files → IfOk result (λ is_new. is_new ≡ not (spec.is_file files file.now.path)) }
+        ensures entered { (files : List File) → IsIndexOf self.old files → place ≡ length files → IfOk result (λ is_new. OnTrue is_new (IsIndexOf self.new (files ++ file.now ∷ []))) }
+    {
+        let path = file.path.as_str();
+        if self.places.contains_key(path) {
+            return Ok(false);
+        }
+        self.places.insert(String::from_str(alloc, path)?, place)?;
+        enter_folders(&mut self.folders, alloc, path)?;
+        Ok(true)
+    }
+
+    /// The place of the file of this path.
+    pub(crate) fn place_of(&self, path: &str) -> Option<usize>
+        ensures { (files : List File) → IsIndexOf self.now files → result ≡ position (λ file. bytes_eq file.path path.now) files }
+    {
+        self.places.get(path).copied()
+    }
+
+    /// Whether some file lies below the path.
+    pub(crate) fn is_folder(&self, path: &str) -> bool
+        ensures { (files : List File) → IsIndexOf self.now files → result ≡ spec.is_folder files path.now }
+    {
+        self.folders.contains(path)
+    }
+}
+
+/// Enters the folders that a path lies below, from the innermost up to the first that is known: what that one lies below is known too.
+fn enter_folders(
+    folders: &mut HashSet<String>,
+    alloc: Global,
+    path: &str,
+) -> Result<(), NoMemory>
+    ensures { (known : List ℕ → Bool) → IsClosed known → ((folder : List ℕ) → contains_text folders.old folder ≡ known folder)
+        → OnOk result ((folder : List ℕ) → contains_text folders.new folder ≡ (known folder || lies_below folder path.now)) }
+{
+    let mut rest = path;
+    while let Some((folder, _)) = rest.rsplit_once('/') {
+        if folders.contains(folder) {
+            return Ok(());
+        }
+        folders.insert(String::from_str(alloc, folder)?)?;
+        rest = folder;
+    }
+    Ok(())
+}

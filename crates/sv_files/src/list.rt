@@ -1,0 +1,80 @@
+//! What is asked of a list of files before it is taken.
+
+ghost use Rattle.std.specs.Prelude.{◌≡◌, nat_lt, length, not, MatchOption, IfOk, true, false};
+ghost use Rattle.std.specs.List.{list_any};
+ghost use Rattle.sv_text.specs.Gives.{GivesAnswer};
+ghost use Rattle.sv_files.specs.Fault.{repeats};
+ghost use Rattle.sv_files.specs.Files as spec;
+ghost use Rattle.sv_files.specs.Index.{IsIndexOf};
+
+use crate::file::File;
+use crate::index::Index;
+use crate::limits::MAX_FILE_BYTES;
+use std::alloc::Global;
+use sv_text::NoMemory;
+use sv_uri::fault::CanonFault;
+use sv_uri::{canon, location};
+
+/// Whether a path of the files is not one that a request can name, or is a folder's.
+pub(crate) fn has_bad_path(alloc: Global, files: &[File]) -> Result<bool, NoMemory>
+    ensures { GivesAnswer result (list_any (λ file. not (spec.is_file_path file.path)) files.now) }
+{
+    for file in files {
+        if !is_file_path(alloc, file.path.as_str())? {
+            return Ok(true);
+        }
+    }
+    Ok(false)
+}
+
+#[tactic(auto, unfolding(crate::specs::Files::is_file_path))]
+fn is_file_path(alloc: Global, path: &str) -> Result<bool, NoMemory>
+    ensures { GivesAnswer result (spec.is_file_path path.now) }
+{
+    Ok(is_canonical(alloc, path)? && !ends_in_slash(path))
+}
+
+#[tactic(auto, unfolding(crate::specs::Files::is_canonical))]
+fn is_canonical(alloc: Global, path: &str) -> Result<bool, NoMemory>
+    ensures { GivesAnswer result (spec.is_canonical path.now) }
+{
+    let location = location(alloc, path)?;
+    match canon(alloc, location.as_bytes()) {
+        Ok(canon) => Ok(canon.path.as_str() == path),
+        Err(CanonFault::Path(_)) => Ok(false),
+        Err(CanonFault::NoMemory) => Err(NoMemory),
+    }
+}
+
+/// Whether the path is that of a folder as a request names it.
+pub(crate) fn ends_in_slash(path: &str) -> bool
+    ensures { result ≡ spec.ends_in_slash path.now }
+{
+    path.ends_with('/')
+}
+
+/// The index of the files, `None` where two of them have one path.
+pub(crate) fn index_of(alloc: Global, files: &[File]) -> Result<Option<Index>, NoMemory>
+    ensures { IfOk result (λ index. MatchOption index (repeats files.now ≡ true) (λ its. (repeats files.now ≡ false) × IsIndexOf its files.now)) }
+{
+    let mut index = Index::new(alloc);
+    for (place, file) in files.iter().enumerate() {
+        if !index.enter(alloc, file, place)? {
+            return Ok(None);
+        }
+    }
+    Ok(Some(index))
+}
+
+/// Whether a file has more bytes than the limit.
+pub(crate) fn has_large_file(files: &[File]) -> bool
+    ensures { result ≡ list_any (λ file. nat_lt MAX_FILE_BYTES (length file.bytes)) files.now }
+{
+    files.iter().any(|file| is_large(file))
+}
+
+fn is_large(file: &File) -> bool
+    ensures { result ≡ nat_lt MAX_FILE_BYTES (length file.now.bytes) }
+{
+    file.bytes.as_slice().len() > MAX_FILE_BYTES
+}
