@@ -1,37 +1,15 @@
-//! Tests of the three readers of configuration files: tables whose rows a reader can check against the files' format.
+//! Tests of the three readers of configuration files: what is read, which no command prints. The cases of the command `policy` show what is refused.
 #![tactic(auto)]
 
 #[cfg(test)]
-mod across_tables;
+mod elements;
 #[cfg(test)]
-mod constraint_tables;
+mod passwords;
 #[cfg(test)]
-mod demo;
+mod security;
 #[cfg(test)]
-mod each_fault;
-#[cfg(test)]
-mod element_tables;
-#[cfg(test)]
-mod filter_tables;
-#[cfg(test)]
-mod first_faults;
-#[cfg(test)]
-mod limits;
-#[cfg(test)]
-mod reading;
-#[cfg(test)]
-mod server_tables;
-#[cfg(test)]
-mod servlet_tables;
+mod settings;
 #[cfg(test)]
 mod summary;
-#[cfg(test)]
-mod texts;
-#[cfg(test)]
-mod toml_texts;
-#[cfg(test)]
-mod top_table;
-#[cfg(test)]
-mod user_tables;
 #[cfg(test)]
 mod what_is_read;

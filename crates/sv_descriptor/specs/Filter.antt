@@ -33,12 +33,17 @@ dispatcher key text =
     else if bytes_eq text (codes "ERROR") then Ok Error
     else refuse BadValue key
 
+-- a filter mapping of that filter
+abbrev pub filter_mapping_of : List ℕ → Members → Reads FilterMapping
+filter_mapping_of its_name table = do
+  its_patterns ← optional_or [] (patterns 0 MAX_LIST_ITEMS) (codes "url-pattern") table
+  servlets ← optional_or [] (list_of_texts 0 MAX_LIST_ITEMS name) (codes "servlet-name") table
+  kinds ← optional_or [] (list_of_texts 0 MAX_LIST_ITEMS dispatcher) (codes "dispatcher") table
+  Ok (record { filter_name = its_name; url_patterns = its_patterns; servlet_names = servlets; dispatchers = kinds })
+
 abbrev pub filter_mapping : Members → Reads FilterMapping
 filter_mapping table = do
   element_keys (codes "filter-name" ∷ codes "url-pattern" ∷ codes "servlet-name" ∷ codes "dispatcher" ∷ []) table
   its_name ← required (text_of name) (codes "filter-name") table
   check (has_key (codes "url-pattern") table || has_key (codes "servlet-name") table) MissingKey (codes "url-pattern")
-  its_patterns ← optional_or [] (patterns 0 MAX_LIST_ITEMS) (codes "url-pattern") table
-  servlets ← optional_or [] (list_of_texts 0 MAX_LIST_ITEMS name) (codes "servlet-name") table
-  kinds ← optional_or [] (list_of_texts 0 MAX_LIST_ITEMS dispatcher) (codes "dispatcher") table
-  Ok (record { filter_name = its_name; url_patterns = its_patterns; servlet_names = servlets; dispatchers = kinds })
+  filter_mapping_of its_name table

@@ -3,18 +3,12 @@ use Rattle.std.specs.Prelude.{List, [], ◌∷◌, Ok}
 use Rattle.toml.specs.Data.{Members, no_members, member}
 use Rattle.sv_text.specs.Steps.{◌>>=◌}
 use Rattle.sv_schema.specs.Fault.{Reads}
-use Rattle.sv_schema.specs.Value.{Reader, text_of, any_text}
+use Rattle.sv_schema.specs.Value.{text_of, any_text}
 use Rattle.sv_descriptor.specs.declared.init_param.InitParam.{InitParam}
-
--- a parameter
-unfoldable pub init_param : Reader InitParam
-init_param its_name it = do
-  text ← text_of any_text its_name it
-  Ok (record { name = its_name; value = text })
 
 abbrev pub init_params : Members → Reads (List InitParam)
 init_params no_members = Ok []
-init_params (member its_name it rest) = do
-  first ← init_param its_name it
+init_params (member name it rest) = do
+  value ← text_of any_text name it
   others ← init_params rest
-  Ok (first ∷ others)
+  Ok (record { name = name; value = value } ∷ others)

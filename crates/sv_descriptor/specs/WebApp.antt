@@ -1,5 +1,5 @@
 -- Jakarta Servlet 6.0 section 14.4 (web-app): the elements of a deployment descriptor.
-use Rattle.std.specs.Prelude.{ℕ, false, List, [], ◌∷◌, codes, Ok}
+use Rattle.std.specs.Prelude.{ℕ, Bool, false, List, [], ◌∷◌, codes, Ok}
 use Rattle.toml.specs.Data.{Members}
 use Rattle.sv_text.specs.Steps.{◌>>=◌, ◌>>◌}
 use Rattle.sv_schema.specs.Fault.{Reads}
@@ -41,6 +41,14 @@ assembled its_version its_components its_session its_pages its_security = record
   login = its_security.login;
 }
 
+-- the elements, where those in front of the sessions have been read
+abbrev pub behind_components : Version → Bool → Components → Members → Reads WebApp
+behind_components its_version deny its_components table = do
+  its_session ← session table
+  its_pages ← pages table
+  its_security ← security deny table
+  Ok (assembled its_version its_components its_session its_pages its_security)
+
 -- the elements, in their order
 abbrev pub web_app : Members → Reads WebApp
 web_app table = do
@@ -48,7 +56,4 @@ web_app table = do
   its_version ← version table
   deny ← optional_or false truth (codes "deny-uncovered-http-methods") table
   its_components ← components table
-  its_session ← session table
-  its_pages ← pages table
-  its_security ← security deny table
-  Ok (assembled its_version its_components its_session its_pages its_security)
+  behind_components its_version deny its_components table

@@ -1,6 +1,9 @@
 //! Filters and their mappings.
 
+ghost use Rattle.sv_text.specs.Gives.{Gives};
+ghost use Rattle.toml.specs.View.{table_view};
 ghost use Rattle.sv_descriptor.specs.Filter as spec;
+ghost use Rattle.sv_schema.specs.Fault.{fault};
 
 use crate::ignored::element_keys;
 use crate::init_param::{InitParam, InitParams};
@@ -81,28 +84,38 @@ impl TableSchema for FilterMappingTable {
         if !has_key(table, "url-pattern") && !has_key(table, "servlet-name") {
             return refuse(alloc, FaultCode::MissingKey, "url-pattern");
         }
-        let patterns = UrlPatterns {
-            least: 0,
-            most: MAX_LIST_ITEMS,
-            item: TextOf(UrlPattern),
-        };
-        let names = ListOf {
-            least: 0,
-            most: MAX_LIST_ITEMS,
-            item: TextOf(Name),
-        };
-        let dispatchers = ListOf {
-            least: 0,
-            most: MAX_LIST_ITEMS,
-            item: TextOf(Dispatcher),
-        };
-        Ok(FilterMapping {
-            filter_name,
-            url_patterns: list_or_empty(alloc, table, "url-pattern", &patterns)?,
-            servlet_names: list_or_empty(alloc, table, "servlet-name", &names)?,
-            dispatchers: list_or_empty(alloc, table, "dispatcher", &dispatchers)?,
-        })
+        read_lists(alloc, table, filter_name)
     }
+}
+
+/// Reads the lists of a filter mapping.
+fn read_lists(alloc: Global, table: &Table, filter_name: Text) -> Result<FilterMapping, ReadFault>
+    ensures { Gives fault result (spec.filter_mapping_of filter_name (table_view table.now)) }
+{
+    let patterns = UrlPatterns {
+        least: 0,
+        most: MAX_LIST_ITEMS,
+        item: TextOf(UrlPattern),
+    };
+    let names = ListOf {
+        least: 0,
+        most: MAX_LIST_ITEMS,
+        item: TextOf(Name),
+    };
+    let dispatchers = ListOf {
+        least: 0,
+        most: MAX_LIST_ITEMS,
+        item: TextOf(Dispatcher),
+    };
+    let url_patterns = list_or_empty(alloc, table, "url-pattern", &patterns)?;
+    let servlet_names = list_or_empty(alloc, table, "servlet-name", &names)?;
+    let dispatchers = list_or_empty(alloc, table, "dispatcher", &dispatchers)?;
+    Ok(FilterMapping {
+        filter_name,
+        url_patterns,
+        servlet_names,
+        dispatchers,
+    })
 }
 
 /// The name of a kind of dispatches.

@@ -6,7 +6,7 @@ ghost use Rattle.sv_descriptor.specs.Version as spec;
 ghost use Rattle.sv_schema.specs.Fault.{fault};
 
 use std::alloc::Global;
-use sv_schema::{NumberBetween, ReadFault, WholeOf, WholeSchema, optional_or};
+use sv_schema::{NumberBetween, ReadFault, WholeOf, optional};
 use toml::Table;
 
 /// A version of the descriptor's format.
@@ -23,26 +23,7 @@ pub enum Version {
 pub fn read_version(alloc: Global, table: &Table) -> Result<Version, ReadFault>
     ensures { Gives fault result (spec.version (table_view table.now)) }
 {
-    optional_or(
-        alloc,
-        table,
-        "version",
-        &WholeOf(VersionNumber),
-        Version::One,
-    )
-}
-
-/// The number of a version.
-#[derive(Clone, Copy)]
-struct VersionNumber;
-
-impl WholeSchema for VersionNumber {
-    type Output = Version;
-
-    ghost reads = { λ _. spec.version_number };
-
-    fn read(&self, alloc: Global, key: &str, number: i64) -> Result<Version, ReadFault> {
-        NumberBetween { least: 1, most: 1 }.read(alloc, key, number)?;
-        Ok(Version::One)
-    }
+    let first = WholeOf(NumberBetween { least: 1, most: 1 });
+    let _ = optional(alloc, table, "version", &first)?;
+    Ok(Version::One)
 }

@@ -78,6 +78,19 @@ pub fn read_web_app(alloc: Global, table: &Table) -> Result<WebApp, ReadFault>
     let version = read_version(alloc, table)?;
     let deny_uncovered = optional_or(alloc, table, "deny-uncovered-http-methods", &Truth, false)?;
     let components = read_components(alloc, table)?;
+    read_behind_components(alloc, table, version, deny_uncovered, components)
+}
+
+/// Reads what stands behind the components.
+fn read_behind_components(
+    alloc: Global,
+    table: &Table,
+    version: Version,
+    deny_uncovered: bool,
+    components: Components,
+) -> Result<WebApp, ReadFault>
+    ensures { Gives fault result (spec.behind_components version deny_uncovered components (table_view table.now)) }
+{
     let session = read_session(alloc, table)?;
     let pages = read_pages(alloc, table)?;
     let security = read_security(alloc, table, deny_uncovered)?;

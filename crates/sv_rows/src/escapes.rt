@@ -1,5 +1,6 @@
 //! Bytes that are written as escapes.
 
+use crate::draft::Draft;
 use std::alloc::Global;
 use sv_text::NoMemory;
 
@@ -51,37 +52,44 @@ fn digit_value(digit: u8) -> u8 {
 /// The bytes of a text in which `\r`, `\n`, `\t`, `\\` and `\xHH` stand for bytes, and `\{COUNT*PART}` for a part that
 /// is repeated.
 pub fn unescaped(alloc: Global, text: &str) -> Result<Vec<u8>, NoMemory> {
-    let mut bytes = Vec::new(alloc);
-    for (place, piece) in text.split("\\{").enumerate() {
-        let (repeated, rest) = if place == 0 {
-            ("", piece)
-        } else {
-            piece.split_once('}').unwrap_or((piece, ""))
-        };
-        push_times(&mut bytes, repeated)?;
-        push_unescaped(&mut bytes, rest)?;
-    }
-    Ok(bytes)
+    let mut draft = Draft::new(alloc);
+    add_unescaped(&mut draft, text);
+    draft.finish()
 }
 
-/// Appends a part so many times, as `COUNT*PART` says.
-fn push_times(bytes: &mut Vec<u8>, repeated: &str) -> Result<(), NoMemory> {
+/// The text that these bytes are.
+pub fn unescaped_text(alloc: Global, text: &str) -> Result<String, NoMemory> {
+    let bytes = unescaped(alloc, text)?;
+    Ok(String::from_utf8_lossy(alloc, bytes.as_slice())?)
+}
+
+/// Adds these bytes.
+pub fn add_unescaped(draft: &mut Draft, text: &str) {
+    let (front, rest) = text.split_once("\\{").unwrap_or((text, ""));
+    add_bytes(draft, front);
+    for piece in rest.split("\\{") {
+        let (repeated, back) = piece.split_once('}').unwrap_or((piece, ""));
+        add_times(draft, repeated);
+        add_bytes(draft, back);
+    }
+}
+
+/// Adds a part so many times, as `COUNT*PART` says.
+fn add_times(draft: &mut Draft, repeated: &str) {
     let (count, part) = repeated.split_once('*').unwrap_or(("0", ""));
     for _ in 0..count.parse::<u32>().unwrap_or(0) {
-        push_unescaped(bytes, part)?;
+        add_bytes(draft, part);
     }
-    Ok(())
 }
 
-/// Appends the bytes of a text without repeated parts.
-fn push_unescaped(bytes: &mut Vec<u8>, text: &str) -> Result<(), NoMemory> {
+/// Adds the bytes of a text without repeated parts.
+fn add_bytes(draft: &mut Draft, text: &str) {
     let mut escape = Escape::Outside;
     for byte in text.as_bytes() {
         let (next, read) = escape.step(*byte);
         escape = next;
         if let Some(read) = read {
-            bytes.push(read)?;
+            draft.add_bytes(&[read]);
         }
     }
-    Ok(())
 }

@@ -2,11 +2,11 @@
 #![tactic(auto)]
 
 mod cells;
+mod draft;
 mod escapes;
 mod run;
-#[cfg(test)]
-mod tests;
 
 pub use cells::cell;
-pub use escapes::unescaped;
+pub use draft::Draft;
+pub use escapes::{add_unescaped, unescaped, unescaped_text};
 pub use run::{Asks, Strays, hold};

@@ -1,7 +1,8 @@
 //! The run over the rows of a table.
 
 use crate::cells::{is_row, shown};
-use crate::escapes::unescaped;
+use crate::draft::Draft;
+use crate::escapes::add_unescaped;
 use std::alloc::Global;
 use sv_text::NoMemory;
 
@@ -52,7 +53,8 @@ fn strays_of<R: Eprint + AllocGlobal, A: Asks>(
     table: &str,
     asked: &A,
 ) -> Result<u64, NoMemory> {
-    let (mut rows, mut strays) = (0u64, 0u64);
+    let mut rows = 0u64;
+    let mut strays = 0u64;
     for row in table.lines() {
         if is_row(row) {
             rows = rows.saturating_add(1);
@@ -68,27 +70,31 @@ fn is_stray<R: Eprint + AllocGlobal, A: Asks>(
     row: &str,
     asked: &A,
 ) -> Result<bool, NoMemory> {
-    let alloc = rt.alloc();
-    let mut answer = Vec::new(alloc);
-    asked.answer(alloc, row, &mut answer)?;
-    let wanted = wanted(alloc, row, A::QUESTION)?;
-    if answer.as_slice() == wanted.as_slice() {
-        return Ok(false);
+    let mut answer = Vec::new(rt.alloc());
+    asked.answer(rt.alloc(), row, &mut answer)?;
+    let wanted = wanted(rt.alloc(), row, A::QUESTION)?;
+    let is_stray = answer.as_slice() != wanted.as_slice();
+    if is_stray {
+        tell(rt, row, answer.as_slice());
     }
-    let answer = String::from_utf8_lossy(alloc, answer.as_slice())?;
-    // Where nothing can be printed, the count still tells of the row.
-    let _ = eprintln!(rt; "{row} but {answer}");
-    Ok(true)
+    Ok(is_stray)
+}
+
+/// Prints a row and its answer. Where nothing can be printed, the count of strays still tells of the row.
+fn tell<R: Eprint + AllocGlobal>(rt: &R, row: &str, answer: &[u8]) {
+    if let Ok(answer) = String::from_utf8_lossy(rt.alloc(), answer) {
+        let _ = eprintln!(rt; "{row} but {answer}");
+    }
 }
 
 /// The wanted answer of a row.
 fn wanted(alloc: Global, row: &str, question: usize) -> Result<Vec<u8>, NoMemory> {
-    let mut wanted = Vec::new(alloc);
+    let mut wanted = Draft::new(alloc);
     for (place, cell) in row.split('|').skip(question).enumerate() {
         if place > 0 {
-            wanted.extend_from_slice(b" | ")?;
+            wanted.add(" | ");
         }
-        wanted.extend_from_slice(unescaped(alloc, shown(cell))?.as_slice())?;
+        add_unescaped(&mut wanted, shown(cell));
     }
-    Ok(wanted)
+    wanted.finish()
 }
