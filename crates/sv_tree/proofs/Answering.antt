@@ -75,9 +75,20 @@ module _ (site : Site) where
 
   pub answers_have_one_page : AnswersOnce site
   answers_have_one_page kind canon x y r result (inr t) = record {
-    front = r; back = []; are = sym (append-nil r); between = y; finished = None; dispatch = t.0; page = inl refl
+    front = r;
+    back = [];
+    are = sym (append-nil r);
+    between = y;
+    finished = None;
+    dispatch = t.0;
+    page = inl refl;
   }
   answers_have_one_page kind canon x y r result (inl t) = record {
-    front = t.front; back = t.back; are = t.is_joined; between = t.between; finished = Some t.given; dispatch = t.begins;
-    page = settled_calls t.given t.between y t.back result t.goes_on
+    front = t.front;
+    back = t.back;
+    are = t.is_joined;
+    between = t.between;
+    finished = Some t.given;
+    dispatch = t.begins;
+    page = settled_calls t.given t.between y t.back result t.goes_on;
   }

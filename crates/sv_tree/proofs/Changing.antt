@@ -146,12 +146,12 @@ begun_dispatches site kind canon x = (emptied_request kind (entered kind (paths_
 pub left_dispatches : (y z : Exchange) (left : Leaves y z) → y.dispatches ≡ z.dispatches ++ left.0 ∷ []
 left_dispatches y z left = ap (λ e. e.dispatches) left.1
 
-without_last : {A : Type 0} → List A → List A
+pub without_last : {A : Type 0} → List A → List A
 without_last [] = []
 without_last (x ∷ []) = []
 without_last (x ∷ (x' ∷ xs)) = x ∷ without_last (x' ∷ xs)
 
-without_added : {A : Type 0} (xs : List A) (a : A) → without_last (xs ++ a ∷ []) ≡ xs
+pub without_added : {A : Type 0} (xs : List A) (a : A) → without_last (xs ++ a ∷ []) ≡ xs
 unfolding without_last
 without_added [] a = refl
 without_added (x ∷ []) a = refl

@@ -3,6 +3,7 @@ pub mod Bounding
 pub mod Changing
 pub mod Closing
 pub mod Counting
+pub mod Deciding
 pub mod Doing
 pub mod Ending
 pub mod Forwarding

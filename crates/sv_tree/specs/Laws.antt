@@ -16,6 +16,14 @@ use Rattle.sv_tree.specs.declared.finished.Finished.TheVariants.{Done, Error, Fa
 use Rattle.sv_tree.specs.declared.limits.TheConstants.{INTERNAL_SERVER_ERROR, MAX_CALLS, MAX_NESTING}
 use Rattle.sv_uri.specs.declared.path.Canon.{Canon}
 
+-- a dispatch is decided by its calls, with the answers and the exchanges that they left: what it leaves, and how it ends
+abbrev pub CallsDecide : Site → Type 0
+CallsDecide site =
+    (room : ℕ) (kind : Kind) (canon : Canon) (before after other : State) (calls : List Record) (finished also : Finished)
+    → Tree site room kind canon before calls after (Some finished)
+    → Tree site room kind canon before calls other (Some also)
+    → (after ≡ other) × (finished ≡ also)
+
 -- the filter that passed last is the one that is called once more
 abbrev pub close : ℕ → List ℕ → Option (List ℕ)
 close place [] = None

@@ -1,9 +1,14 @@
 //! The laws of dispatches, each the contract of a function that does nothing.
 
 ghost use Rattle.std.specs.Prelude.{◌≡◌};
-ghost use Rattle.sv_tree.specs.Laws.{AnswersOnce, CallsAreCounted, DispatchesEnd, DispatchesNest, EndingsAreKept, FiltersAreClosed, ForwardsBeginEmpty, IncludesEndInNoError, IncludesKeep, OnlyServingAreCalled, RequestsAreBounded};
+ghost use Rattle.sv_tree.specs.Laws.{AnswersOnce, CallsAreCounted, CallsDecide, DispatchesEnd, DispatchesNest, EndingsAreKept, FiltersAreClosed, ForwardsBeginEmpty, IncludesEndInNoError, IncludesKeep, OnlyServingAreCalled, RequestsAreBounded};
 ghost use Rattle.sv_tree.specs.Site.{Site};
 ghost use Rattle.sv_tree.specs.declared.limits.TheConstants.{FOUND, INTERNAL_SERVER_ERROR, LEAST_ERROR, MAX_CALLS, MAX_ERROR, MAX_NESTING, METHOD_NOT_ALLOWED, NOT_FOUND, SERVICE_UNAVAILABLE};
+
+/// A dispatch is decided by its calls: what it leaves, and how it ends.
+pub fn calls_decide()
+    ensures { (site : Site) → CallsDecide site }
+{}
 
 /// Each filter that passed is called just once more, the last first, within its dispatch.
 pub fn filters_are_closed()

@@ -9,9 +9,9 @@ mod limits;
 pub use dispatch_fault::DispatchFault;
 pub use finished::Finished;
 pub use laws::{
-    answers_have_one_page, calls_are_counted, dispatches_end, dispatches_nest, endings_are_kept, filters_are_closed,
-    forwards_begin_empty, includes_end_in_no_error, includes_keep, limits_are_as_stated,
-    only_serving_are_called, requests_are_bounded,
+    answers_have_one_page, calls_are_counted, calls_decide, dispatches_end, dispatches_nest,
+    endings_are_kept, filters_are_closed, forwards_begin_empty, includes_end_in_no_error,
+    includes_keep, limits_are_as_stated, only_serving_are_called, requests_are_bounded,
 };
 pub use limits::{
     FOUND, INTERNAL_SERVER_ERROR, LEAST_ERROR, MAX_CALLS, MAX_ERROR, MAX_NESTING,
