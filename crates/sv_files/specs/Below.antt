@@ -1,6 +1,7 @@
 -- The folders that a path lies below.
-use Rattle.std.specs.Prelude.{ℕ, Bool, nat_eq, List, ◌++◌, codes, IsTrue}
+use Rattle.std.specs.Prelude.{ℕ, Bool, false, ◌||◌, nat_eq, List, ◌++◌, codes, Option, None, Some, IsTrue}
 use Rattle.std.specs.List.{starts_with}
+use Rattle.std.specs.Str.{bytes_eq}
 
 -- the path lies below the folder: it begins with the folder and a slash
 abbrev pub lies_below : List ℕ → List ℕ → Bool
@@ -9,3 +10,8 @@ lies_below folder path = starts_with nat_eq path (folder ++ codes "/")
 -- what a known folder lies below is known too
 abbrev pub IsClosed : (List ℕ → Bool) → Type 0
 IsClosed known = (folder outer : List ℕ) → IsTrue (known folder) → IsTrue (lies_below outer folder) → IsTrue (known outer)
+
+-- the outer folder is this one, where there is one, or one that this one lies below
+abbrev pub is_at_or_above : List ℕ → Option (List ℕ) → Bool
+is_at_or_above outer None = false
+is_at_or_above outer (Some folder) = bytes_eq folder outer || lies_below outer folder

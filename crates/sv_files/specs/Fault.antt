@@ -1,7 +1,6 @@
 -- Which lists of files are refused, and by which fault.
-use Rattle.std.specs.Prelude.{ℕ, Bool, not, ◌||◌, false, nat_lt, List, [], ◌∷◌, ◌++◌, length, map, codes, Option, Some, None, Result}
+use Rattle.std.specs.Prelude.{ℕ, Bool, not, ◌||◌, false, nat_lt, List, [], ◌∷◌, ◌++◌, length, codes, Option, Some, None, Result}
 use Rattle.std.specs.List.{list_any}
-use Rattle.std.specs.Str.{bytes_eq}
 use Rattle.sv_text.specs.Faults.{when, first_or}
 use Rattle.sv_files.specs.Files.{is_file, is_file_path}
 use Rattle.sv_files.specs.declared.fault.FilesFault.{FilesFault}

@@ -1,12 +1,13 @@
 //! Look-ups by path, which cost the same however many files there are.
 
-ghost use Rattle.std.specs.Prelude.{◌≡◌, ℕ, List, [], ◌∷◌, ◌++◌, length, not, nat_eq, position, codes, ◌||◌, IfOk, OnOk, OnTrue};
+ghost use Rattle.std.specs.Prelude.{◌≡◌, ℕ, Bool, List, [], ◌∷◌, ◌++◌, length, not, ◌||◌, position, ◌<◌, IfOk, IfSome, OnOk};
+ghost use Rattle.std.specs.Bool.{OnTrue};
 ghost use Rattle.std.specs.HashSet.{contains_text};
-ghost use Rattle.std.specs.List.{starts_with};
+ghost use Rattle.std.specs.Option.{option_copied};
 ghost use Rattle.std.specs.Str.{bytes_eq};
 ghost use Rattle.sv_files.specs.Files as spec;
 ghost use Rattle.sv_files.specs.Index.{IsIndexOf};
-ghost use Rattle.sv_files.specs.Below.{IsClosed, lies_below};
+ghost use Rattle.sv_files.specs.Below.{IsClosed, is_at_or_above, lies_below};
 ghost use Rattle.sv_files.specs.declared.file.File.{File};
 
 use crate::file::File;
@@ -68,21 +69,28 @@ impl Index {
 }
 
 /// Enters the folders that a path lies below, from the innermost up to the first that is known: what that one lies below is known too.
-fn enter_folders(
-    folders: &mut HashSet<String>,
-    alloc: Global,
-    path: &str,
-) -> Result<(), NoMemory>
+fn enter_folders(folders: &mut HashSet<String>, alloc: Global, path: &str) -> Result<(), NoMemory>
     ensures { (known : List ℕ → Bool) → IsClosed known → ((folder : List ℕ) → contains_text folders.old folder ≡ known folder)
         → OnOk result ((folder : List ℕ) → contains_text folders.new folder ≡ (known folder || lies_below folder path.now)) }
 {
-    let mut rest = path;
-    while let Some((folder, _)) = rest.rsplit_once('/') {
+    let mut rest = folder_of(path);
+    while let Some(folder) = rest {
         if folders.contains(folder) {
             return Ok(());
         }
         folders.insert(String::from_str(alloc, folder)?)?;
-        rest = folder;
+        rest = folder_of(folder);
     }
     Ok(())
+}
+
+/// The innermost folder that a path lies below.
+fn folder_of(path: &str) -> Option<&str>
+    ensures folders { (outer : List ℕ) → lies_below outer path.now ≡ is_at_or_above outer (option_copied result) }
+    ensures shorter { IfSome result (λ folder. length folder.now < length path.now) }
+{
+    match path.rsplit_once('/') {
+        Some((folder, _)) => Some(folder),
+        None => None,
+    }
 }

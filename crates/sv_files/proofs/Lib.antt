@@ -1,0 +1,2 @@
+mod Folders
+mod Places
