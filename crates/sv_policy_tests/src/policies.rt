@@ -3,7 +3,6 @@
 use std::alloc::Global;
 use sv_constraints::{Auth, Collection, Constraint, Methods, Rules, Transport, decide_plain};
 use sv_mapping::Pattern;
-use sv_policy::Policy;
 use sv_realm::Caller;
 use sv_rows::{Asks, cell};
 use sv_text::{Listed, NoMemory, Text};
@@ -16,7 +15,7 @@ impl Asks for Verdicts {
 
     fn answer(&self, alloc: Global, row: &str, answer: &mut Vec<u8>) -> Result<(), NoMemory> {
         let rules = rules_of(alloc, cell(row, 1))?;
-        let told = told(alloc, cell(row, 0), rules, cell(row, 2), cell(row, 3))?;
+        let told = told(alloc, cell(row, 0), &rules, cell(row, 2), cell(row, 3))?;
         answer.extend_from_slice(told.as_bytes())?;
         Ok(())
     }
@@ -31,33 +30,25 @@ impl Asks for Requests {
 
     fn answer(&self, alloc: Global, row: &str, answer: &mut Vec<u8>) -> Result<(), NoMemory> {
         let rules = rules_of(alloc, "-")?;
-        let told = told(alloc, self.0, rules, cell(row, 0), cell(row, 1))?;
+        let told = told(alloc, self.0, &rules, cell(row, 0), cell(row, 1))?;
         answer.extend_from_slice(told.as_bytes())?;
         Ok(())
     }
 }
 
-/// The text of the decision on a request, which is a method and a path, where the constraints as they stand and the
-/// policy compiled of them decide alike.
+/// The text of the decision on a request, which is a method and a path.
 fn told(
     alloc: Global,
     constraints: &str,
-    rules: Rules,
+    rules: &Rules,
     request: &str,
     caller: &str,
 ) -> Result<String, NoMemory> {
     let constraints = constraints_of(alloc, constraints)?;
     let caller = caller_of(alloc, caller)?;
     let (method, path) = request.split_once(' ').unwrap_or((request, ""));
-    let decision = decide_plain(constraints.as_slice(), &rules, method, path, caller.as_ref());
-    let plain = format!(in alloc; "{decision}")?;
-    let policy = Policy::compile(alloc, constraints, rules)?;
-    let decided = policy.decide(method, path, caller.as_ref());
-    let compiled = format!(in alloc; "{}", decided.decision)?;
-    if compiled != plain {
-        return Ok(format!(in alloc; "{plain}, and compiled {compiled}")?);
-    }
-    Ok(plain)
+    let decision = decide_plain(constraints.as_slice(), rules, method, path, caller.as_ref());
+    Ok(format!(in alloc; "{decision}")?)
 }
 
 /// The constraints that a cell lists, numbered from 1 where they have no number.
