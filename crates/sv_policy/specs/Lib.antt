@@ -1,2 +1,5 @@
 pub mod Compiled
+pub mod EditFault
+pub mod Edits
+pub mod Gaps
 pub mod Patterns
