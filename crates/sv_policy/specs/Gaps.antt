@@ -1,16 +1,13 @@
 -- Jakarta Servlet 6.0, section 13.8.4: the methods that constraints leave uncovered, pattern by pattern.
-use Rattle.std.specs.Prelude.{◌≡◌, ℕ, Bool, true, false, ◌&&◌, List, filter, map, All, IsTrue}
-use Rattle.std.specs.Cmp.Lexicographic.{slice_cmp}
+use Rattle.std.specs.Prelude.{◌≡◌, ℕ, Bool, true, false, ◌&&◌, List, filter, map, All}
 use Rattle.std.specs.List.{list_any}
-use Rattle.std.specs.List.Sorted.{IsStrictlySortedBy}
-use Rattle.std.specs.Ordering.{nat_cmp}
 use Rattle.std.specs.Str.{bytes_eq}
 use Rattle.sv_constraints.specs.Covering.{all_patterns, covers_method, lists}
 use Rattle.sv_constraints.specs.declared.constraint.Constraint.{Constraint}
 use Rattle.sv_constraints.specs.declared.constraint.Methods.{Methods}
 use Rattle.sv_constraints.specs.declared.constraint.Methods.TheVariants as methods
 use Rattle.sv_merged.specs.Covering.{method_names}
-use Rattle.sv_merged.specs.Uncovered.{has_methods, is_uncovered, rising, uncovered_methods}
+use Rattle.sv_merged.specs.Uncovered.{IsRising, has_methods, is_uncovered, rising, uncovered_methods}
 use Rattle.sv_policy.specs.declared.gap.Gap.{Gap}
 
 -- the gap at a pattern
@@ -29,9 +26,6 @@ holds found pattern method = list_any (λ gap. bytes_eq gap.pattern pattern && c
 abbrev pub GapsAreExact : Type 0
 GapsAreExact = (constraints : List Constraint) (pattern method : List ℕ) →
     holds (gaps constraints) pattern method ≡ (lists (all_patterns constraints) pattern && is_uncovered constraints pattern method)
-
-abbrev pub IsRising : List (List ℕ) → Type 0
-IsRising texts = IsStrictlySortedBy (slice_cmp nat_cmp) texts
 
 abbrev pub is_all : Methods → Bool
 is_all methods.All = true
