@@ -9,7 +9,7 @@ use Rattle.std.specs.Str.{bytes_eq}
 use Rattle.std.proofs.lemmas.List.Folds.{list_any-append}
 use Rattle.std.proofs.lemmas.List.Kept.{IsStrictlySortedBy-filter}
 use Rattle.std.proofs.lemmas.Slice.Eq.{bytes_eq-Decides}
-use Rattle.sv_constraints.specs.Covering.{covers, lists}
+use Rattle.sv_constraints.specs.Covering.{covers, covers_method, lists}
 use Rattle.sv_constraints.specs.Findings.{findings_of}
 use Rattle.sv_constraints.specs.Verdict.{least_number}
 use Rattle.sv_constraints.specs.declared.constraint.Constraint.{Constraint}
@@ -20,7 +20,7 @@ use Rattle.sv_constraints.specs.declared.rules.Rules.{Rules}
 use Rattle.sv_merged.proofs.Joined.{filter_same}
 use Rattle.sv_merged.proofs.Named.{first_false, second_false, unnamed_members}
 use Rattle.sv_merged.proofs.Rising.{passing_lists, rising_lists, rising_rises, rising_same}
-use Rattle.sv_merged.specs.Covering.{covers_at, covers_unnamed, named_methods}
+use Rattle.sv_merged.specs.Covering.{covers_at, covers_unnamed, method_names, named_methods}
 use Rattle.sv_merged.specs.Merged.{IsMerged}
 use Rattle.sv_merged.specs.Uncovered.{IsRising, are_others_uncovered, differ, is_bare, is_uncovered, rising, uncovered_methods}
 use Rattle.sv_merged.specs.declared.merged.Merged.{Merged}
@@ -84,23 +84,54 @@ differ_false : (a : Bool) → differ a false ≡ a
 differ_false true = refl
 differ_false false = refl
 
+-- a method that is not named is uncovered where the others are
+unnamed_uncovered : (constraints : List Constraint) (pattern method : List ℕ) → lists (named_methods constraints pattern) method ≡ false → is_uncovered constraints pattern method ≡ are_others_uncovered constraints pattern
+unnamed_uncovered constraints pattern method unnamed =
+    ap (λ members. length members == 0) (sym (unnamed_members pattern method constraints unnamed))
+    ∙ empty_filter (λ member. covers_unnamed member pattern) constraints
+
+not_not : (a : Bool) → not (not a) ≡ a
+not_not true = refl
+not_not false = refl
+
+listed_at : (constraints : List Constraint) (pattern method : List ℕ) (test : List ℕ → Bool) → lists (filter test (rising (named_methods constraints pattern))) method ≡ (lists (named_methods constraints pattern) method && test method)
+listed_at constraints pattern method test = passing_lists test (rising (named_methods constraints pattern)) method ∙ ap (λ b. b && test method) (rising_lists (named_methods constraints pattern) method)
+
+held_at : (constraints : List Constraint) (pattern method : List ℕ) (others named : Bool) → are_others_uncovered constraints pattern ≡ others → lists (named_methods constraints pattern) method ≡ named
+    → covers_method (cond others (Except (filter (λ m. not (is_uncovered constraints pattern m)) (rising (named_methods constraints pattern)))) (Only (filter (is_uncovered constraints pattern) (rising (named_methods constraints pattern))))) method ≡ is_uncovered constraints pattern method
+held_at constraints pattern method true true is named =
+    ap not (listed_at constraints pattern method (λ m. not (is_uncovered constraints pattern m)) ∙ ap (λ b. b && not (is_uncovered constraints pattern method)) named) ∙ not_not (is_uncovered constraints pattern method)
+held_at constraints pattern method true false is named =
+    ap not (listed_at constraints pattern method (λ m. not (is_uncovered constraints pattern m)) ∙ ap (λ b. b && not (is_uncovered constraints pattern method)) named) ∙ sym (unnamed_uncovered constraints pattern method named ∙ is)
+held_at constraints pattern method false true is named =
+    listed_at constraints pattern method (is_uncovered constraints pattern) ∙ ap (λ b. b && is_uncovered constraints pattern method) named
+held_at constraints pattern method false false is named =
+    listed_at constraints pattern method (is_uncovered constraints pattern) ∙ ap (λ b. b && is_uncovered constraints pattern method) named ∙ sym (unnamed_uncovered constraints pattern method named ∙ is)
+
+-- the uncovered methods hold just those that are uncovered
+pub uncovered_exact : (constraints : List Constraint) (pattern method : List ℕ) → covers_method (uncovered_methods constraints pattern) method ≡ is_uncovered constraints pattern method
+uncovered_exact constraints pattern method = held_at constraints pattern method (are_others_uncovered constraints pattern) (lists (named_methods constraints pattern) method) refl refl
+
+-- the names of uncovered methods rise
+names_rise : (constraints : List Constraint) (pattern : List ℕ) (others : Bool)
+    → IsRising (method_names (cond others (Except (filter (λ m. not (is_uncovered constraints pattern m)) (rising (named_methods constraints pattern)))) (Only (filter (is_uncovered constraints pattern) (rising (named_methods constraints pattern))))))
+names_rise constraints pattern true = IsStrictlySortedBy-filter (slice_cmp nat_cmp) (λ m. not (is_uncovered constraints pattern m)) (rising (named_methods constraints pattern)) (rising_rises (named_methods constraints pattern))
+names_rise constraints pattern false = IsStrictlySortedBy-filter (slice_cmp nat_cmp) (is_uncovered constraints pattern) (rising (named_methods constraints pattern)) (rising_rises (named_methods constraints pattern))
+
+pub uncovered_rise : (constraints : List Constraint) (pattern : List ℕ) → IsRising (method_names (uncovered_methods constraints pattern))
+uncovered_rise constraints pattern = names_rise constraints pattern (are_others_uncovered constraints pattern)
+
 module _ (rules : Rules) (constraints : List Constraint) (pattern : List ℕ) (get : List ℕ → Option Merged) (rest : Merged) (whole : (method : List ℕ) → IsMerged rules (filter (λ c. covers c pattern method) constraints) (unwrap_or (get method) rest)) where
   bare_uncovered : (method : List ℕ) → is_bare (unwrap_or (get method) rest) ≡ is_uncovered constraints pattern method
   bare_uncovered method = bare_at rules (filter (λ c. covers c pattern method) constraints) (unwrap_or (get method) rest) (whole method)
 
-  -- a method that is not named is uncovered where the others are
-  unnamed_uncovered : (method : List ℕ) → lists (named_methods constraints pattern) method ≡ false → is_uncovered constraints pattern method ≡ are_others_uncovered constraints pattern
-  unnamed_uncovered method unnamed =
-      ap (λ members. length members == 0) (sym (unnamed_members pattern method constraints unnamed))
-      ∙ empty_filter (λ member. covers_unnamed member pattern) constraints
-
   -- the rest is bare where the others are uncovered
   rest_at : (names : List (List ℕ)) → ((method : List ℕ) → lists names method ≡ option_map_or (λ entry. differ (is_bare entry) (is_bare rest)) (get method) false) → (method : List ℕ) → lists (named_methods constraints pattern) method ≡ false → (found : Option Merged) → get method ≡ found → lists names method ≡ false → is_bare rest ≡ are_others_uncovered constraints pattern
   rest_at names are method unnamed None at absent =
-      ap (λ found. is_bare (unwrap_or found rest)) (sym at) ∙ bare_uncovered method ∙ unnamed_uncovered method unnamed
+      ap (λ found. is_bare (unwrap_or found rest)) (sym at) ∙ bare_uncovered method ∙ unnamed_uncovered constraints pattern method unnamed
   rest_at names are method unnamed (Some entry) at absent =
       agree (is_bare entry) (is_bare rest) (sym (ap (λ found. option_map_or (λ e. differ (is_bare e) (is_bare rest)) found false) at) ∙ sym (are method) ∙ absent)
-      ∙ ap (λ found. is_bare (unwrap_or found rest)) (sym at) ∙ bare_uncovered method ∙ unnamed_uncovered method unnamed
+      ∙ ap (λ found. is_bare (unwrap_or found rest)) (sym at) ∙ bare_uncovered method ∙ unnamed_uncovered constraints pattern method unnamed
     where
       agree : (a b : Bool) → differ a b ≡ false → b ≡ a
       agree true true h = refl
@@ -130,7 +161,7 @@ module _ (rules : Rules) (constraints : List Constraint) (pattern : List ℕ) (g
     member_at method true (Some entry) is at =
         ap₂ differ (ap (λ found. is_bare (unwrap_or found rest)) (sym at) ∙ bare_uncovered method) rest_others
     member_at method false (Some entry) is at =
-        ap₂ differ (ap (λ found. is_bare (unwrap_or found rest)) (sym at) ∙ bare_uncovered method ∙ unnamed_uncovered method is) rest_others
+        ap₂ differ (ap (λ found. is_bare (unwrap_or found rest)) (sym at) ∙ bare_uncovered method ∙ unnamed_uncovered constraints pattern method is) rest_others
         ∙ differ_same (are_others_uncovered constraints pattern)
 
     members : (method : List ℕ) → lists names method ≡ lists (filter is_exceptional (rising (named_methods constraints pattern))) method

@@ -10,6 +10,7 @@ mod limits;
 mod patterns;
 mod policy;
 mod tables;
+mod uncovered;
 
 pub use edit::{Edit, NewConstraint};
 pub use edit_fault::EditFault;
