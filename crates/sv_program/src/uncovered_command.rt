@@ -42,11 +42,7 @@ pub fn uncovered<S: FileStore, W: Write>(
 }
 
 /// The lines of the server, by the files that the store gives.
-fn lines_of<S: FileStore>(
-    alloc: Global,
-    store: &mut S,
-    config: &str,
-) -> Result<Text, CommandFault>
+fn lines_of<S: FileStore>(alloc: Global, store: &mut S, config: &str) -> Result<Text, CommandFault>
     ensures { FindsText (spec.AreLines S.gives_text config.now) result store.old store.new }
 {
     let server = read_server_file(alloc, store, config)?;
