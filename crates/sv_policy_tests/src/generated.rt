@@ -210,9 +210,9 @@ a on /a/*; open over none on ""; *,a on /a//b GET,PUT; a,b over integral on /a*;
 "#;
 
 /// Of each pattern its own path, what stands above and below it, beside it and behind its last byte, each with a method that
-/// constraints name, one more, and two that none names.
+/// constraints name, one more, and two that none names; and texts that begin with no slash.
 const REQUESTS: &str = "\
-GET /|PUT /|POST /|get /|GET //|PUT //|POST //|get //|GET //a|PUT //a|POST //a|get //a|GET /a|PUT /a|POST /a|\
+GET a|GET a.x|GET |GET a/b.y|GET /|PUT /|POST /|get /|GET //|PUT //|POST //|get //|GET //a|PUT //a|POST //a|get //a|GET /a|PUT /a|POST /a|\
 get /a|GET /a/|PUT /a/|POST /a/|get /a/|GET /a/b|PUT /a/b|POST /a/b|get /a/b|GET /a/b/|PUT /a/b/|POST /a/b/|\
 get /a/b/|GET /a/b/c|PUT /a/b/c|POST /a/b/c|get /a/b/c|GET /a/b/c.x|PUT /a/b/c.x|POST /a/b/c.x|get /a/b/c.x|\
 GET /a/b/c.y|PUT /a/b/c.y|POST /a/b/c.y|get /a/b/c.y|GET /a/bc|PUT /a/bc|POST /a/bc|get /a/bc|GET /a/x.x|\

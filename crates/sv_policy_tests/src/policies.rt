@@ -8,6 +8,12 @@ use sv_realm::Caller;
 use sv_rows::{Asks, cell};
 use sv_text::{Listed, NoMemory, Text};
 
+/// The constraints of the deployment descriptor of Servlet, section 13.8.2.
+const SPECIFICATION_EXAMPLE: &str = "nobody on /*,/acme/wholesale/*,/acme/retail/* !GET,POST; \
+    SALESCLERK on /acme/wholesale/* GET,PUT; \
+    CONTRACTOR over confidential on /acme/wholesale/* GET,POST; \
+    CONTRACTOR,HOMEOWNER on /acme/retail/* GET,POST";
+
 /// The decision on a row's request, by the constraints and the rules of the row.
 pub struct Verdicts;
 
@@ -18,20 +24,6 @@ impl Asks for Verdicts {
         let forms = Forms::of(alloc, cell(row, 0), cell(row, 1))?;
         let caller = caller_of(alloc, cell(row, 3))?;
         forms.tell(alloc, cell(row, 2), caller.as_ref(), answer)
-    }
-}
-
-/// The decision on a row's request, by these constraints and no rules.
-#[derive(Drop)]
-pub struct Requests(pub &'static str);
-
-impl Asks for Requests {
-    const QUESTION: usize = 2;
-
-    fn answer(&self, alloc: Global, row: &str, answer: &mut Vec<u8>) -> Result<(), NoMemory> {
-        let forms = Forms::of(alloc, self.0, "-")?;
-        let caller = caller_of(alloc, cell(row, 1))?;
-        forms.tell(alloc, cell(row, 0), caller.as_ref(), answer)
     }
 }
 
@@ -103,13 +95,19 @@ pub fn policy_of(alloc: Global, constraints: &str, rules: &str) -> Result<Policy
     Policy::compile(alloc, constraints, rules_of(alloc, rules)?)
 }
 
-/// The constraints that a cell lists, numbered from 1 where they have no number.
+/// The constraints that a cell lists, numbered from 1 where they have no number. `acme` stands for those of the
+/// specification's example.
 fn constraints_of(alloc: Global, cell: &str) -> Result<Vec<Constraint>, NoMemory> {
     let mut constraints = Vec::new(alloc);
     if cell.is_empty() {
         return Ok(constraints);
     }
-    for (place, text) in cell.split("; ").enumerate() {
+    let list = if cell == "acme" {
+        SPECIFICATION_EXAMPLE
+    } else {
+        cell
+    };
+    for (place, text) in list.split("; ").enumerate() {
         constraints.push(constraint_of(alloc, place, text)?)?;
     }
     Ok(constraints)
