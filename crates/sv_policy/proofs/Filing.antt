@@ -56,12 +56,12 @@ filed_more all before es k v table is text same there = record {
   among = all_put (λ e. Contains all e.1.now) k v (subst (Contains all) (sym same) there) (λ e key. subst (Contains all) (sym same) there) es is.among;
 }
 
-at_map : {A X : Type 0} (f : A → X) (xs : List A) (i : ℕ) (x : A) → i < length xs → get_or (map f xs) i (f x) ≡ f (get_or xs i x)
+pub at_map : {A X : Type 0} (f : A → X) (xs : List A) (i : ℕ) (x : A) → i < length xs → get_or (map f xs) i (f x) ≡ f (get_or xs i x)
 at_map f [] i x within = let impossible : ⊥ = omega (arith, within) in absurd impossible
 at_map f (y ∷ xs) zero x within = refl
 at_map f (y ∷ xs) (suc i) x within = at_map f xs i x (omega (arith, within))
 
-length_map : {A X : Type 0} (f : A → X) (xs : List A) → length (map f xs) ≡ length xs
+pub length_map : {A X : Type 0} (f : A → X) (xs : List A) → length (map f xs) ≡ length xs
 length_map f [] = refl
 length_map f (x ∷ xs) = let below : length (map f xs) ≡ length xs = length_map f xs in grind (arith, below)
 

@@ -5,3 +5,5 @@ pub mod Kept
 pub mod Filing
 pub mod Gapped
 pub mod Best
+pub mod Elsewhere
+pub mod Outcomes

@@ -18,7 +18,7 @@ pub any_seen : {A X : Type 0} (test : X → Bool) (f : A → X) (xs : List A) �
 any_seen test f [] = refl
 any_seen test f (x ∷ xs) = ap (λ rest. test (f x) || rest) (any_seen test f xs)
 
-listed_by : (text : List ℕ) (c : Constraint) → lists (patterns_in c) text ≡ lists_pattern c text
+pub listed_by : (text : List ℕ) (c : Constraint) → lists (patterns_in c) text ≡ lists_pattern c text
 listed_by text c = any_of_joined (λ listed. bytes_eq listed text) (λ collection. collection.patterns) c.collections
 
 -- a pattern is listed where a constraint lists it
@@ -31,7 +31,7 @@ some_cons : {X : Type 0} (b : Bool) (x : X) (xs : List X) (rest : Bool) → not 
 some_cons true x xs rest is = grind arith
 some_cons false x xs rest is = is
 
-some_filtered : {X : Type 0} (test : X → Bool) (xs : List X) → not (length (filter test xs) == 0) ≡ list_any test xs
+pub some_filtered : {X : Type 0} (test : X → Bool) (xs : List X) → not (length (filter test xs) == 0) ≡ list_any test xs
 some_filtered test [] = refl
 some_filtered test (x ∷ xs) = some_cons (test x) x (filter test xs) (list_any test xs) (some_filtered test xs)
 

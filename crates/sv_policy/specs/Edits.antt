@@ -1,6 +1,6 @@
 -- Jakarta Servlet 6.0, section 13.8: constraints that are added to those that stand, or taken away from them.
 use Rattle.std.specs.Prelude.{◌≡◌, ℕ, ◌+◌, ◌-◌, ◌^◌, Bool, ◌||◌, nat_le, nat_lt, ◌==◌, List, [], ◌∷◌, ◌++◌, length, min, find, fold, Option, None, Some, MatchResult, Result, Ok, Err}
-use Rattle.std.specs.List.{position_or_len, remove}
+use Rattle.std.specs.List.{position, position_or_len, remove}
 use Rattle.sv_constraints.specs.declared.constraint.Collection.{Collection}
 use Rattle.sv_constraints.specs.declared.constraint.Constraint.{Constraint}
 use Rattle.sv_policy.specs.Compiled.{Standing}
@@ -20,56 +20,63 @@ greatest_count = 2 ^ 64 - 1
 abbrev pub counted : ℕ → List Collection → ℕ
 counted rebuilt collections = min (rebuilt + length (different (listed_in collections))) greatest_count
 
--- whether the greatest number of constraints stands, or the new one has too many patterns: each place in its lists counts
-abbrev pub is_too_many : Standing → NewConstraint → Bool
-is_too_many standing addition = nat_le MAX_CONSTRAINTS (length standing.constraints) || nat_lt MAX_PATTERNS_OF_CONSTRAINT (length (listed_in addition.collections))
+-- whether collections list more patterns than a new constraint may: each place in its lists counts
+abbrev pub lists_too_many : List Collection → Bool
+lists_too_many collections = nat_lt MAX_PATTERNS_OF_CONSTRAINT (length (listed_in collections))
 
--- the number behind the greatest that was ever given
-abbrev pub next_number : Standing → ℕ
-next_number standing = standing.greatest + 1
+-- whether so many constraints stand that no more may, or one more, of these collections, lists too many patterns
+abbrev pub is_too_many : List Constraint → List Collection → Bool
+is_too_many constraints collections = nat_le MAX_CONSTRAINTS (length constraints) || lists_too_many collections
 
+-- the constraint with its number
 abbrev pub numbered : NewConstraint → ℕ → Constraint
 numbered addition number = record { number = number; collections = addition.collections; auth = addition.auth; transport = addition.transport }
 
--- the new constraint stands last
-abbrev pub appended : Standing → NewConstraint → Standing
-appended standing addition = record {
-  constraints = standing.constraints ++ numbered addition (next_number standing) ∷ [];
+-- one more constraint stands last
+abbrev pub with_last : Standing → Constraint → Standing
+with_last standing added = record {
+  constraints = standing.constraints ++ added ∷ [];
   rules = standing.rules;
-  greatest = next_number standing;
-  rebuilt = counted standing.rebuilt addition.collections;
+  greatest = added.number;
+  rebuilt = counted standing.rebuilt added.collections;
 }
 
--- appending: a fault, or the number that is given and what stands then
+-- the new constraint gets the number behind the greatest that was ever given
+abbrev pub appended : Standing → NewConstraint → Standing
+appended standing addition = with_last standing (numbered addition (standing.greatest + 1))
+
+-- appending, by the faults' tests: a fault, or the number that is given and what stands then
+abbrev pub append_judged : Standing → NewConstraint → Bool → Bool → Result (ℕ × Standing) EditFault
+append_judged standing addition many spent = first_or (when many TooMany ++ when spent NumberSpent) (standing.greatest + 1, appended standing addition)
+
 abbrev pub append_outcome : Standing → NewConstraint → Result (ℕ × Standing) EditFault
-append_outcome standing addition = first_or
-    (when (is_too_many standing addition) TooMany ++ when (standing.greatest == greatest_count) NumberSpent)
-    (next_number standing, appended standing addition)
+append_outcome standing addition = append_judged standing addition (is_too_many standing.constraints addition.collections) (standing.greatest == greatest_count)
 
 -- whether the constraint has the number
 abbrev pub has_number : ℕ → Constraint → Bool
 has_number number constraint = constraint.number == number
 
--- the constraints without the first that has the number
-abbrev pub without : List Constraint → ℕ → List Constraint
-without constraints number = remove constraints (position_or_len (has_number number) constraints)
+-- the place of the first constraint that has the number
+abbrev pub place_of : List Constraint → ℕ → Option ℕ
+place_of constraints number = position (has_number number) constraints
 
--- numbers are not given again
-abbrev pub withdrawn : Standing → Constraint → Standing
-withdrawn standing constraint = record {
-  constraints = without standing.constraints constraint.number;
+-- the constraint at a place stands no more; its number is not given again
+abbrev pub without_place : Standing → ℕ → Constraint → Standing
+without_place standing place withdrawn = record {
+  constraints = remove standing.constraints place;
   rules = standing.rules;
   greatest = standing.greatest;
-  rebuilt = counted standing.rebuilt constraint.collections;
+  rebuilt = counted standing.rebuilt withdrawn.collections;
 }
 
-abbrev pub withdrawal : Standing → Option Constraint → Result (Constraint × Standing) EditFault
-withdrawal standing None = Err NoSuch
-withdrawal standing (Some constraint) = Ok (constraint, withdrawn standing constraint)
+-- withdrawing the constraint that stands at a place, if there is one
+abbrev pub withdrawal : Standing → ℕ → Option Constraint → Result (Constraint × Standing) EditFault
+withdrawal standing place None = Err NoSuch
+withdrawal standing place (Some withdrawn) = Ok (withdrawn, without_place standing place withdrawn)
 
--- withdrawing: a fault, or the constraint that has the number and what stands then
+-- withdrawing the first constraint that has the number: a fault, or the constraint and what stands then
 abbrev pub withdraw_outcome : Standing → ℕ → Result (Constraint × Standing) EditFault
-withdraw_outcome standing number = withdrawal standing (find (has_number number) standing.constraints)
+withdraw_outcome standing number = withdrawal standing (position_or_len (has_number number) standing.constraints) (find (has_number number) standing.constraints)
 
 -- a call gives this outcome: the fault, and all stands as before; or the answer and what stands then. Where memory is wanted
 -- in its place, all stands as before

@@ -4,3 +4,4 @@ pub mod Edits
 pub mod Filed
 pub mod Gaps
 pub mod Patterns
+pub mod Rebuilt

@@ -4,11 +4,13 @@
 
 mod edit;
 mod edit_fault;
+mod editing;
 mod gap;
 mod laws;
 mod limits;
 mod patterns;
 mod policy;
+mod rebuilding;
 mod tables;
 mod uncovered;
 
