@@ -38,6 +38,15 @@ impl Descriptor {
     {
         &self.web_app
     }
+
+    /// Gives the elements up, without taking memory.
+    pub fn into_web_app(self) -> WebApp
+        ensures value { result ≡ self }
+        ensures well_formed { IsWellFormed result }
+    {
+        let Descriptor { web_app } = self;
+        web_app
+    }
 }
 
 /// Reads a deployment descriptor.

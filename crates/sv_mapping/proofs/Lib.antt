@@ -1,5 +1,7 @@
 pub mod BestMatches
+pub mod BestPlace
 pub mod FirstBest
+pub mod OtherTexts
 pub mod Texts
 pub mod Tried
 pub mod TriedTexts

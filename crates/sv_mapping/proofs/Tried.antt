@@ -94,20 +94,27 @@ among-Contains patterns text h =
 Contains-among : (patterns : List (List ℕ)) (text : List ℕ) → Contains patterns text → among patterns text ≡ true
 Contains-among patterns text h = list_any-from_Any (λ pattern. bytes_eq pattern text) patterns (h.0, text, h.1, h.2, (bytes_eq-Decides text text).1 refl)
 
--- texts that are all the patterns that match a path, in falling order of rank
-pub record TriesInOrder (path : List ℕ) (texts : List (List ℕ)) : Type 0 where
+-- texts that match a path, with all that do and meet P, in falling order of rank
+pub record Tries (P : List ℕ → Type 0) (path : List ℕ) (texts : List (List ℕ)) : Type 0 where
   pub sound : (text : List ℕ) → In text texts → matches text path ≡ true
-  pub complete : (text : List ℕ) → matches text path ≡ true → In text texts
+  pub complete : (text : List ℕ) → P text → matches text path ≡ true → In text texts
   pub falls : Falls (λ a b. outranks a b ≡ true) texts
 
-pub first_tried : (path : List ℕ) (texts : List (List ℕ)) → TriesInOrder path texts → (patterns : List (List ℕ)) → best_pattern patterns path ≡ find (among patterns) texts
-first_tried path texts tries patterns = same (best_pattern patterns path) refl (find (among patterns) texts) refl
+-- texts that are all the patterns that match a path, in falling order of rank
+abbrev pub TriesInOrder : List ℕ → List (List ℕ) → Type 0
+TriesInOrder path texts = Tries (λ _. Unit {0}) path texts
+
+pub first_of_tried : (P : List ℕ → Type 0) (path : List ℕ) (texts : List (List ℕ)) → Tries P path texts → (patterns : List (List ℕ)) → ((text : List ℕ) → In text patterns → P text) → best_pattern patterns path ≡ find (among patterns) texts
+first_of_tried P path texts tries patterns meets = same (best_pattern patterns path) refl (find (among patterns) texts) refl
   where
+    meant : (b : List ℕ) → best_pattern patterns path ≡ Some b → P b
+    meant b e = meets b (found_is_in (is_best patterns path) patterns b e)
+
     same : (held : Option (List ℕ)) → best_pattern patterns path ≡ held → (tried : Option (List ℕ)) → find (among patterns) texts ≡ tried → held ≡ tried
     same None e None f = refl
     same (Some b) e None f =
         let member = best_pattern-member patterns path b e in
-        absurd (both_ways _ (none_is_in (among patterns) texts b f (tries.complete b member.1)) (Contains-among patterns b member.0))
+        absurd (both_ways _ (none_is_in (among patterns) texts b f (tries.complete b (meant b e) member.1)) (Contains-among patterns b member.0))
     same None e (Some t) f =
         let at = among-Contains patterns t (found_passes (among patterns) texts t f) in
         let some = list_any-from_Any (λ p. matches p path) patterns (at.0, t, at.1, at.2, tries.sound t (found_is_in (among patterns) texts t f)) in
@@ -117,7 +124,10 @@ first_tried path texts tries patterns = same (best_pattern patterns path) refl (
         let member = best_pattern-member patterns path b e in
         let at = among-Contains patterns t (found_passes (among patterns) texts t f) in
         let under = unbeaten_by_member patterns path b t (found_passes (is_best patterns path) patterns b e) at (tries.sound t (found_is_in (among patterns) texts t f)) in
-        elim (found_first (λ a b. outranks a b ≡ true) (among patterns) texts t b tries.falls f (tries.complete b member.1) (Contains-among patterns b member.0)) [
+        elim (found_first (λ a b. outranks a b ≡ true) (among patterns) texts t b tries.falls f (tries.complete b (meant b e) member.1) (Contains-among patterns b member.0)) [
           | inl one ↦ ap Some one
           | inr over ↦ absurd (both_ways _ under over)
         ]
+
+pub first_tried : (path : List ℕ) (texts : List (List ℕ)) → TriesInOrder path texts → (patterns : List (List ℕ)) → best_pattern patterns path ≡ find (among patterns) texts
+first_tried path texts tries patterns = first_of_tried (λ _. Unit {0}) path texts tries patterns (λ _ _. tt)

@@ -8,10 +8,10 @@ use Rattle.std.proofs.lemmas.Bool.Decides.{Decides-eqb}
 use Rattle.std.proofs.lemmas.Slice.Eq.{bytes_eq-Decides, ends_is, starts_is}
 use Rattle.sv_mapping.specs.BestMatch.{outranks, rank}
 use Rattle.sv_mapping.specs.MatchOrder.{exact_texts, extension_texts, fronts, prefix_texts, tried_texts}
-use Rattle.sv_mapping.specs.Pattern.{Form, Root, Default, Extension, Prefix, Exact, extension, form, form_matches, is_at_or_below, matches}
+use Rattle.sv_mapping.specs.Pattern.{Form, Root, Default, Extension, Prefix, Exact, extension, form, form_matches, form_text, is_at_or_below, matches}
 use Rattle.sv_mapping.proofs.Texts.{form-exact, form-prefix, same_bytes, starts}
 use Rattle.sv_mapping.proofs.Tried.{Falls, Falls-append, Falls-map, In, In-cases, In-left, In-map, In-map_from, In-right, TriesInOrder}
-use Rattle.sv_mapping.proofs.Uniqueness.{exact_is_no_slash, text_of, text_of-form}
+use Rattle.sv_mapping.proofs.Uniqueness.{exact_is_no_slash, form_text-form}
 
 -- ---- prefixes of a path
 abbrev Within : List ℕ → List ℕ → Type 0
@@ -78,7 +78,7 @@ fronts_fall (b ∷ bs) =
     alone (inr e) = rw e tt
 
 -- ---- the forms of the texts that are tried
-heads : (b c : ℕ) (bs cs : List ℕ) → b ∷ bs ≡ c ∷ cs → b ≡ c
+pub heads : (b c : ℕ) (bs cs : List ℕ) → b ∷ bs ≡ c ∷ cs → b ≡ c
 heads b c bs cs e = cc
 
 form-front : (front path rest : List ℕ) → path ≡ 47 ∷ rest → Within front path → form (front ++ 47 ∷ 42 ∷ []) ≡ Prefix front
@@ -94,7 +94,7 @@ form-front (b ∷ bs) path rest slash h =
     first (inl whole) = heads b 47 bs rest (sym whole ∙ slash)
     first (inr below) = heads b 47 (bs ++ 47 ∷ below.0) rest (sym below.1 ∙ slash)
 
-form-extension_text : (found : List ℕ) → form (42 ∷ 46 ∷ found) ≡ Extension found
+pub form-extension_text : (found : List ℕ) → form (42 ∷ 46 ∷ found) ≡ Extension found
 unfolding form
 form-extension_text found = refl
 
@@ -102,7 +102,7 @@ form-slash : form (47 ∷ []) ≡ Default
 unfolding form
 form-slash = refl
 
-form-empty : form [] ≡ Root
+pub form-empty : form [] ≡ Root
 unfolding form
 form-empty = refl
 
@@ -151,6 +151,13 @@ last_form : (text : List ℕ) → In text ((47 ∷ []) ∷ []) → form text ≡
 last_form text (inl same) = rw same form-slash
 last_form text (inr h) = absurd h
 
+pub last_sound : (path text : List ℕ) → In text (extension_texts path ++ (47 ∷ []) ∷ []) → matches text path ≡ true
+last_sound path text h =
+    elim (In-cases text (extension_texts path) _ h) [
+      | inl k ↦ let x = extension_form path text k in rw (x.2, x.1) (bytes_same x.0)
+      | inr k ↦ rw (last_form text k) refl
+    ]
+
 -- a text is tried exactly where it matches
 tried_sound : (path rest text : List ℕ) → path ≡ 47 ∷ rest → In text (tried_texts path) → matches text path ≡ true
 tried_sound path rest text slash h =
@@ -158,10 +165,7 @@ tried_sound path rest text slash h =
       | inl k ↦ elim (exact_form path rest text slash k) [ inl root ↦ rw (root.0, root.1) refl | inr exact ↦ rw exact (bytes_same path) ]
       | inr more ↦ elim (In-cases text (prefix_texts path) _ more) [
         | inl k ↦ let p = prefix_form path rest text slash k in rw p.2 (within_from p.0 path (fronts_sound p.0 path p.1))
-        | inr more ↦ elim (In-cases text (extension_texts path) _ more) [
-          | inl k ↦ let x = extension_form path text k in rw (x.2, x.1) (bytes_same x.0)
-          | inr k ↦ rw (last_form text k) refl
-        ]
+        | inr more ↦ last_sound path text more
       ]
     ]
 
@@ -169,8 +173,11 @@ extension_is : (wanted : List ℕ) (o : Option (List ℕ)) → option_map_or (λ
 extension_is wanted None h = cc
 extension_is wanted (Some found) h = inl (sym (same_bytes found wanted h))
 
+pub extension_tried : (path wanted : List ℕ) → form_matches (Extension wanted) path ≡ true → In (42 ∷ 46 ∷ wanted) (extension_texts path)
+extension_tried path wanted h = In-map (λ found. 42 ∷ 46 ∷ found) wanted (option_to_list (extension path)) (extension_is wanted (extension path) h)
+
 tried_complete : (path rest text : List ℕ) → path ≡ 47 ∷ rest → matches text path ≡ true → In text (tried_texts path)
-tried_complete path rest text slash h = rw (← text_of-form text) (go (form text) refl h)
+tried_complete path rest text slash h = rw (← form_text-form text) (go (form text) refl h)
   where
     exact : (t : List ℕ) → form text ≡ Exact t → path ≡ t → In t (exact_texts path)
     exact t e same =
@@ -180,7 +187,7 @@ tried_complete path rest text slash h = rw (← text_of-form text) (go (form tex
             | inr end ↦ rw (other, end) (inl (sym same))
             | inl end ↦
                 let prefix = form-prefix path _ (some_bytes path rest slash) other (no_star path rest slash) ((ends_is Decides-eqb path (47 ∷ 42 ∷ []) _ refl).0 end) in
-                let one : text ≡ path = sym (text_of-form text) ∙ (ap text_of e ∙ sym same) in
+                let one : text ≡ path = sym (form_text-form text) ∙ (ap form_text e ∙ sym same) in
                 absurd (apart _ t (sym prefix ∙ (ap form (sym one) ∙ e)))
           ]
         ]
@@ -188,22 +195,22 @@ tried_complete path rest text slash h = rw (← text_of-form text) (go (form tex
         apart : (front t : List ℕ) → Prefix front ≡ Exact t → ⊥
         apart front t k = cc
 
-    go : (f : Form) → form text ≡ f → form_matches f path ≡ true → In (text_of f) (tried_texts path)
+    go : (f : Form) → form text ≡ f → form_matches f path ≡ true → In (form_text f) (tried_texts path)
     go Root e m = In-left [] (exact_texts path) _ (rw m (inl refl))
     go Default e m = In-right (47 ∷ []) (exact_texts path) _ (In-right (47 ∷ []) (prefix_texts path) _ (In-right (47 ∷ []) (extension_texts path) _ (inl refl)))
     go (Extension wanted) e m =
         In-right (42 ∷ 46 ∷ wanted) (exact_texts path) _ (In-right (42 ∷ 46 ∷ wanted) (prefix_texts path) _ (In-left (42 ∷ 46 ∷ wanted) (extension_texts path) _
-        (In-map (λ found. 42 ∷ 46 ∷ found) wanted (option_to_list (extension path)) (extension_is wanted (extension path) m))))
+        (extension_tried path wanted m)))
     go (Prefix front) e m =
         In-right (front ++ 47 ∷ 42 ∷ []) (exact_texts path) _ (In-left (front ++ 47 ∷ 42 ∷ []) (prefix_texts path) _
         (In-map (λ front. front ++ 47 ∷ 42 ∷ []) front (fronts path) (fronts_complete front path (within_cases front path m))))
     go (Exact t) e m = In-left t (exact_texts path) _ (exact t e (same_bytes path t m))
 
 -- ---- ranks fall
-abbrev Above : List ℕ → List ℕ → Type 0
+abbrev pub Above : List ℕ → List ℕ → Type 0
 Above a b = outranks a b ≡ true
 
-above : (a b : List ℕ) → (rank b).0 < (rank a).0 → Above a b
+pub above : (a b : List ℕ) → (rank b).0 < (rank a).0 → Above a b
 above a b h = or_left _ _ (lt-ltb _ _ h)
 
 class_exact : (path rest text : List ℕ) → path ≡ 47 ∷ rest → In text (exact_texts path) → (rank text).0 ≡ 3
@@ -218,7 +225,7 @@ class_extension path text h = rw (extension_form path text h).2 refl
 class_default : (text : List ℕ) → In text ((47 ∷ []) ∷ []) → (rank text).0 ≡ 0
 class_default text h = rw (last_form text h) refl
 
-class_after_prefix : (path text : List ℕ) → In text (extension_texts path ++ (47 ∷ []) ∷ []) → (rank text).0 < 2
+pub class_after_prefix : (path text : List ℕ) → In text (extension_texts path ++ (47 ∷ []) ∷ []) → (rank text).0 < 2
 class_after_prefix path text h =
     elim (In-cases text (extension_texts path) ((47 ∷ []) ∷ []) h) [ inl k ↦ omega (arith, class_extension path text k) | inr k ↦ omega (arith, class_default text k) ]
 
@@ -245,15 +252,18 @@ extension_falls : (o : Option (List ℕ)) → Falls Above (map (λ found. 42 ∷
 extension_falls None = tt
 extension_falls (Some found) = ((λ y h. absurd h), tt)
 
+pub last_falls : (path : List ℕ) → Falls Above (extension_texts path ++ (47 ∷ []) ∷ [])
+last_falls path =
+    Falls-append Above (extension_texts path) ((47 ∷ []) ∷ []) (extension_falls (extension path)) ((λ y h. absurd h), tt)
+    (λ x y h k. above x y (omega (arith, class_extension path x h, class_default y k)))
+
 pub tries_in_order : (path rest : List ℕ) → path ≡ 47 ∷ rest → TriesInOrder path (tried_texts path)
 tries_in_order path rest slash = record {
   sound = λ text. tried_sound path rest text slash;
-  complete = λ text. tried_complete path rest text slash;
+  complete = λ text _. tried_complete path rest text slash;
   falls =
       Falls-append Above (exact_texts path) _ (exact_falls path)
-      (Falls-append Above (prefix_texts path) _ (prefix_falls path rest slash)
-      (Falls-append Above (extension_texts path) ((47 ∷ []) ∷ []) (extension_falls (extension path)) ((λ y h. absurd h), tt)
-      (λ x y h k. above x y (omega (arith, class_extension path x h, class_default y k))))
+      (Falls-append Above (prefix_texts path) _ (prefix_falls path rest slash) (last_falls path)
       (λ x y h k. above x y (omega (arith, class_prefix path rest x slash h, class_after_prefix path y k))))
       (λ x y h k. above x y (omega (arith, class_exact path rest x slash h, class_after_exact path rest y slash k)));
 }

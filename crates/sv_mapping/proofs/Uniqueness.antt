@@ -1,5 +1,5 @@
 -- Two patterns that match a path and of which neither outranks the other have one text.
-use Rattle.std.proofs.Common.{◌≡◌, ℕ, true, false, ◌&&◌, ◌||◌, List, [], ◌∷◌, ◌++◌, take, eqb, ltb, refl, sym, ◌∙◌, ap, arith, Option, Some, None, inl, inr}
+use Rattle.std.proofs.Common.{◌≡◌, ℕ, true, false, ◌&&◌, ◌||◌, List, [], ◌∷◌, take, eqb, ltb, refl, sym, ◌∙◌, ap, arith, Option, Some, None, inl, inr}
 use Rattle.std.specs.List.{starts_with, ends_with}
 use Rattle.std.specs.Option.{option_map_or}
 use Rattle.std.specs.Str.{bytes_eq}
@@ -8,19 +8,11 @@ use Rattle.std.proofs.lemmas.Bool.Decides.{nat_tests, Decides-eqb}
 use Rattle.std.proofs.lemmas.Slice.Eq.{starts_is, ends_is}
 use Rattle.sv_mapping.specs.BestMatch.{form_rank, rank, outranks}
 use Rattle.sv_mapping.proofs.Texts.{same_bytes, within_front}
-use Rattle.sv_mapping.specs.Pattern.{Form, Root, Default, Extension, Prefix, Exact, extension, form, form_matches, matches}
+use Rattle.sv_mapping.specs.Pattern.{Form, Root, Default, Extension, Prefix, Exact, extension, form, form_matches, form_text, matches}
 
--- the text of a form
-abbrev pub text_of : Form → List ℕ
-text_of Root = []
-text_of Default = 47 ∷ []
-text_of (Extension wanted) = 42 ∷ 46 ∷ wanted
-text_of (Prefix prefix) = prefix ++ 47 ∷ 42 ∷ []
-text_of (Exact text) = text
-
-pub text_of-form : (text : List ℕ) → text_of (form text) ≡ text
+pub form_text-form : (text : List ℕ) → form_text (form text) ≡ text
 unfolding form
-text_of-form text =
+form_text-form text =
     elim (cases_Bool (bytes_eq text [])) [
       | inl e ↦ rw e (sym (same_bytes text [] e))
       | inr e ↦ elim (cases_Bool (bytes_eq text (47 ∷ []))) [
@@ -39,7 +31,7 @@ text_of-form text =
 pub exact_is_no_slash : (text : List ℕ) → form text ≡ Exact (47 ∷ []) → ⊥
 unfolding form
 exact_is_no_slash text e =
-    let slash : text ≡ 47 ∷ [] = sym (text_of-form text) ∙ ap text_of e in
+    let slash : text ≡ 47 ∷ [] = sym (form_text-form text) ∙ ap form_text e in
     let default : Default ≡ form (47 ∷ []) = refl in
     let same : form (47 ∷ []) ≡ Exact (47 ∷ []) = ap form (sym slash) ∙ e in
     cc
@@ -66,4 +58,8 @@ pub same_text : (a b path : List ℕ) → matches a path ≡ true → matches b 
 same_text a b path m n over under =
     let ranks = not_above (rank a).0 (rank a).1 (rank b).0 (rank b).1 over under in
     let one = same_form (form a) (form b) path (exact_is_no_slash a) (exact_is_no_slash b) m n ranks.0 ranks.1 in
-    sym (text_of-form a) ∙ (ap text_of one ∙ text_of-form b)
+    sym (form_text-form a) ∙ (ap form_text one ∙ form_text-form b)
+
+-- a form that was read off a text says that text
+pub says_text : (text : List ℕ) (seen : Form) → seen ≡ form text → form_text seen ≡ text
+says_text text seen h = ap form_text h ∙ form_text-form text

@@ -1,7 +1,8 @@
 -- The best match among URL patterns (Jakarta Servlet 6.0, section 12.1).
 use Rattle.std.specs.Prelude.{◌≡◌, ℕ, Bool, ◌||◌, ◌&&◌, not, nat_lt, ◌==◌, List, ◌++◌, length, Option, Some, is_some, IsTrue, Contains, filter, find, position}
 use Rattle.std.specs.List.{list_any}
-use Rattle.std.specs.Option.{option_to_list}
+use Rattle.std.specs.Option.{option_and_then, option_to_list}
+use Rattle.std.specs.Str.{bytes_eq}
 use Rattle.sv_mapping.specs.Pattern.{Form, Root, Default, Extension, Prefix, Exact, form, matches}
 
 -- exact 3, prefix 2 and then its length, extension 1, default 0
@@ -54,3 +55,7 @@ BestIsAMatch = (patterns : List (List ℕ)) (path pattern : List ℕ) → best_p
 -- the patterns of a list that match best have one text
 abbrev pub BestIsUnique : Type 0
 BestIsUnique = (patterns : List (List ℕ)) (path a b : List ℕ) → Contains patterns a → Contains patterns b → IsTrue (is_best patterns path a) → IsTrue (is_best patterns path b) → a ≡ b
+
+-- the best match stands at the least place of its text
+abbrev pub BestStandsFirst : Type 0
+BestStandsFirst = (patterns : List (List ℕ)) (path : List ℕ) → best patterns path ≡ option_and_then (λ text. position (λ pattern. bytes_eq pattern text) patterns) (best_pattern patterns path)

@@ -1,10 +1,10 @@
 -- The order in which a path is matched: an exact pattern, the longest prefix, an extension, the default pattern (Jakarta Servlet 6.0, section 12.1).
-use Rattle.std.specs.Prelude.{◌≡◌, ℕ, nat_eq, List, [], ◌∷◌, ◌++◌, map, codes, if◌then◌else◌, find, IsTrue}
-use Rattle.std.specs.List.{ends_with, list_any, starts_with}
+use Rattle.std.specs.Prelude.{◌≡◌, ℕ, nat_eq, List, [], ◌∷◌, ◌++◌, map, codes, if◌then◌else◌, find, not, IsTrue}
+use Rattle.std.specs.List.{ends_with, list_all, list_any, starts_with}
 use Rattle.std.specs.Option.{option_to_list}
 use Rattle.std.specs.Str.{bytes_eq}
 use Rattle.sv_mapping.specs.BestMatch.{best_pattern}
-use Rattle.sv_mapping.specs.Pattern.{extension, is_slash}
+use Rattle.sv_mapping.specs.Pattern.{extension, is_pattern, is_slash}
 
 -- the path and each part of it that ends before a slash, the longest first
 abbrev pub fronts : List ℕ → List (List ℕ)
@@ -28,3 +28,11 @@ tried_texts path = exact_texts path ++ (prefix_texts path ++ (extension_texts pa
 -- the best match is the first one tried that is among the patterns
 abbrev pub BestIsFirstTried : Type 0
 BestIsFirstTried = (patterns : List (List ℕ)) (path : List ℕ) → IsTrue (starts_with nat_eq path (codes "/")) → best_pattern patterns path ≡ find (λ text. list_any (λ pattern. bytes_eq pattern text) patterns) (tried_texts path)
+
+-- every accepted pattern that matches a path without a slash at its front, in the order in which they are tried
+abbrev pub other_texts : List ℕ → List (List ℕ)
+other_texts path = (if bytes_eq path [] then codes "/*" ∷ [] else []) ++ (extension_texts path ++ codes "/" ∷ [])
+
+-- for such a path the best match is the first of these that is among the patterns
+abbrev pub BestOfOthers : Type 0
+BestOfOthers = (patterns : List (List ℕ)) (path : List ℕ) → IsTrue (list_all is_pattern patterns) → IsTrue (not (starts_with nat_eq path (codes "/"))) → best_pattern patterns path ≡ find (λ text. list_any (λ pattern. bytes_eq pattern text) patterns) (other_texts path)

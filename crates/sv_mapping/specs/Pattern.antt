@@ -40,6 +40,14 @@ form text =
     else if ends_with nat_eq text (codes "/*") then Prefix (take (length text - 2) text)
     else Exact text
 
+-- the text that has this form
+abbrev pub form_text : Form → List ℕ
+form_text Root = []
+form_text Default = codes "/"
+form_text (Extension wanted) = codes "*." ++ wanted
+form_text (Prefix prefix) = prefix ++ codes "/*"
+form_text (Exact text) = text
+
 -- the path is the prefix or lies below it
 abbrev pub is_at_or_below : List ℕ → List ℕ → Bool
 is_at_or_below prefix path = bytes_eq path prefix || starts_with nat_eq path (prefix ++ codes "/")

@@ -22,7 +22,7 @@ pub enum Form<'a> {
 
 impl<'a> Form<'a> {
     /// The form of a pattern's text.
-    pub fn of(text: &'a str) -> Form<'a>
+    pub(crate) fn of(text: &'a str) -> Form<'a>
         ensures { form_seen result ≡ form text.now }
     {
         if text.is_empty() {
@@ -41,7 +41,7 @@ impl<'a> Form<'a> {
     }
 
     /// Whether a pattern of this form matches the path.
-    pub fn matches(self, path: &str) -> bool
+    pub(crate) fn matches(self, path: &str) -> bool
         ensures { result ≡ form_matches (form_seen self.entry) path.now }
     {
         match self {
@@ -73,7 +73,9 @@ fn has_extension(path: &str, wanted: &str) -> bool
     }
 }
 
-fn extension(path: &str) -> Option<&str>
+/// The extension of a path: what follows the last dot of its last segment, where it has one (Jakarta Servlet 6.0,
+/// section 12.1).
+pub fn extension(path: &str) -> Option<&str>
     ensures { option_copied result ≡ extension path.now }
 {
     let (_, extension) = last_segment(path).rsplit_once('.')?;

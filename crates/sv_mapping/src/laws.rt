@@ -1,8 +1,8 @@
 //! What holds of the best match: each law is the contract of a function that does nothing.
 
 ghost use Rattle.std.specs.Prelude.{◌≡◌};
-ghost use Rattle.sv_mapping.specs.BestMatch.{BestExists, BestIsAMatch, BestIsUnique};
-ghost use Rattle.sv_mapping.specs.MatchOrder.{BestIsFirstTried};
+ghost use Rattle.sv_mapping.specs.BestMatch.{BestExists, BestIsAMatch, BestIsUnique, BestStandsFirst};
+ghost use Rattle.sv_mapping.specs.MatchOrder.{BestIsFirstTried, BestOfOthers};
 ghost use Rattle.sv_mapping.specs.declared.limits.TheConstants.{MAX_PATTERN_BYTES};
 
 /// There is a best match exactly where a pattern matches the path.
@@ -24,6 +24,17 @@ pub fn best_is_unique()
 /// longest to the shortest, then its extension, then the default pattern.
 pub fn best_is_first_tried()
     ensures { BestIsFirstTried }
+{}
+
+/// For a path that does not begin with a slash the best match is the first pattern that is found by trying `/*`, if the path
+/// is empty, then its extension, then the default pattern.
+pub fn best_of_others()
+    ensures { BestOfOthers }
+{}
+
+/// The place of the best match is the least place of its text.
+pub fn best_stands_first()
+    ensures { BestStandsFirst }
 {}
 
 /// The limits of this crate as numbers.

@@ -14,7 +14,7 @@ mod splitting;
 
 pub use best_match::{best, better};
 pub use fault::PatternFault;
-pub use form::is_at_or_below;
+pub use form::{Form, extension, is_at_or_below};
 pub use kind::Kind;
 pub use limits::MAX_PATTERN_BYTES;
 pub use parts::Split;

@@ -5,7 +5,7 @@ ghost use Rattle.sv_text.specs.Gives.{Gives};
 ghost use Rattle.sv_mapping.specs.BestMatch.{outranks};
 ghost use Rattle.sv_mapping.specs.Fault.{pattern_read, text_fault};
 ghost use Rattle.sv_mapping.specs.Form.{form_seen};
-ghost use Rattle.sv_mapping.specs.Pattern.{form, is_extension_pattern, is_path_pattern, is_pattern, matches};
+ghost use Rattle.sv_mapping.specs.Pattern.{form, form_text, is_extension_pattern, is_path_pattern, is_pattern, matches};
 
 use crate::fault::PatternFault;
 use crate::form::Form;
@@ -74,8 +74,10 @@ impl Pattern {
         Rank::of(self.form()).is_above(Rank::of(other.form()))
     }
 
-    pub(crate) fn form(&self) -> Form<'_>
-        ensures { form_seen result ≡ form self.now }
+    /// What the pattern's text says. No two texts have one form.
+    pub fn form(&self) -> Form<'_>
+        ensures form { form_seen result ≡ form self.now }
+        ensures text { form_text (form_seen result) ≡ self.now }
     {
         Form::of(self.text())
     }

@@ -3,3 +3,6 @@ pub mod Joined
 pub mod Admitted
 pub mod Named
 pub mod Whole
+pub mod Rising
+pub mod Excepted
+pub mod Uncovered

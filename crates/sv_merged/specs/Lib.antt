@@ -1,3 +1,4 @@
 pub mod Covering
 pub mod Merged
 pub mod Table
+pub mod Uncovered

@@ -5,6 +5,7 @@ ghost use Rattle.std.specs.Option.{option_copied};
 ghost use Rattle.sv_constraints.specs.Findings.{findings_of};
 ghost use Rattle.sv_merged.specs.Covering.{covers_at};
 ghost use Rattle.sv_merged.specs.Merged.{IsMerged, admitting, names_everyone};
+ghost use Rattle.sv_merged.specs.Uncovered.{is_bare};
 
 use crate::covering::covers_at;
 use crate::role_numbers::RoleNumbers;
@@ -80,6 +81,13 @@ impl Merged {
             }
         }
         Ok(merged)
+    }
+
+    /// Whether nothing was merged.
+    pub fn is_bare(&self) -> bool
+        ensures { result ≡ is_bare self.now }
+    {
+        self.found.covering.is_none()
     }
 
     /// What there is to find for a caller, without taking memory.

@@ -1,20 +1,22 @@
 //! The merged table of a pattern.
 
-ghost use Rattle.std.specs.Prelude.{◌≡◌, ◌++◌, ◌∷◌, [], ℕ, List, IfOk, OnOk, map, Some};
+ghost use Rattle.std.specs.Prelude.{◌≡◌, ◌++◌, ◌∷◌, [], ℕ, List, IfOk, OnOk, map, Some, false};
 ghost use Rattle.std.specs.BTreeMap.{get_by_text};
-ghost use Rattle.std.specs.Option.{option_copied};
-ghost use Rattle.sv_constraints.specs.Covering.{covering};
+ghost use Rattle.std.specs.Option.{option_copied, option_map_or};
+ghost use Rattle.sv_constraints.specs.Covering.{covering, lists};
 ghost use Rattle.sv_constraints.specs.Findings.{findings_of};
 ghost use Rattle.sv_merged.specs.Table.{HasEntries, IsTable, entry_of};
+ghost use Rattle.sv_merged.specs.Uncovered.{IsRising, differ, is_bare, uncovered_methods};
+ghost use Rattle.sv_text.specs.Gives.{GivesAnswer};
 
 use crate::covering::named_methods;
 use crate::merged::Merged;
 use std::alloc::Global;
 use std::collections::BTreeMap;
-use sv_constraints::{Constraint, Findings, Rules};
+use sv_constraints::{Constraint, Findings, Methods, Rules};
 use sv_mapping::Pattern;
 use sv_realm::Caller;
-use sv_text::NoMemory;
+use sv_text::{Listed, NoMemory, Text};
 
 /// What the constraints on a pattern come to: an entry for each method that one of them names there, and one rule for all
 /// other methods.
@@ -45,6 +47,13 @@ fn enter(
     let merged = Merged::gather(alloc, rules, members, pattern, Some(name))?;
     methods.insert(String::from_str(alloc, name)?, merged)?;
     Ok(())
+}
+
+/// Whether just one of the two holds.
+fn differ(one: bool, other: bool) -> bool
+    ensures { result ≡ differ one other }
+{
+    if one { !other } else { other }
 }
 
 impl Table {
@@ -89,5 +98,34 @@ impl Table {
             result ≡ findings_of rules (option_copied caller.entry) (covering constraints (Some self.now.pattern) method.now) }
     {
         self.entry(method).findings(caller)
+    }
+
+    /// The methods that no constraint covers at the pattern: those that are listed, or all but those. The list rises by
+    /// bytes.
+    pub fn uncovered(&self, alloc: Global) -> Result<Methods, NoMemory>
+        ensures { (rules : Rules) (constraints : List Constraint) → IsTable rules constraints self.now →
+            GivesAnswer result (uncovered_methods constraints self.now.pattern) }
+    {
+        let listed = self.exceptions(alloc)?;
+        if self.rest.is_bare() {
+            Ok(Methods::Except(listed))
+        } else {
+            Ok(Methods::Only(listed))
+        }
+    }
+
+    /// The named methods that are covered where the others are not, or the other way round.
+    fn exceptions(&self, alloc: Global) -> Result<Listed<Text>, NoMemory>
+        ensures rising { IfOk result (λ names. IsRising names) }
+        ensures names { IfOk result (λ names. (method : List ℕ) → lists names method ≡
+            option_map_or (λ entry. differ (is_bare entry) (is_bare self.now.rest)) (get_by_text self.now.methods method) false) }
+    {
+        let mut names = Vec::new(alloc);
+        for (name, entry) in &self.methods {
+            if differ(entry.is_bare(), self.rest.is_bare()) {
+                names.push(Text::copy_of(alloc, name.as_str())?)?;
+            }
+        }
+        Ok(Listed::from_vec(names))
     }
 }

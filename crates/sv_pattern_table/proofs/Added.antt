@@ -1,20 +1,21 @@
 -- What is found once a pattern is added behind all others.
-use Rattle.std.proofs.Common.{◌≡◌, ◌≢◌, ℕ, Bool, true, false, cond, List, [], ◌∷◌, ◌++◌, eqb, length, refl, sym, subst, ◌∙◌, ap, arith, Option, Some, None, Result, Ok, Err, OnOk, inl, inr}
+use Rattle.std.proofs.Common.{◌≡◌, ◌≢◌, ℕ, ◌-◌, Bool, true, false, cond, List, [], ◌∷◌, ◌++◌, eqb, length, take, drop, refl, sym, subst, ◌∙◌, ap, arith, Option, Some, None, Result, Ok, Err, OnOk, inl, inr}
 use Rattle.std.specs.HashMap.{get_by_text}
 use Rattle.std.specs.Option.{option_or}
 use Rattle.std.specs.Str.{bytes_eq}
-use Rattle.std.proofs.lemmas.Bool.{and_from, and_parts, both_ways, cases_Bool, eqb-true}
+use Rattle.std.proofs.lemmas.Bool.{and_from, and_parts, both_ways, cases_Bool}
+use Rattle.std.proofs.lemmas.Bool.Decides.{Decides-eqb}
 use Rattle.std.proofs.lemmas.Option.{none-some}
-use Rattle.std.specs.List.{ends_with, list_all}
-use Rattle.sv_mapping.specs.Pattern.{is_pattern}
-use Rattle.sv_mapping.proofs.Texts.{same_bytes}
+use Rattle.std.proofs.lemmas.Slice.Eq.{ends_is}
+use Rattle.std.specs.List.{ends_with, list_all, starts_with}
+use Rattle.sv_mapping.specs.Pattern.{Form, Root, Default, Extension, Prefix, Exact, form, is_pattern}
 use Rattle.sv_pattern_table.specs.declared.index.Index.{Index}
 use Rattle.sv_pattern_table.specs.declared.node.Node.{Node}
 use Rattle.sv_pattern_table.specs.Index.{Finds}
 use Rattle.sv_pattern_table.specs.Places.{exact_place, place_of}
 use Rattle.sv_pattern_table.specs.Segments.{is_rooted, segments_of}
 use Rattle.sv_pattern_table.specs.Trie.{Adds, child, exact, prefix, kept}
-use Rattle.sv_pattern_table.proofs.Classes.{empty_exact, equal, exact-push, exact_exact, fits_exactly, one, or_none, prefix_exact, prefix_prefix, short_prefix, slash_exact, starred_exact, starred_prefix, unequal}
+use Rattle.sv_pattern_table.proofs.Classes.{empty_exact, equal, exact-push, exact_exact, fits_exactly, one, or_none, prefix_exact, prefix_prefix, same_bytes, short_prefix, slash_exact, starred_exact, starred_prefix, unequal}
 use Rattle.sv_pattern_table.proofs.Places.{place-push}
 use Rattle.sv_pattern_table.proofs.Paths.{path_of}
 use Rattle.sv_pattern_table.proofs.Rooted.{rooted_back, rooted_front, rooted_pattern}
@@ -128,51 +129,79 @@ pub on_ok : {A E P Q : Type 0} (r : Result A E) → OnOk r P → (P → Q) → O
 on_ok (Ok a) h f = f h
 on_ok (Err e) h f = tt
 
--- ---- the five kinds of texts
+-- ---- what the form of a text says of it
+-- it has not the form of another text
+not_of : (text other : List ℕ) (f g : Form) → f ≡ form text → g ≡ form other → (f ≡ g → ⊥) → text ≡ other → ⊥
+not_of text other f g h k apart e = apart (h ∙ (ap form e ∙ sym k))
+
+form-slash : Default ≡ form (47 ∷ [])
+unfolding form
+form-slash = refl
+
+form-empty : Root ≡ form []
+unfolding form
+form-empty = refl
+
+form-starred : (rest : List ℕ) → Extension rest ≡ form (42 ∷ 46 ∷ rest)
+unfolding form
+form-starred rest = refl
+
+-- an exact pattern does not end as a prefix pattern does
+exact_end : (text t : List ℕ) → Exact t ≡ form text → ends_with eqb text (47 ∷ 42 ∷ []) ≡ false
+unfolding form
+exact_end text t h =
+    elim (cases_Bool (ends_with eqb text (47 ∷ 42 ∷ []))) [
+      | inr end ↦ end
+      | inl end ↦ elim (cases_Bool (bytes_eq text [])) [
+        | inl e ↦ let same : Exact t ≡ Root = h ∙ rw e refl in cc
+        | inr e ↦ elim (cases_Bool (bytes_eq text (47 ∷ []))) [
+          | inl f ↦ let same : Exact t ≡ Default = h ∙ rw (e, f) refl in cc
+          | inr f ↦ elim (cases_Bool (starts_with eqb text (42 ∷ 46 ∷ []))) [
+            | inl g ↦ let same : Exact t ≡ Extension (drop 2 text) = h ∙ rw (e, f, g) refl in cc
+            | inr g ↦ let same : Exact t ≡ Prefix (take (length text - 2) text) = h ∙ rw (e, f, g, end) refl in cc
+          ]
+        ]
+      ]
+    ]
+
+-- ---- the five forms
 module _ (patterns : List (List ℕ)) (text : List ℕ) (old new : Index) (finds : Finds old patterns) (accepted : is_pattern text ≡ true) where
-  no_text : eqb (length text) 0 ≡ true → text ≡ []
-  no_text h = empty_from text h
-    where
-      empty_from : (t : List ℕ) → eqb (length t) 0 ≡ true → t ≡ []
-      empty_from [] h = refl
-      empty_from (b ∷ bs) h = absurd (omega (arith, eqb-true (length (b ∷ bs)) 0 h))
-
-  some_text : eqb (length text) 0 ≡ false → text ≡ [] → ⊥
-  some_text h e = both_ways _ h (rw e refl)
-
-  no_slash : bytes_eq text (47 ∷ []) ≡ false → text ≡ 47 ∷ [] → ⊥
-  no_slash h e = both_ways _ h (equal text (47 ∷ []) e)
-
-  pub empty_added : eqb (length text) 0 ≡ true → Adds old.trie.nodes.items new.trie.nodes.items (segments_of (47 ∷ [])) (length patterns) exact prefix → ((wanted : List ℕ) → get_by_text new.extensions wanted ≡ get_by_text old.extensions wanted) → new.default ≡ old.default → Finds new (patterns ++ text ∷ [])
-  empty_added h adds extensions default =
-      let e = no_text h in
+  pub root_added : [] ≡ text → Adds old.trie.nodes.items new.trie.nodes.items (segments_of (47 ∷ [])) (length patterns) exact prefix → ((wanted : List ℕ) → get_by_text new.extensions wanted ≡ get_by_text old.extensions wanted) → new.default ≡ old.default → Finds new (patterns ++ text ∷ [])
+  root_added says adds extensions default =
+      let e = sym says in
       finds_exact patterns text old new finds accepted (47 ∷ []) refl adds extensions default
       (λ path. ap (λ p. fits_exactly p path) e ∙ empty_exact path) (λ path. short_prefix text path (omega (arith, ap length e)))
       (λ wanted. ap (λ p. bytes_eq p (42 ∷ 46 ∷ wanted)) e) (ap (λ p. bytes_eq p (47 ∷ [])) e)
 
-  pub slash_added : bytes_eq text (47 ∷ []) ≡ true → new.trie ≡ old.trie → ((wanted : List ℕ) → get_by_text new.extensions wanted ≡ get_by_text old.extensions wanted) → new.default ≡ option_or old.default (Some (length patterns)) → Finds new (patterns ++ text ∷ [])
-  slash_added h trie extensions default =
-      let e = same_bytes text (47 ∷ []) h in
+  pub slash_added : 47 ∷ [] ≡ text → new.trie ≡ old.trie → ((wanted : List ℕ) → get_by_text new.extensions wanted ≡ get_by_text old.extensions wanted) → new.default ≡ option_or old.default (Some (length patterns)) → Finds new (patterns ++ text ∷ [])
+  slash_added says trie extensions default =
+      let e = sym says in
       finds_aside patterns text old new finds accepted trie (λ path _. ap (λ p. fits_exactly p path) e ∙ slash_exact path) (λ path _. short_prefix text path (omega (arith, ap length e)))
       (λ wanted. extension_stays patterns text old new finds accepted wanted (extensions wanted) (ap (λ p. bytes_eq p (42 ∷ 46 ∷ wanted)) e))
-      (default_added patterns text old new finds accepted default h)
+      (default_added patterns text old new finds accepted default (equal text (47 ∷ []) e))
 
-  pub starred_added : (extension : List ℕ) → text ≡ 42 ∷ 46 ∷ extension → new.trie ≡ old.trie → ((wanted : List ℕ) → get_by_text new.extensions wanted ≡ cond (bytes_eq extension wanted) (option_or (get_by_text old.extensions wanted) (Some (length patterns))) (get_by_text old.extensions wanted)) → new.default ≡ old.default → Finds new (patterns ++ text ∷ [])
-  starred_added extension e trie extensions default =
+  pub starred_added : (extension : List ℕ) → 42 ∷ 46 ∷ extension ≡ text → new.trie ≡ old.trie → ((wanted : List ℕ) → get_by_text new.extensions wanted ≡ cond (bytes_eq extension wanted) (option_or (get_by_text old.extensions wanted) (Some (length patterns))) (get_by_text old.extensions wanted)) → new.default ≡ old.default → Finds new (patterns ++ text ∷ [])
+  starred_added extension says trie extensions default =
+      let e = sym says in
       finds_aside patterns text old new finds accepted trie (λ path rooted. ap (λ p. fits_exactly p path) e ∙ starred_exact extension path rooted) (λ path rooted. ap (λ p. bytes_eq p (path ++ 47 ∷ 42 ∷ [])) e ∙ starred_prefix extension path rooted)
       (λ wanted. extension_added patterns text old new finds accepted extension wanted e (extensions wanted))
       (default_stays patterns text old new finds accepted default (ap (λ p. bytes_eq p (47 ∷ [])) e))
 
-  pub prefix_added : (front : List ℕ) → bytes_eq text (47 ∷ []) ≡ false → ((rest : List ℕ) → text ≡ 42 ∷ 46 ∷ rest → ⊥) → text ≡ front ++ 47 ∷ 42 ∷ [] → Adds old.trie.nodes.items new.trie.nodes.items (segments_of front) (length patterns) prefix exact → ((wanted : List ℕ) → get_by_text new.extensions wanted ≡ get_by_text old.extensions wanted) → new.default ≡ old.default → Finds new (patterns ++ text ∷ [])
-  prefix_added front slash starless e adds extensions default =
-      let rooted = rooted_front front (47 ∷ 42 ∷ []) (subst (λ t. is_rooted t ≡ true) e (rooted_pattern text accepted starless)) in
-      finds_prefix patterns text old new finds accepted front e rooted adds extensions default starless (no_slash slash)
+  pub prefix_added : (front : List ℕ) → Prefix front ≡ form text → front ++ 47 ∷ 42 ∷ [] ≡ text → Adds old.trie.nodes.items new.trie.nodes.items (segments_of front) (length patterns) prefix exact → ((wanted : List ℕ) → get_by_text new.extensions wanted ≡ get_by_text old.extensions wanted) → new.default ≡ old.default → Finds new (patterns ++ text ∷ [])
+  prefix_added front seen says adds extensions default =
+      let starless : (rest : List ℕ) → text ≡ 42 ∷ 46 ∷ rest → ⊥ = λ rest. not_of text (42 ∷ 46 ∷ rest) (Prefix front) (Extension rest) seen (form-starred rest) (λ k. cc) in
+      let rooted = rooted_front front (47 ∷ 42 ∷ []) (subst (λ t. is_rooted t ≡ true) (sym says) (rooted_pattern text accepted starless)) in
+      finds_prefix patterns text old new finds accepted front (sym says) rooted adds extensions default starless (not_of text (47 ∷ []) (Prefix front) Default seen form-slash (λ k. cc))
 
-  pub exact_added : eqb (length text) 0 ≡ false → bytes_eq text (47 ∷ []) ≡ false → ((rest : List ℕ) → text ≡ 42 ∷ 46 ∷ rest → ⊥) → ((front : List ℕ) → text ≡ front ++ 47 ∷ 42 ∷ [] → ⊥) → Adds old.trie.nodes.items new.trie.nodes.items (segments_of text) (length patterns) exact prefix → ((wanted : List ℕ) → get_by_text new.extensions wanted ≡ get_by_text old.extensions wanted) → new.default ≡ old.default → Finds new (patterns ++ text ∷ [])
-  exact_added some slash starless endless adds extensions default =
-      finds_exact patterns text old new finds accepted text (rooted_pattern text accepted starless) adds extensions default
-      (λ path. exact_exact text path (some_text some) (no_slash slash) endless) (λ path. unequal text (path ++ 47 ∷ 42 ∷ []) (endless path))
-      (λ wanted. unequal text (42 ∷ 46 ∷ wanted) (starless wanted)) slash
+  pub exact_added : (target : List ℕ) → Exact target ≡ form text → target ≡ text → Adds old.trie.nodes.items new.trie.nodes.items (segments_of target) (length patterns) exact prefix → ((wanted : List ℕ) → get_by_text new.extensions wanted ≡ get_by_text old.extensions wanted) → new.default ≡ old.default → Finds new (patterns ++ text ∷ [])
+  exact_added target seen says adds extensions default =
+      let starless : (rest : List ℕ) → text ≡ 42 ∷ 46 ∷ rest → ⊥ = λ rest. not_of text (42 ∷ 46 ∷ rest) (Exact target) (Extension rest) seen (form-starred rest) (λ k. cc) in
+      let some : text ≡ [] → ⊥ = not_of text [] (Exact target) Root seen form-empty (λ k. cc) in
+      let other : text ≡ 47 ∷ [] → ⊥ = not_of text (47 ∷ []) (Exact target) Default seen form-slash (λ k. cc) in
+      let endless : (front : List ℕ) → text ≡ front ++ 47 ∷ 42 ∷ [] → ⊥ = λ front k. both_ways _ (exact_end text target seen) ((ends_is Decides-eqb text (47 ∷ 42 ∷ []) _ refl).1 front k) in
+      finds_exact patterns text old new finds accepted target (subst (λ t. is_rooted t ≡ true) (sym says) (rooted_pattern text accepted starless)) adds extensions default
+      (λ path. exact_exact text path some other endless ∙ ap (bytes_eq path) (sym says)) (λ path. unequal text (path ++ 47 ∷ 42 ∷ []) (endless path))
+      (λ wanted. unequal text (42 ∷ 46 ∷ wanted) (starless wanted)) (unequal text (47 ∷ []) other)
 
 -- ---- no patterns
 nowhere : (child : ℕ → List ℕ → Option ℕ) (places : ℕ → Option ℕ) (segments : List (List ℕ)) → ((from : ℕ) (segment : List ℕ) → child from segment ≡ None) → ((from : ℕ) → places from ≡ None) → kept child places segments ≡ None

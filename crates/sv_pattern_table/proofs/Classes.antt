@@ -6,7 +6,6 @@ use Rattle.std.specs.Str.{bytes_eq}
 use Rattle.std.proofs.lemmas.Bool.{both_ways, cases_Bool, false_from_ne_true}
 use Rattle.std.proofs.lemmas.Bool.Decides.{Decides-eqb}
 use Rattle.std.proofs.lemmas.Slice.Eq.{bytes_eq-Decides, ends_is}
-use Rattle.sv_mapping.proofs.Texts.{same_bytes}
 use Rattle.sv_pattern_table.specs.Places.{exact_place, place_of}
 use Rattle.sv_pattern_table.specs.Segments.{is_rooted}
 use Rattle.sv_pattern_table.proofs.Places.{place-push}
@@ -35,6 +34,9 @@ exact-push patterns pattern (b ∷ bs) =
       | inl e ↦ rw e (alone-push patterns pattern [])
       | inr e ↦ elim (cases_Bool (ends_with eqb (b ∷ bs) (47 ∷ 42 ∷ []))) [ inl f ↦ rw (e, f) refl | inr f ↦ rw (e, f) (alone-push patterns pattern (b ∷ bs)) ]
     ]
+
+pub same_bytes : (a b : List ℕ) → bytes_eq a b ≡ true → a ≡ b
+same_bytes a b h = (bytes_eq-Decides a b).0 h
 
 pub unequal : (a b : List ℕ) → (a ≡ b → ⊥) → bytes_eq a b ≡ false
 unequal a b apart = false_from_ne_true _ (λ h. apart (same_bytes a b h))

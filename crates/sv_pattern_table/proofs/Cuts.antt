@@ -1,5 +1,5 @@
 -- Where a text is cut into segments.
-use Rattle.std.proofs.Common.{◌≡◌, ℕ, ◌<◌, ◌≤◌, ◌+◌, false, cond, List, [], ◌∷◌, ◌++◌, eqb, length, refl, ap, arith, Option, Some, None, inl, inr, Bor}
+use Rattle.std.proofs.Common.{◌≡◌, ℕ, ◌<◌, ◌≤◌, ◌+◌, false, cond, List, [], ◌∷◌, ◌++◌, eqb, length, refl, sym, ◌∙◌, ap, arith, Option, Some, None, inl, inr, Bor}
 use Rattle.std.specs.List.{before_first, after_first, list_any, position_or_len}
 use Rattle.std.specs.Option.{MatchOption, option_copied}
 use Rattle.std.specs.Str.Pattern.{FindsTextPrefix, StripsPrefix}
@@ -7,12 +7,11 @@ use Rattle.std.proofs.lemmas.Bool.{cases_Bool, eqb-true, or_from, or_parts}
 use Rattle.std.proofs.lemmas.List.Splits.{length-slice_split, slice_split_first}
 use Rattle.std.proofs.lemmas.List.Sums.{count_by-le-length, sum_by-cons}
 use Rattle.sv_mapping.specs.Pattern.{is_slash}
-use Rattle.sv_mapping.proofs.Texts.{stripped_front}
 use Rattle.sv_pattern_table.specs.Segments.{between_slashes, rest_segments, segments, segments_of}
 
 -- what is left behind the first slash
 pub behind_first : (path : List ℕ) (o : Option (Bor (List ℕ))) → MatchOption o (FindsTextPrefix (47 ∷ []) path None) (λ x. StripsPrefix (FindsTextPrefix (47 ∷ [])) path x.now) → rest_segments (option_copied o) ≡ segments_of path
-behind_first path (Some rest) h = rw (stripped_front (47 ∷ []) path rest.now h) refl
+behind_first path (Some rest) h = let front : path ≡ 47 ∷ rest.now = h.1.1 ∙ ap (λ r. 47 ∷ r) (sym h.2) in rw front refl
 behind_first [] None h = refl
 behind_first (b ∷ bs) None h = elim (cases_Bool (eqb b 47)) [ inl e ↦ absurd (h bs (ap (λ c. c ∷ bs) (eqb-true b 47 e))) | inr e ↦ rw e refl ]
 

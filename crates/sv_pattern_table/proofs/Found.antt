@@ -1,22 +1,24 @@
 -- What is found for a path is its best match.
-use Rattle.std.proofs.Common.{◌≡◌, ℕ, ◌≤◌, true, cond, List, [], ◌∷◌, ◌++◌, eqb, length, map, refl, sym, ◌∙◌, ap, arith, Option, Some, None, inl, inr, ◌⊎◌}
+use Rattle.std.proofs.Common.{◌≡◌, ℕ, ◌≤◌, Bool, true, false, not, cond, List, [], ◌∷◌, ◌++◌, eqb, length, map, refl, sym, ◌∙◌, ap, arith, Option, Some, None, inl, inr, ◌⊎◌}
 use Rattle.std.specs.HashMap.{get_by_text}
 use Rattle.std.specs.List.{list_all}
 use Rattle.std.specs.Option.{option_and_then, option_or, option_to_list}
-use Rattle.std.proofs.lemmas.Bool.{cases_Bool, eqb-true}
-use Rattle.sv_mapping.specs.BestMatch.{best}
-use Rattle.sv_mapping.specs.MatchOrder.{exact_texts, extension_texts, prefix_texts}
+use Rattle.std.specs.Str.{bytes_eq}
+use Rattle.std.proofs.lemmas.Bool.{cases_Bool, eqb-true, or_parts}
+use Rattle.std.proofs.lemmas.Bool.Decides.{Decides-eqb}
+use Rattle.std.proofs.lemmas.Slice.Eq.{starts_is}
+use Rattle.sv_mapping.specs.BestMatch.{BestStandsFirst, best}
+use Rattle.sv_mapping.specs.MatchOrder.{BestIsFirstTried, BestOfOthers, exact_texts, extension_texts, other_texts, prefix_texts, tried_texts}
 use Rattle.sv_mapping.specs.Pattern.{extension, is_pattern}
 use Rattle.sv_pattern_table.specs.declared.index.Index.{Index}
 use Rattle.sv_pattern_table.specs.Index.{Finds}
-use Rattle.sv_pattern_table.specs.Places.{exact_place, first_place, place_of}
-use Rattle.sv_pattern_table.specs.Segments.{is_rooted, segments, segments_of}
+use Rattle.sv_pattern_table.specs.Places.{BestIsLookedUp, beside_trie, exact_place, first_place, in_trie, place_of}
+use Rattle.sv_pattern_table.specs.Segments.{is_rooted, is_slashed, segments, segments_of}
 use Rattle.sv_pattern_table.specs.Trie.{along, child, exact, prefix, reached}
-use Rattle.sv_pattern_table.proofs.Bare.{best_of_bare, best_of_empty}
 use Rattle.sv_pattern_table.proofs.Classes.{or_none}
 use Rattle.sv_pattern_table.proofs.Cuts.{segments_counted}
 use Rattle.sv_pattern_table.proofs.Paths.{clean_segments, path_of, segments_back}
-use Rattle.sv_pattern_table.proofs.Places.{best_is_first_place, first_place-append}
+use Rattle.sv_pattern_table.proofs.Places.{first_place-append, placed}
 use Rattle.sv_pattern_table.proofs.Rooted.{rooted_back, rooted_cases, rooted_path_of}
 use Rattle.sv_pattern_table.proofs.Ways.{Stands, longest, way}
 
@@ -46,42 +48,45 @@ extension_place : (patterns : List (List ℕ)) (found : Option (List ℕ)) → f
 extension_place patterns None = refl
 extension_place patterns (Some wanted) = or_none (place_of patterns (42 ∷ 46 ∷ wanted))
 
--- what is found where the trie has nothing
-abbrev pub otherwise : List (List ℕ) → List ℕ → Option ℕ
-otherwise patterns path = option_or (option_and_then (λ wanted. place_of patterns (42 ∷ 46 ∷ wanted)) (extension path)) (place_of patterns (47 ∷ []))
-
 or_regrouped : (a b c : Option ℕ) → option_or a (option_or b c) ≡ option_or (option_or a b) c
 or_regrouped None b c = refl
 or_regrouped (Some n) b c = refl
 
-pub ladder : (patterns : List (List ℕ)) (rest : List ℕ) → best patterns (47 ∷ rest) ≡ option_or (option_or (exact_place patterns (47 ∷ rest)) (first_place patterns (prefix_texts (47 ∷ rest)))) (otherwise patterns (47 ∷ rest))
-ladder patterns rest =
-    let path = 47 ∷ rest in
-    let last = first_place-append patterns (extension_texts path) ((47 ∷ []) ∷ [])
-    ∙ (ap (λ o. option_or o (first_place patterns ((47 ∷ []) ∷ []))) (extension_place patterns (extension path)) ∙ ap (option_or (option_and_then (λ wanted. place_of patterns (42 ∷ 46 ∷ wanted)) (extension path))) (or_none (place_of patterns (47 ∷ [])))) in
-    best_is_first_place patterns rest
-    ∙ (first_place-append patterns (exact_texts path) (prefix_texts path ++ (extension_texts path ++ (47 ∷ []) ∷ []))
-    ∙ (ap (option_or (exact_place patterns path)) (first_place-append patterns (prefix_texts path) (extension_texts path ++ (47 ∷ []) ∷ []) ∙ ap (option_or (first_place patterns (prefix_texts path))) last)
-    ∙ or_regrouped (exact_place patterns path) (first_place patterns (prefix_texts path)) (otherwise patterns path)))
+beside : (patterns : List (List ℕ)) (path : List ℕ) → first_place patterns (extension_texts path ++ (47 ∷ []) ∷ []) ≡ beside_trie patterns path
+beside patterns path =
+    first_place-append patterns (extension_texts path) ((47 ∷ []) ∷ [])
+    ∙ (ap (λ o. option_or o (first_place patterns ((47 ∷ []) ∷ []))) (extension_place patterns (extension path)) ∙ ap (option_or (option_and_then (λ wanted. place_of patterns (42 ∷ 46 ∷ wanted)) (extension path))) (or_none (place_of patterns (47 ∷ []))))
 
--- what the trie finds for a path: nothing for one that is not rooted
-abbrev in_trie : List (List ℕ) → List ℕ → Option ℕ
-in_trie patterns path = option_or (cond (is_rooted path) (exact_place patterns path) None) (cond (is_rooted path) (first_place patterns (prefix_texts path)) None)
+-- the laws of the best match give its place
+module _ (tried : BestIsFirstTried) (others : BestOfOthers) (stands : BestStandsFirst) (patterns : List (List ℕ)) where
+  slashed : (rest : List ℕ) → best patterns (47 ∷ rest) ≡ option_or (option_or (exact_place patterns (47 ∷ rest)) (first_place patterns (prefix_texts (47 ∷ rest)))) (beside_trie patterns (47 ∷ rest))
+  slashed rest =
+      let path = 47 ∷ rest in
+      placed stands patterns path (tried_texts path) (tried patterns path ((starts_is Decides-eqb path (47 ∷ []) _ refl).1 rest refl))
+      ∙ (first_place-append patterns (exact_texts path) (prefix_texts path ++ (extension_texts path ++ (47 ∷ []) ∷ []))
+      ∙ (ap (option_or (exact_place patterns path)) (first_place-append patterns (prefix_texts path) (extension_texts path ++ (47 ∷ []) ∷ []) ∙ ap (option_or (first_place patterns (prefix_texts path))) (beside patterns path))
+      ∙ or_regrouped (exact_place patterns path) (first_place patterns (prefix_texts path)) (beside_trie patterns path)))
 
-whole_ladder : (patterns : List (List ℕ)) (path : List ℕ) → list_all is_pattern patterns ≡ true → best patterns path ≡ option_or (in_trie patterns path) (otherwise patterns path)
-whole_ladder patterns path accepted =
-    elim (cases_Bool (is_rooted path)) [
-      | inr bare ↦ rw bare (best_of_bare patterns path accepted bare)
-      | inl rooted ↦ rw rooted (rungs (rooted_cases path rooted))
-    ]
-  where
-    rungs : (path ≡ []) ⊎ ((rest : List ℕ) × (path ≡ 47 ∷ rest)) → best patterns path ≡ option_or (option_or (exact_place patterns path) (first_place patterns (prefix_texts path))) (otherwise patterns path)
-    rungs (inl e) = rw e (best_of_empty patterns ∙ ap (λ o. option_or o (place_of patterns (47 ∷ []))) (sym (or_none (place_of patterns (47 ∷ 42 ∷ [])))))
-    rungs (inr e) = rw e.1 (ladder patterns e.0)
+  module _ (accepted : list_all is_pattern patterns ≡ true) where
+    other : (path : List ℕ) → is_slashed path ≡ false → best patterns path ≡ first_place patterns (other_texts path)
+    other path bare = placed stands patterns path (other_texts path) (others patterns path accepted (ap not bare))
+
+    pub looked : (path : List ℕ) → best patterns path ≡ option_or (in_trie patterns path) (beside_trie patterns path)
+    looked path =
+        elim (cases_Bool (is_rooted path)) [
+          | inl rooted ↦ rw rooted (rungs (rooted_cases path rooted))
+          | inr bare ↦
+              let parts = or_parts (bytes_eq path []) (is_slashed path) bare in
+              rw bare (other path parts.1 ∙ (ap (λ b. first_place patterns (cond b ((47 ∷ 42 ∷ []) ∷ []) [] ++ (extension_texts path ++ (47 ∷ []) ∷ []))) parts.0 ∙ beside patterns path))
+        ]
+      where
+        rungs : (path ≡ []) ⊎ ((rest : List ℕ) × (path ≡ 47 ∷ rest)) → best patterns path ≡ option_or (option_or (exact_place patterns path) (first_place patterns (prefix_texts path))) (beside_trie patterns path)
+        rungs (inl e) = rw e (other [] refl ∙ (ap (option_or (place_of patterns (47 ∷ 42 ∷ []))) (or_none (place_of patterns (47 ∷ []))) ∙ ap (λ o. option_or o (place_of patterns (47 ∷ []))) (sym (or_none (place_of patterns (47 ∷ 42 ∷ []))))))
+        rungs (inr e) = rw e.1 (slashed e.0)
 
 -- what the index has where the trie has nothing
-same_otherwise : (index : Index) (patterns : List (List ℕ)) → Finds index patterns → (path : List ℕ) → option_or (option_and_then (λ wanted. get_by_text index.extensions wanted) (extension path)) index.default ≡ otherwise patterns path
-same_otherwise index patterns finds path =
+same_beside : (index : Index) (patterns : List (List ℕ)) → Finds index patterns → (path : List ℕ) → option_or (option_and_then (λ wanted. get_by_text index.extensions wanted) (extension path)) index.default ≡ beside_trie patterns path
+same_beside index patterns finds path =
     ap (λ (places : List ℕ → Option ℕ). option_or (option_and_then places (extension path)) index.default) (λ i wanted. finds.extensions wanted i)
     ∙ ap (option_or (option_and_then (λ wanted. place_of patterns (42 ∷ 46 ∷ wanted)) (extension path))) finds.default
 
@@ -91,18 +96,24 @@ some_first a b n h = rw h refl
 none_first : (a b : Option ℕ) → a ≡ None → option_or a b ≡ b
 none_first a b h = rw h refl
 
+apart : (rooted : Bool) (e x : Option ℕ) → cond rooted (option_or e x) None ≡ option_or (cond rooted e None) (cond rooted x None)
+apart true e x = refl
+apart false e x = refl
+
 both_known : (patterns : List (List ℕ)) (path : List ℕ) (e x : Option ℕ) → e ≡ cond (is_rooted path) (exact_place patterns path) None → x ≡ cond (is_rooted path) (first_place patterns (prefix_texts path)) None → in_trie patterns path ≡ option_or e x
-both_known patterns path e x exactly longest = sym (ap (λ a. option_or a x) exactly ∙ ap (option_or (cond (is_rooted path) (exact_place patterns path) None)) longest)
+both_known patterns path e x exactly longest =
+    apart (is_rooted path) (exact_place patterns path) (first_place patterns (prefix_texts path))
+    ∙ sym (ap (λ a. option_or a x) exactly ∙ ap (option_or (cond (is_rooted path) (exact_place patterns path) None)) longest)
 
-pub found_in_trie : (patterns : List (List ℕ)) (path : List ℕ) (e x : Option ℕ) (n : ℕ) → list_all is_pattern patterns ≡ true → e ≡ cond (is_rooted path) (exact_place patterns path) None → x ≡ cond (is_rooted path) (first_place patterns (prefix_texts path)) None → option_or e x ≡ Some n → Some n ≡ best patterns path
-found_in_trie patterns path e x n accepted exactly longest some =
-    sym (whole_ladder patterns path accepted ∙ some_first (in_trie patterns path) (otherwise patterns path) n (both_known patterns path e x exactly longest ∙ some))
+pub found_in_trie : BestIsLookedUp → (patterns : List (List ℕ)) (path : List ℕ) (e x : Option ℕ) (n : ℕ) → list_all is_pattern patterns ≡ true → e ≡ cond (is_rooted path) (exact_place patterns path) None → x ≡ cond (is_rooted path) (first_place patterns (prefix_texts path)) None → option_or e x ≡ Some n → Some n ≡ best patterns path
+found_in_trie law patterns path e x n accepted exactly longest some =
+    sym (law patterns path accepted ∙ some_first (in_trie patterns path) (beside_trie patterns path) n (both_known patterns path e x exactly longest ∙ some))
 
-pub found_otherwise : (index : Index) (patterns : List (List ℕ)) (path : List ℕ) (e x found : Option ℕ) → Finds index patterns → e ≡ cond (is_rooted path) (exact_place patterns path) None → x ≡ cond (is_rooted path) (first_place patterns (prefix_texts path)) None → option_or e x ≡ None
+pub found_beside : BestIsLookedUp → (index : Index) (patterns : List (List ℕ)) (path : List ℕ) (e x found : Option ℕ) → Finds index patterns → e ≡ cond (is_rooted path) (exact_place patterns path) None → x ≡ cond (is_rooted path) (first_place patterns (prefix_texts path)) None → option_or e x ≡ None
     → found ≡ option_or (option_and_then (λ wanted. get_by_text index.extensions wanted) (extension path)) index.default → found ≡ best patterns path
-found_otherwise index patterns path e x found finds exactly longest none is =
-    is ∙ (same_otherwise index patterns finds path
-    ∙ sym (whole_ladder patterns path finds.accepted ∙ none_first (in_trie patterns path) (otherwise patterns path) (both_known patterns path e x exactly longest ∙ none)))
+found_beside law index patterns path e x found finds exactly longest none is =
+    is ∙ (same_beside index patterns finds path
+    ∙ sym (law patterns path finds.accepted ∙ none_first (in_trie patterns path) (beside_trie patterns path) (both_known patterns path e x exactly longest ∙ none)))
 
 -- a path has no more segments than slashes
 pub segments_most : (path : List ℕ) → length (segments_of path) ≤ segments path

@@ -1,5 +1,4 @@
 pub mod Added
-pub mod Bare
 pub mod Classes
 pub mod Cuts
 pub mod Found

@@ -2,9 +2,8 @@
 use Rattle.std.proofs.Common.{◌≡◌, ℕ, true, List, [], ◌∷◌, ◌++◌, refl, ap, inl, inr, ◌⊎◌}
 use Rattle.std.proofs.lemmas.Bool.{and_parts, or_cases, or_right}
 use Rattle.std.proofs.lemmas.Bool.Decides.{Decides-eqb}
-use Rattle.std.proofs.lemmas.Slice.Eq.{starts_is}
+use Rattle.std.proofs.lemmas.Slice.Eq.{bytes_eq-Decides, starts_is}
 use Rattle.sv_mapping.specs.Pattern.{is_pattern}
-use Rattle.sv_mapping.proofs.Texts.{same_bytes, starts}
 use Rattle.sv_pattern_table.specs.Segments.{is_rooted, is_slashed, segments_of}
 use Rattle.sv_pattern_table.proofs.Paths.{path_back, path_of}
 
@@ -12,10 +11,10 @@ pub slashed_rest : (path : List ℕ) → is_slashed path ≡ true → (rest : Li
 slashed_rest path h = (_, (starts_is Decides-eqb path (47 ∷ []) _ refl).0 h)
 
 pub rooted_cases : (path : List ℕ) → is_rooted path ≡ true → (path ≡ []) ⊎ ((rest : List ℕ) × (path ≡ 47 ∷ rest))
-rooted_cases path h = elim (or_cases _ _ h) [ inl empty ↦ inl (same_bytes path [] empty) | inr slash ↦ inr (slashed_rest path slash) ]
+rooted_cases path h = elim (or_cases _ _ h) [ inl empty ↦ inl ((bytes_eq-Decides path []).0 empty) | inr slash ↦ inr (slashed_rest path slash) ]
 
 pub slashed_rooted : (path rest : List ℕ) → path ≡ 47 ∷ rest → is_rooted path ≡ true
-slashed_rooted path rest e = or_right _ _ (starts path (47 ∷ []) rest e)
+slashed_rooted path rest e = or_right _ _ ((starts_is Decides-eqb path (47 ∷ []) _ refl).1 rest e)
 
 pub rooted_path_of : (segments : List (List ℕ)) → is_rooted (path_of segments) ≡ true
 rooted_path_of [] = refl

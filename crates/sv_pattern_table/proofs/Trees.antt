@@ -5,7 +5,6 @@ use Rattle.std.specs.Str.{bytes_eq}
 use Rattle.std.proofs.lemmas.Bool.{and_parts, cases_Bool, eqb-true, eq-eqb, ne_eqb}
 use Rattle.std.proofs.lemmas.Option.{none-some, same_Some}
 use Rattle.std.proofs.lemmas.Slice.Eq.{bytes_eq-Decides}
-use Rattle.sv_mapping.proofs.Texts.{same_bytes}
 use Rattle.sv_pattern_table.specs.Trie.{IsTree, kept, reached}
 
 pub cases_Option : {X : Type 0} (o : Option X) → (o ≡ None) ⊎ ((x : X) × (o ≡ Some x))
@@ -53,7 +52,7 @@ module _ (old new : ℕ → List ℕ → Option ℕ) (at : ℕ) (segment : List 
         | inr e ↦ joins.children from name ∙ rw e h
         | inl e ↦
             let parts = and_parts (eqb from at) (bytes_eq segment name) e in
-            let lost : old from name ≡ None = ap (λ n. old n name) (eqb-true from at parts.0) ∙ (ap (old at) (sym (same_bytes segment name parts.1)) ∙ joins.free) in
+            let lost : old from name ≡ None = ap (λ n. old n name) (eqb-true from at parts.0) ∙ (ap (old at) (sym ((bytes_eq-Decides segment name).0 parts.1)) ∙ joins.free) in
             absurd (none-some to (sym lost ∙ h))
       ]
 
@@ -65,7 +64,7 @@ module _ (old new : ℕ → List ℕ → Option ℕ) (at : ℕ) (segment : List 
         | inl e ↦
             let parts = and_parts (eqb from at) (bytes_eq segment name) e in
             let made : new from name ≡ Some next = joins.children from name ∙ rw e refl in
-            inr (eqb-true from at parts.0, same_bytes segment name parts.1, same_Some to next (sym h ∙ made))
+            inr (eqb-true from at parts.0, (bytes_eq-Decides segment name).0 parts.1, same_Some to next (sym h ∙ made))
       ]
 
   leaf_stays : (name : List ℕ) → new next name ≡ None

@@ -12,11 +12,12 @@ ghost use Rattle.sv_pattern_table.specs.Places.{exact_place, first_place};
 ghost use Rattle.sv_pattern_table.specs.Segments.{is_rooted, segments_of};
 ghost use Rattle.sv_pattern_table.specs.Trie.{IsTrie};
 
-use crate::extension::extension_of;
+use crate::laws::best_is_looked_up;
 use crate::segments::is_rooted;
 use crate::trie::{Trie, Way};
 use std::alloc::Global;
 use std::collections::HashMap;
+use sv_mapping::{Form, Pattern, extension};
 use sv_text::NoMemory;
 
 /// The best match for a path, and what it took to find it.
@@ -49,24 +50,25 @@ impl Index {
     }
 
     /// Adds the pattern that stands at the place behind all others.
-    pub(crate) fn add(&mut self, alloc: Global, text: &str, place: usize) -> Result<(), NoMemory>
+    pub(crate) fn add(
+        &mut self,
+        alloc: Global,
+        pattern: &Pattern,
+        place: usize,
+    ) -> Result<(), NoMemory>
         requires trie { IsTrie self.old.trie.nodes.items }
-        requires pattern { IsTrue (is_pattern text.now) }
-        ensures { (patterns : List (List ℕ)) → Finds self.old patterns → place ≡ length patterns → OnOk result (Finds self.new (patterns ++ text.now ∷ [])) }
+        requires pattern { IsTrue (is_pattern pattern.now) }
+        ensures { (patterns : List (List ℕ)) → Finds self.old patterns → place ≡ length patterns → OnOk result (Finds self.new (patterns ++ pattern.now ∷ [])) }
     {
-        if text.is_empty() {
-            return self.trie.add_exact(alloc, "/", place);
-        }
-        if text == "/" {
-            self.default = self.default.or(Some(place));
-            return Ok(());
-        }
-        if let Some(extension) = text.strip_prefix("*.") {
-            return self.add_extension(alloc, extension, place);
-        }
-        match text.strip_suffix("/*") {
-            Some(prefix) => self.trie.add_prefix(alloc, prefix, place),
-            None => self.trie.add_exact(alloc, text, place),
+        match pattern.form() {
+            Form::Root => self.trie.add_exact(alloc, "/", place),
+            Form::Default => {
+                self.default = self.default.or(Some(place));
+                Ok(())
+            }
+            Form::Extension(extension) => self.add_extension(alloc, extension, place),
+            Form::Prefix(prefix) => self.trie.add_prefix(alloc, prefix, place),
+            Form::Exact(path) => self.trie.add_exact(alloc, path, place),
         }
     }
 
@@ -95,6 +97,7 @@ impl Index {
         ensures best { (patterns : List (List ℕ)) → Finds self.now patterns → result.best ≡ best patterns path.now }
         ensures probes { result.probes ≤ length (segments_of path.now) + 1 }
     {
+        best_is_looked_up();
         let way = self.way(path);
         match way.exact.or(way.prefix) {
             Some(place) => Looked {
@@ -128,6 +131,6 @@ impl Index {
     fn by_extension(&self, path: &str) -> Option<usize>
         ensures { result ≡ option_and_then (λ found. get_by_text self.now.extensions found) (extension path.now) }
     {
-        self.extensions.get(extension_of(path)?).copied()
+        self.extensions.get(extension(path)?).copied()
     }
 }

@@ -39,8 +39,9 @@ impl PatternTable {
         let mut texts = Vec::new(alloc);
         let mut index = Index::new(alloc)?;
         for (place, pattern) in patterns.iter().enumerate() {
-            index.add(alloc, pattern.text(), place)?;
-            texts.push(Text::copy_of(alloc, pattern.text())?)?;
+            let text = pattern.text();
+            index.add(alloc, pattern, place)?;
+            texts.push(Text::copy_of(alloc, text)?)?;
         }
         Ok(PatternTable {
             texts: Listed::from_vec(texts),

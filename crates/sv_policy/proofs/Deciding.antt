@@ -1,16 +1,9 @@
 -- The table of the best pattern decides.
-use Rattle.std.proofs.Common.{subst, ◌≡◌, ℕ, Bool, List, [], ◌∷◌, map, refl, ap, sym, ◌∙◌, Option, Some, None, cond, nat_eq, codes, IsTrue}
-use Rattle.std.specs.Prelude.{All, find, slice_get}
-use Rattle.std.specs.List.{list_any, starts_with}
+use Rattle.std.proofs.Common.{subst, ◌≡◌, ℕ, Bool, List, [], ◌∷◌, map, refl, ap, sym, ◌∙◌, Option, Some, None}
+use Rattle.std.specs.Prelude.{All, slice_get}
 use Rattle.std.specs.Option.{option_and_then, option_map}
-use Rattle.std.specs.Str.{bytes_eq}
-use Rattle.std.proofs.lemmas.Bool.Decides.{Decides-eqb}
 use Rattle.std.proofs.lemmas.Option.{get_or_from_slice_get, none-some, slice_get-map, slice_get_within}
-use Rattle.std.proofs.lemmas.Slice.Eq.{starts_is}
-use Rattle.sv_mapping.proofs.Tried.{first_tried}
-use Rattle.sv_mapping.proofs.TriedTexts.{tries_in_order}
 use Rattle.sv_mapping.specs.BestMatch.{best_pattern}
-use Rattle.sv_mapping.specs.MatchOrder.{tried_texts}
 use Rattle.sv_realm.specs.declared.caller.Caller.{Caller}
 use Rattle.sv_constraints.specs.Covering.{all_patterns, covering, lists}
 use Rattle.sv_constraints.specs.declared.constraint.Constraint.{Constraint}
@@ -18,33 +11,20 @@ use Rattle.sv_constraints.specs.declared.rules.Rules.{Rules}
 use Rattle.sv_constraints.specs.Verdict.{verdict, verdict_at}
 use Rattle.sv_merged.specs.Table.{IsTable}
 use Rattle.sv_merged.specs.declared.table.Table.{Table}
+use Rattle.sv_policy.proofs.Best.{best_same}
 use Rattle.sv_policy.specs.Compiled.{AreCompiled}
-
-first_of : (patterns : List (List ℕ)) (path : List ℕ) → IsTrue (starts_with nat_eq path (codes "/")) → best_pattern patterns path ≡ find (λ text. list_any (λ pattern. bytes_eq pattern text) patterns) (tried_texts path)
-first_of patterns path begins = first_tried path (tried_texts path) (tries_in_order path _ ((starts_is Decides-eqb path (47 ∷ []) _ refl).0 begins)) patterns
-
-find_same : {X : Type 0} (p q : X → Bool) → ((x : X) → p x ≡ q x) → (xs : List X) → find p xs ≡ find q xs
-find_same p q same [] = refl
-find_same p q same (x ∷ xs) = ap (λ b. cond b (Some x) (find p xs)) (same x) ∙ ap (λ rest. cond (q x) (Some x) rest) (find_same p q same xs)
-
--- patterns with the same texts have the same best match
-pub best_same : (patterns others : List (List ℕ)) (path : List ℕ) → IsTrue (starts_with nat_eq path (codes "/")) → ((text : List ℕ) → lists patterns text ≡ lists others text) → best_pattern patterns path ≡ best_pattern others path
-best_same patterns others path begins same =
-    first_of patterns path begins
-    ∙ find_same (lists patterns) (lists others) same (tried_texts path)
-    ∙ sym (first_of others path begins)
 
 at_place : (tables : List Table) (place : Option ℕ) → option_and_then (λ at. slice_get (map (λ t. t.pattern) tables) at) place ≡ option_map (λ (t : Table). t.pattern) (option_and_then (λ at. slice_get tables at) place)
 at_place tables None = refl
 at_place tables (Some k) = slice_get-map (λ t. t.pattern) tables k
 
 -- the pattern of the table at the place that a look-up gives is the best one
-pub best_of_tables : (rules : Rules) (constraints : List Constraint) (tables : List Table) (path : List ℕ) (place : Option ℕ) (found : Option Table) → AreCompiled rules constraints tables → IsTrue (starts_with nat_eq path (codes "/"))
+pub best_of_tables : (rules : Rules) (constraints : List Constraint) (tables : List Table) (path : List ℕ) (place : Option ℕ) (found : Option Table) → AreCompiled rules constraints tables
     → option_and_then (λ at. slice_get (map (λ t. t.pattern) tables) at) place ≡ best_pattern (map (λ t. t.pattern) tables) path → found ≡ option_and_then (λ at. slice_get tables at) place
     → option_map (λ (t : Table). t.pattern) found ≡ best_pattern (all_patterns constraints) path
-best_of_tables rules constraints tables path place found are begins looked is =
+best_of_tables rules constraints tables path place found are looked is =
     ap (option_map (λ (t : Table). t.pattern)) is ∙ sym (at_place tables place) ∙ looked
-    ∙ best_same (map (λ t. t.pattern) tables) (all_patterns constraints) path begins are.texts
+    ∙ best_same (map (λ t. t.pattern) tables) (all_patterns constraints) path are.texts
 
 all_at : (P : Table → Type 0) (tables : List Table) (k : ℕ) (table : Table) → All P tables → Some table ≡ slice_get tables k → P table
 all_at P tables k table all at = subst P (get_or_from_slice_get tables k table table (sym at)) (all k table (slice_get_within tables k table (sym at)))
@@ -60,11 +40,11 @@ seen_twice f g (x ∷ xs) = ap (λ rest. g (f x) ∷ rest) (seen_twice f g xs)
 
 -- what a look-up in the index of shared tables finds
 pub looked_up : {A : Type 0} (value : A → Table) (rules : Rules) (constraints : List Constraint) (shared slice : List A) (index : List (List ℕ)) (path : List ℕ) (place : Option ℕ) (found : Option Table)
-    → AreCompiled rules constraints (map value shared) → index ≡ map (λ x. (value x).pattern) shared → slice ≡ shared → IsTrue (starts_with nat_eq path (codes "/"))
+    → AreCompiled rules constraints (map value shared) → index ≡ map (λ x. (value x).pattern) shared → slice ≡ shared
     → option_and_then (λ at. slice_get index at) place ≡ best_pattern index path → found ≡ option_and_then (λ at. slice_get (map value slice) at) place
     → option_map (λ (t : Table). t.pattern) found ≡ best_pattern (all_patterns constraints) path
-looked_up value rules constraints shared slice index path place found are indexed sliced begins looked is =
-    best_of_tables rules constraints (map value shared) path place found are begins
+looked_up value rules constraints shared slice index path place found are indexed sliced looked is =
+    best_of_tables rules constraints (map value shared) path place found are
     (subst (λ texts. option_and_then (λ at. slice_get texts at) place ≡ best_pattern texts path) (indexed ∙ sym (seen_twice value (λ t. t.pattern) shared)) looked)
     (is ∙ ap (λ xs. option_and_then (λ at. slice_get (map value xs) at) place) sliced)
 

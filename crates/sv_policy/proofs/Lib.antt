@@ -2,3 +2,8 @@ pub mod Listed
 pub mod Whole
 pub mod Deciding
 pub mod Kept
+pub mod Filing
+pub mod Gapped
+pub mod Best
+pub mod Elsewhere
+pub mod Outcomes

@@ -18,7 +18,7 @@ pub any_seen : {A X : Type 0} (test : X → Bool) (f : A → X) (xs : List A) �
 any_seen test f [] = refl
 any_seen test f (x ∷ xs) = ap (λ rest. test (f x) || rest) (any_seen test f xs)
 
-listed_by : (text : List ℕ) (c : Constraint) → lists (patterns_in c) text ≡ lists_pattern c text
+pub listed_by : (text : List ℕ) (c : Constraint) → lists (patterns_in c) text ≡ lists_pattern c text
 listed_by text c = any_of_joined (λ listed. bytes_eq listed text) (λ collection. collection.patterns) c.collections
 
 -- a pattern is listed where a constraint lists it
@@ -31,7 +31,7 @@ some_cons : {X : Type 0} (b : Bool) (x : X) (xs : List X) (rest : Bool) → not 
 some_cons true x xs rest is = grind arith
 some_cons false x xs rest is = is
 
-some_filtered : {X : Type 0} (test : X → Bool) (xs : List X) → not (length (filter test xs) == 0) ≡ list_any test xs
+pub some_filtered : {X : Type 0} (test : X → Bool) (xs : List X) → not (length (filter test xs) == 0) ≡ list_any test xs
 some_filtered test [] = refl
 some_filtered test (x ∷ xs) = some_cons (test x) x (filter test xs) (list_any test xs) (some_filtered test xs)
 
@@ -118,39 +118,3 @@ different_from kept (text ∷ texts) other =
 
 pub different_lists : (texts : List (List ℕ)) (other : List ℕ) → lists (different texts) other ≡ lists texts other
 different_lists texts other = different_from [] texts other
-
--- a text is among those that pass a test where it is among them and passes
-passing_at : (test : List ℕ → Bool) (text other : List ℕ) (passes same : Bool) (rest : List (List ℕ)) → test text ≡ passes → (same ≡ true → test text ≡ test other) → bytes_eq text other ≡ same → lists rest other ≡ (lists rest other && test other)
-    → lists (cond passes (text ∷ rest) rest) other ≡ ((same || lists rest other) && test other)
-passing_at test text other true true rest is meets at below = ap (λ b. b || lists rest other) at ∙ sym (sym (meets refl) ∙ is)
-passing_at test text other true false rest is meets at below = ap (λ b. b || lists rest other) at ∙ below
-passing_at test text other false true rest is meets at below = below ∙ ap (λ b. lists rest other && b) fails ∙ nothing (lists rest other) ∙ sym fails
-  where
-    fails : test other ≡ false
-    fails = sym (meets refl) ∙ is
-
-    nothing : (a : Bool) → (a && false) ≡ false
-    nothing true = refl
-    nothing false = refl
-passing_at test text other false false rest is meets at below = below
-
-passing_same : (a b : Bool) (rest : Bool) → rest ≡ (a && b) → rest ≡ (rest && b)
-passing_same true true rest is = is ∙ sym (ap (λ r. r && true) is)
-passing_same true false rest is = is ∙ sym (ap (λ r. r && false) is)
-passing_same false b rest is = is ∙ sym (ap (λ r. r && b) is)
-
-pub passing_lists : (test : List ℕ → Bool) (texts : List (List ℕ)) (other : List ℕ) → lists (filter test texts) other ≡ (lists texts other && test other)
-passing_lists test [] other = refl
-passing_lists test (text ∷ texts) other =
-    passing_at test text other (test text) (bytes_eq text other) (filter test texts) refl (λ same. ap test ((bytes_eq-Decides text other).0 same)) refl
-    (passing_same (lists texts other) (test other) (lists (filter test texts) other) (passing_lists test texts other))
-    ∙ swap (bytes_eq text other) (lists texts other) (test other) (lists (filter test texts) other) (passing_lists test texts other)
-  where
-    swap : (a b c r : Bool) → r ≡ (b && c) → ((a || r) && c) ≡ ((a || b) && c)
-    swap true b c r is = refl
-    swap false true c r is = ap (λ x. x && c) is ∙ twice c
-      where
-        twice : (c : Bool) → (c && c) ≡ c
-        twice true = refl
-        twice false = refl
-    swap false false c r is = ap (λ x. x && c) is

@@ -8,10 +8,11 @@ use Rattle.sv_constraints.specs.Covering.{all_patterns, covers, lists}
 use Rattle.sv_constraints.specs.declared.constraint.Constraint.{Constraint}
 use Rattle.sv_constraints.specs.declared.rules.Rules.{Rules}
 use Rattle.sv_merged.proofs.Joined.{seen_more}
+use Rattle.sv_merged.proofs.Rising.{passing_lists}
 use Rattle.sv_merged.specs.Merged.{IsMerged}
 use Rattle.sv_merged.specs.Table.{IsTable, entry_of}
 use Rattle.sv_merged.specs.declared.table.Table.{Table}
-use Rattle.sv_policy.proofs.Listed.{covers_listed, different_lists, filter_within, passing_lists}
+use Rattle.sv_policy.proofs.Listed.{covers_listed, different_lists, filter_within}
 use Rattle.sv_policy.specs.Patterns.{different, lists_pattern}
 
 -- a table of the constraints that list its pattern is one of all constraints

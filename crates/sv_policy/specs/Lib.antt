@@ -1,2 +1,7 @@
 pub mod Compiled
+pub mod EditFault
+pub mod Edits
+pub mod Filed
+pub mod Gaps
 pub mod Patterns
+pub mod Rebuilt

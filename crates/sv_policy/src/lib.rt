@@ -2,8 +2,21 @@
 //! (Jakarta Servlet 6.0, section 13.8).
 #![tactic(auto)]
 
+mod edit;
+mod edit_fault;
+mod editing;
+mod gap;
+mod laws;
+mod limits;
 mod patterns;
 mod policy;
+mod rebuilding;
 mod tables;
+mod uncovered;
 
+pub use edit::{Edit, NewConstraint};
+pub use edit_fault::EditFault;
+pub use gap::Gap;
+pub use laws::{gaps_are_exact, gaps_rise, limits_are_as_stated};
+pub use limits::{MAX_CONSTRAINTS, MAX_PATTERNS_OF_CONSTRAINT};
 pub use policy::{Decided, Policy};

@@ -61,6 +61,15 @@ pub fn different_patterns(
     Ok(patterns)
 }
 
+/// The patterns of collections, each text once.
+pub fn patterns_of(alloc: Global, collections: &[Collection]) -> Result<Vec<&Pattern>, NoMemory>
+    ensures { IfOk result (λ patterns. map (λ pattern. pattern.now) patterns.items ≡ different (listed_in collections.now)) }
+{
+    let mut patterns = Vec::new(alloc);
+    keep_listed(&mut patterns, collections)?;
+    Ok(patterns)
+}
+
 fn keep_listed<'a>(
     kept: &mut Vec<&'a Pattern>,
     collections: &'a [Collection],

@@ -1,14 +1,17 @@
 //! A compiled policy.
 
-ghost use Rattle.std.specs.Prelude.{◌≡◌, ◌≤◌, ◌+◌, IsTrue, map, slice_get};
+ghost use Rattle.std.specs.Prelude.{◌≡◌, ◌≤◌, ◌+◌, IfOk, map, slice_get};
 ghost use Rattle.std.specs.Option.{option_and_then, option_copied};
 ghost use Rattle.sv_constraints.specs.Decision.{seen};
 ghost use Rattle.sv_constraints.specs.Verdict.{verdict};
-ghost use Rattle.sv_pattern_table.specs.Segments.{is_slashed, segments};
+ghost use Rattle.sv_pattern_table.specs.Segments.{segments};
 ghost use Rattle.sv_policy.specs.Compiled.{compiled, greatest_number};
+ghost use Rattle.sv_policy.specs.Gaps.{gaps};
 ghost use Rattle.sv_text.specs.Gives.{GivesAnswer};
 
+use crate::gap::Gap;
 use crate::tables::{index_of, tables_of};
+use crate::uncovered::gaps_of;
 use std::alloc::Global;
 use std::marker::Model;
 use std::rc::Rc;
@@ -86,12 +89,19 @@ impl Policy {
         })
     }
 
+    /// The gaps of the constraints as they stand: for each pattern of theirs at which they leave methods uncovered, these
+    /// methods. Whether uncovered methods are denied plays no part.
+    pub fn uncovered(&self, alloc: Global) -> Result<Vec<Gap>, NoMemory>
+        ensures { IfOk result (λ found. found.items ≡ gaps self.now.constraints) }
+    {
+        gaps_of(alloc, self.tables.as_slice())
+    }
+
     /// Decides a request as [`decide_plain`](sv_constraints::decide_plain) does by the constraints as they stand, and counts
-    /// its look-ups. The path is any text that begins with `/`, as it stands. It takes no memory, and the
-    /// constraints are not gone over.
+    /// its look-ups. The path is any text, and is compared as it stands. It takes no memory, and the constraints are not
+    /// gone over.
     pub fn decide<'a>(&'a self, method: &str, path: &str, caller: Option<&Caller>) -> Decided<'a>
-        ensures decision { IsTrue (is_slashed path.now) →
-            seen result.decision ≡ verdict self.now.constraints self.now.rules method.now path.now (option_copied caller.entry) }
+        ensures decision { seen result.decision ≡ verdict self.now.constraints self.now.rules method.now path.now (option_copied caller.entry) }
         ensures probes { result.probes ≤ segments path.now + 2 }
     {
         let looked = self.index.lookup(path);

@@ -5,7 +5,7 @@ use std::test::Fail;
 use sv_constraints::{Cause, Decision, OwnedDecision, Why};
 use sv_mapping::Pattern;
 use sv_realm::Caller;
-use sv_text::{Text, copied_texts};
+use sv_text::{Bytes, Text, copied_texts};
 
 #[test]
 fn a_decision_is_copied(rt: HostRuntime) -> Result<(), Fail> {
@@ -36,5 +36,12 @@ fn a_caller_is_copied(rt: HostRuntime) -> Result<(), Fail> {
     let last = roles.as_slice().last().map_or("-", Text::as_str);
     let text = format!(in rt.alloc(); "{} {} {last}", copy.number, copy.name)?;
     assert_eq!(rt; text.as_str(), "3 ann b");
+    Ok(())
+}
+
+#[test]
+fn bytes_are_copied(rt: HostRuntime) -> Result<(), Fail> {
+    let copy = Bytes::copy_of(rt.alloc(), b"a\0b")?;
+    assert_eq!(rt; copy.as_slice(), b"a\0b");
     Ok(())
 }

@@ -1,8 +1,9 @@
-//! Patterns, the best match of a path among them, and how it splits the path.
+//! Patterns, the best match of a path among them, by search and by look-ups, and how it splits the path.
 
 use crate::policies::patterns_of;
 use std::alloc::Global;
 use sv_mapping::{Pattern, best, split};
+use sv_pattern_table::PatternTable;
 use sv_rows::{Asks, Strays, cell, hold};
 use sv_text::NoMemory;
 
@@ -91,7 +92,25 @@ const ROWS: &str = r#"
 /a                    | /A        | -         | -         | -
 *.JSP                 | /a.jsp    | -         | -         | -
 
+-- the order of the forms, wherever they stand in the list
+/ *.b /* /a/* /a.b    | /a.b      | /a.b      | /a.b      | -
+/ *.b /a/* /a/b/* /a/b/c/* | /a/b/c | /a/b/c/* | /a/b/c    | -
+/a/b/* /a/*           | /a/b/c/d  | /a/b/*    | /a/b      | /c/d
+/a/* /a/b/c/*         | /a/b/x    | /a/*      | /a        | /b/x
+/ *.b                 | /x/y.b    | *.b       | /x/y.b    | -
+/ *.b                 | /x.b/y    | /         | /x.b/y    | -
+*.a.b                 | /x.a.b    | -         | -         | -
+*.b                   | /x.a.b    | *.b       | /x.a.b    | -
+/* / ""               | /         | ""        | ""        | /
+/ /*                  | /         | /*        | ""        | /
+/a/*                  | /a/*      | /a/*      | /a        | /*
+
 -- of equal patterns the first counts
+/x /x                 | /x        | /x        | /x        | -
+/y /x/* /x/*          | /x/y      | /x/*      | /x        | /y
+/x *.e *.e            | /y.e      | *.e       | /y.e      | -
+/x / /                | /y        | /         | /y        | -
+"" ""                 | /         | ""        | ""        | /
 /x/* /x/*             | /x/y      | /x/*      | /x        | /y
 / / /                 | /y        | /         | /y        | -
 *.e /x *.e            | /y.e      | *.e       | /y.e      | -
@@ -130,6 +149,9 @@ impl Asks for BestMatches {
 
 fn told(alloc: Global, patterns: &[Pattern], path: &str) -> Result<String, NoMemory> {
     let best = best(patterns, path);
+    if !is_looked_up(alloc, patterns, path, best)? {
+        return Ok(String::from_str(alloc, "another look-up")?);
+    }
     let Some(pattern) = best.and_then(|place| patterns.get(place)) else {
         let any = patterns.iter().any(|pattern| pattern.matches(path));
         let text = if any {
@@ -156,4 +178,16 @@ fn place_of(patterns: &[Pattern], text: &str) -> Option<usize> {
         }
     }
     None
+}
+
+/// Whether compiled patterns have this best match, by at most four look-ups more than the path has segments.
+fn is_looked_up(
+    alloc: Global,
+    patterns: &[Pattern],
+    path: &str,
+    best: Option<usize>,
+) -> Result<bool, NoMemory> {
+    let looked = PatternTable::compile(alloc, patterns)?.lookup(path);
+    let segments = path.split('/').count().saturating_sub(1);
+    Ok(looked.best == best && looked.probes <= segments.saturating_add(4))
 }

@@ -8,6 +8,10 @@ mod best_matches;
 #[cfg(test)]
 mod credentials;
 #[cfg(test)]
+mod generated;
+#[cfg(test)]
+mod load;
+#[cfg(test)]
 mod pattern_texts;
 #[cfg(test)]
 mod policies;

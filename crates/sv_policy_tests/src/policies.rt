@@ -3,9 +3,16 @@
 use std::alloc::Global;
 use sv_constraints::{Auth, Collection, Constraint, Methods, Rules, Transport, decide_plain};
 use sv_mapping::Pattern;
+use sv_policy::Policy;
 use sv_realm::Caller;
 use sv_rows::{Asks, cell};
 use sv_text::{Listed, NoMemory, Text};
+
+/// The constraints of the deployment descriptor of Servlet, section 13.8.2.
+const SPECIFICATION_EXAMPLE: &str = "nobody on /*,/acme/wholesale/*,/acme/retail/* !GET,POST; \
+    SALESCLERK on /acme/wholesale/* GET,PUT; \
+    CONTRACTOR over confidential on /acme/wholesale/* GET,POST; \
+    CONTRACTOR,HOMEOWNER on /acme/retail/* GET,POST";
 
 /// The decision on a row's request, by the constraints and the rules of the row.
 pub struct Verdicts;
@@ -14,50 +21,93 @@ impl Asks for Verdicts {
     const QUESTION: usize = 4;
 
     fn answer(&self, alloc: Global, row: &str, answer: &mut Vec<u8>) -> Result<(), NoMemory> {
-        let rules = rules_of(alloc, cell(row, 1))?;
-        let told = told(alloc, cell(row, 0), &rules, cell(row, 2), cell(row, 3))?;
-        answer.extend_from_slice(told.as_bytes())?;
-        Ok(())
+        let forms = Forms::of(alloc, cell(row, 0), cell(row, 1))?;
+        let caller = caller_of(alloc, cell(row, 3))?;
+        forms.tell(alloc, cell(row, 2), caller.as_ref(), answer)
     }
 }
 
-/// The decision on a row's request, by these constraints and no rules.
+/// Constraints as they stand, and the policy compiled of them.
 #[derive(Drop)]
-pub struct Requests(pub &'static str);
+pub struct Forms {
+    constraints: Vec<Constraint>,
+    rules: Rules,
+    policy: Policy,
+}
 
-impl Asks for Requests {
-    const QUESTION: usize = 2;
+impl Forms {
+    /// Both forms of the constraints and the rules that these cells list.
+    pub fn of(alloc: Global, constraints: &str, rules: &str) -> Result<Forms, NoMemory> {
+        Ok(Forms {
+            constraints: constraints_of(alloc, constraints)?,
+            rules: rules_of(alloc, rules)?,
+            policy: policy_of(alloc, constraints, rules)?,
+        })
+    }
 
-    fn answer(&self, alloc: Global, row: &str, answer: &mut Vec<u8>) -> Result<(), NoMemory> {
-        let rules = rules_of(alloc, "-")?;
-        let told = told(alloc, self.0, &rules, cell(row, 0), cell(row, 1))?;
-        answer.extend_from_slice(told.as_bytes())?;
+    /// Writes the decision on a request, and also that of the policy where it is another.
+    fn tell(
+        &self,
+        alloc: Global,
+        request: &str,
+        caller: Option<&Caller>,
+        answer: &mut Vec<u8>,
+    ) -> Result<(), NoMemory> {
+        answer.extend_from_slice(self.plain(alloc, request, caller)?.as_bytes())?;
+        self.tell_stray(alloc, request, caller, answer)
+    }
+
+    /// Writes the request and the decision of the policy, where it is another than that of the constraints.
+    pub fn tell_stray(
+        &self,
+        alloc: Global,
+        request: &str,
+        caller: Option<&Caller>,
+        answer: &mut Vec<u8>,
+    ) -> Result<(), NoMemory> {
+        let (method, path) = request.split_once(' ').unwrap_or((request, ""));
+        let compiled = self.policy.decide(method, path, caller).decision;
+        let compiled = format!(in alloc; "{compiled}")?;
+        if compiled != self.plain(alloc, request, caller)? {
+            let told = format!(in alloc; ", and compiled {request} is {compiled}")?;
+            answer.extend_from_slice(told.as_bytes())?;
+        }
         Ok(())
+    }
+
+    /// The decision of the constraints on a request, which is a method and a path.
+    fn plain(
+        &self,
+        alloc: Global,
+        request: &str,
+        caller: Option<&Caller>,
+    ) -> Result<String, NoMemory> {
+        let (method, path) = request.split_once(' ').unwrap_or((request, ""));
+        let constraints = self.constraints.as_slice();
+        let decision = decide_plain(constraints, &self.rules, method, path, caller);
+        Ok(format!(in alloc; "{decision}")?)
     }
 }
 
-/// The text of the decision on a request, which is a method and a path.
-fn told(
-    alloc: Global,
-    constraints: &str,
-    rules: &Rules,
-    request: &str,
-    caller: &str,
-) -> Result<String, NoMemory> {
+/// The policy compiled of the constraints and the rules that these cells list.
+pub fn policy_of(alloc: Global, constraints: &str, rules: &str) -> Result<Policy, NoMemory> {
     let constraints = constraints_of(alloc, constraints)?;
-    let caller = caller_of(alloc, caller)?;
-    let (method, path) = request.split_once(' ').unwrap_or((request, ""));
-    let decision = decide_plain(constraints.as_slice(), rules, method, path, caller.as_ref());
-    Ok(format!(in alloc; "{decision}")?)
+    Policy::compile(alloc, constraints, rules_of(alloc, rules)?)
 }
 
-/// The constraints that a cell lists, numbered from 1 where they have no number.
+/// The constraints that a cell lists, numbered from 1 where they have no number. `acme` stands for those of the
+/// specification's example.
 fn constraints_of(alloc: Global, cell: &str) -> Result<Vec<Constraint>, NoMemory> {
     let mut constraints = Vec::new(alloc);
     if cell.is_empty() {
         return Ok(constraints);
     }
-    for (place, text) in cell.split("; ").enumerate() {
+    let list = if cell == "acme" {
+        SPECIFICATION_EXAMPLE
+    } else {
+        cell
+    };
+    for (place, text) in list.split("; ").enumerate() {
         constraints.push(constraint_of(alloc, place, text)?)?;
     }
     Ok(constraints)
@@ -136,7 +186,8 @@ fn rules_of(alloc: Global, cell: &str) -> Result<Rules, NoMemory> {
     })
 }
 
-fn caller_of(alloc: Global, cell: &str) -> Result<Option<Caller>, NoMemory> {
+/// The caller of a cell, none for any other text than `caller` and roles.
+pub fn caller_of(alloc: Global, cell: &str) -> Result<Option<Caller>, NoMemory> {
     let Some(roles) = cell.strip_prefix("caller") else {
         return Ok(None);
     };

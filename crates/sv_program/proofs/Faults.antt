@@ -32,18 +32,18 @@ failed fault = Err fault
 only : {A : Type 0} (one fault : CommandFault) → IsAsked one → failed {A = A} one ≡ failed fault → IsAsked fault
 only one fault asked h = let same : one ≡ fault = cc in subst IsAsked same asked
 
-then : {A B : Type 0} (step : Step A) (next : A → Step B) → FaultsAreAsked step → ((a : A) → FaultsAreAsked (next a)) → FaultsAreAsked (step >>= next)
+pub then : {A B : Type 0} (step : Step A) (next : A → Step B) → FaultsAreAsked step → ((a : A) → FaultsAreAsked (next a)) → FaultsAreAsked (step >>= next)
 then (Ok a) next first second = second a
 then (Err one) next first second = λ fault h. only one fault (first one refl) h
 
-done : {A : Type 0} (a : A) → FaultsAreAsked (Ok a)
+pub done : {A : Type 0} (a : A) → FaultsAreAsked (Ok a)
 done a = λ fault h. cc
 
-text_asked : (name : List ℕ) (text : Option (List ℕ)) → FaultsAreAsked (text_of name text)
+pub text_asked : (name : List ℕ) (text : Option (List ℕ)) → FaultsAreAsked (text_of name text)
 text_asked name None = λ fault h. only (File name) fault tt h
 text_asked name (Some text) = done text
 
-descriptor_asked : (path : List ℕ) {A : Type 0} (read : Reads A) → FaultsAreAsked (told (Descriptor path) read)
+pub descriptor_asked : (path : List ℕ) {A : Type 0} (read : Reads A) → FaultsAreAsked (told (Descriptor path) read)
 descriptor_asked path (Ok a) = done a
 descriptor_asked path (Err found) = λ fault h. only (Descriptor path found) fault tt h
 
@@ -60,7 +60,7 @@ context_asked texts =
     then (descriptor_in texts) _ (then (text_of texts.context.descriptor texts.descriptor) _ (text_asked texts.context.descriptor texts.descriptor) (λ text. descriptor_asked texts.context.path (descriptor_of text)))
     (λ descriptor. then (users_in texts) _ (users_named_asked texts.context.path texts.context.users texts.users) (λ users. done _))
 
-each_asked : {A B : Type 0} (step : A → Step B) → ((a : A) → FaultsAreAsked (step a)) → (items : List A) → FaultsAreAsked (each step items)
+pub each_asked : {A B : Type 0} (step : A → Step B) → ((a : A) → FaultsAreAsked (step a)) → (items : List A) → FaultsAreAsked (each step items)
 each_asked step asked [] = done []
 each_asked step asked (a ∷ rest) = then (step a) _ (asked a) (λ b. then (each step rest) _ (each_asked step asked rest) (λ bs. done (b ∷ bs)))
 
@@ -75,7 +75,7 @@ line_asked texts question =
     then (configured_contexts texts) _ (each_asked configured_context context_asked texts)
     (λ contexts. then (explained contexts question) _ (answer_asked _) (λ explanation. done _))
 
-server_asked : {A : Type 0} (read : Reads A) → FaultsAreAsked (told command.Server read)
+pub server_asked : {A : Type 0} (read : Reads A) → FaultsAreAsked (told command.Server read)
 server_asked (Ok a) = done a
 server_asked (Err found) = λ fault h. only (command.Server found) fault tt h
 

@@ -1,6 +1,8 @@
 mod Arguments
 mod Faults
 mod FirstRead
+mod Lines
 mod PolicyRun
+mod PrintedRun
 mod Readings
 mod Steps

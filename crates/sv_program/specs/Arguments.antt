@@ -1,5 +1,5 @@
 -- Arguments of the program.
-use Rattle.std.specs.Prelude.{◌≡◌, ℕ, List, Option, IfSome, IsSome, option_copied, option_to_list}
+use Rattle.std.specs.Prelude.{◌≡◌, ℕ, List, [], ◌∷◌, Option, IfSome, IsSome, option_copied, option_to_list}
 use denote.Ref.{Bor}
 
 -- the arguments are the words of what is found, and where they are the words of anything it is found
@@ -10,3 +10,7 @@ Names {C} words arguments found =
 -- the words of an argument that may be left out
 abbrev pub optional_words : Option (Bor (List ℕ)) → List (List ℕ)
 optional_words argument = option_to_list (option_copied argument)
+
+-- the words of one argument
+abbrev pub name_words : Bor (List ℕ) → List (List ℕ)
+name_words name = name.now ∷ []

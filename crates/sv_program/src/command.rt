@@ -1,7 +1,7 @@
 //! The command that the program's arguments name.
 
 ghost use Rattle.std.specs.Prelude.{◌≡◌, ◌≢◌, IfErr, map, string_bytes};
-ghost use Rattle.sv_program.specs.Arguments.{Names};
+ghost use Rattle.sv_program.specs.Arguments.{Names, name_words};
 ghost use Rattle.sv_program.specs.Command.{words_of, RunsCommand};
 
 use crate::command_fault::CommandFault;
@@ -9,6 +9,7 @@ use crate::file_store::FileStore;
 use crate::first_command::{denies_uncovered, first};
 use crate::policy_command::policy;
 use crate::question::Question;
+use crate::uncovered_command::uncovered;
 use std::alloc::Global;
 use std::io::{Read, Write};
 
@@ -22,6 +23,11 @@ pub enum Command<'a> {
     },
     /// `policy CONFIG METHOD TARGET [USER]`: prints what would become of a request, by the configuration of a server.
     Policy(Question<'a>),
+    /// `uncovered CONFIG`: prints which methods the constraints of a server's contexts leave uncovered.
+    Uncovered {
+        /// The name of the server file.
+        config: &'a str,
+    },
 }
 
 impl<'a> Command<'a> {
@@ -36,6 +42,10 @@ impl<'a> Command<'a> {
         }
         if name.as_str() == "policy" {
             return Some(Command::Policy(Question::parse(rest)?));
+        }
+        if name.as_str() == "uncovered" {
+            let config = config_in(rest)?;
+            return Some(Command::Uncovered { config });
         }
         None
     }
@@ -55,6 +65,19 @@ impl<'a> Command<'a> {
         match self {
             Command::First { deny_uncovered } => first(alloc, reader, writer, deny_uncovered),
             Command::Policy(question) => policy(alloc, store, writer, &question),
+            Command::Uncovered { config } => uncovered(alloc, store, writer, config),
         }
+    }
+}
+
+/// The one argument, the name of the server file.
+fn config_in(arguments: &[String]) -> Option<&str>
+    ensures { Names name_words (map string_bytes arguments.now) result }
+{
+    let (config, rest) = arguments.split_first()?;
+    if rest.is_empty() {
+        Some(config.as_str())
+    } else {
+        None
     }
 }

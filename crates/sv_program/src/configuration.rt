@@ -72,7 +72,8 @@ fn configured_context(alloc: Global, texts: &ContextTexts) -> Result<ContextPoli
     })
 }
 
-fn descriptor_in(alloc: Global, texts: &ContextTexts) -> Result<Descriptor, CommandFault>
+/// The descriptor of a context.
+pub(crate) fn descriptor_in(alloc: Global, texts: &ContextTexts) -> Result<Descriptor, CommandFault>
     ensures { Gives command_fault result (spec.descriptor_in texts.now) }
 {
     let Some(text) = &texts.descriptor else {

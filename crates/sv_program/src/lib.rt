@@ -14,6 +14,7 @@ mod limits;
 mod output;
 mod policy_command;
 mod question;
+mod uncovered_command;
 
 pub use command::Command;
 pub use command_fault::CommandFault;
@@ -28,3 +29,4 @@ pub use policy_command::{policy, policy_line};
 pub use question::Question;
 pub use sv_constraints::{OwnedDecision, OwnedWhy};
 pub use sv_explain::{ContextPolicy, ExplainFault, Explanation, HiddenCause, explain_parts};
+pub use uncovered_command::{uncovered, uncovered_lines};

@@ -1,4 +1,4 @@
-//! Lines on a writer.
+//! Lines and texts on a writer.
 
 ghost use Rattle.std.specs.Prelude.{◌≡◌, [], ◌∷◌, ◌++◌, IfErr, OnOk};
 ghost use Rattle.std.specs.Io.KnownBytes.{Appends};
@@ -25,5 +25,26 @@ fn write_line<W: Write>(writer: &mut W, line: &str) -> io::Result<()>
     ensures { OnOk result (Appends (W.contents writer.old) (W.contents writer.new) (line.now ++ 10 ∷ [])) }
 {
     writer.writeln(line)?;
+    writer.flush()
+}
+
+/// Writes the text, and flushes the writer.
+///
+/// # Errors
+/// [`CommandFault::Output`], when a part may have been written.
+pub fn print_text<W: Write>(writer: &mut W, text: &str) -> Result<(), CommandFault>
+    ensures written { OnOk result (Appends (W.contents writer.old) (W.contents writer.new) text.now) }
+    ensures fault { IfErr result (λ fault. fault ≡ CommandFault.Output) }
+{
+    match write_text(writer, text) {
+        Ok(()) => Ok(()),
+        Err(_) => Err(CommandFault::Output),
+    }
+}
+
+fn write_text<W: Write>(writer: &mut W, text: &str) -> io::Result<()>
+    ensures { OnOk result (Appends (W.contents writer.old) (W.contents writer.new) text.now) }
+{
+    writer.write_all(text.as_bytes())?;
     writer.flush()
 }

@@ -5,7 +5,7 @@ use Rattle.std.specs.Str.{bytes_eq}
 use Rattle.std.specs.String.{string_bytes}
 use Rattle.std.proofs.lemmas.Bool.{cases_Bool}
 use Rattle.std.proofs.lemmas.Map.Text.{hash_map_updates_text}
-use Rattle.sv_mapping.proofs.Texts.{same_bytes}
+use Rattle.sv_pattern_table.proofs.Classes.{same_bytes}
 use Rattle.sv_pattern_table.proofs.index.Index.add_extension.Goals as goal
 
 unknown : (o : Option ℕ) → is_some o ≡ false → o ≡ None

@@ -13,6 +13,6 @@ loop-place-preserved c =
     let text = ap (λ p. take at patterns ++ p ∷ []) (sym c.index-patterns-place.is) in
     let count : at ≡ length (take at patterns) = omega (arith, length-take at patterns, c.loop-place-test.true) in
     record {
-      finds = rw (longer ∙ text) (rw c.text.ensures.value at (c.in_ok-add.ensures (take at patterns) c.loop-place.invariant.finds count));
-      texts = c.in_ok-push.ensures.items ∙ (ap (λ t. t ++ c.in_ok-copy_of.field-0 ∷ []) c.loop-place.invariant.texts ∙ (ap (λ p. take at patterns ++ p ∷ []) (c.in_ok-copy_of.ensures ∙ c.text-in-loop-place.ensures.value) ∙ sym (longer ∙ text)));
+      finds = rw (longer ∙ text) (c.in_ok-add.ensures (take at patterns) c.loop-place.invariant.finds count);
+      texts = c.in_ok-push.ensures.items ∙ (ap (λ t. t ++ c.in_ok-copy_of.field-0 ∷ []) c.loop-place.invariant.texts ∙ (ap (λ p. take at patterns ++ p ∷ []) (c.in_ok-copy_of.ensures ∙ c.text-text.ensures.value) ∙ sym (longer ∙ text)));
     }

@@ -1,10 +1,17 @@
-use Rattle.std.proofs.Common.{◌∙◌, ap, arith}
-use Rattle.std.specs.List.{slice_get}
+use Rattle.std.proofs.Common.{◌≡◌, Bool, List, ltb, length, ◌∙◌, ap, arith, sym, inl, inr}
+use Rattle.std.specs.List.{find, position, position_or_len, slice_get}
 use Rattle.std.specs.Option.{option_and_then}
+use Rattle.std.proofs.lemmas.Bool.{cases_Bool, ltb-false}
+use Rattle.std.proofs.lemmas.List.Folds.{find_at}
+use Rattle.std.proofs.lemmas.Option.{slice_get_past}
 use Rattle.sv_mapping.specs.BestMatch.{best, is_best}
-use Rattle.sv_mapping.proofs.FirstBest.{get-position}
 use Rattle.sv_pattern_table.proofs.Found.{segments_most}
 use Rattle.sv_pattern_table.proofs.table.PatternTable.lookup.Goals as goal
+
+-- the element at the place of the first one is the first one
+get-position : {X : Type 0} (t : X → Bool) (xs : List X) → option_and_then (λ i. slice_get xs i) (position t xs) ≡ find t xs
+get-position t xs =
+    elim (cases_Bool (ltb (position_or_len t xs) (length xs))) [ inl e ↦ rw e (sym (find_at t xs)) | inr e ↦ rw e (sym (find_at t xs ∙ slice_get_past xs _ (ltb-false _ _ e))) ]
 
 pub returns-clause-text : goal.returns-clause-text
 returns-clause-text c =

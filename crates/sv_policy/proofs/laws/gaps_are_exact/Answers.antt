@@ -1,0 +1,5 @@
+use Rattle.sv_policy.proofs.Gapped.{gaps_exact}
+use Rattle.sv_policy.proofs.laws.gaps_are_exact.Goals as goal
+
+pub returns : goal.returns
+returns c = gaps_exact

@@ -1,0 +1,183 @@
+//! Edits of a policy that is in use.
+
+ghost use Rattle.std.specs.Prelude.{◌≡◌, Ok, OnErr, OnOk};
+ghost use Rattle.sv_policy.specs.Edits.{GivesOutcome, append_outcome, edit_outcome, edited, edited_all, is_too_many, lists_too_many, numbered, place_of, with_last, withdraw_outcome, without_place};
+
+use crate::edit::{Edit, NewConstraint};
+use crate::edit_fault::EditFault;
+use crate::limits::{MAX_CONSTRAINTS, MAX_PATTERNS_OF_CONSTRAINT};
+use crate::policy::Policy;
+use crate::rebuilding::{rebuilt_with, rebuilt_without};
+use std::alloc::Global;
+use sv_constraints::{Collection, Constraint};
+use sv_text::NoMemory;
+
+impl Policy {
+    ghost use Rattle.std.specs.Prelude.{length, slice_index_or, ◌<◌};
+    ghost use Rattle.sv_constraints.specs.declared.constraint.Constraint.{Constraint};
+
+    /// Appends a constraint behind all others, and answers its number, which is the one behind the greatest that was ever
+    /// given.
+    ///
+    /// # Errors
+    /// [`EditFault::TooMany`] where [`MAX_CONSTRAINTS`] stand, or the new one lists more than
+    /// [`MAX_PATTERNS_OF_CONSTRAINT`] patterns, each place in its lists counted; else [`EditFault::NumberSpent`] where
+    /// the greatest number was given; else [`EditFault::NoMemory`]. The policy is then as it was before.
+    pub fn append(&mut self, alloc: Global, addition: NewConstraint) -> Result<u64, EditFault>
+        ensures { GivesOutcome self.old self.new result (append_outcome self.old addition) }
+    {
+        if is_too_many(self.constraints.as_slice(), addition.collections.as_slice()) {
+            return Err(EditFault::TooMany);
+        }
+        match self.greatest.checked_add(1) {
+            None => Err(EditFault::NumberSpent),
+            Some(number) => self.append_as(alloc, numbered(addition, number)),
+        }
+    }
+
+    /// Appends a constraint that has its number.
+    fn append_as(&mut self, alloc: Global, added: Constraint) -> Result<u64, EditFault>
+        ensures { GivesOutcome self.old self.new result (Ok (added.number, with_last self.old added)) }
+    {
+        let Ok(rebuilt) = rebuilt_with(
+            alloc,
+            &self.rules,
+            self.tables.as_slice(),
+            self.constraints.as_slice(),
+            &added,
+        ) else {
+            return Err(EditFault::NoMemory);
+        };
+        let number = added.number;
+        if self.constraints.push(added).is_err() {
+            return Err(EditFault::NoMemory);
+        }
+        self.greatest = number;
+        self.rebuilt = self.rebuilt.saturating_add(rebuilt.count as u64);
+        self.tables = rebuilt.tables;
+        self.index = rebuilt.index;
+        Ok(number)
+    }
+
+    /// Takes a constraint away, and answers it. Its number is not given again.
+    ///
+    /// # Errors
+    /// [`EditFault::NoSuch`] where no constraint has the number; else [`EditFault::NoMemory`]. The policy is then as it
+    /// was before.
+    pub fn withdraw(&mut self, alloc: Global, number: u64) -> Result<Constraint, EditFault>
+        ensures { GivesOutcome self.old self.new result (withdraw_outcome self.old number) }
+    {
+        match place_of(self.constraints.as_slice(), number) {
+            None => Err(EditFault::NoSuch),
+            Some(place) => self.withdraw_at(alloc, place),
+        }
+    }
+
+    /// Takes the constraint at a place away.
+    fn withdraw_at(&mut self, alloc: Global, place: usize) -> Result<Constraint, EditFault>
+        requires { place < length self.old.constraints }
+        ensures { (withdrawn : Constraint) → withdrawn ≡ slice_index_or self.old.constraints place withdrawn →
+            GivesOutcome self.old self.new result (Ok (withdrawn, without_place self.old place withdrawn)) }
+    {
+        let Ok(rebuilt) = rebuilt_without(
+            alloc,
+            &self.rules,
+            self.tables.as_slice(),
+            self.constraints.as_slice(),
+            place,
+        ) else {
+            return Err(EditFault::NoMemory);
+        };
+        self.rebuilt = self.rebuilt.saturating_add(rebuilt.count as u64);
+        self.tables = rebuilt.tables;
+        self.index = rebuilt.index;
+        Ok(self.constraints.remove(place))
+    }
+
+    /// Makes an edit, and answers the number that was given or withdrawn.
+    ///
+    /// # Errors
+    /// Those of [`append`](Policy::append) and of [`withdraw`](Policy::withdraw).
+    pub fn edit(&mut self, alloc: Global, edit: Edit) -> Result<u64, EditFault>
+        ensures { GivesOutcome self.old self.new result (edit_outcome self.old edit) }
+    {
+        match edit {
+            Edit::Append(addition) => self.append(alloc, addition),
+            Edit::Withdraw(number) => match self.withdraw(alloc, number) {
+                Ok(_) => Ok(number),
+                Err(fault) => Err(fault),
+            },
+        }
+    }
+
+    /// Makes edits, one after another; refused ones change nothing. Where memory is wanted the edits before it are made, and
+    /// no more.
+    pub fn edit_all(&mut self, alloc: Global, edits: Vec<Edit>) -> Result<(), NoMemory>
+        ensures { OnOk result (self.new ≡ edited_all self.old edits.items) }
+    {
+        for edit in edits {
+            self.make(alloc, edit)?;
+        }
+        Ok(())
+    }
+
+    /// Makes an edit, if it is not refused.
+    fn make(&mut self, alloc: Global, edit: Edit) -> Result<(), NoMemory>
+        ensures made { OnOk result (self.new ≡ edited self.old edit) }
+        ensures unchanged { OnErr result (self.new ≡ self.old) }
+    {
+        match self.edit(alloc, edit) {
+            Ok(_) => Ok(()),
+            Err(EditFault::NoSuch) => Ok(()),
+            Err(EditFault::TooMany) => Ok(()),
+            Err(EditFault::NumberSpent) => Ok(()),
+            Err(EditFault::NoMemory) => Err(NoMemory),
+        }
+    }
+
+    /// How many patterns were rebuilt by edits.
+    pub fn rebuilt(&self) -> u64
+        ensures { result ≡ self.now.rebuilt }
+    {
+        self.rebuilt
+    }
+}
+
+/// Whether so many constraints stand that no more may, or one more, of these collections, lists too many patterns.
+fn is_too_many(constraints: &[Constraint], collections: &[Collection]) -> bool
+    ensures { result ≡ is_too_many constraints.now collections.now }
+{
+    constraints.len() >= MAX_CONSTRAINTS || lists_too_many(collections)
+}
+
+/// Whether collections list too many patterns, in all their places.
+fn lists_too_many(collections: &[Collection]) -> bool
+    ensures { result ≡ lists_too_many collections.now }
+{
+    let mut count: usize = 0;
+    for collection in collections {
+        count = count.saturating_add(collection.patterns.as_slice().len());
+    }
+    count > MAX_PATTERNS_OF_CONSTRAINT
+}
+
+/// The constraint with its number.
+fn numbered(addition: NewConstraint, number: u64) -> Constraint
+    ensures { result ≡ numbered addition number }
+{
+    Constraint {
+        number,
+        collections: addition.collections,
+        auth: addition.auth,
+        transport: addition.transport,
+    }
+}
+
+/// The place of the first constraint that has the number.
+fn place_of(constraints: &[Constraint], number: u64) -> Option<usize>
+    ensures { result ≡ place_of constraints.now number }
+{
+    constraints
+        .iter()
+        .position(|constraint| constraint.number == number)
+}

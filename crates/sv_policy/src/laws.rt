@@ -1,0 +1,21 @@
+//! What holds of gaps: each law is the contract of a function that does nothing.
+
+ghost use Rattle.std.specs.Prelude.{◌≡◌};
+ghost use Rattle.sv_policy.specs.Gaps.{GapsAreExact, GapsRise};
+ghost use Rattle.sv_policy.specs.declared.limits.TheConstants.{MAX_CONSTRAINTS, MAX_PATTERNS_OF_CONSTRAINT};
+
+/// A gap holds a method just where a constraint lists its pattern and none covers the method there.
+pub fn gaps_are_exact()
+    ensures { GapsAreExact }
+{}
+
+/// Patterns rise by bytes from gap to gap, and methods within each gap, which are never all methods.
+pub fn gaps_rise()
+    ensures { GapsRise }
+{}
+
+/// The limits of this crate as numbers.
+pub fn limits_are_as_stated()
+    ensures constraints { MAX_CONSTRAINTS ≡ 1000 }
+    ensures patterns { MAX_PATTERNS_OF_CONSTRAINT ≡ 64 }
+{}

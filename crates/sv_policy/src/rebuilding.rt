@@ -1,0 +1,129 @@
+//! The tables of constraints of which one is edited: only those of its patterns are merged anew.
+
+ghost use Rattle.std.specs.Prelude.{◌≡◌, ◌++◌, ◌∷◌, ◌<◌, [], List, filter, length, map, not, remove, slice_index_or, suc, drop, take, IfOk};
+ghost use Rattle.sv_constraints.specs.Covering.{lists};
+ghost use Rattle.sv_constraints.specs.declared.constraint.Constraint.{Constraint};
+ghost use Rattle.sv_policy.specs.Compiled.{AreCompiled};
+ghost use Rattle.sv_policy.specs.Patterns.{listed_in};
+ghost use Rattle.sv_policy.specs.Rebuilt.{AreSameElsewhere, IsRebuilt};
+
+use crate::patterns::{is_among, patterns_of};
+use crate::tables::{index_of, push_tables};
+use std::alloc::Global;
+use std::rc::Rc;
+use std::slice;
+use sv_constraints::{Collection, Constraint, Rules};
+use sv_mapping::Pattern;
+use sv_merged::Table;
+use sv_pattern_table::PatternTable;
+use sv_text::NoMemory;
+
+/// The tables of edited constraints.
+#[derive(Drop)]
+pub struct Rebuilt {
+    /// The tables, of which those of other patterns are shared.
+    pub tables: Vec<Rc<Table>>,
+    /// Their patterns.
+    pub index: PatternTable,
+    /// How many patterns were merged anew.
+    pub count: usize,
+}
+
+/// The tables of constraints with one more, which stands last.
+pub fn rebuilt_with(
+    alloc: Global,
+    rules: &Rules,
+    tables: &[Rc<Table>],
+    constraints: &[Constraint],
+    added: &Constraint,
+) -> Result<Rebuilt, NoMemory>
+    requires { AreCompiled rules.now constraints.now (map (λ table. table.value) tables.now) }
+    ensures { IfOk result (IsRebuilt rules.now (constraints.now ++ added.now ∷ []) added.now.collections) }
+{
+    let edited = added.collections.as_slice();
+    rebuilt_around(
+        alloc,
+        rules,
+        tables,
+        constraints,
+        slice::from_ref(added),
+        edited,
+    )
+}
+
+/// The tables of constraints without the one at a place.
+pub fn rebuilt_without(
+    alloc: Global,
+    rules: &Rules,
+    tables: &[Rc<Table>],
+    constraints: &[Constraint],
+    place: usize,
+) -> Result<Rebuilt, NoMemory>
+    requires compiled { AreCompiled rules.now constraints.now (map (λ table. table.value) tables.now) }
+    requires within { place < length constraints.now }
+    ensures { (withdrawn : Constraint) → withdrawn ≡ slice_index_or constraints.now place withdrawn →
+        IfOk result (IsRebuilt rules.now (remove constraints.now place) withdrawn.collections) }
+{
+    let edited = constraints[place].collections.as_slice();
+    let front = before(constraints, place);
+    let back = behind(constraints, place);
+    rebuilt_around(alloc, rules, tables, front, back, edited)
+}
+
+/// The constraints before the one at a place.
+fn before(constraints: &[Constraint], place: usize) -> &[Constraint]
+    requires { place < length constraints.now }
+    ensures { result.now ≡ take place constraints.now }
+{
+    &constraints[..place]
+}
+
+/// The constraints behind the one at a place.
+fn behind(constraints: &[Constraint], place: usize) -> &[Constraint]
+    requires { place < length constraints.now }
+    ensures { result.now ≡ drop (suc place) constraints.now }
+{
+    &constraints[place + 1..]
+}
+
+/// The tables of the constraints of two lists, one behind the other, where those tables were of constraints that listed all
+/// but the edited patterns alike.
+fn rebuilt_around(
+    alloc: Global,
+    rules: &Rules,
+    tables: &[Rc<Table>],
+    front: &[Constraint],
+    back: &[Constraint],
+    edited: &[Collection],
+) -> Result<Rebuilt, NoMemory>
+    ensures { (constraints : List Constraint) → AreCompiled rules.now constraints (map (λ table. table.value) tables.now) →
+        AreSameElsewhere constraints (front.now ++ back.now) (listed_in edited.now) →
+        IfOk result (IsRebuilt rules.now (front.now ++ back.now) edited.now) }
+{
+    let patterns = patterns_of(alloc, edited)?;
+    let mut tables = others(alloc, tables, patterns.as_slice())?;
+    push_tables(&mut tables, alloc, rules, front, back, patterns.as_slice())?;
+    Ok(Rebuilt {
+        index: index_of(alloc, tables.as_slice())?,
+        count: patterns.len(),
+        tables,
+    })
+}
+
+/// The tables of other patterns, which are shared.
+fn others(
+    alloc: Global,
+    tables: &[Rc<Table>],
+    patterns: &[&Pattern],
+) -> Result<Vec<Rc<Table>>, NoMemory>
+    ensures { IfOk result (λ kept. map (λ table. table.value) kept.items ≡
+        filter (λ table. not (lists (map (λ pattern. pattern.now) patterns.now) table.pattern)) (map (λ table. table.value) tables.now)) }
+{
+    let mut kept = Vec::with_capacity(alloc, tables.len())?;
+    for table in tables {
+        if !is_among(patterns, table.pattern.text()) {
+            kept.push(table.clone()?)?;
+        }
+    }
+    Ok(kept)
+}

@@ -1,0 +1,78 @@
+//! The gaps of merged tables.
+
+ghost use Rattle.std.specs.Prelude.{◌≡◌, ◌++◌, ◌∷◌, [], List, All, Contains, IfOk, OnOk, map, if◌then◌else◌};
+ghost use Rattle.sv_constraints.specs.declared.constraint.Constraint.{Constraint};
+ghost use Rattle.sv_constraints.specs.declared.rules.Rules.{Rules};
+ghost use Rattle.sv_merged.specs.Table.{IsTable};
+ghost use Rattle.sv_merged.specs.Uncovered.{has_methods, rising, uncovered_methods};
+ghost use Rattle.sv_policy.specs.Compiled.{AreCompiled};
+ghost use Rattle.sv_policy.specs.Filed.{IsFiled};
+ghost use Rattle.sv_policy.specs.Gaps.{gap_at, gaps};
+
+use crate::gap::Gap;
+use crate::patterns::copied;
+use std::alloc::Global;
+use std::collections::BTreeMap;
+use std::rc::Rc;
+use sv_constraints::Methods;
+use sv_merged::Table;
+use sv_text::NoMemory;
+
+/// The gaps of the constraints that the tables were merged of.
+pub fn gaps_of(alloc: Global, tables: &[Rc<Table>]) -> Result<Vec<Gap>, NoMemory>
+    ensures { (rules : Rules) (constraints : List Constraint) → AreCompiled rules constraints (map (λ table. table.value) tables.now) →
+        IfOk result (λ found. found.items ≡ gaps constraints) }
+{
+    let mut found = Vec::new(alloc);
+    for table in rising_tables(alloc, tables)?.as_slice() {
+        push_gap(&mut found, alloc, *table)?;
+    }
+    Ok(found)
+}
+
+/// The tables in the order of their patterns' bytes, one for each pattern.
+fn rising_tables(alloc: Global, tables: &[Rc<Table>]) -> Result<Vec<&Table>, NoMemory>
+    ensures texts { IfOk result (λ ordered. map (λ table. table.now.pattern) ordered.items ≡ rising (map (λ table. table.pattern) (map (λ table. table.value) tables.now))) }
+    ensures tables { IfOk result (λ ordered. All (λ table. Contains (map (λ shared. shared.value) tables.now) table.now) ordered.items) }
+{
+    let filed = filed(alloc, tables)?;
+    Ok(filed.values().copied().collect(alloc)?)
+}
+
+/// The tables by their patterns.
+fn filed(alloc: Global, tables: &[Rc<Table>]) -> Result<BTreeMap<&str, &Table>, NoMemory>
+    ensures { IfOk result (λ filed. IsFiled (map (λ table. table.value) tables.now) (map (λ table. table.value) tables.now) filed.entries) }
+{
+    let mut filed = BTreeMap::new(alloc);
+    for table in tables {
+        filed.insert(table.pattern.text(), &**table)?;
+    }
+    Ok(filed)
+}
+
+/// Pushes the gap at a table's pattern, if there is one.
+fn push_gap(found: &mut Vec<Gap>, alloc: Global, table: &Table) -> Result<(), NoMemory>
+    ensures { (rules : Rules) (constraints : List Constraint) → IsTable rules constraints table.now →
+        OnOk result (found.new.items ≡ found.old.items ++
+        (if has_methods (uncovered_methods constraints table.now.pattern) then gap_at constraints table.now.pattern ∷ [] else [])) }
+{
+    let methods = table.uncovered(alloc)?;
+    if has_methods(&methods) {
+        found.push(Gap {
+            pattern: copied(alloc, &table.pattern)?,
+            methods,
+        })?;
+    }
+    Ok(())
+}
+
+/// Whether these are any methods.
+fn has_methods(methods: &Methods) -> bool
+    ensures { result ≡ has_methods methods.now }
+{
+    match methods {
+        Methods::All => true,
+        Methods::Only(listed) => !listed.as_slice().is_empty(),
+        Methods::Except(_) => true,
+    }
+}

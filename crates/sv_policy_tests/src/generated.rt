@@ -1,0 +1,250 @@
+//! Generated policies decide as their constraints do, on the paths around each of their patterns.
+
+use crate::policies::{Forms, caller_of};
+use std::alloc::Global;
+use sv_rows::{Asks, Strays, cell, hold};
+use sv_text::NoMemory;
+
+/// Constraints and rules, and the requests that both forms decide otherwise. `tools/generated_policies` prints the rows.
+const ROWS: &str = r#"
+a,b over confidential on /a/b PUT and *.x PUT; a on /a/b GET; c,** on *.x,/a/* and /* GET | deny | ""
+open on /a/* and /a/b; a,b over none on /b/*,/,"" GET and /a/b; a,b on /a/b,/a/b/* !GET,PUT and /a/b; c,** over integral on /b/*,/,"" !GET and /* GET; * over confidential on /a !GET and /a/b | roles a | ""
+c,** over integral on /a/* !GET,PUT and *.x PUT; *,a over integral on /a/b GET,PUT; a over integral on /a//b GET,PUT; *,a on *.x !PUT | roles a,b | ""
+b over integral on /a/b,/a/b/* PUT and *.x PUT; * on /* !PUT and *.x PUT; *,a over none on "" !PUT and /a/b; open on /a/* !GET,PUT and /a/b; *,a over confidential on *.x GET and *.x PUT | roles a,b | ""
+* on /a//b GET and *.x PUT; b over confidential on /a/b/c.x PUT and /a/b; open over integral on / !GET and /a/* !PUT | roles a | ""
+a,b on /a/b; a on /b/*,/,"" and /* GET | roles a | ""
+c,** on /a/* GET,PUT | roles a,b | ""
+a,b over integral on /* !GET,PUT and /a/* !PUT; * on "" !GET; a over none on *.y,*.x !GET,PUT | deny | ""
+open over none on /a/,/* GET and *.x PUT; a on /b/*,/,"" PUT; ** over integral on /a/b,/a/b/* !GET and /a/b | deny | ""
+a,b over none on /a/b/* !GET and /* GET; open on /a* !GET,PUT; nobody on "" GET,PUT; *,a over none on *.y,*.x !PUT; open on /a/,/* !PUT | deny | ""
+nobody on /a/b PUT | roles a | ""
+** on / !GET; nobody on /a/b/c.x !GET,PUT and /a/* !PUT; ** on /a//b GET,PUT; open on /a/b GET; b over confidential on /a/* and /* GET | roles a | ""
+* on /a/b/* and *.x PUT | deny | ""
+c,** over none on /a/b/* !PUT and /a/* !PUT; open over integral on / and /a/* !PUT | deny | ""
+* over integral on /a* GET,PUT; c,** on *.x; open on /a/b; c,** over confidential on *.x; ** on *.x,/a/* | - | ""
+** over none on /a/b/c.x !PUT; a on *. GET,PUT; c,** on *.y,*.x GET,PUT | roles a | ""
+b on /b/*,/,"" GET and /a/b; *,a over none on *.x GET and /* GET | roles a,b | ""
+** over confidential on /a/b/c.x PUT; open over none on /a/,/* GET | - | ""
+a on /* !GET,PUT and /a/* !PUT | - | ""
+** on *.y,*.x and /a/b; a on /a/* and *.x PUT | roles a,b | ""
+b over none on ""; * over integral on /a/,/* and /a/* !PUT; *,a on /a/b,/a/b/* and /a/* !PUT | roles a,b | ""
+c,** over confidential on ""; a over none on /a//b GET and *.x PUT | roles a | ""
+a,b over integral on /* GET,PUT and *.x PUT; a on /a/b | deny | ""
+c,** on *. !GET and /* GET; *,a over integral on /a/,/* !PUT; *,a over integral on *.x !GET and /* GET; nobody on //* !PUT and /a/* !PUT; nobody over none on /b/*,/,"" GET,PUT and /a/b | - | ""
+** over none on /a/b/c.x; a,b on "" GET and /a/* !PUT; * on /a/,/* PUT and /* GET; c,** on "" PUT and *.x PUT | - | ""
+a on *.y,*.x !PUT and *.x PUT | deny | ""
+a on /a/b GET; open on /b/*,/,"" GET and *.x PUT; ** over confidential on /* !GET,PUT and /a/b | deny | ""
+open on / GET | roles a,b | ""
+** on /a/b,/a/b/* GET,PUT; c,** over none on *.x,/a/* GET,PUT and *.x PUT; b on /* GET | - | ""
+a on *.x,/a/*; *,a over none on /a and *.x PUT; c,** over none on /a/* !GET,PUT | roles a,b | ""
+* on "" !GET,PUT; nobody on *. and /* GET; a over confidential on "" GET | roles a | ""
+** over none on "" !GET; * on /a/b/* | deny | ""
+a over confidential on /b/*,/,"" and /a/b; ** on /a/b/c.x !PUT and /a/* !PUT; b on /a* and /* GET; ** on /b/*,/,"" !PUT; nobody over integral on /a/b,/a/b/* !PUT | - | ""
+*,a on *.y,*.x !GET,PUT and *.x PUT; a over integral on / PUT; b over none on / !GET,PUT; ** on /a//b PUT and *.x PUT | roles a,b | ""
+a over none on /a/b/* !PUT and /a/b; ** on /a* !PUT; b over integral on /b/*,/,"" PUT; open over confidential on "" !GET,PUT and /a/* !PUT | roles a,b | ""
+c,** on *. and /* GET; *,a over integral on *. and /a/* !PUT; c,** over confidential on /a/,/*; *,a over confidential on /a/b PUT and *.x PUT | - | ""
+** over confidential on *.y,*.x PUT and /* GET | roles a,b | ""
+** on /a/b/* GET,PUT and *.x PUT | roles a,b | ""
+a on /a/*; nobody on /a/b !GET,PUT; *,a on /a/b,/a/b/* and /* GET; nobody on /* !PUT and /a/* !PUT; a on / and /* GET | deny | ""
+* on *. GET; b over integral on /a/,/* and /a/* !PUT; ** over integral on /a/b !PUT and /a/* !PUT; ** on *.x,/a/* GET,PUT and /* GET | - | ""
+*,a over none on /a/b,/a/b/* GET | - | ""
+b over integral on *.x and *.x PUT; a over none on //* PUT and /* GET; open over confidential on /a* GET,PUT; a on //* !GET,PUT | - | ""
+nobody on /* GET and *.x PUT | roles a,b | ""
+*,a over integral on "" !GET,PUT and /a/* !PUT; open over integral on //* !GET; ** over none on /* PUT; a on /a/* and /* GET; a,b over confidential on /a/b/c.x GET,PUT and *.x PUT | roles a,b | ""
+*,a on /a !PUT; open on *.x,/a/* !GET,PUT | roles a,b | ""
+open over none on /a/,/* and /* GET | roles a | ""
+nobody over integral on //*; *,a on /a/b !GET | roles a | ""
+open over none on /a/* !PUT; * on /a/b !GET and /a/b; ** on *.x,/a/* !GET,PUT; open on //* GET | deny | ""
+a,b on /a* GET,PUT; open over confidential on /a/b/* GET,PUT | deny | ""
+nobody over none on /a* !GET,PUT and /a/b; a,b on *.y,*.x GET,PUT | roles a,b | ""
+b over none on /a !GET,PUT; nobody on /a/b/*; b on /* !GET and /* GET | deny | ""
+c,** on /a and *.x PUT; * over none on *. !PUT and /* GET | roles a,b | ""
+* over integral on /b/*,/,"" GET | roles a | ""
+*,a over integral on /* GET and /a/b; nobody on "" !GET; ** over integral on /b/*,/,"" !PUT; nobody over confidential on /a/b/* !PUT and /a/b | - | ""
+b on /a* !PUT and /* GET; c,** on /a* and /a/b; a,b over none on *.; b on /a/b/c.x GET,PUT; * over confidential on *.x,/a/* !GET and /a/b | roles a | ""
+open on /* GET; a,b on /a//b and /* GET | - | ""
+** over none on /b/*,/,"" !GET and /* GET; nobody on *.x GET | - | ""
+open on /b/*,/,"" PUT | deny | ""
+a over confidential on //* and /a/* !PUT; ** over integral on /* and /* GET; ** on *. GET,PUT; a,b on /a/b/* and /* GET | - | ""
+open on *. GET; *,a on *.x !GET,PUT and /a/* !PUT; ** over confidential on //* GET,PUT and /* GET; a on *.y,*.x | roles a,b | ""
+** over integral on *.x,/a/* !GET and /* GET; b over none on / !GET,PUT and /* GET | - | ""
+a,b on /* !PUT; c,** on *.x,/a/* PUT and *.x PUT; b on *.y,*.x !GET,PUT | deny | ""
+*,a on ""; a on /a/,/* GET; a,b on *. !GET,PUT; a,b over none on /a/b,/a/b/* | roles a,b | ""
+*,a over integral on /a/b GET; nobody on //*; a,b on *.x !GET and *.x PUT | roles a,b | ""
+b on *.x,/a/* PUT; * on /a* GET and /a/b; open on *.y,*.x PUT and *.x PUT | roles a,b | ""
+a,b on /* and /a/* !PUT; nobody over confidential on *.x !GET,PUT; *,a over confidential on /a//b GET,PUT and /* GET; open over integral on /a/* !GET and /a/* !PUT | roles a | ""
+a,b over none on *.x !GET and /* GET; *,a over integral on /a* GET | - | ""
+*,a on /a/,/* !PUT; a on //* GET and *.x PUT | roles a | ""
+c,** over integral on /a/,/* !GET,PUT | roles a | ""
+b on /a/,/* !PUT and /a/* !PUT | roles a | ""
+a on /a/,/*; ** over confidential on /a/b,/a/b/* !GET and /a/b; a on / and /a/* !PUT; *,a over confidential on /a/b GET and /a/b | roles a,b | ""
+** over integral on *.x PUT and *.x PUT; c,** over integral on "" and /* GET | deny | ""
+b over none on *.x GET,PUT; *,a on /b/*,/,"" GET,PUT and /a/* !PUT; nobody over confidential on /a//b !GET and *.x PUT; *,a over none on /a/b,/a/b/* !GET and /a/b | deny | ""
+b over confidential on *.x PUT; ** on //* !GET and /* GET; open over none on /a* !GET and *.x PUT | roles a,b | ""
+nobody over integral on /a/b/c.x; nobody over integral on *.y,*.x !GET,PUT and /a/b; nobody on / and *.x PUT; *,a on *. !PUT and /a/* !PUT; a,b on "" PUT | roles a,b | ""
+c,** on //* and /a/b | roles a | ""
+a over integral on *.y,*.x !PUT; a on /a/b GET,PUT and /a/* !PUT | roles a,b | ""
+* on *.; nobody on / PUT and /a/b | roles a | ""
+open over confidential on /a !GET; open over integral on *.y,*.x | - | ""
+b on / !GET,PUT | roles a | ""
+c,** over confidential on /* !PUT | deny | ""
+* over none on /a/b; * over confidential on /a/b,/a/b/* !GET,PUT; open on *. and *.x PUT; nobody on *.x PUT; *,a over none on *.x,/a/* GET | deny | ""
+c,** on *. and /* GET; nobody on *.y,*.x and /* GET; *,a on "" PUT | - | ""
+*,a over none on *.x,/a/* PUT and /a/b; a,b over integral on / GET,PUT and /* GET; a on /a//b PUT and /a/b; open on /a/,/* PUT | deny | ""
+nobody on *.x PUT and *.x PUT; nobody over integral on /a/b/c.x GET,PUT and /a/* !PUT; a,b on /b/*,/,"" !PUT and /a/* !PUT; ** on /a/*; nobody on "" GET and /a/* !PUT | roles a,b | ""
+c,** on /a/b/c.x PUT and /a/* !PUT; b over none on /a/* !GET; a on /a/b/c.x and /* GET; * over none on *.x PUT and /a/* !PUT; b on *.x GET | deny | ""
+** over integral on //* !GET,PUT and /* GET; c,** over confidential on /a/,/* PUT and /* GET | roles a | ""
+a on *.x,/a/* GET,PUT and /a/* !PUT; c,** on /* GET and /a/* !PUT; a over integral on *.x GET,PUT and /a/* !PUT; a,b over confidential on *.x,/a/* !GET,PUT and /a/* !PUT; ** on / !GET | roles a,b | ""
+* over none on /a/* GET,PUT and /a/* !PUT; * over none on //* !PUT and *.x PUT; nobody over none on *.x,/a/* !GET,PUT and *.x PUT; *,a on ""; nobody on /a/b GET | deny | ""
+open on / !PUT and /a/* !PUT | roles a,b | ""
+* over none on "" PUT and /* GET; ** over integral on /a/b !PUT; nobody over confidential on /a/b | roles a,b | ""
+** over integral on /a/* PUT; ** on /* and /a/b; a,b over confidential on / PUT and /a/* !PUT; open on /a/b/* GET,PUT | deny | ""
+** over integral on /a/b !PUT and /a/b; *,a on //* !GET,PUT and /a/b; open over confidential on *. and /a/b; nobody on / GET,PUT and /a/* !PUT; ** on / !GET and /* GET | roles a,b | ""
+nobody on *. !GET and /a/* !PUT; c,** over none on /b/*,/,"" !GET and /a/* !PUT; open on /a/b,/a/b/* !GET; c,** on /a/b/c.x !PUT and /a/b; open over integral on //* PUT | deny | ""
+*,a on *. GET; * over none on /a/,/* GET and /a/b; c,** over confidential on /a/b/* GET,PUT and *.x PUT | - | ""
+*,a over integral on /a/,/* and /a/b; ** over confidential on /a/* GET,PUT and /a/* !PUT; *,a over integral on /a/b/c.x !GET,PUT; nobody on / and /* GET; c,** over confidential on /a/b,/a/b/* !GET,PUT and /a/* !PUT | roles a | ""
+c,** on /a/b/* PUT and /a/* !PUT; nobody over none on *.x PUT; a over integral on "" !GET; c,** on /a//b !PUT and *.x PUT | roles a,b | ""
+b on /a/,/* GET; b over integral on /* !GET and *.x PUT; open over integral on /a/b/* GET,PUT and /a/* !PUT; * on /a/b !GET,PUT and *.x PUT | deny | ""
+*,a on /a/b GET and /a/* !PUT; c,** on /a/b,/a/b/* GET,PUT and /* GET | deny | ""
+* over none on /a//b GET,PUT | roles a,b | ""
+b on /a//b and /a/* !PUT; a on *. !GET; a on /a/b,/a/b/* GET,PUT; a,b on /a/b,/a/b/* | deny | ""
+nobody over integral on /a/b GET and *.x PUT; open on /a; a over confidential on "" | roles a | ""
+** over confidential on *.x and /* GET; * on /a* !GET,PUT and *.x PUT; * over integral on *.x !PUT | - | ""
+c,** on /b/*,/,"" !GET | roles a | ""
+a over none on /*; open over none on /a/b and *.x PUT; * on //* GET,PUT; ** over none on /a/b/c.x PUT | - | ""
+*,a over integral on / and /a/b | roles a,b | ""
+*,a on /a/,/* PUT and /a/b; a over confidential on /* GET and /a/b; a on /a/b !GET; b over none on /b/*,/,"" GET | roles a,b | ""
+a,b over confidential on /b/*,/,"" GET and /* GET; a over integral on / !GET and /a/b; c,** over none on *.y,*.x !GET; c,** over confidential on /a/,/*; b on *.x,/a/* GET,PUT | - | ""
+** over integral on /a/b,/a/b/* PUT and *.x PUT; ** over integral on *. and /a/b; a,b over integral on *.y,*.x !PUT and /* GET; a over integral on /a//b !GET,PUT and /a/b; b on /a/b/* !GET,PUT and *.x PUT | deny | ""
+b over none on /a/* and *.x PUT | roles a | ""
+b over none on /a* GET,PUT; b over none on *.x,/a/*; open over confidential on /a* PUT and /a/* !PUT | roles a | ""
+a,b on /b/*,/,"" !GET and /* GET; open over none on /b/*,/,"" GET,PUT | roles a | ""
+nobody over integral on /a/b PUT and /a/b; open on /b/*,/,"" PUT; b on / GET and /a/b | deny | ""
+a over confidential on /a* GET,PUT and /a/* !PUT; *,a over integral on *.y,*.x !GET and /a/b | deny | ""
+open over none on /a/b,/a/b/* GET,PUT | roles a,b | ""
+c,** over none on *. GET,PUT; b over confidential on /a GET and /* GET | roles a | ""
+nobody on /a/b !GET; ** over integral on /a//b and *.x PUT; b on /* PUT; a over none on /a/*; nobody on "" PUT and *.x PUT | roles a | ""
+** on /a/b/* !GET,PUT and /* GET | roles a | ""
+* on /a/b !GET,PUT and /* GET; ** on //* PUT and *.x PUT; a over confidential on /a/b GET and /* GET | - | ""
+c,** over none on //* !GET; open on /a* PUT and /a/b; *,a over integral on /b/*,/,""; *,a over none on /a/* and /a/* !PUT; a,b over integral on //* !GET and *.x PUT | deny | ""
+a,b on /a/,/* and /a/* !PUT; c,** over integral on /a/b/* !PUT; c,** on //* !GET,PUT | roles a | ""
+a over none on /a/,/*; a over confidential on "" !PUT and /a/b; ** on //* GET,PUT | deny | ""
+a over confidential on /b/*,/,"" and /a/b; nobody on /* !GET; * on /a* !GET and /a/* !PUT | deny | ""
+** on /a and /a/* !PUT; * over integral on *.x PUT and /a/b | roles a | ""
+*,a over none on *.y,*.x GET,PUT; c,** on *.x GET and /* GET; b on /a/* !GET,PUT and /a/* !PUT | - | ""
+*,a over integral on / !GET and *.x PUT | roles a,b | ""
+c,** on *.y,*.x !PUT and /* GET; *,a over none on *.x,/a/* !PUT and /a/* !PUT; open on *. PUT and /* GET; a over integral on /a/b/c.x GET | roles a | ""
+nobody over integral on "" PUT; b over none on /b/*,/,"" !PUT | deny | ""
+c,** on /b/*,/,"" !GET and *.x PUT; ** over integral on *. !PUT; nobody over confidential on /a/b/c.x PUT; open over confidential on *.y,*.x GET,PUT; *,a over integral on /a//b | roles a,b | ""
+*,a over none on *.x,/a/* GET and *.x PUT; *,a over confidential on /a/b/c.x GET and *.x PUT; c,** on / !PUT and /a/* !PUT; a,b on //* GET | - | ""
+* over integral on /a/b/c.x GET and /a/* !PUT; a,b on /a/b; a,b over confidential on "" and *.x PUT | roles a | ""
+a on *.; b on *.y,*.x and /a/* !PUT; ** over confidential on *.y,*.x !GET,PUT; open over integral on /a* | - | ""
+c,** on /a/b !GET,PUT and /a/* !PUT; * on /a//b !PUT and *.x PUT | - | ""
+* over integral on /a//b PUT; a on /a/b GET and /a/b; a,b on *.x !PUT and /a/* !PUT; a on /b/*,/,"" GET,PUT and /* GET | deny | ""
+b on /; * on /a* PUT and /* GET; open on /a/b/c.x !PUT; a on /a and *.x PUT; a,b over none on *.x,/a/* !GET,PUT | deny | ""
+** on *.x !GET and /a/b | roles a,b | ""
+b on /a/b/* !GET,PUT; open on /a/b,/a/b/* and *.x PUT; open over none on /a* !GET,PUT and /a/* !PUT; c,** on /a//b !PUT and *.x PUT; open over integral on *.x and /* GET | - | ""
+nobody over none on *.x !PUT and /* GET; b on *.x,/a/* PUT; *,a over integral on /a/b !GET; ** over integral on //* PUT and /a/* !PUT; open over confidential on /a and /a/* !PUT | roles a,b | ""
+** on /a/* !GET,PUT | roles a | ""
+a on / PUT and *.x PUT; *,a on /a/b/* and *.x PUT; c,** on *. !GET and /a/* !PUT; ** over confidential on *. GET and /* GET | roles a | ""
+b over none on /a/,/* !GET,PUT and /a/* !PUT; * on /a/,/*; ** on *. !GET,PUT and /a/* !PUT; nobody on //* !PUT | - | ""
+c,** on *.y,*.x !GET and /a/b | - | ""
+*,a on *.x !GET,PUT; a,b on /a/,/* GET; *,a on /a/b GET,PUT and /a/b | roles a,b | ""
+open on /a/b,/a/b/* GET,PUT and /* GET; c,** over integral on /a//b and /a/b; open on ""; nobody over none on *.y,*.x PUT | deny | ""
+b over none on /b/*,/,"" !GET,PUT and /* GET; a,b on /a !GET,PUT and /a/* !PUT; * on /a*; c,** over confidential on /a//b PUT; a over confidential on *. PUT and /a/b | - | ""
+nobody on /a/* GET and *.x PUT; a over confidential on /a/,/* PUT | roles a | ""
+open on /a/b/* GET,PUT; open on /a/b/c.x GET | deny | ""
+b on //* and /a/* !PUT | deny | ""
+a,b on /a/* !GET and /a/* !PUT; a,b over integral on /a/b; a over none on /a//b GET and /a/* !PUT; ** on /b/*,/,"" PUT | - | ""
+nobody on /b/*,/,"" and /a/* !PUT | - | ""
+** on /a/*; a,b on /a/b/c.x !GET and /* GET; a,b on /a/b and /a/b; nobody on /a/* PUT and *.x PUT; a,b over none on /a* !GET,PUT | - | ""
+nobody over none on / GET,PUT and /a/* !PUT; c,** on /a/b/* PUT; a on /a* GET,PUT and *.x PUT | deny | ""
+c,** on *.x,/a/* GET and /a/* !PUT; a over none on /a* !GET,PUT and /* GET; c,** over integral on /a !PUT | deny | ""
+nobody on /a//b; a over confidential on /a/b/* !PUT and /* GET | deny | ""
+open on /a//b !PUT and /* GET; *,a over integral on /a/b/c.x GET,PUT and /a/* !PUT; open on /a/,/* !GET,PUT and /a/* !PUT; b on /a/,/* !GET,PUT and /* GET | roles a | ""
+a,b over integral on /a/b,/a/b/* !PUT and /a/b | deny | ""
+*,a over none on /a/b/c.x and *.x PUT | roles a | ""
+a,b over integral on //* PUT; open over integral on /b/*,/,"" GET; ** over integral on *.x | roles a | ""
+a over integral on /a/b/* !GET and *.x PUT; *,a on /a/b/* and /a/* !PUT; *,a on /* !PUT | - | ""
+*,a on /a/b GET,PUT; c,** on *.; c,** on /a/b/* and /* GET; a over confidential on *.y,*.x GET,PUT and /* GET | - | ""
+a,b on /a/b !GET,PUT and *.x PUT; a,b over integral on /* GET,PUT and /a/b; a on /a/b/c.x and /a/b | roles a | ""
+a on /a/b/* PUT; a,b on /a/b/* PUT | roles a | ""
+c,** on *.; ** over integral on /a/b,/a/b/* !GET and *.x PUT | - | ""
+* on *. and /* GET | deny | ""
+open on /a/b/* !GET,PUT; *,a on /b/*,/,"" and /* GET; open on /a/b,/a/b/* !GET | roles a | ""
+** over confidential on *. and /* GET; * over confidential on /a/,/*; a over none on *.x,/a/* PUT and /a/b; open over integral on /a GET,PUT and /a/* !PUT; ** on "" !PUT and *.x PUT | roles a | ""
+*,a over confidential on /a/b,/a/b/* !GET; a on /a/,/* GET,PUT; * on //* and /a/b; nobody over integral on "" PUT; ** on /b/*,/,"" and /* GET | roles a | ""
+c,** on //* !PUT and *.x PUT | roles a,b | ""
+* over integral on /a/b,/a/b/* PUT and *.x PUT; ** on /* GET,PUT and /* GET; c,** over confidential on /a/b/*; ** over none on / !PUT and /a/b | roles a,b | ""
+open over none on //* !GET,PUT | - | ""
+*,a over confidential on /a/* GET,PUT; b over confidential on /a/b/c.x GET; ** on /b/*,/,"" PUT; * over none on *. and /a/b | deny | ""
+*,a over integral on /a/* GET and /a/* !PUT; nobody on /a//b !GET,PUT and /a/* !PUT; ** over integral on "" !GET,PUT and *.x PUT | roles a | ""
+a,b over none on /a*; ** over none on /a/* GET; c,** over none on /a//b PUT and /a/* !PUT; a over integral on *.y,*.x | - | ""
+* over confidential on /a/* GET and /a/b; b over confidential on *. and *.x PUT; ** over integral on /a/* and /a/b | roles a,b | ""
+a,b on //* GET,PUT; a on /a/,/* !PUT and /a/* !PUT; *,a on /* GET,PUT; a,b over integral on / !GET and /* GET | roles a | ""
+c,** on /a//b GET and /a/* !PUT; b over confidential on /a/b and *.x PUT; nobody on *. GET and /a/b; * over integral on /a/b,/a/b/* | roles a,b | ""
+nobody over integral on "" !GET and /* GET; a on /a/b !PUT; *,a over integral on "" GET | - | ""
+nobody over none on *.y,*.x | roles a,b | ""
+a over none on /b/*,/,"" GET and /* GET; c,** on /a/b; open over none on /a/b/* !GET and /a/* !PUT; *,a on //* !PUT | - | ""
+b over integral on / GET and /a/b; *,a on /a* PUT and /* GET; ** over none on /* !PUT and *.x PUT; open on /b/*,/,"" | roles a | ""
+a on *. !GET,PUT | - | ""
+*,a over none on //* !GET | roles a,b | ""
+b on /a/b/c.x GET,PUT and /a/* !PUT; ** over integral on /b/*,/,"" and /a/b | roles a,b | ""
+open over confidential on /a//b; a on /a//b and /a/b; ** on //* PUT and *.x PUT | roles a | ""
+a,b over confidential on /a/,/*; ** on /a//b and /a/b; *,a on /a//b and /* GET; * on /a/b/* !GET,PUT; c,** on /* GET,PUT and *.x PUT | deny | ""
+b over none on /*; ** over none on /a/b/c.x GET and /* GET | deny | ""
+** on *.x,/a/* !GET,PUT and /a/* !PUT; open on /a//b PUT and *.x PUT; * over confidential on *.x,/a/* | deny | ""
+c,** on /b/*,/,"" PUT and /a/* !PUT; *,a over none on /a/b/* !GET,PUT; b on /a/,/* and /a/* !PUT; ** over integral on *.; open over none on /a/b/* !GET and /a/b | roles a | ""
+nobody over none on /a/b/* GET and /* GET; b on /a* | deny | ""
+** over integral on / GET and /a/b; * over none on /a* !GET; *,a over none on /a/b/* !GET,PUT and /* GET | roles a | ""
+a,b on *. GET and *.x PUT | roles a | ""
+c,** on / !PUT; b over integral on / and *.x PUT; *,a over none on /a* and /* GET | roles a,b | ""
+a,b on /a/b/c.x PUT; a on /a/b,/a/b/*; a,b on /b/*,/,"" and /a/* !PUT; c,** on /a/b/*; c,** over none on /a/* !GET,PUT and /* GET | - | ""
+a,b over integral on /a/b; ** over integral on /a/* GET,PUT and /a/* !PUT; a,b on /a GET,PUT and /a/b | - | ""
+c,** on *.y,*.x GET,PUT and *.x PUT; a on *.x,/a/* !GET,PUT; a on /b/*,/,"" and *.x PUT | - | ""
+* on /a/b/c.x !GET and /a/b; b on *.x !GET; open over none on /a/b/c.x GET,PUT and /* GET; * on /* PUT; c,** over confidential on *.x,/a/* and /* GET | roles a,b | ""
+*,a over confidential on *.y,*.x GET and /a/b; a on /a/b/c.x and /a/b; open on /a/b !GET and /* GET; *,a on /a GET,PUT; a on /a/b !PUT and /* GET | roles a,b | ""
+* over confidential on *.x,/a/*; open on *. GET | deny | ""
+c,** over none on / GET,PUT and /* GET | roles a,b | ""
+a on /a/*; open over none on ""; *,a on /a//b GET,PUT; a,b over integral on /a*; nobody over integral on /a/b,/a/b/* GET and /* GET | roles a | ""
+"#;
+
+/// Of each pattern its own path, what stands above and below it, beside it and behind its last byte, each with a method that
+/// constraints name, one more, and two that none names; and texts that begin with no slash.
+const REQUESTS: &str = "\
+GET a|GET a.x|GET |GET a/b.y|GET /|PUT /|POST /|get /|GET //|PUT //|POST //|get //|GET //a|PUT //a|POST //a|get //a|GET /a|PUT /a|POST /a|\
+get /a|GET /a/|PUT /a/|POST /a/|get /a/|GET /a/b|PUT /a/b|POST /a/b|get /a/b|GET /a/b/|PUT /a/b/|POST /a/b/|\
+get /a/b/|GET /a/b/c|PUT /a/b/c|POST /a/b/c|get /a/b/c|GET /a/b/c.x|PUT /a/b/c.x|POST /a/b/c.x|get /a/b/c.x|\
+GET /a/b/c.y|PUT /a/b/c.y|POST /a/b/c.y|get /a/b/c.y|GET /a/bc|PUT /a/bc|POST /a/bc|get /a/bc|GET /a/x.x|\
+PUT /a/x.x|POST /a/x.x|get /a/x.x|GET /a.x/b|PUT /a.x/b|POST /a.x/b|get /a.x/b|GET /a//|PUT /a//|POST /a//|\
+get /a//|GET /a//b|PUT /a//b|POST /a//b|get /a//b|GET /a//b/c|PUT /a//b/c|POST /a//b/c|get /a//b/c|GET /a/c|\
+PUT /a/c|POST /a/c|get /a/c|GET /ab|PUT /ab|POST /ab|get /ab|GET /a*|PUT /a*|POST /a*|get /a*|GET /a.|\
+PUT /a.|POST /a.|get /a.|GET /b|PUT /b|POST /b|get /b|GET /b/|PUT /b/|POST /b/|get /b/|GET /b/c|PUT /b/c|\
+POST /b/c|get /b/c|GET /b.x|PUT /b.x|POST /b.x|get /b.x|GET /c|PUT /c|POST /c|get /c|GET /c/d.x|PUT /c/d.x|\
+POST /c/d.x|get /c/d.x|GET /x|PUT /x|POST /x|get /x|GET /.x|PUT /.x|POST /.x|get /.x|GET /*|PUT /*|POST /*|\
+get /*|GET /a/*|PUT /a/*|POST /a/*|get /a/*";
+
+const CALLERS: &str = "-|caller|caller a|caller b|caller c|caller *";
+
+#[test]
+fn generated_policies_decide_as_their_constraints(rt: HostRuntime) -> Result<(), Strays> {
+    hold(&rt, &[ROWS], &Generated)
+}
+
+/// The requests that a policy decides otherwise than its constraints.
+struct Generated;
+
+impl Asks for Generated {
+    const QUESTION: usize = 2;
+
+    fn answer(&self, alloc: Global, row: &str, answer: &mut Vec<u8>) -> Result<(), NoMemory> {
+        let forms = Forms::of(alloc, cell(row, 0), cell(row, 1))?;
+        for name in CALLERS.split('|') {
+            let caller = caller_of(alloc, name)?;
+            for request in REQUESTS.split('|') {
+                forms.tell_stray(alloc, request, caller.as_ref(), answer)?;
+            }
+        }
+        Ok(())
+    }
+}

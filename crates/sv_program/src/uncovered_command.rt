@@ -1,0 +1,169 @@
+//! The command `uncovered`: which methods the security constraints of a server's contexts leave uncovered.
+
+ghost use Rattle.std.specs.Prelude.{◌≡◌, ◌≢◌, ◌++◌, flat_map, map, IfErr, IfOk, OnOk};
+ghost use Rattle.std.specs.String.{string_bytes};
+ghost use Rattle.sv_policy.specs.Gaps.{gaps};
+ghost use Rattle.sv_text.specs.Gives.{Gives, GivesAnswer};
+ghost use Rattle.sv_program.specs.CommandFault.{command_fault};
+ghost use Rattle.sv_program.specs.Printed.{FindsText, Prints};
+ghost use Rattle.sv_program.specs.Uncovered as spec;
+
+use crate::command_fault::CommandFault;
+use crate::configuration::{ContextTexts, descriptor_in};
+use crate::configuration_files::{read_contexts, read_server_file};
+use crate::file_store::FileStore;
+use crate::output::print_text;
+use std::alloc::Global;
+use std::io::Write;
+use sv_constraints::Methods;
+use sv_descriptor::Descriptor;
+use sv_explain::shown_context;
+use sv_policy::{Gap, Policy};
+use sv_settings::ContextEntry;
+use sv_text::{Listed, NoMemory, Text};
+
+/// Reads the server file of this name and then the descriptor of each of its contexts, and writes what `uncovered_lines` gives
+/// for them. The names in the server file are taken from its folder; no other file is read.
+///
+/// # Errors
+/// The first fault: [`CommandFault::File`] or [`CommandFault::Server`] for the server file, and then those of
+/// [`uncovered_lines`]. After [`CommandFault::Output`] a part of the lines may have been written, after any other fault none.
+pub fn uncovered<S: FileStore, W: Write>(
+    alloc: Global,
+    store: &mut S,
+    writer: &mut W,
+    config: &str,
+) -> Result<(), CommandFault>
+    ensures run { Prints (spec.AreLines S.gives_text config.now) result store.old store.new (W.contents writer.old) (W.contents writer.new) }
+    ensures untouched { IfErr result (λ fault. fault ≢ CommandFault.Output → writer.new ≡ writer.old) }
+{
+    let lines = lines_of(alloc, store, config)?;
+    print_text(writer, lines.as_str())
+}
+
+/// The lines of the server, by the files that the store gives.
+fn lines_of<S: FileStore>(alloc: Global, store: &mut S, config: &str) -> Result<Text, CommandFault>
+    ensures { FindsText (spec.AreLines S.gives_text config.now) result store.old store.new }
+{
+    let server = read_server_file(alloc, store, config)?;
+    let contexts = without_users(alloc, server.contexts)?;
+    let texts = read_contexts(alloc, store, config, contexts)?;
+    uncovered_lines(alloc, texts.as_slice())
+}
+
+/// The contexts without their users files.
+fn without_users(
+    alloc: Global,
+    contexts: Listed<ContextEntry>,
+) -> Result<Listed<ContextEntry>, NoMemory>
+    ensures { GivesAnswer result (map spec.without_users contexts) }
+{
+    let mut bare = Vec::new(alloc);
+    for context in contexts.into_vec() {
+        bare.push(ContextEntry {
+            users: None,
+            ..context
+        })?;
+    }
+    Ok(Listed::from_vec(bare))
+}
+
+/// The lines that the command `uncovered` prints where the contexts of the server file have descriptors of these texts: a line
+/// for each pattern of a context at which methods are uncovered, the patterns of each context in the order of their bytes.
+///
+/// # Errors
+/// The first fault of the descriptors in their order, [`CommandFault::File`] or [`CommandFault::Descriptor`]; or
+/// [`CommandFault::NoMemory`].
+pub fn uncovered_lines(alloc: Global, texts: &[ContextTexts]) -> Result<Text, CommandFault>
+    ensures { Gives command_fault result (spec.uncovered_lines texts.now) }
+{
+    let mut lines = String::new(alloc);
+    for texts in texts {
+        let more = context_lines(alloc, texts)?;
+        lines.push_str(more.as_str())?;
+    }
+    Ok(Text::from_string(lines))
+}
+
+/// The lines of a context.
+fn context_lines(alloc: Global, texts: &ContextTexts) -> Result<Text, CommandFault>
+    ensures { Gives command_fault result (spec.context_lines texts.now) }
+{
+    let descriptor = descriptor_in(alloc, texts)?;
+    let gaps = gaps_of(alloc, descriptor)?;
+    Ok(gap_lines(alloc, texts.context.path.as_str(), gaps.as_slice())?)
+}
+
+/// The gaps of a context's constraints.
+fn gaps_of(alloc: Global, descriptor: Descriptor) -> Result<Vec<Gap>, NoMemory>
+    ensures { IfOk result (λ found. found.items ≡ gaps descriptor.constraints) }
+{
+    let web_app = descriptor.into_web_app();
+    Policy::compile(alloc, web_app.constraints.into_vec(), web_app.rules)?.uncovered(alloc)
+}
+
+/// The lines of gaps in the context of this path.
+fn gap_lines(alloc: Global, path: &str, gaps: &[Gap]) -> Result<Text, NoMemory>
+    ensures { GivesAnswer result (flat_map (spec.gap_line path.now) gaps.now) }
+{
+    let mut lines = String::new(alloc);
+    for gap in gaps {
+        push_gap(&mut lines, path, gap)?;
+    }
+    Ok(Text::from_string(lines))
+}
+
+fn push_gap(lines: &mut String, path: &str, gap: &Gap) -> Result<(), NoMemory>
+    ensures { OnOk result (string_bytes lines.new ≡ string_bytes lines.old ++ spec.gap_line path.now gap.now) }
+{
+    lines.push_str("uncovered context=")?;
+    lines.push_str(shown_context(path))?;
+    lines.push_str(" pattern=")?;
+    lines.push_str(gap.pattern.text())?;
+    lines.push_str(" methods=")?;
+    push_methods(lines, &gap.methods)?;
+    lines.push_str("\n")?;
+    Ok(())
+}
+
+fn push_methods(line: &mut String, methods: &Methods) -> Result<(), NoMemory>
+    ensures { OnOk result (string_bytes line.new ≡ string_bytes line.old ++ spec.methods_text methods.now) }
+{
+    match methods {
+        Methods::All => Ok(line.push_str("*")?),
+        Methods::Only(names) => push_names(line, names.as_slice()),
+        Methods::Except(names) => push_omission(line, names.as_slice()),
+    }
+}
+
+fn push_omission(line: &mut String, names: &[Text]) -> Result<(), NoMemory>
+    ensures { OnOk result (string_bytes line.new ≡ string_bytes line.old ++ spec.omission_text names.now) }
+{
+    if names.is_empty() {
+        line.push_str("*")?;
+        return Ok(());
+    }
+    line.push_str("!")?;
+    push_names(line, names)
+}
+
+fn push_names(line: &mut String, names: &[Text]) -> Result<(), NoMemory>
+    ensures { OnOk result (string_bytes line.new ≡ string_bytes line.old ++ spec.names_text names.now) }
+{
+    let Some((name, others)) = names.split_first() else {
+        return Ok(());
+    };
+    line.push_str(name.as_str())?;
+    push_others(line, others)
+}
+
+/// Appends names with a comma in front of each.
+fn push_others(line: &mut String, others: &[Text]) -> Result<(), NoMemory>
+    ensures { OnOk result (string_bytes line.new ≡ string_bytes line.old ++ spec.others_text others.now) }
+{
+    for other in others {
+        line.push_str(",")?;
+        line.push_str(other.as_str())?;
+    }
+    Ok(())
+}
