@@ -1,5 +1,5 @@
 -- Calls of one component of a live context by its place (Jakarta Servlet 6.0, sections 2.3.3 and 6.2.1).
-use Rattle.std.specs.Prelude.{◌≡◌, ℕ, Bool, List, Result, Ok, Err, is_ok, slice_set, if◌then◌else◌}
+use Rattle.std.specs.Prelude.{◌≡◌, ℕ, Bool, false, Result, is_ok, slice_set, if◌then◌else◌}
 use Rattle.sv_component.specs.Call.{Call, Destroyed, Entered, Left, Serviced}
 use Rattle.sv_component.specs.Runs.{Grows, OfFilter, OfServlet, Record, then_made}
 use Rattle.sv_component.specs.declared.answers.Gate.{Gate}
@@ -10,18 +10,19 @@ use Rattle.sv_exchange.specs.State.{State}
 use Rattle.sv_journal.specs.Journal.{JournalState}
 use Rattle.sv_lifecycle.specs.Standing.{LiveState, live_world}
 use Rattle.sv_lifecycle.specs.declared.standing.Standing.{Standing}
+use Rattle.sv_lifecycle.specs.declared.standing.Standing.TheVariants.{Gone}
 use Rattle.sv_text.specs.declared.no_memory.NoMemory.{NoMemory}
 
--- the context, the order of its inits and the standings stay
+-- the context, what was initialised and the standings stay
 pub record StandsAsBefore {S F L : Type 0} (before after : LiveState S F L) : Type 0 where
   pub context : after.context ≡ before.context
-  pub order : after.order ≡ before.order
+  pub initialised : after.initialised ≡ before.initialised
   pub standings : after.standings ≡ before.standings
 
 -- the same but for the standing of one servlet
 pub record StandsBut {S F L : Type 0} (place : ℕ) (standing : Standing) (before after : LiveState S F L) : Type 0 where
   pub context : after.context ≡ before.context
-  pub order : after.order ≡ before.order
+  pub initialised : after.initialised ≡ before.initialised
   pub standings : after.standings ≡ slice_set before.standings place standing
 
 -- a component's answer, and want of memory in its place where the journal is broken

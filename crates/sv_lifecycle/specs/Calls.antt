@@ -13,39 +13,48 @@ use Rattle.sv_descriptor.specs.declared.servlet.ServletEntry.{ServletEntry}
 use Rattle.sv_descriptor.specs.declared.web_app.WebApp.{WebApp}
 use Rattle.sv_journal.specs.declared.event.Event.TheVariants.{ContextDestroyed, ContextInitialized}
 use Rattle.sv_listeners.specs.Telling.{told}
-use Rattle.sv_lifecycle.specs.Order.{FilterAt, Place, ServletAt}
+use Rattle.sv_lifecycle.specs.declared.order.Place.{Place}
+use Rattle.sv_lifecycle.specs.declared.order.Place.TheVariants.{Filter, Servlet}
 
--- the parameters of a component, as its descriptor lists them
-abbrev pub params_of : List InitParam → List Param
-params_of params = map (λ param. record { name = param.name; value = param.value }) params
+-- a name with parameters, as a descriptor lists them
+abbrev pub config_of : List ℕ → List InitParam → Config
+config_of its_name its_params = record { name = its_name; params = map (λ param. record { name = param.name; value = param.value }) its_params }
 
--- what the component at a place is begun with: its name and its parameters
+-- what a filter and a servlet are begun with
+abbrev pub filter_config : Option FilterEntry → Config
+filter_config (Some entry) = config_of entry.filter_name entry.init_params
+filter_config None = config_of [] []
+
+abbrev pub servlet_config : Option ServletEntry → Config
+servlet_config (Some entry) = config_of entry.servlet_name entry.init_params
+servlet_config None = config_of [] []
+
+-- what the component at a place of the descriptor is begun with
 abbrev pub config_at : WebApp → Place → Config
-config_at app (FilterAt place) = filter_config (slice_get app.filters place)
-  where
-    filter_config : Option FilterEntry → Config
-    filter_config (Some entry) = record { name = entry.filter_name; params = params_of entry.init_params }
-    filter_config None = record { name = []; params = [] }
-config_at app (ServletAt place) = servlet_config (slice_get app.servlets place)
-  where
-    servlet_config : Option ServletEntry → Config
-    servlet_config (Some entry) = record { name = entry.servlet_name; params = params_of entry.init_params }
-    servlet_config None = record { name = []; params = [] }
+config_at app (Filter place) = filter_config (slice_get app.filters place)
+config_at app (Servlet place) = servlet_config (slice_get app.servlets place)
+
+-- the init of a component
+abbrev pub init_record : Place → Config → Init → Record
+init_record (Filter place) config answer = OfFilter place (Inited config answer)
+init_record (Servlet place) config answer = OfServlet place (Inited config answer)
+
+-- the end of a component
+abbrev pub destroyed : Place → Record
+destroyed (Filter place) = OfFilter place Destroyed
+destroyed (Servlet place) = OfServlet place Destroyed
 
 -- a component that was begun, with its answer
 pub record Answered : Type 0 where
   pub place : Place
   pub answer : Init
 
--- its init
-abbrev pub inited : WebApp → Answered → Record
-inited app (record { place = FilterAt place; answer = answer }) = OfFilter place (Inited (config_at app (FilterAt place)) answer)
-inited app (record { place = ServletAt place; answer = answer }) = OfServlet place (Inited (config_at app (ServletAt place)) answer)
+abbrev pub places_of : List Answered → List Place
+places_of begun = map (λ answered. answered.place) begun
 
--- the end of a component
-abbrev pub destroyed : Place → Record
-destroyed (FilterAt place) = OfFilter place Destroyed
-destroyed (ServletAt place) = OfServlet place Destroyed
+-- the init of a component of the descriptor
+abbrev pub inited : WebApp → Answered → Record
+inited app answered = init_record answered.place (config_at app answered.place) answered.answer
 
 -- the calls of a start as far as it went: each listener hears that the context starts, then those components are begun
 abbrev pub start_calls : WebApp → List Answered → List Record
@@ -55,24 +64,24 @@ start_calls app begun = told ContextInitialized (length app.listeners) ++ map (i
 abbrev pub stop_calls : ℕ → List Place → List Record
 stop_calls listeners places = map destroyed (reverse places) ++ told ContextDestroyed listeners
 
+abbrev pub is_ready : Init → Bool
+is_ready Ready = true
+is_ready Unavailable = false
+is_ready Failed = false
+is_ready NoMemory = false
+
 -- the components that are initialised: those that answered that they can be called
 abbrev pub initialised : List Answered → List Place
-initialised begun = map (λ answered. answered.place) (filter (λ answered. is_ready answered.answer) begun)
-  where
-    is_ready : Init → Bool
-    is_ready Ready = true
-    is_ready Unavailable = false
-    is_ready Failed = false
-    is_ready NoMemory = false
+initialised begun = places_of (filter (λ answered. is_ready answered.answer) begun)
 
 -- the calls of a start that is undone: what was initialised is stopped
 abbrev pub undone_calls : WebApp → List Answered → List Record
 undone_calls app begun = start_calls app begun ++ stop_calls (length app.listeners) (initialised begun)
 
 -- whether the start goes on behind an answer: a servlet may be unavailable, a filter may not
-abbrev pub goes_on : Answered → Bool
-goes_on (record { place = place; answer = Ready }) = true
-goes_on (record { place = ServletAt place; answer = Unavailable }) = true
-goes_on (record { place = FilterAt place; answer = Unavailable }) = false
-goes_on (record { place = place; answer = Failed }) = false
-goes_on (record { place = place; answer = NoMemory }) = false
+abbrev pub lets_go_on : Place → Init → Bool
+lets_go_on place Ready = true
+lets_go_on (Servlet place) Unavailable = true
+lets_go_on (Filter place) Unavailable = false
+lets_go_on place Failed = false
+lets_go_on place NoMemory = false

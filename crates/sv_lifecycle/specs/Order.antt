@@ -1,21 +1,24 @@
 -- The order in which the components of a context are initialised (Jakarta Servlet 6.0, sections 2.3.1, 6.2.1 and 14.4).
-use Rattle.std.specs.Prelude.{◌≡◌, ℕ, ℤ, pos, ◌<◌, ◌≤◌, ◌⊎◌, List, ◌++◌, length, map, slice_get, Option, Some, None}
+use Rattle.std.specs.Prelude.{◌≡◌, ℕ, ℤ, pos, negsuc, ◌<◌, ◌≤◌, ◌⊎◌, List, ◌++◌, length, map, slice_get, Option, Some, None}
 use Rattle.std.specs.List.{AllAdjacentBelow, range_with_len}
 use Rattle.std.specs.List.Sorted.{IsPermutation}
 use Rattle.sv_descriptor.specs.declared.servlet.ServletEntry.{ServletEntry}
 use Rattle.sv_descriptor.specs.declared.web_app.WebApp.{WebApp}
+use Rattle.sv_lifecycle.specs.declared.order.Place.{Place}
+use Rattle.sv_lifecycle.specs.declared.order.Place.TheVariants.{Filter, Servlet}
 use Rattle.sv_lifecycle.specs.declared.order.TheConstants.{LAST}
 
 -- the rank of a load-on-startup: its number, and behind all numbers where there is none or a negative one
 abbrev pub rank_of : Option ℤ → ℕ
 rank_of (Some (pos number)) = number
-rank_of _ = LAST
+rank_of (Some (negsuc number)) = LAST
+rank_of None = LAST
 
 -- the rank of the servlet at a place
 abbrev pub rank_at : List ServletEntry → ℕ → ℕ
 rank_at servlets place = rank_found (slice_get servlets place)
   where
-    rank_found : Option ServletEntry → ℕ
+    abbrev rank_found : Option ServletEntry → ℕ
     rank_found (Some servlet) = rank_of servlet.load_on_startup
     rank_found None = LAST
 
@@ -29,11 +32,6 @@ pub record IsLoadOrder (servlets : List ServletEntry) (order : List ℕ) : Type 
   pub each_once : IsPermutation (range_with_len 0 (length servlets)) order
   pub in_order : AllAdjacentBelow (ComesFirst servlets) order (length order)
 
--- a filter or a servlet, by its place in the descriptor
-pub data Place : Type 0 where
-  FilterAt : ℕ → Place
-  ServletAt : ℕ → Place
-
 -- filters in the order of the descriptor, then servlets in the order of load-on-startup
 abbrev pub init_order : WebApp → List ℕ → List Place
-init_order app order = map FilterAt (range_with_len 0 (length app.filters)) ++ map ServletAt order
+init_order app order = map Filter (range_with_len 0 (length app.filters)) ++ map Servlet order

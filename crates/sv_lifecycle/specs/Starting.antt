@@ -1,18 +1,20 @@
 -- Starts of contexts (Jakarta Servlet 6.0, sections 2.3, 6.2.1 and 11.3): which calls were made, and what the result says of them.
-use Rattle.std.specs.Prelude.{◌≡◌, ℕ, ◌<◌, ◌⊎◌, Bool, true, false, List, [], ◌++◌, length, map, Option, None, Some, IfSome, IsSome, Result, Ok, Err, ⊥}
+use Rattle.std.specs.Prelude.{◌≡◌, ℕ, ◌<◌, ◌⊎◌, Bool, true, false, List, [], ◌++◌, length, Option, None, Some, IfSome, Result, Ok, Err, ⊥}
 use Rattle.std.specs.List.{All}
 use Rattle.std.specs.Option.{option_to_list}
 use Rattle.sv_component.specs.Call.{Call}
 use Rattle.sv_component.specs.Runs.{Grows, Record}
+use Rattle.sv_component.specs.declared.answers.Init.{Init}
 use Rattle.sv_component.specs.declared.answers.Init.TheVariants as inits
 use Rattle.sv_descriptor.specs.declared.web_app.WebApp.{WebApp}
 use Rattle.sv_journal.specs.Journal.{JournalState}
 use Rattle.sv_listeners.specs.Telling.{then_all}
-use Rattle.sv_lifecycle.specs.Calls.{Answered, goes_on, start_calls, undone_calls}
+use Rattle.sv_lifecycle.specs.Calls.{Answered, initialised, lets_go_on, places_of, start_calls, undone_calls}
 use Rattle.sv_lifecycle.specs.Fit.{Fits}
-use Rattle.sv_lifecycle.specs.Order.{IsLoadOrder, Place, init_order}
+use Rattle.sv_lifecycle.specs.Order.{IsLoadOrder, init_order}
 use Rattle.sv_lifecycle.specs.Standing.{LiveState, standing_after, standing_at}
 use Rattle.sv_lifecycle.specs.World.{world}
+use Rattle.sv_lifecycle.specs.declared.order.Place.{Place}
 use Rattle.sv_lifecycle.specs.declared.parts.Parts.{Parts}
 use Rattle.sv_lifecycle.specs.declared.start_fault.StartCode.{StartCode}
 use Rattle.sv_lifecycle.specs.declared.start_fault.StartCode.TheVariants.{PartsMismatch, InitFailed, NoMemory}
@@ -37,19 +39,19 @@ called attempt = attempt.begun ++ option_to_list attempt.stopper
 pub record GoesInOrder (app : WebApp) (attempt : Attempt) : Type 0 where
   pub order : IsLoadOrder app.servlets attempt.order
   pub left : List Place
-  pub front : init_order app attempt.order ≡ map (λ answered. answered.place) (called attempt) ++ left
-  pub begun : All (λ answered. goes_on answered ≡ true) attempt.begun
-  pub stopper : IfSome attempt.stopper (λ answered. goes_on answered ≡ false)
+  pub front : init_order app attempt.order ≡ places_of (called attempt) ++ left
+  pub begun : All (λ answered. lets_go_on answered.place answered.answer ≡ true) attempt.begun
+  pub stopper : IfSome attempt.stopper (λ answered. lets_go_on answered.place answered.answer ≡ false)
 
 -- the context stands: all components were begun, none failed, and the journal has every entry
 pub record Stands {S F L : Type 0} (its_context : List ℕ) (app : WebApp) (attempt : Attempt) (live : LiveState S F L) (after : JournalState) : Type 0 where
   pub goes : GoesInOrder app attempt
-  pub all : goes.left ≡ []
+  pub none_left : goes.left ≡ []
   pub none_failed : attempt.stopper ≡ None
   pub calls : attempt.calls ≡ start_calls app attempt.begun
   pub journal : after.whole ≡ true
   pub context : live.context ≡ its_context
-  pub order : live.order ≡ attempt.order
+  pub initialised : live.initialised ≡ initialised attempt.begun
   pub standings : (place : ℕ) → place < length app.servlets → standing_at live.standings place ≡ standing_after attempt.begun place
 
 -- nothing was called, and nobody was told
@@ -61,18 +63,26 @@ pub record IsUndone (app : WebApp) (attempt : Attempt) : Type 0 where
   pub goes : GoesInOrder app attempt
   pub calls : attempt.calls ≡ undone_calls app (called attempt)
 
--- whether the component that did not let the start go on lacked memory
-abbrev pub lacked_memory : Option Answered → Bool
-lacked_memory (Some (record { place = place; answer = inits.NoMemory })) = true
-lacked_memory _ = false
+abbrev pub is_no_memory : Init → Bool
+is_no_memory inits.Ready = false
+is_no_memory inits.Unavailable = false
+is_no_memory inits.Failed = false
+is_no_memory inits.NoMemory = true
+
+-- the component that did not let the start go on lacked memory
+abbrev pub LackedMemory : Attempt → Type 0
+LackedMemory attempt = (answered : Answered) × (attempt.stopper ≡ Some answered) × (is_no_memory answered.answer ≡ true)
+
+-- it failed
+abbrev pub InitHasFailed : Attempt → Type 0
+InitHasFailed attempt = (answered : Answered) × (attempt.stopper ≡ Some answered) × (is_no_memory answered.answer ≡ false)
 
 -- what a fault says: a mismatch comes first, and want of memory before a failed init
 abbrev pub Refuses : {S F L : Type 0} → WebApp → Parts S F L → Attempt → StartCode → JournalState → Type 0
 Refuses app parts attempt PartsMismatch after = (Fits app parts → ⊥) × DidNothing attempt
-Refuses app parts attempt InitFailed after =
-    Fits app parts × IsUndone app attempt × IsSome attempt.stopper × (lacked_memory attempt.stopper ≡ false) × (after.whole ≡ true)
+Refuses app parts attempt InitFailed after = Fits app parts × IsUndone app attempt × InitHasFailed attempt × (after.whole ≡ true)
 Refuses app parts attempt NoMemory after =
-    Fits app parts × (DidNothing attempt ⊎ (IsUndone app attempt × ((after.whole ≡ false) ⊎ (lacked_memory attempt.stopper ≡ true))))
+    Fits app parts × (DidNothing attempt ⊎ (IsUndone app attempt × ((after.whole ≡ false) ⊎ LackedMemory attempt)))
 
 -- what the result says of the start
 abbrev pub Means : {S F L : Type 0} → List ℕ → WebApp → Parts S F L → Attempt → Result (LiveState S F L) (StartFault S F L) → JournalState → Type 0

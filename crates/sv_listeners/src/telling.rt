@@ -1,6 +1,6 @@
 //! Each listener hears an event, in the telling order.
 
-ghost use Rattle.std.specs.Prelude.{◌≡◌, ◌<◌, length};
+ghost use Rattle.std.specs.Prelude.{◌≡◌, ◌-◌, ◌<◌, length, if◌then◌else◌};
 ghost use Rattle.sv_component.specs.Runs.{Moves, OfListener};
 ghost use Rattle.sv_listeners.specs.Telling.{Tells, is_end, listeners_alone};
 
@@ -21,7 +21,7 @@ pub fn tell<L: Listener>(
 {
     let count = listeners.len();
     for told in 0..count {
-        let place = if is_end(event) { count - 1 - told } else { told };
+        let place = hearing_place(event, count, told);
         hear(alloc, context, listeners, place, event, journal);
     }
 }
@@ -44,7 +44,19 @@ fn hear<L: Listener>(
     journal.note(Entry::told(alloc, context, place, event));
 }
 
-/// Whether a context, a request or a session ends: listeners hear of it in reverse.
+// The place of the listener that hears when so many of them have heard.
+fn hearing_place(event: &Event, count: usize, told: usize) -> usize
+    requires { told < count }
+    ensures { result ≡ (if is_end event.now then count - 1 - told else told) }
+{
+    if is_end(event) {
+        count - 1 - told
+    } else {
+        told
+    }
+}
+
+// Whether a context, a request or a session ends.
 fn is_end(event: &Event) -> bool
     ensures { result ≡ is_end event.now }
 {
