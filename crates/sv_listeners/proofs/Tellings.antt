@@ -5,7 +5,7 @@ use Rattle.std.specs.List.{range_with_len}
 use Rattle.std.proofs.lemmas.List.{get_or-map, get_or-reverse, length-map, length-reverse, take_all, take_more}
 use Rattle.std.proofs.lemmas.List.FromFn.{get_or-range_with_len, length-range_with_len}
 use Rattle.sv_component.specs.Call.{Call, Heard}
-use Rattle.sv_component.specs.Runs.{Grows, Moves, MovesAt, OfListener, Record, Runs}
+use Rattle.sv_component.specs.Runs.{Grows, Moves, MovesAt, OfListener, Runs}
 use Rattle.sv_component.specs.World.{World}
 use Rattle.sv_component.proofs.Running as running
 use Rattle.sv_journal.specs.Entry.{heard}
@@ -54,8 +54,8 @@ told_more event count done place within is =
     let len = length_by (is_end event) count in
     take_more records done (OfListener 0 event) (omega (arith, within, length_told event count))
     ∙ ap (λ r. take done records ++ r ∷ [])
-        (get_or-map (λ p. OfListener p event) (hearing_order event count) done 0 (OfListener 0 event) (omega (arith, within, len))
-        ∙ ap (λ p. OfListener p event) (order_at (is_end event) count done within ∙ sym is))
+    (get_or-map (λ p. OfListener p event) (hearing_order event count) done 0 (OfListener 0 event) (omega (arith, within, len))
+    ∙ ap (λ p. OfListener p event) (order_at (is_end event) count done within ∙ sym is))
 
 -- what listeners alone hear, in a world with servlets and filters
 module _ {S F L : Type 0} (ss : S → Call → S → Type 0) (fs : F → Call → F → Type 0) (ls : L → Call → L → Type 0) where
@@ -72,15 +72,16 @@ module _ {S F L : Type 0} (ss : S → Call → S → Type 0) (fs : F → Call �
       ap₂ (heard_world world) (ap (λ w. w.listeners) ran ∙ same_listeners) (ap (λ w. w.journal) ran ∙ same_journal)
   hearing_runs event (place ∷ places) world from to same_context same_listeners same_journal ran =
       let moves : Moves (λ _ _ _. Unit {0}) (λ _ _ _. Unit {0}) ls from (OfListener place event) ran.0 = ran.1 in
-      let middle : World S F L = heard_world world ran.0.listeners ran.0.journal in
-      (middle,
-      record {
-        component = (subst (λ all. MovesAt ls all place (Heard event) ran.0.listeners) same_listeners moves.component.0, refl, refl);
-        journal = subst (λ j. Takes j (heard world.context place event) ran.0.journal) same_journal
-            (subst (λ c. Takes from.journal (heard c place event) ran.0.journal) same_context moves.journal);
-        context = refl;
-      },
-      hearing_runs event places middle ran.0 to (moves.context ∙ same_context) refl refl ran.2)
+      let middle : World S F L = heard_world world ran.0.listeners ran.0.journal in (
+        middle,
+        record {
+          component = (subst (λ all. MovesAt ls all place (Heard event) ran.0.listeners) same_listeners moves.component.0, refl, refl);
+          journal = subst (λ j. Takes j (heard world.context place event) ran.0.journal) same_journal
+              (subst (λ c. Takes from.journal (heard c place event) ran.0.journal) same_context moves.journal);
+          context = refl;
+        },
+        hearing_runs event places middle ran.0 to (moves.context ∙ same_context) refl refl ran.2,
+      )
 
   pub told_in_world : (world : World S F L) (event : Event) (listeners : List L) (journal : JournalState)
       → Tells ls world.context event world.listeners world.journal listeners journal
@@ -92,4 +93,4 @@ module _ {S F L : Type 0} (ss : S → Call → S → Type 0) (fs : F → Call �
       let after = listeners_alone world.context listeners journal in
       running.runs_join ss fs ls from world (heard_world world listeners journal) done (map (λ place. OfListener place event) hearing) ran
       (hearing_runs event hearing world alone after refl refl refl
-          (running.runs_grown (λ _ _ _. Unit {0}) (λ _ _ _. Unit {0}) ls alone after (then_all (map (λ place. OfListener place event) hearing)) tells))
+      (running.runs_grown (λ _ _ _. Unit {0}) (λ _ _ _. Unit {0}) ls alone after (then_all (map (λ place. OfListener place event) hearing)) tells))

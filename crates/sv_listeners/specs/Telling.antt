@@ -48,4 +48,4 @@ listeners_alone its_context its_listeners its_journal = record {
 abbrev pub Tells : {L : Type 0} → (L → Call → L → Type 0) → List ℕ → Event → List L → JournalState → List L → JournalState → Type 0
 Tells listener_step context event listeners journal listeners_after journal_after =
     Grows (λ _ _ _. Unit {0}) (λ _ _ _. Unit {0}) listener_step
-        (listeners_alone context listeners journal) (then_all (told event (length listeners))) (listeners_alone context listeners_after journal_after)
+    (listeners_alone context listeners journal) (then_all (told event (length listeners))) (listeners_alone context listeners_after journal_after)
