@@ -31,8 +31,8 @@ unless_broken journal no_memory answer = if journal.whole then answer else no_me
 
 module _ {S F L : Type 0} (servlet_step : S → Call → S → Type 0) (filter_step : F → Call → F → Type 0) (listener_step : L → Call → L → Type 0) where
   -- this one call is made and noted, and what stands stays
-  pub record CallsOnce (before : LiveState S F L) (noted : JournalState) (made : Record) (after : LiveState S F L) (noted_after : JournalState) : Type 0 where
-    pub made : Grows servlet_step filter_step listener_step (live_world before noted) (then_made made) (live_world after noted_after)
+  pub record CallsOnce (before : LiveState S F L) (noted : JournalState) (call : Record) (after : LiveState S F L) (noted_after : JournalState) : Type 0 where
+    pub made : Grows servlet_step filter_step listener_step (live_world before noted) (then_made call) (live_world after noted_after)
     pub stands : StandsAsBefore before after
 
   -- the servlet at the place answers the exchange for a turn

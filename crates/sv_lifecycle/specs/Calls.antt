@@ -16,9 +16,12 @@ use Rattle.sv_listeners.specs.Telling.{told}
 use Rattle.sv_lifecycle.specs.declared.order.Place.{Place}
 use Rattle.sv_lifecycle.specs.declared.order.Place.TheVariants.{Filter, Servlet}
 
+abbrev pub params_of : List InitParam → List Param
+params_of params = map (λ param. record { name = param.name; value = param.value }) params
+
 -- a name with parameters, as a descriptor lists them
 abbrev pub config_of : List ℕ → List InitParam → Config
-config_of its_name its_params = record { name = its_name; params = map (λ param. record { name = param.name; value = param.value }) its_params }
+config_of its_name its_params = record { name = its_name; params = params_of its_params }
 
 -- what a filter and a servlet are begun with
 abbrev pub filter_config : Option FilterEntry → Config

@@ -1,5 +1,6 @@
 -- The order in which the components of a context are initialised (Jakarta Servlet 6.0, sections 2.3.1, 6.2.1 and 14.4).
 use Rattle.std.specs.Prelude.{◌≡◌, ℕ, ℤ, pos, negsuc, ◌<◌, ◌≤◌, ◌⊎◌, List, ◌++◌, length, map, slice_get, Option, Some, None}
+use Rattle.std.specs.Option.{option_and_then}
 use Rattle.std.specs.List.{AllAdjacentBelow, range_with_len}
 use Rattle.std.specs.List.Sorted.{IsPermutation}
 use Rattle.sv_descriptor.specs.declared.servlet.ServletEntry.{ServletEntry}
@@ -16,11 +17,7 @@ rank_of None = LAST
 
 -- the rank of the servlet at a place
 abbrev pub rank_at : List ServletEntry → ℕ → ℕ
-rank_at servlets place = rank_found (slice_get servlets place)
-  where
-    abbrev rank_found : Option ServletEntry → ℕ
-    rank_found (Some servlet) = rank_of servlet.load_on_startup
-    rank_found None = LAST
+rank_at servlets place = rank_of (option_and_then (λ servlet. servlet.load_on_startup) (slice_get servlets place))
 
 -- lower ranks come first, and of equal ones the servlet that the descriptor declares first
 abbrev pub ComesFirst : List ServletEntry → ℕ → ℕ → Type 0

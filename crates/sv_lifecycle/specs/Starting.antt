@@ -1,5 +1,5 @@
 -- Starts of contexts (Jakarta Servlet 6.0, sections 2.3, 6.2.1 and 11.3): which calls were made, and what the result says of them.
-use Rattle.std.specs.Prelude.{◌≡◌, ℕ, ◌<◌, ◌⊎◌, Bool, true, false, List, [], ◌++◌, length, Option, None, Some, IfSome, Result, Ok, Err, ⊥}
+use Rattle.std.specs.Prelude.{◌≡◌, ℕ, ◌<◌, ◌⊎◌, Bool, true, false, List, [], ◌++◌, length, Option, None, Some, IfSome, Result, Ok, Err}
 use Rattle.std.specs.List.{All}
 use Rattle.std.specs.Option.{option_to_list}
 use Rattle.sv_component.specs.Call.{Call}
@@ -99,3 +99,9 @@ pub record Starts {S F L : Type 0} (servlet_step : S → Call → S → Type 0) 
   pub attempt : Attempt
   pub made : Grows servlet_step filter_step listener_step (world context parts before) (then_all attempt.calls) (world context (parts_in result) after)
   pub means : Means context app parts attempt result after
+
+-- why a start is refused that was undone, by the answer of the component that stopped it and by whether the journal is whole
+abbrev pub code_of : Option Init → Bool → StartCode
+code_of (Some inits.NoMemory) whole = NoMemory
+code_of stopper false = NoMemory
+code_of stopper true = InitFailed

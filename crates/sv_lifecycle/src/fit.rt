@@ -1,6 +1,6 @@
 //! Whether components are those of a descriptor.
 
-ghost use Rattle.std.specs.Prelude.{◌≡◌, map, MatchBool, ⊥};
+ghost use Rattle.std.specs.Prelude.{◌≡◌, map, MatchBool};
 ghost use Rattle.sv_lifecycle.specs.Fit.{Fits};
 
 use crate::parts::Parts;

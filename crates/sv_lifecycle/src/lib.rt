@@ -2,6 +2,7 @@
 #![tactic(auto)]
 
 mod begin;
+mod calling;
 mod calls;
 mod configs;
 mod fit;

@@ -10,7 +10,7 @@ use sv_descriptor::{ServletEntry, WebApp};
 use sv_text::NoMemory;
 
 /// A filter or a servlet, by its place in the descriptor, from 0.
-#[derive(Clone, Copy, Debug, PartialEq, Eq)]
+#[derive(Clone, Copy)]
 pub enum Place {
     Filter(usize),
     Servlet(usize),

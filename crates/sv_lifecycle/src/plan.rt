@@ -1,7 +1,8 @@
 //! What a start needs memory for.
 
-ghost use Rattle.std.specs.Prelude.{IfOk};
+ghost use Rattle.std.specs.Prelude.{◌≡◌, IfOk, replicate};
 ghost use Rattle.sv_lifecycle.specs.Plan.{IsPlan};
+ghost use Rattle.sv_lifecycle.specs.declared.standing.Standing.TheVariants as standings;
 
 use crate::configs::configs;
 use crate::order::{Place, in_init_order, load_order};
@@ -37,4 +38,14 @@ impl Plan {
         let standings = all_serving(alloc, servlets.len())?;
         Ok(Plan { context, order, configs, standings })
     }
+}
+
+fn all_serving(alloc: Global, count: usize) -> Result<Vec<Standing>, NoMemory>
+    ensures { IfOk result (λ all. all.items ≡ replicate count standings.Serving) }
+{
+    let mut all = Vec::with_capacity(alloc, count)?;
+    for _ in 0..count {
+        all.push(Standing::Serving)?;
+    }
+    Ok(all)
 }

@@ -1,0 +1,5 @@
+pub mod Beginning
+pub mod ByPlace
+pub mod Fitting
+pub mod Moving
+pub mod Ordering
