@@ -51,6 +51,9 @@ pub record Stands {S F L : Type 0} (its_context : List ℕ) (app : WebApp) (atte
   pub calls : attempt.calls ≡ start_calls app attempt.begun
   pub journal : after.whole ≡ true
   pub context : live.context ≡ its_context
+  pub servlets : length live.parts.servlets.items ≡ length app.servlets
+  pub filters : length live.parts.filters.items ≡ length app.filters
+  pub listeners : length live.parts.listeners.items ≡ length app.listeners
   pub initialised : live.initialised ≡ initialised attempt.begun
   pub standings : (place : ℕ) → place < length app.servlets → standing_at live.standings place ≡ standing_after attempt.begun place
 

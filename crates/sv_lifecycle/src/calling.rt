@@ -18,6 +18,20 @@ use sv_journal::Journal;
 use sv_text::NoMemory;
 
 impl<S: Servlet, F: Filter, L: Listener> Live<S, F, L> {
+    /// How many servlets there are.
+    pub fn servlets(&self) -> usize
+        ensures { result ≡ length self.now.parts.servlets.items }
+    {
+        self.parts.servlets.len()
+    }
+
+    /// How many filters there are.
+    pub fn filters(&self) -> usize
+        ensures { result ≡ length self.now.parts.filters.items }
+    {
+        self.parts.filters.len()
+    }
+
     /// How the servlet at the place stands.
     pub fn standing(&self, place: usize) -> Standing
         requires { place < length self.now.parts.servlets.items }
