@@ -52,11 +52,11 @@ plan_places its_context app parts plan fits is_plan =
     let servlets : length parts.servlets.items ≡ length app.servlets = same_length (λ named. named.name) (λ servlet. servlet.servlet_name) parts.servlets.items app.servlets fits.servlets in
     let filters : length parts.filters.items ≡ length app.filters = same_length (λ named. named.name) (λ filter. filter.filter_name) parts.filters.items app.filters fits.filters in
     let below : All (λ place. place < length app.servlets) is_plan.loaded =
-        All-permutation (λ place. place < length app.servlets) (range_with_len 0 (length app.servlets)) is_plan.loaded is_plan.is_order.each_once (all_below (length app.servlets)) in
+    All-permutation (λ place. place < length app.servlets) (range_with_len 0 (length app.servlets)) is_plan.loaded is_plan.is_order.each_once (all_below (length app.servlets)) in
     subst (All (IsPlaceIn parts)) (sym is_plan.order)
     (All-append (IsPlaceIn parts) (map places.Filter (range_with_len 0 (length app.filters))) (map places.Servlet is_plan.loaded)
-        (All-map (IsPlaceIn parts) places.Filter (range_with_len 0 (length app.filters)) (λ k d within. omega (arith, filters, all_below (length app.filters) k d within)))
-        (All-map (IsPlaceIn parts) places.Servlet is_plan.loaded (λ k d within. omega (arith, servlets, below k d within))))
+    (All-map (IsPlaceIn parts) places.Filter (range_with_len 0 (length app.filters)) (λ k d within. omega (arith, filters, all_below (length app.filters) k d within)))
+    (All-map (IsPlaceIn parts) places.Servlet is_plan.loaded (λ k d within. omega (arith, servlets, below k d within))))
 
 pub plan_standings : {S F L : Type 0} (its_context : List ℕ) (app : WebApp) (parts after : Parts S F L) (plan : Plan) → Fits app parts → IsPlan its_context app plan → HasSameCounts parts after
     → length after.servlets.items ≡ length app.servlets
@@ -68,13 +68,13 @@ pub initialised_there : (P : Place → Type 0) (order : List Place) (begun more 
 initialised_there P order begun more left is there =
     let ready : Answered → Bool = λ answered. is_ready answered.answer in
     let front : order ≡ places_of begun ++ (places_of more ++ left) =
-        is ∙ ap (λ f. f ++ left) (map-append (λ a. a.place) begun more) ∙ append_assoc (places_of begun) (places_of more) left in
+    is ∙ ap (λ f. f ++ left) (map-append (λ a. a.place) begun more) ∙ append_assoc (places_of begun) (places_of more) left in
     let each : All (λ answered. P answered.place) begun = λ k d within.
-        let low = length-map begun (λ a. a.place) in
-        subst P (ap (λ xs. get_or xs k d.place) front
-            ∙ get_or_append_left (places_of begun) (places_of more ++ left) d.place k (omega (arith, within, low))
-            ∙ get_or-map (λ a. a.place) begun k d d.place within)
-        (there k d.place (omega (arith, within, low, ap length front, length-append (places_of begun) (places_of more ++ left)))) in
+    let low = length-map begun (λ a. a.place) in
+    subst P (ap (λ xs. get_or xs k d.place) front
+    ∙ get_or_append_left (places_of begun) (places_of more ++ left) d.place k (omega (arith, within, low))
+    ∙ get_or-map (λ a. a.place) begun k d d.place within)
+    (there k d.place (omega (arith, within, low, ap length front, length-append (places_of begun) (places_of more ++ left)))) in
     All-map P (λ a. a.place) (filter ready begun) (All-filter ready (λ answered. P answered.place) begun each)
 
 none_of : {A B : Type 0} (f : A → B) (found : Option A) → option_map f found ≡ None → found ≡ None
@@ -131,19 +131,22 @@ module _ {S F L : Type 0} (ss : S → Call → S → Type 0) (fs : F → Call �
         attempt = record { order = is_plan.loaded; begun = begins.begun; stopper = begins.stopper; calls = start_calls app begins.begun };
         made = subst (λ begun. Grows ss fs ls (world plan.context parts noted) (then_all (start_calls app begun)) (world plan.context after noted_after)) all
             (begin_calls app parts told_parts plan noted told_noted how_far after plan_after noted_after fits tells begins);
-        means = (fits, record {
-          goes = goes_in_order app told_parts plan told_noted how_far after plan_after noted_after is_plan begins (start_calls app begins.begun);
-          none_left = begins.whole no_stopper is_whole;
-          none_failed = no_stopper;
-          calls = refl;
-          journal = is_whole;
-          context = begins.context;
-          servlets = counts.servlets ∙ same_length (λ named. named.name) (λ servlet. servlet.servlet_name) parts.servlets.items app.servlets fits.servlets;
-          filters = counts.filters ∙ same_length (λ named. named.name) (λ filter. filter.filter_name) parts.filters.items app.filters fits.filters;
-          listeners = counts.listeners ∙ fits.listeners;
-          initialised = is_kept ∙ begins.kept;
-          standings = λ place within. begins.standings place (omega (arith, within, rooms));
-        });
+        means = (
+          fits,
+          record {
+            goes = goes_in_order app told_parts plan told_noted how_far after plan_after noted_after is_plan begins (start_calls app begins.begun);
+            none_left = begins.whole no_stopper is_whole;
+            none_failed = no_stopper;
+            calls = refl;
+            journal = is_whole;
+            context = begins.context;
+            servlets = counts.servlets ∙ same_length (λ named. named.name) (λ servlet. servlet.servlet_name) parts.servlets.items app.servlets fits.servlets;
+            filters = counts.filters ∙ same_length (λ named. named.name) (λ filter. filter.filter_name) parts.filters.items app.filters fits.filters;
+            listeners = counts.listeners ∙ fits.listeners;
+            initialised = is_kept ∙ begins.kept;
+            standings = λ place within. begins.standings place (omega (arith, within, rooms));
+          },
+        );
       }
 
 not_ready : (place : Place) (answer : Init) → lets_go_on place answer ≡ false → is_ready answer ≡ false
@@ -203,8 +206,8 @@ module _ {S F L : Type 0} (ss : S → Call → S → Type 0) (fs : F → Call �
         calls = refl;
       } in
       let stays : begins.stopper ≡ None → noted_ended.whole ≡ false = λ none.
-          stays_broken noted_after.whole noted_ended.whole (broken (begins.answer ∙ ap (option_map (λ answered. answered.answer)) none))
-          (was_whole (world plan.context after noted_after) (world plan.context ended noted_ended) (stop_calls (length after.listeners.items) kept) ends) in
+      stays_broken noted_after.whole noted_ended.whole (broken (begins.answer ∙ ap (option_map (λ answered. answered.answer)) none))
+      (was_whole (world plan.context after noted_after) (world plan.context ended noted_ended) (stop_calls (length after.listeners.items) kept) ends) in
       let code : why ≡ code_of (option_map (λ answered. answered.answer) begins.stopper) noted_ended.whole = is_why ∙ ap (λ stopper. code_of stopper noted_ended.whole) begins.answer in
       record {
         attempt = its_attempt;
@@ -212,7 +215,7 @@ module _ {S F L : Type 0} (ss : S → Call → S → Type 0) (fs : F → Call �
             (start_calls app all) (stop_calls (length app.listeners) (initialised all))
             (begin_calls ss fs ls app parts told_parts plan noted told_noted how_far after plan_after noted_after fits tells begins)
             (subst (λ n. Grows ss fs ls (world plan.context after noted_after) (then_all (stop_calls n (initialised all))) (world plan.context ended noted_ended)) (count ∙ fits.listeners)
-                (subst (λ xs. Grows ss fs ls (world plan.context after noted_after) (then_all (stop_calls (length after.listeners.items) xs)) (world plan.context ended noted_ended)) places ends));
+            (subst (λ xs. Grows ss fs ls (world plan.context after noted_after) (then_all (stop_calls (length after.listeners.items) xs)) (world plan.context ended noted_ended)) places ends));
         means = subst (λ c. Refuses app parts its_attempt c noted_ended) (sym code)
             (refused app parts its_attempt noted_ended fits is_undone begins.stopper refl noted_ended.whole refl stays);
       }
@@ -250,6 +253,7 @@ module _ {S F L : Type 0} (ss : S → Call → S → Type 0) (fs : F → Call �
       → All (IsPlaceIn after) kept × (length plan_after.standings.items ≡ length after.servlets.items)
   kept_there app parts told_parts plan noted how_far after plan_after noted_after kept fits is_plan counts begins is_kept =
       let all = plan_places plan.context app parts plan fits is_plan in
-      let begun = initialised_there (IsPlaceIn parts) plan.order.items begins.begun (option_to_list begins.stopper) begins.left begins.front all in
-      (subst (All (IsPlaceIn after)) (sym (is_kept ∙ begins.kept)) (all_kept parts after counts (initialised begins.begun) begun),
-      begins.rooms ∙ ap length is_plan.standings ∙ length-replicate (length app.servlets) Serving ∙ sym (plan_standings plan.context app parts after plan fits is_plan counts))
+      let begun = initialised_there (IsPlaceIn parts) plan.order.items begins.begun (option_to_list begins.stopper) begins.left begins.front all in (
+        subst (All (IsPlaceIn after)) (sym (is_kept ∙ begins.kept)) (all_kept parts after counts (initialised begins.begun) begun),
+        begins.rooms ∙ ap length is_plan.standings ∙ length-replicate (length app.servlets) Serving ∙ sym (plan_standings plan.context app parts after plan fits is_plan counts),
+      )

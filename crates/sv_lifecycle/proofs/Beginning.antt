@@ -97,7 +97,7 @@ module _ {S F L : Type 0} (ss : S → Call → S → Type 0) (fs : F → Call �
       let answered : Answered = record { place = its_place; answer = its_answer } in
       subst (λ records. Grows ss fs ls start (then_all records) after) (sym (map_push (inited app) begun answered))
       (grows_more ss fs ls start before after (map (inited app) begun) (inited app answered) so_far
-          (subst (λ c. Moves ss fs ls before (init_record its_place c its_answer) after) is moves))
+      (subst (λ c. Moves ss fs ls before (init_record its_place c its_answer) after) is moves))
 
   -- what is known between two inits
   pub record SoFar (parts : Parts S F L) (plan : Plan) (noted : JournalState) (step count : ℕ) (now_parts : Parts S F L) (now_plan : Plan) (now_noted : JournalState) : Type 0 where

@@ -19,4 +19,4 @@ module _ {S F L : Type 0} (ss : S → Call → S → Type 0) (fs : F → Call �
   stops before opened text places noted after noted_after is named are grows =
       subst (λ live. Grows ss fs ls (live_world live noted) (then_all (stop_calls (length live.parts.listeners.items) (in_service live))) (world live.context after noted_after)) is
       (subst (λ context. Grows ss fs ls (world context opened.parts noted) (then_all (stop_calls (length opened.parts.listeners.items) (in_service opened))) (world context after noted_after)) named
-          (subst (λ all. Grows ss fs ls (world text opened.parts noted) (then_all (stop_calls (length opened.parts.listeners.items) all)) (world text after noted_after)) are grows))
+      (subst (λ all. Grows ss fs ls (world text opened.parts noted) (then_all (stop_calls (length opened.parts.listeners.items) all)) (world text after noted_after)) are grows))

@@ -73,4 +73,4 @@ back_more places done place within =
     let all = length-map (reverse places) destroyed in
     take_more (map destroyed (reverse places)) done (destroyed place) (omega (arith, within, len, all))
     ∙ ap (λ made. take done (map destroyed (reverse places)) ++ made ∷ [])
-        (get_or-map destroyed (reverse places) done place (destroyed place) (omega (arith, within, len)) ∙ ap destroyed (get_or-reverse places done place within))
+    (get_or-map destroyed (reverse places) done place (destroyed place) (omega (arith, within, len)) ∙ ap destroyed (get_or-reverse places done place within))

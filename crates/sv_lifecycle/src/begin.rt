@@ -42,16 +42,31 @@ pub(crate) fn begin_all<S: Servlet, F: Filter, L: Listener>(
     let mut initialised = 0;
     for step in 0..plan.order.len() {
         if !journal.whole() {
-            return Begun { initialised, stopper: None };
+            return Begun {
+                initialised,
+                stopper: None,
+            };
         }
         let place = plan.order[step];
-        let answer = parts.init(alloc, plan.context.as_str(), place, &plan.configs[step], journal);
+        let answer = parts.init(
+            alloc,
+            plan.context.as_str(),
+            place,
+            &plan.configs[step],
+            journal,
+        );
         if !lets_go_on(place, answer) {
-            return Begun { initialised, stopper: Some(answer) };
+            return Begun {
+                initialised,
+                stopper: Some(answer),
+            };
         }
         initialised = plan.keep(initialised, place, answer);
     }
-    Begun { initialised, stopper: None }
+    Begun {
+        initialised,
+        stopper: None,
+    }
 }
 
 // Whether the start goes on behind an answer.

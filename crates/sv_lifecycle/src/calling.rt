@@ -74,7 +74,9 @@ impl<S: Servlet, F: Filter, L: Listener> Live<S, F, L> {
             self.old journal.old place exchange.old result self.new journal.new exchange.new }
         ensures reached { Changes exchange.old exchange.new }
     {
-        let gate = self.parts.before(alloc, self.context.as_str(), place, exchange, journal);
+        let gate = self
+            .parts
+            .before(alloc, self.context.as_str(), place, exchange, journal);
         gate_unless_broken(journal, gate)
     }
 
@@ -92,7 +94,9 @@ impl<S: Servlet, F: Filter, L: Listener> Live<S, F, L> {
             self.old journal.old place exchange.old result self.new journal.new exchange.new }
         ensures reached { Changes exchange.old exchange.new }
     {
-        let done = self.parts.after(alloc, self.context.as_str(), place, exchange, journal);
+        let done = self
+            .parts
+            .after(alloc, self.context.as_str(), place, exchange, journal);
         done_unless_broken(journal, done)
     }
 
@@ -102,7 +106,8 @@ impl<S: Servlet, F: Filter, L: Listener> Live<S, F, L> {
         requires not_gone { is_gone (standing_at self.old.standings place) ≡ false }
         ensures { Retires S.servlet_step F.filter_step L.listener_step self.old journal.old place self.new journal.new }
     {
-        self.parts.destroy_servlet(alloc, self.context.as_str(), place, journal);
+        self.parts
+            .destroy_servlet(alloc, self.context.as_str(), place, journal);
         self.standings[place] = Standing::Gone;
     }
 
@@ -122,20 +127,29 @@ impl<S: Servlet, F: Filter, L: Listener> Live<S, F, L> {
             (live_world self.old journal.old) (then_all (told event.now (length self.old.parts.listeners.items))) (live_world self.new journal.new) }
         ensures stands { StandsAsBefore self.old self.new }
     {
-        self.parts.tell(alloc, self.context.as_str(), event, journal);
+        self.parts
+            .tell(alloc, self.context.as_str(), event, journal);
     }
 }
 
 fn step_unless_broken(journal: &Journal, step: Step) -> Step
     ensures { result ≡ unless_broken journal.now steps.NoMemory step }
 {
-    if journal.whole() { step } else { Step::NoMemory }
+    if journal.whole() {
+        step
+    } else {
+        Step::NoMemory
+    }
 }
 
 fn gate_unless_broken(journal: &Journal, gate: Gate) -> Gate
     ensures { result ≡ unless_broken journal.now gates.NoMemory gate }
 {
-    if journal.whole() { gate } else { Gate::NoMemory }
+    if journal.whole() {
+        gate
+    } else {
+        Gate::NoMemory
+    }
 }
 
 fn done_unless_broken(journal: &Journal, done: Result<(), NoMemory>) -> Result<(), NoMemory>

@@ -33,7 +33,13 @@ impl<S: Servlet, F: Filter, L: Listener> Parts<S, F, L> {
             (world context.now self.old journal.old) (then_all (told event.now (length self.old.listeners.items))) (world context.now self.new journal.new) }
         ensures counts { HasSameCounts self.old self.new }
     {
-        sv_listeners::tell(alloc, context, self.listeners.as_mut_slice(), event, journal);
+        sv_listeners::tell(
+            alloc,
+            context,
+            self.listeners.as_mut_slice(),
+            event,
+            journal,
+        );
     }
 
     /// Begins the servlet at the place.
@@ -76,7 +82,13 @@ impl<S: Servlet, F: Filter, L: Listener> Parts<S, F, L> {
         let named = &mut self.servlets[place];
         let step = named.component.service(alloc, exchange, turn);
         let noted = some_answer(step_answer(alloc, &step));
-        journal.note(Entry::of_servlet(alloc, context, named.name.as_str(), CallName::Service(turn), noted));
+        journal.note(Entry::of_servlet(
+            alloc,
+            context,
+            named.name.as_str(),
+            CallName::Service(turn),
+            noted,
+        ));
         step
     }
 
@@ -95,7 +107,13 @@ impl<S: Servlet, F: Filter, L: Listener> Parts<S, F, L> {
     {
         let named = &mut self.servlets[place];
         named.component.destroy();
-        journal.note(Entry::of_servlet(alloc, context, named.name.as_str(), CallName::Destroy, Ok(None)));
+        journal.note(Entry::of_servlet(
+            alloc,
+            context,
+            named.name.as_str(),
+            CallName::Destroy,
+            Ok(None),
+        ));
     }
 
     /// Begins the filter at the place.
@@ -137,7 +155,13 @@ impl<S: Servlet, F: Filter, L: Listener> Parts<S, F, L> {
         let named = &mut self.filters[place];
         let gate = named.component.before(alloc, exchange);
         let noted = some_answer(gate_answer(alloc, &gate));
-        journal.note(Entry::of_filter(alloc, context, named.name.as_str(), CallName::Before, noted));
+        journal.note(Entry::of_filter(
+            alloc,
+            context,
+            named.name.as_str(),
+            CallName::Before,
+            noted,
+        ));
         gate
     }
 
@@ -158,7 +182,13 @@ impl<S: Servlet, F: Filter, L: Listener> Parts<S, F, L> {
     {
         let named = &mut self.filters[place];
         let done = named.component.after(alloc, exchange);
-        journal.note(Entry::of_filter(alloc, context, named.name.as_str(), CallName::After, Ok(None)));
+        journal.note(Entry::of_filter(
+            alloc,
+            context,
+            named.name.as_str(),
+            CallName::After,
+            Ok(None),
+        ));
         done
     }
 
@@ -177,7 +207,13 @@ impl<S: Servlet, F: Filter, L: Listener> Parts<S, F, L> {
     {
         let named = &mut self.filters[place];
         named.component.destroy();
-        journal.note(Entry::of_filter(alloc, context, named.name.as_str(), CallName::Destroy, Ok(None)));
+        journal.note(Entry::of_filter(
+            alloc,
+            context,
+            named.name.as_str(),
+            CallName::Destroy,
+            Ok(None),
+        ));
     }
 
     /// Begins the component at the place.

@@ -30,11 +30,19 @@ fn config_at(alloc: Global, app: &WebApp, place: Place) -> Result<Config, NoMemo
 {
     match place {
         Place::Filter(place) => match app.filters.as_slice().get(place) {
-            Some(filter) => config_of(alloc, filter.filter_name.as_str(), filter.init_params.as_slice()),
+            Some(filter) => config_of(
+                alloc,
+                filter.filter_name.as_str(),
+                filter.init_params.as_slice(),
+            ),
             None => config_of(alloc, "", &[]),
         },
         Place::Servlet(place) => match app.servlets.as_slice().get(place) {
-            Some(servlet) => config_of(alloc, servlet.servlet_name.as_str(), servlet.init_params.as_slice()),
+            Some(servlet) => config_of(
+                alloc,
+                servlet.servlet_name.as_str(),
+                servlet.init_params.as_slice(),
+            ),
             None => config_of(alloc, "", &[]),
         },
     }

@@ -46,10 +46,7 @@ fn add_servlets(all: &mut Vec<Place>, order: &[usize]) -> Result<(), NoMemory>
 }
 
 /// The places of the servlets in the order of load-on-startup.
-pub(crate) fn load_order(
-    alloc: Global,
-    servlets: &[ServletEntry],
-) -> Result<Vec<usize>, NoMemory>
+pub(crate) fn load_order(alloc: Global, servlets: &[ServletEntry]) -> Result<Vec<usize>, NoMemory>
     ensures { IfOk result (λ order. IsLoadOrder servlets.now order.items) }
 {
     let mut order = all_places(alloc, servlets.len())?;

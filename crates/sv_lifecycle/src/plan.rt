@@ -36,7 +36,12 @@ impl Plan {
         let order = in_init_order(alloc, app, loaded.as_slice())?;
         let configs = configs(alloc, app, order.as_slice())?;
         let standings = all_serving(alloc, servlets.len())?;
-        Ok(Plan { context, order, configs, standings })
+        Ok(Plan {
+            context,
+            order,
+            configs,
+            standings,
+        })
     }
 }
 

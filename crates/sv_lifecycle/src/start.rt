@@ -68,9 +68,20 @@ impl<S: Servlet, F: Filter, L: Listener> Live<S, F, L> {
         ensures { Grows S.servlet_step F.filter_step L.listener_step
             (live_world self journal.old) (then_all (stop_calls (length self.parts.listeners.items) (in_service self))) (world self.context result journal.new) }
     {
-        let Live { context, mut parts, mut initialised, standings } = self;
+        let Live {
+            context,
+            mut parts,
+            mut initialised,
+            standings,
+        } = self;
         initialised.retain(|place| is_in_service(standings.as_slice(), *place));
-        end_all(alloc, context.as_str(), &mut parts, initialised.as_slice(), journal);
+        end_all(
+            alloc,
+            context.as_str(),
+            &mut parts,
+            initialised.as_slice(),
+            journal,
+        );
         parts
     }
 }
@@ -88,14 +99,35 @@ fn run<S: Servlet, F: Filter, L: Listener>(
 {
     let mut parts = parts;
     let mut plan = plan;
-    parts.tell(alloc, plan.context.as_str(), &Event::ContextInitialized, journal);
+    parts.tell(
+        alloc,
+        plan.context.as_str(),
+        &Event::ContextInitialized,
+        journal,
+    );
     let begun = begin_all(alloc, &mut parts, &mut plan, journal);
-    let Plan { context, mut order, standings, .. } = plan;
+    let Plan {
+        context,
+        mut order,
+        standings,
+        ..
+    } = plan;
     order.truncate(begun.initialised);
     if begun.stopper.is_none() && journal.whole() {
-        return Ok(Live { context, parts, initialised: order, standings });
+        return Ok(Live {
+            context,
+            parts,
+            initialised: order,
+            standings,
+        });
     }
-    end_all(alloc, context.as_str(), &mut parts, order.as_slice(), journal);
+    end_all(
+        alloc,
+        context.as_str(),
+        &mut parts,
+        order.as_slice(),
+        journal,
+    );
     let code = code_of(begun.stopper, journal.whole());
     Err(StartFault { code, parts })
 }

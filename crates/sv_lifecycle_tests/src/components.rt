@@ -16,7 +16,9 @@ pub struct Probe {
 pub struct Quiet {}
 
 pub type TestParts = Parts<Probe, Probe, Quiet>;
+
 pub type TestLive = Live<Probe, Probe, Quiet>;
+
 pub type TestFault = StartFault<Probe, Probe, Quiet>;
 
 impl Servlet for Probe {

@@ -38,7 +38,17 @@ fn push_servlet(text: &mut String, word: &str) -> Result<(), NoMemory> {
 }
 
 fn push_named(text: &mut String, kind: &str, name: &str) -> Result<(), NoMemory> {
-    for piece in ["[[", kind, "]]\n", kind, "-name = \"", name, "\"\n", kind, "-class = \"Probe\"\n"] {
+    for piece in [
+        "[[",
+        kind,
+        "]]\n",
+        kind,
+        "-name = \"",
+        name,
+        "\"\n",
+        kind,
+        "-class = \"Probe\"\n",
+    ] {
         text.push_str(piece)?;
     }
     Ok(())

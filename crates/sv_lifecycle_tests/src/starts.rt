@@ -86,7 +86,11 @@ fn word_of(standing: Standing) -> &'static str {
 }
 
 fn refused(alloc: Global, fault: &TestFault) -> Result<String, NoMemory> {
-    let TestParts { servlets, filters, listeners } = &fault.parts;
+    let TestParts {
+        servlets,
+        filters,
+        listeners,
+    } = &fault.parts;
     Ok(format!(in alloc;
         "{} {} {} {} {}",
         fault.code.number(),

@@ -18,7 +18,8 @@ loop-step-init g c = record {
   configs = refl;
   context = refl;
   so_far = λ app same. so_far_none g.S.Servlet.servlet_step g.F.Filter.filter_step g.L.Listener.listener_step app c.args.parts.now c.args.plan.now c.args.journal.now
-      (all_serve (length c.args.parts.now.servlets.items) c.args.plan.now.standings.items c.requires.standings) }
+      (all_serve (length c.args.parts.now.servlets.items) c.args.plan.now.standings.items c.requires.standings);
+}
 
 pub returns-then-not-whole-clause-begins : goal.returns-then-not-whole-clause-begins
 returns-then-not-whole-clause-begins g c = λ app same.
@@ -42,10 +43,10 @@ returns-then-not-lets_go_on-clause-begins g c = λ app same.
     let within : c.loop-step.step < length order = omega (arith, c.loop-step-test.true, c.len-step-end.ensures, c.args.plan.now.order.ok.0) in
     let is : place ≡ get_or order c.loop-step.step place = c.index-place.ensures ∙ same_in_rest c.loop-step.plan.order.items order c.loop-step.step place c.loop-step.invariant.rest in
     let is_config : config ≡ config_at app place =
-        c.index.ensures ∙ ap (λ configs. get_or configs.items c.loop-step.step config) c.loop-step.invariant.configs ∙ ap (λ all. get_or all c.loop-step.step config) same
-        ∙ get_or-map (config_at app) order c.loop-step.step place config within ∙ ap (config_at app) (sym is) in
+    c.index.ensures ∙ ap (λ configs. get_or configs.items c.loop-step.step config) c.loop-step.invariant.configs ∙ ap (λ all. get_or all c.loop-step.step config) same
+    ∙ get_or-map (config_at app) order c.loop-step.step place config within ∙ ap (config_at app) (sym is) in
     let moves = subst (λ context. Moves g.S.Servlet.servlet_step g.F.Filter.filter_step g.L.Listener.listener_step (world context c.loop-step.parts c.loop-step.journal)
-        (init_record place config c.init-answer.result) (world context c.init-answer.new.self c.init-answer.new.journal)) (c.as_str.ensures ∙ c.loop-step.invariant.context) c.init-answer.ensures.moves in
+    (init_record place config c.init-answer.result) (world context c.init-answer.new.self c.init-answer.new.journal)) (c.as_str.ensures ∙ c.loop-step.invariant.context) c.init-answer.ensures.moves in
     begins_to_stop g.S.Servlet.servlet_step g.F.Filter.filter_step g.L.Listener.listener_step app c.args.parts.now c.args.plan.now c.args.journal.now
     c.loop-step.step c.loop-step.initialised c.loop-step.parts c.loop-step.plan c.loop-step.journal place config c.init-answer.result c.init-answer.new.self c.init-answer.new.journal
     (c.loop-step.invariant.so_far app same) within is is_config moves (sym c.lets_go_on.ensures ∙ c.if-not-lets_go_on.true) c.loop-step.invariant.rooms c.loop-step.invariant.context
@@ -61,7 +62,7 @@ loop-step-preserved g c =
     let is : place ≡ get_or order c.loop-step.step place = c.index-place.ensures ∙ same_in_rest c.loop-step.plan.order.items order c.loop-step.step place invariant.rest in
     let there : IsPlaceIn c.args.parts.now place = subst (IsPlaceIn c.args.parts.now) (sym is) (c.requires.there c.loop-step.step place within) in
     let rooms : length c.loop-step.plan.standings.items ≡ length c.args.parts.now.servlets.items =
-        invariant.rooms ∙ ap length c.requires.standings ∙ length-replicate (length c.args.parts.now.servlets.items) standings.Serving in
+    invariant.rooms ∙ ap length c.requires.standings ∙ length-replicate (length c.args.parts.now.servlets.items) standings.Serving in
     let goes : lets_go_on place answer ≡ true = sym c.lets_go_on.ensures ∙ c.if-not-lets_go_on.false in
     record {
       counts = record {
@@ -78,17 +79,18 @@ loop-step-preserved g c =
       context = c.keep-initialised.ensures.context ∙ invariant.context;
       so_far = λ app same.
           let is_config : config ≡ config_at app place =
-              c.index.ensures ∙ ap (λ configs. get_or configs.items c.loop-step.step config) invariant.configs ∙ ap (λ all. get_or all c.loop-step.step config) same
-              ∙ get_or-map (config_at app) order c.loop-step.step place config within ∙ ap (config_at app) (sym is) in
+          c.index.ensures ∙ ap (λ configs. get_or configs.items c.loop-step.step config) invariant.configs ∙ ap (λ all. get_or all c.loop-step.step config) same
+          ∙ get_or-map (config_at app) order c.loop-step.step place config within ∙ ap (config_at app) (sym is) in
           let moves = subst (λ context. Moves g.S.Servlet.servlet_step g.F.Filter.filter_step g.L.Listener.listener_step (world context c.loop-step.parts c.loop-step.journal)
-              (init_record place config answer) (world context c.init-answer.new.self c.init-answer.new.journal)) (c.as_str.ensures ∙ invariant.context) c.init-answer.ensures.moves in
+          (init_record place config answer) (world context c.init-answer.new.self c.init-answer.new.journal)) (c.as_str.ensures ∙ invariant.context) c.init-answer.ensures.moves in
           let room : c.loop-step.initialised < length c.loop-step.plan.order.items = omega (arith, invariant.few, within, invariant.long) in
           subst (λ count. SoFar g.S.Servlet.servlet_step g.F.Filter.filter_step g.L.Listener.listener_step app c.args.parts.now c.args.plan.now c.args.journal.now
-              (c.loop-step.step + 1) count c.init-answer.new.self c.keep-initialised.new.self c.init-answer.new.journal) (sym c.keep-initialised.ensures.count)
+          (c.loop-step.step + 1) count c.init-answer.new.self c.keep-initialised.new.self c.init-answer.new.journal) (sym c.keep-initialised.ensures.count)
           (so_far_more g.S.Servlet.servlet_step g.F.Filter.filter_step g.L.Listener.listener_step app c.args.parts.now c.args.plan.now c.args.journal.now
-              c.loop-step.step c.loop-step.initialised c.loop-step.parts c.loop-step.plan c.loop-step.journal place config answer c.init-answer.new.self c.keep-initialised.new.self c.init-answer.new.journal
-              (invariant.so_far app same) within is is_config moves goes room c.keep-initialised.ensures.order c.keep-initialised.ensures.standings
-              (standing_there c.args.parts.now (length c.loop-step.plan.standings.items) rooms place there)) }
+          c.loop-step.step c.loop-step.initialised c.loop-step.parts c.loop-step.plan c.loop-step.journal place config answer c.init-answer.new.self c.keep-initialised.new.self c.init-answer.new.journal
+          (invariant.so_far app same) within is is_config moves goes room c.keep-initialised.ensures.order c.keep-initialised.ensures.standings
+          (standing_there c.args.parts.now (length c.loop-step.plan.standings.items) rooms place there));
+    }
 
 pub returns-clause-begins : goal.returns-clause-begins
 returns-clause-begins g c = λ app same.

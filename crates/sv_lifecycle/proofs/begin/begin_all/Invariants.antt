@@ -15,4 +15,5 @@ invariant-loop-step g l = record {
   configs : l.plan.configs ≡ l.initial.plan.configs;
   context : l.plan.context ≡ l.initial.plan.context;
   so_far : (app : WebApp) → l.initial.plan.configs.items ≡ map (config_at app) l.initial.plan.order.items
-      → SoFar g.S.Servlet.servlet_step g.F.Filter.filter_step g.L.Listener.listener_step app l.initial.parts l.initial.plan l.initial.journal l.step l.initialised l.parts l.plan l.journal }
+      → SoFar g.S.Servlet.servlet_step g.F.Filter.filter_step g.L.Listener.listener_step app l.initial.parts l.initial.plan l.initial.journal l.step l.initialised l.parts l.plan l.journal;
+}

@@ -21,4 +21,5 @@ loop-done-preserved g c =
       made = subst (λ records. Grows g.S.Servlet.servlet_step g.F.Filter.filter_step g.L.Listener.listener_step start (then_all records) after)
           (sym (back_more c.args.places.now c.loop-done.done _ c.loop-done-test.true))
           (grows_more g.S.Servlet.servlet_step g.F.Filter.filter_step g.L.Listener.listener_step start before after
-              (take c.loop-done.done (map destroyed (reverse c.args.places.now))) _ c.loop-done.invariant.made c.destroy.ensures.moves) }
+          (take c.loop-done.done (map destroyed (reverse c.args.places.now))) _ c.loop-done.invariant.made c.destroy.ensures.moves);
+    }

@@ -9,4 +9,5 @@ abbrev pub invariant-loop-done : goal.invariant-loop-done
 invariant-loop-done g l = record {
   counts : HasSameCounts l.initial.parts l.parts;
   made : Grows g.S.Servlet.servlet_step g.F.Filter.filter_step g.L.Listener.listener_step
-      (world l.context l.initial.parts l.initial.journal) (then_all (take l.done (map destroyed (reverse l.places)))) (world l.context l.parts l.journal) }
+      (world l.context l.initial.parts l.initial.journal) (then_all (take l.done (map destroyed (reverse l.places)))) (world l.context l.parts l.journal);
+}

@@ -24,14 +24,14 @@ pub invariant_of-result : goal.invariant_of-result
 invariant_of-result g c =
     let counts = counts_join c.args.parts c.tell.new.self c.begin_all-begun.new.parts c.tell.ensures.counts c.begin_all-begun.ensures.counts in
     let there = kept_there g.S.Servlet.servlet_step g.F.Filter.filter_step g.L.Listener.listener_step c.requires.0 c.args.parts c.tell.new.self c.args.plan c.tell.new.journal c.begin_all-begun.result
-        c.begin_all-begun.new.parts c.begin_all-begun.new.plan c.begin_all-begun.new.journal c.truncate.new.self.items c.requires.1 c.requires.2 counts
-        (c.begin_all-begun.ensures.begins c.requires.0 c.requires.2.configs) c.truncate.ensures.items in
+    c.begin_all-begun.new.parts c.begin_all-begun.new.plan c.begin_all-begun.new.journal c.truncate.new.self.items c.requires.1 c.requires.2 counts
+    (c.begin_all-begun.ensures.begins c.requires.0 c.requires.2.configs) c.truncate.ensures.items in
     record { standings = there.1; initialised = there.0 }
 
 pub returns-then-whole : goal.returns-then-whole
 returns-then-whole g c = λ app fits is_plan.
     let tells = subst (λ context. Grows g.S.Servlet.servlet_step g.F.Filter.filter_step g.L.Listener.listener_step (world context c.args.parts c.args.journal.now)
-        (then_all (told ContextInitialized (length c.args.parts.listeners.items))) (world context c.tell.new.self c.tell.new.journal)) c.as_str.ensures c.tell.ensures.made in
+    (then_all (told ContextInitialized (length c.args.parts.listeners.items))) (world context c.tell.new.self c.tell.new.journal)) c.as_str.ensures c.tell.ensures.made in
     started g.S.Servlet.servlet_step g.F.Filter.filter_step g.L.Listener.listener_step app c.args.parts c.tell.new.self c.args.plan c.args.journal.now c.tell.new.journal c.begin_all-begun.result
     c.begin_all-begun.new.parts c.begin_all-begun.new.plan c.begin_all-begun.new.journal c.truncate.new.self.items fits is_plan
     (counts_join c.args.parts c.tell.new.self c.begin_all-begun.new.parts c.tell.ensures.counts c.begin_all-begun.ensures.counts) tells (c.begin_all-begun.ensures.begins app is_plan.configs)
@@ -41,17 +41,17 @@ pub end_all-requires : goal.end_all-requires
 end_all-requires g c =
     let counts = counts_join c.args.parts c.tell.new.self c.begin_all-begun.new.parts c.tell.ensures.counts c.begin_all-begun.ensures.counts in
     (kept_there g.S.Servlet.servlet_step g.F.Filter.filter_step g.L.Listener.listener_step c.requires.0 c.args.parts c.tell.new.self c.args.plan c.tell.new.journal c.begin_all-begun.result
-        c.begin_all-begun.new.parts c.begin_all-begun.new.plan c.begin_all-begun.new.journal c.as_slice.result.now c.requires.1 c.requires.2 counts
-        (c.begin_all-begun.ensures.begins c.requires.0 c.requires.2.configs) (c.as_slice.ensures.value ∙ c.truncate.ensures.items)).0
+    c.begin_all-begun.new.parts c.begin_all-begun.new.plan c.begin_all-begun.new.journal c.as_slice.result.now c.requires.1 c.requires.2 counts
+    (c.begin_all-begun.ensures.begins c.requires.0 c.requires.2.configs) (c.as_slice.ensures.value ∙ c.truncate.ensures.items)).0
 
 pub returns : goal.returns
 returns g c = λ app fits is_plan.
     let tells = subst (λ context. Grows g.S.Servlet.servlet_step g.F.Filter.filter_step g.L.Listener.listener_step (world context c.args.parts c.args.journal.now)
-        (then_all (told ContextInitialized (length c.args.parts.listeners.items))) (world context c.tell.new.self c.tell.new.journal)) c.as_str.ensures c.tell.ensures.made in
+    (then_all (told ContextInitialized (length c.args.parts.listeners.items))) (world context c.tell.new.self c.tell.new.journal)) c.as_str.ensures c.tell.ensures.made in
     let begins = c.begin_all-begun.ensures.begins app is_plan.configs in
     let ends = subst (λ context. Grows g.S.Servlet.servlet_step g.F.Filter.filter_step g.L.Listener.listener_step (world context c.begin_all-begun.new.parts c.begin_all-begun.new.journal)
-        (then_all (stop_calls (length c.begin_all-begun.new.parts.listeners.items) c.as_slice.result.now)) (world context c.end_all.new.parts c.end_all.new.journal))
-        (c.as_str-2.ensures ∙ begins.context) c.end_all.ensures.made in
+    (then_all (stop_calls (length c.begin_all-begun.new.parts.listeners.items) c.as_slice.result.now)) (world context c.end_all.new.parts c.end_all.new.journal))
+    (c.as_str-2.ensures ∙ begins.context) c.end_all.ensures.made in
     undone g.S.Servlet.servlet_step g.F.Filter.filter_step g.L.Listener.listener_step app c.args.parts c.tell.new.self c.args.plan c.args.journal.now c.tell.new.journal c.begin_all-begun.result
     c.begin_all-begun.new.parts c.begin_all-begun.new.plan c.begin_all-begun.new.journal c.as_slice.result.now c.end_all.new.parts c.end_all.new.journal c.code_of-code.result fits is_plan tells begins ends
     (c.begin_all-begun.ensures.counts.listeners ∙ c.tell.ensures.counts.listeners) (c.as_slice.ensures.value ∙ c.truncate.ensures.items)

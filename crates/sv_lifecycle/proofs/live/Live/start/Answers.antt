@@ -21,7 +21,7 @@ returns-in-Ok g c =
     let is_plan = c.in-Ok.ensures in
     subst (λ descriptor. Starts g.S.Servlet.servlet_step g.F.Filter.filter_step g.L.Listener.listener_step c.args.context.now descriptor c.args.parts c.args.journal.now c.run.result c.run.new.journal) c.web_app-app.ensures.value
     (subst (λ context. Starts g.S.Servlet.servlet_step g.F.Filter.filter_step g.L.Listener.listener_step context app c.args.parts c.args.journal.now c.run.result c.run.new.journal) is_plan.context
-        (c.run.ensures app c.if-not-fits.ensures (own_plan c.args.context.now app c.in-Ok.plan is_plan)))
+    (c.run.ensures app c.if-not-fits.ensures (own_plan c.args.context.now app c.in-Ok.plan is_plan)))
 
 pub returns-in-Err : goal.returns-in-Err
 returns-in-Err g c =

@@ -12,6 +12,6 @@ returns-clause-made g c =
     let tells = subst (λ all. Tells g.L.Listener.listener_step c.args.context.now c.args.event.now all c.args.journal.now c.tell.new.listeners c.tell.new.journal) c.as_mut_slice.ensures.value c.tell.ensures in
     let count = c.tell.auto.listeners ∙ c.as_mut_slice.ensures.len in
     subst (λ all. Grows g.S.Servlet.servlet_step g.F.Filter.filter_step g.L.Listener.listener_step before (then_all (told c.args.event.now (length c.args.self.now.listeners.items)))
-        (record before { listeners = all; journal = c.tell.new.journal }))
+    (record before { listeners = all; journal = c.tell.new.journal }))
     (sym (with_items_is c.args.self.now.listeners c.tell.new.listeners count))
     (told_in_world g.S.Servlet.servlet_step g.F.Filter.filter_step g.L.Listener.listener_step before c.args.event.now c.tell.new.listeners c.tell.new.journal tells)
