@@ -1,0 +1,13 @@
+use Rattle.std.proofs.Common.{◌≡◌, Some, None, Ok, is_ok, refl, ap}
+use Rattle.sv_component.specs.Call.{Destroyed, Entered, Inited, Left, Serviced}
+use Rattle.sv_component.specs.Noted.{gate_answer, init_answer, step_answer}
+use Rattle.sv_lifecycle.specs.World.{world}
+use Rattle.sv_lifecycle.proofs.Moving.{moves_filter, moves_servlet}
+use Rattle.sv_lifecycle.proofs.parts.Parts.after.Goals as goal
+
+pub returns-clause-moves : goal.returns-clause-moves
+returns-clause-moves g c =
+    moves_filter g.S.Servlet.servlet_step g.F.Filter.filter_step g.L.Listener.listener_step (world c.args.context.now c.args.self.now c.args.journal.now) c.args.place
+    (Left c.args.exchange.now (is_ok c.after-done.result) c.after-done.new.exchange) c.index_mut-named.result.now c.after-done.new.self c.as_str.result.now c.note.new.self
+    c.requires c.index_mut-named.ensures.value c.after-done.ensures.step c.as_str.ensures
+    (c.note.ensures.takes _ (c.of_filter.ensures _ refl))

@@ -1,0 +1,25 @@
+use Rattle.std.proofs.Common.{◌≡◌, ◌∷◌, [], ◌++◌, length, map, reverse, take, arith, refl, sym, ◌∙◌, subst}
+use Rattle.sv_component.specs.Runs.{Grows}
+use Rattle.sv_listeners.specs.Telling.{then_all}
+use Rattle.sv_listeners.proofs.Growing.{grows_more}
+use Rattle.sv_lifecycle.specs.Calls.{destroyed}
+use Rattle.sv_lifecycle.specs.World.{world}
+use Rattle.sv_lifecycle.proofs.Places.{back_more}
+use Rattle.sv_lifecycle.proofs.start.destroy_back.Goals as goal
+
+pub loop-done-preserved : goal.loop-done-preserved
+loop-done-preserved g c =
+    let start = world c.args.context.now c.args.parts.now c.args.journal.now in
+    let before = world c.args.context.now c.loop-done.parts c.loop-done.journal in
+    let after = world c.args.context.now c.destroy.new.self c.destroy.new.journal in
+    record {
+      counts = record {
+        servlets = c.destroy.ensures.counts.servlets ∙ c.loop-done.invariant.counts.servlets;
+        filters = c.destroy.ensures.counts.filters ∙ c.loop-done.invariant.counts.filters;
+        listeners = c.destroy.ensures.counts.listeners ∙ c.loop-done.invariant.counts.listeners;
+      };
+      made = subst (λ records. Grows g.S.Servlet.servlet_step g.F.Filter.filter_step g.L.Listener.listener_step start (then_all records) after)
+          (sym (back_more c.args.places.now c.loop-done.done _ c.loop-done-test.true))
+          (grows_more g.S.Servlet.servlet_step g.F.Filter.filter_step g.L.Listener.listener_step start before after
+          (take c.loop-done.done (map destroyed (reverse c.args.places.now))) _ c.loop-done.invariant.made c.destroy.ensures.moves);
+    }

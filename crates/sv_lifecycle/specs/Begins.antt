@@ -1,0 +1,51 @@
+-- The inits of a start, as far as they went.
+use Rattle.std.specs.Prelude.{◌≡◌, ℕ, ◌<◌, ◌≤◌, true, false, List, [], ◌++◌, length, map, slice_set, take, Option, None, IfSome}
+use Rattle.std.specs.List.{All}
+use Rattle.std.specs.Option.{option_map, option_to_list}
+use Rattle.sv_component.specs.Call.{Call}
+use Rattle.sv_component.specs.Runs.{Grows}
+use Rattle.sv_component.specs.declared.answers.Init.{Init}
+use Rattle.sv_component.specs.declared.answers.Init.TheVariants.{Ready, Unavailable, Failed, NoMemory}
+use Rattle.sv_descriptor.specs.declared.web_app.WebApp.{WebApp}
+use Rattle.sv_journal.specs.Journal.{JournalState}
+use Rattle.sv_listeners.specs.Telling.{then_all}
+use Rattle.sv_lifecycle.specs.Calls.{Answered, inited, initialised, lets_go_on, places_of}
+use Rattle.sv_lifecycle.specs.Standing.{standing_after, standing_at}
+use Rattle.sv_lifecycle.specs.World.{HasSameCounts, world}
+use Rattle.sv_lifecycle.specs.declared.begin.Begun.{Begun}
+use Rattle.sv_lifecycle.specs.declared.order.Place.{Place}
+use Rattle.sv_lifecycle.specs.declared.order.Place.TheVariants.{Filter, Servlet}
+use Rattle.sv_lifecycle.specs.declared.parts.Parts.{Parts}
+use Rattle.sv_lifecycle.specs.declared.plan.Plan.{Plan}
+use Rattle.sv_lifecycle.specs.declared.standing.Standing.{Standing}
+use Rattle.sv_lifecycle.specs.declared.standing.Standing.TheVariants.{Gone}
+
+-- a servlet has a standing among so many
+abbrev pub HasStanding : ℕ → Place → Type 0
+HasStanding count (Filter place) = Unit {0}
+HasStanding count (Servlet place) = place < count
+
+-- how the servlets stand behind one more answer
+abbrev pub with_answer : List Standing → Place → Init → List Standing
+with_answer standings (Servlet place) Unavailable = slice_set standings place Gone
+with_answer standings (Servlet place) Ready = standings
+with_answer standings (Servlet place) Failed = standings
+with_answer standings (Servlet place) NoMemory = standings
+with_answer standings (Filter place) answer = standings
+
+-- the components of the plan are begun up to the first that does not let the start go on, or to where the journal breaks
+pub record Begins {S F L : Type 0} (servlet_step : S → Call → S → Type 0) (filter_step : F → Call → F → Type 0) (listener_step : L → Call → L → Type 0) (app : WebApp) (parts : Parts S F L) (plan : Plan) (noted : JournalState) (result : Begun) (parts_after : Parts S F L) (plan_after : Plan) (noted_after : JournalState) : Type 0 where
+  pub begun : List Answered
+  pub stopper : Option Answered
+  pub left : List Place
+  pub front : plan.order.items ≡ places_of (begun ++ option_to_list stopper) ++ left
+  pub goes : All (λ answered. lets_go_on answered.place answered.answer ≡ true) begun
+  pub stops : IfSome stopper (λ answered. lets_go_on answered.place answered.answer ≡ false)
+  pub answer : result.stopper ≡ option_map (λ answered. answered.answer) stopper
+  pub whole : stopper ≡ None → noted_after.whole ≡ true → left ≡ []
+  pub made : Grows servlet_step filter_step listener_step
+      (world plan.context parts noted) (then_all (map (inited app) (begun ++ option_to_list stopper))) (world plan.context parts_after noted_after)
+  pub kept : take result.initialised plan_after.order.items ≡ initialised begun
+  pub standings : (place : ℕ) → place < length plan.standings.items → standing_at plan_after.standings.items place ≡ standing_after begun place
+  pub rooms : length plan_after.standings.items ≡ length plan.standings.items
+  pub context : plan_after.context ≡ plan.context

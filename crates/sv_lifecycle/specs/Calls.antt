@@ -1,0 +1,90 @@
+-- The calls and tellings of a start, of a start that is undone, and of a stop (Jakarta Servlet 6.0, sections 2.3, 6.2.1 and 11.3).
+use Rattle.std.specs.Prelude.{ℕ, Bool, true, false, List, [], ◌++◌, length, map, reverse, slice_get, Option, Some, None}
+use Rattle.std.specs.List.{filter}
+use Rattle.sv_component.specs.Call.{Destroyed, Inited}
+use Rattle.sv_component.specs.Runs.{OfFilter, OfServlet, Record}
+use Rattle.sv_component.specs.declared.answers.Init.{Init}
+use Rattle.sv_component.specs.declared.answers.Init.TheVariants.{Ready, Unavailable, Failed, NoMemory}
+use Rattle.sv_component.specs.declared.config.Config.{Config}
+use Rattle.sv_component.specs.declared.config.Param.{Param}
+use Rattle.sv_descriptor.specs.declared.filter.FilterEntry.{FilterEntry}
+use Rattle.sv_descriptor.specs.declared.init_param.InitParam.{InitParam}
+use Rattle.sv_descriptor.specs.declared.servlet.ServletEntry.{ServletEntry}
+use Rattle.sv_descriptor.specs.declared.web_app.WebApp.{WebApp}
+use Rattle.sv_journal.specs.declared.event.Event.TheVariants.{ContextDestroyed, ContextInitialized}
+use Rattle.sv_listeners.specs.Telling.{told}
+use Rattle.sv_lifecycle.specs.declared.order.Place.{Place}
+use Rattle.sv_lifecycle.specs.declared.order.Place.TheVariants.{Filter, Servlet}
+
+abbrev pub params_of : List InitParam → List Param
+params_of params = map (λ param. record { name = param.name; value = param.value }) params
+
+-- a name with parameters, as a descriptor lists them
+abbrev pub config_of : List ℕ → List InitParam → Config
+config_of its_name its_params = record { name = its_name; params = params_of its_params }
+
+-- what a filter and a servlet are begun with
+abbrev pub filter_config : Option FilterEntry → Config
+filter_config (Some entry) = config_of entry.filter_name entry.init_params
+filter_config None = config_of [] []
+
+abbrev pub servlet_config : Option ServletEntry → Config
+servlet_config (Some entry) = config_of entry.servlet_name entry.init_params
+servlet_config None = config_of [] []
+
+-- what the component at a place of the descriptor is begun with
+abbrev pub config_at : WebApp → Place → Config
+config_at app (Filter place) = filter_config (slice_get app.filters place)
+config_at app (Servlet place) = servlet_config (slice_get app.servlets place)
+
+-- the init of a component
+abbrev pub init_record : Place → Config → Init → Record
+init_record (Filter place) config answer = OfFilter place (Inited config answer)
+init_record (Servlet place) config answer = OfServlet place (Inited config answer)
+
+-- the end of a component
+abbrev pub destroyed : Place → Record
+destroyed (Filter place) = OfFilter place Destroyed
+destroyed (Servlet place) = OfServlet place Destroyed
+
+-- a component that was begun, with its answer
+pub record Answered : Type 0 where
+  pub place : Place
+  pub answer : Init
+
+abbrev pub places_of : List Answered → List Place
+places_of begun = map (λ answered. answered.place) begun
+
+-- the init of a component of the descriptor
+abbrev pub inited : WebApp → Answered → Record
+inited app answered = init_record answered.place (config_at app answered.place) answered.answer
+
+-- the calls of a start as far as it went: each listener hears that the context starts, then those components are begun
+abbrev pub start_calls : WebApp → List Answered → List Record
+start_calls app begun = told ContextInitialized (length app.listeners) ++ map (inited app) begun
+
+-- the calls of a stop: the components are destroyed in the reverse of the order in which they were begun, then each listener hears it
+abbrev pub stop_calls : ℕ → List Place → List Record
+stop_calls listeners places = map destroyed (reverse places) ++ told ContextDestroyed listeners
+
+abbrev pub is_ready : Init → Bool
+is_ready Ready = true
+is_ready Unavailable = false
+is_ready Failed = false
+is_ready NoMemory = false
+
+-- the components that are initialised: those that answered that they can be called
+abbrev pub initialised : List Answered → List Place
+initialised begun = places_of (filter (λ answered. is_ready answered.answer) begun)
+
+-- the calls of a start that is undone: what was initialised is stopped
+abbrev pub undone_calls : WebApp → List Answered → List Record
+undone_calls app begun = start_calls app begun ++ stop_calls (length app.listeners) (initialised begun)
+
+-- whether the start goes on behind an answer: a servlet may be unavailable, a filter may not
+abbrev pub lets_go_on : Place → Init → Bool
+lets_go_on place Ready = true
+lets_go_on (Servlet place) Unavailable = true
+lets_go_on (Filter place) Unavailable = false
+lets_go_on place Failed = false
+lets_go_on place NoMemory = false

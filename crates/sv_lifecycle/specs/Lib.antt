@@ -1,0 +1,10 @@
+pub mod Begins
+pub mod Calling
+pub mod Calls
+pub mod Fit
+pub mod Order
+pub mod Plan
+pub mod Standing
+pub mod StartCode
+pub mod Starting
+pub mod World

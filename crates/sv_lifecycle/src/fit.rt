@@ -1,0 +1,34 @@
+//! Whether components are those of a descriptor.
+
+ghost use Rattle.std.specs.Prelude.{◌≡◌, map, MatchBool};
+ghost use Rattle.sv_lifecycle.specs.Fit.{Fits};
+
+use crate::parts::Parts;
+use sv_component::Named;
+use sv_descriptor::WebApp;
+use sv_schema::Named as Declared;
+
+/// Whether the servlets and filters have the descriptor's names in its order, and there are as many listeners as it declares.
+pub(crate) fn fits<S, F, L>(app: &WebApp, parts: &Parts<S, F, L>) -> bool
+    ensures { MatchBool result (Fits app.now parts.now) (Fits app.now parts.now → ⊥) }
+{
+    names_fit(app.servlets.as_slice(), parts.servlets.as_slice())
+        && names_fit(app.filters.as_slice(), parts.filters.as_slice())
+        && parts.listeners.len() == app.listeners.as_slice().len()
+}
+
+fn names_fit<D: Declared, C>(declared: &[D], named: &[Named<C>]) -> bool
+    ensures { MatchBool result
+        (map (λ n. n.name) named.now ≡ map D.its_name declared.now)
+        (map (λ n. n.name) named.now ≡ map D.its_name declared.now → ⊥) }
+{
+    if declared.len() != named.len() {
+        return false;
+    }
+    for place in 0..declared.len() {
+        if declared[place].name() != named[place].name.as_str() {
+            return false;
+        }
+    }
+    true
+}

@@ -1,0 +1,21 @@
+//! How the components of a context are started, called by place and stopped.
+#![tactic(auto)]
+
+mod begin;
+mod calling;
+mod calls;
+mod configs;
+mod fit;
+mod live;
+mod order;
+mod parts;
+mod plan;
+mod standing;
+mod start;
+mod start_fault;
+
+pub use live::Live;
+pub use parts::Parts;
+pub use standing::Standing;
+pub use start_fault::{StartCode, StartFault};
+pub use sv_component::Named;

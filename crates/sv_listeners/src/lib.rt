@@ -1,0 +1,6 @@
+//! Telling listeners what happened.
+#![tactic(auto)]
+
+mod telling;
+
+pub use telling::tell;
