@@ -1,8 +1,10 @@
 //! Long streams, and how much is read from them.
 
+ghost use Rattle.std.specs.Prelude.{◌<◌};
+
 use crate::reading::Reading;
 use std::alloc::Global;
-use sv_rows::{Asks, cell, unescaped};
+use sv_rows::{Asks, Draft, add_unescaped, cell};
 use sv_text::NoMemory;
 
 /// How much is read from a row's stream, in pieces of several sizes.
@@ -16,48 +18,68 @@ impl Asks for Counts {
     const QUESTION: usize = 1;
 
     fn answer(&self, alloc: Global, row: &str, answer: &mut Vec<u8>) -> Result<(), NoMemory> {
-        let behind = unescaped(alloc, cell(row, 0))?;
-        let count = format!(in alloc; "{} | ", behind.len())?;
-        let mut stream = self.head.to_vec(alloc)?;
-        stream.extend_from_slice(behind.as_slice())?;
-        let told = told_of_late_cuts(alloc, stream.as_slice())?;
-        answer.extend_from_slice(count.as_bytes())?;
-        answer.extend_from_slice(told.as_bytes())?;
-        if !is_told(alloc, stream.as_slice(), told.as_str())? {
-            answer.extend_from_slice(b" but not in pieces of each size")?;
-        }
-        Ok(())
+        let mut stream = Draft::new(alloc);
+        stream.add_bytes(self.head);
+        add_unescaped(&mut stream, cell(row, 0));
+        let stream = stream.finish()?;
+        self.found(alloc, stream.as_slice())?.add_to(answer)
     }
 }
 
-/// What is told of a stream that comes as one piece, but for its last eight bytes, which come one by one.
-fn told_of_late_cuts(alloc: Global, stream: &[u8]) -> Result<String, NoMemory> {
-    let (front, back) = stream.split_at(stream.len().saturating_sub(8));
-    told(alloc, Reading::of(alloc, front, back, 1)?)
+impl Counts {
+    /// What is told of a stream, and how long it is behind the head.
+    fn found(&self, alloc: Global, stream: &[u8]) -> Result<Draft, NoMemory> {
+        let (front, back) = stream.split_at(stream.len().saturating_sub(8));
+        // The stream comes as one piece, but for its last eight bytes, which come one by one.
+        let told = told(alloc, front, back, 1)?;
+        let mut found = Draft::new(alloc);
+        found.add_shown(&stream.len().saturating_sub(self.head.len()));
+        found.add(" | ");
+        found.add_bytes(told.as_slice());
+        if !is_told(alloc, stream, told.as_slice()) {
+            found.add(" but not in pieces of each size");
+        }
+        Ok(found)
+    }
 }
 
 /// Whether that is told of a stream in pieces of equal sizes, of one byte where it is short.
-fn is_told(alloc: Global, stream: &[u8], wanted: &str) -> Result<bool, NoMemory> {
+fn is_told(alloc: Global, stream: &[u8], wanted: &[u8]) -> bool {
     let least = if stream.len() < 100_000 { 1 } else { 1000 };
-    for size in [least, 65_535, 65_536] {
-        if told(alloc, Reading::of(alloc, b"", stream, size)?)?.as_str() != wanted {
-            return Ok(false);
-        }
-    }
-    Ok(true)
+    is_told_of(alloc, stream, least, wanted)
+        && is_told_of(alloc, stream, 65_535, wanted)
+        && is_told_of(alloc, stream, 65_536, wanted)
 }
 
-/// The refusal, or how many messages there are where there is none, and behind a bar what the end means.
-fn told(alloc: Global, reading: Reading) -> Result<String, NoMemory> {
-    let Reading {
-        messages,
-        content,
-        refusal,
-        end,
-        ..
-    } = reading;
-    match refusal {
-        Some(fault) => Ok(format!(in alloc; "{fault} | {end}")?),
-        None => Ok(format!(in alloc; "{messages} read, {content} in bodies | {end}")?),
+/// Whether that is told of a stream in pieces of a size.
+fn is_told_of(alloc: Global, stream: &[u8], size: usize, wanted: &[u8]) -> bool
+    requires { 0 < size }
+{
+    match told(alloc, b"", stream, size) {
+        Ok(told) => told.as_slice() == wanted,
+        Err(_) => false,
     }
+}
+
+/// The refusal, or how many messages there are where there is none, and behind a bar what the end means. The stream comes in two parts,
+/// the second in pieces of a size.
+fn told(alloc: Global, front: &[u8], back: &[u8], size: usize) -> Result<Vec<u8>, NoMemory>
+    requires { 0 < size }
+{
+    let reading = Reading::of(alloc, front, back, size);
+    let mut told = Draft::new(alloc);
+    match &reading.refusal {
+        Some(fault) => told.add_shown(fault),
+        None => add_counts(&mut told, &reading),
+    }
+    told.add(" | ");
+    told.add(reading.end);
+    told.finish()
+}
+
+fn add_counts(told: &mut Draft, reading: &Reading) {
+    told.add_shown(&reading.messages);
+    told.add(" read, ");
+    told.add_shown(&reading.content);
+    told.add(" in bodies");
 }

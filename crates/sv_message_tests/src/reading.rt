@@ -4,14 +4,14 @@ ghost use Rattle.std.specs.Prelude.{◌<◌};
 
 use std::alloc::Global;
 use sv_head::Field;
-use sv_text::NoMemory;
+use sv_rows::Draft;
 use sv_wire::{Ended, Inbox, Item, Message, Target, WireFault};
 
 /// What is read of a stream.
 #[derive(Drop)]
 pub struct Reading {
     /// The texts of the items, with `, ` between them.
-    pub items: Vec<u8>,
+    pub items: Draft,
     pub messages: u64,
     /// How many bytes the bodies have.
     pub content: u64,
@@ -22,73 +22,77 @@ pub struct Reading {
 
 impl Reading {
     /// Reads a stream that comes in two parts, the second in pieces of a size.
-    pub fn of(alloc: Global, front: &[u8], back: &[u8], size: usize) -> Result<Reading, NoMemory>
+    pub fn of(alloc: Global, front: &[u8], back: &[u8], size: usize) -> Reading
         requires { 0 < size }
     {
         let mut inbox = Inbox::new(alloc);
         let mut reading = Reading {
-            items: Vec::new(alloc),
+            items: Draft::new(alloc),
             messages: 0,
             content: 0,
             refusal: None,
             end: "",
         };
-        reading.take(inbox.feed(front)?.as_slice())?;
+        reading.feed(&mut inbox, front);
         for piece in back.chunks(size) {
-            reading.take(inbox.feed(piece)?.as_slice())?;
+            reading.feed(&mut inbox, piece);
         }
-        reading.end = match inbox.end() {
-            Ended::Clean => "Clean",
-            Ended::Truncated => "Truncated",
-            Ended::Spent => "Spent",
-        };
-        Ok(reading)
+        reading.end = end_of(&mut inbox);
+        reading
     }
 
-    fn take(&mut self, items: &[Item]) -> Result<(), NoMemory> {
+    fn feed(&mut self, inbox: &mut Inbox, piece: &[u8]) {
+        match inbox.feed(piece) {
+            Ok(items) => self.take(items.as_slice()),
+            Err(_) => self.items.fail(),
+        }
+    }
+
+    fn take(&mut self, items: &[Item]) {
         for item in items {
             if !self.items.is_empty() {
-                self.items.extend_from_slice(b", ")?;
+                self.items.add(", ");
             }
-            self.note(item)?;
+            self.note(item);
         }
-        Ok(())
     }
 
-    fn note(&mut self, item: &Item) -> Result<(), NoMemory> {
+    fn note(&mut self, item: &Item) {
         match item {
-            Item::Continue => self.items.extend_from_slice(b"continue")?,
+            Item::Continue => self.items.add("continue"),
             Item::Refuse(fault) => {
                 self.refusal = Some(*fault);
-                let text = format!(in *self.items.allocator(); "refuse {fault}")?;
-                self.items.extend_from_slice(text.as_bytes())?;
+                self.items.add("refuse ");
+                self.items.add_shown(fault);
             }
             Item::Message(message) => {
-                self.messages = self.messages.saturating_add(1);
                 let count = message.body.as_slice().len() as u64;
+                self.messages = self.messages.saturating_add(1);
                 self.content = self.content.saturating_add(count);
-                push_message(&mut self.items, message)?;
+                add_message(&mut self.items, message);
             }
         }
-        Ok(())
     }
 }
 
-/// A message as method, target, version, `keep` or `close`, its fields in brackets, and its body.
-fn push_message(text: &mut Vec<u8>, message: &Message) -> Result<(), NoMemory> {
-    text.extend_from_slice(message.method.as_str().as_bytes())?;
-    text.extend_from_slice(b" ")?;
-    text.extend_from_slice(target_text(&message.target))?;
-    text.extend_from_slice(if message.minor == 0 { b" 1.0" } else { b" 1.1" })?;
-    text.extend_from_slice(if message.keep {
-        b" keep ["
-    } else {
-        b" close ["
-    })?;
-    push_fields(text, message.fields.as_slice())?;
-    text.extend_from_slice(b"]")?;
-    text.extend_from_slice(message.body.as_slice())?;
-    Ok(())
+fn end_of(inbox: &mut Inbox) -> &'static str {
+    match inbox.end() {
+        Ended::Clean => "Clean",
+        Ended::Truncated => "Truncated",
+        Ended::Spent => "Spent",
+    }
+}
+
+/// Adds a message as method, target, version, `keep` or `close`, its fields in brackets, and its body.
+fn add_message(draft: &mut Draft, message: &Message) {
+    draft.add(message.method.as_str());
+    draft.add(" ");
+    draft.add_bytes(target_text(&message.target));
+    draft.add(if message.minor == 0 { " 1.0" } else { " 1.1" });
+    draft.add(if message.keep { " keep [" } else { " close [" });
+    add_fields(draft, message.fields.as_slice());
+    draft.add("]");
+    draft.add_bytes(message.body.as_slice());
 }
 
 fn target_text(target: &Target) -> &[u8] {
@@ -98,14 +102,13 @@ fn target_text(target: &Target) -> &[u8] {
     }
 }
 
-fn push_fields(text: &mut Vec<u8>, fields: &[Field]) -> Result<(), NoMemory> {
+fn add_fields(draft: &mut Draft, fields: &[Field]) {
     for (place, field) in fields.iter().enumerate() {
         if place > 0 {
-            text.extend_from_slice(b" ")?;
+            draft.add(" ");
         }
-        text.extend_from_slice(field.name.as_bytes())?;
-        text.extend_from_slice(b"=")?;
-        text.extend_from_slice(field.value.as_bytes())?;
+        draft.add(field.name.as_str());
+        draft.add("=");
+        draft.add_bytes(field.value.as_bytes());
     }
-    Ok(())
 }

@@ -1,6 +1,6 @@
 //! Responses and their texts.
 
-use crate::responses::{Dates, Phrases, Responses};
+use crate::responses::Responses;
 use sv_rows::{Strays, hold};
 
 /// Status, fields with `\n` between them, session cookie, body, how it is written and when, text.
@@ -49,119 +49,105 @@ const ROWS: &str = r#"
 99    | ""                         | - | x            | whole keep 0   | ""
 1000  | ""                         | - | x            | whole keep 0   | ""
 65535 | ""                         | - | x            | whole keep 0   | ""
+
+-- RFC 9110, section 15, and RFC 6585: each status has its phrase, and one that none defines the empty one
+100 | "" | - | "" | head keep 0 | HTTP/1.1 100 Continue\r\ndate: Thu, 01 Jan 1970 00:00:00 GMT\r\ncontent-length: 0\r\n\r\n
+101 | "" | - | "" | head keep 0 | HTTP/1.1 101 Switching Protocols\r\ndate: Thu, 01 Jan 1970 00:00:00 GMT\r\ncontent-length: 0\r\n\r\n
+199 | "" | - | "" | head keep 0 | HTTP/1.1 199 \r\ndate: Thu, 01 Jan 1970 00:00:00 GMT\r\ncontent-length: 0\r\n\r\n
+200 | "" | - | "" | head keep 0 | HTTP/1.1 200 OK\r\ndate: Thu, 01 Jan 1970 00:00:00 GMT\r\ncontent-length: 0\r\n\r\n
+201 | "" | - | "" | head keep 0 | HTTP/1.1 201 Created\r\ndate: Thu, 01 Jan 1970 00:00:00 GMT\r\ncontent-length: 0\r\n\r\n
+202 | "" | - | "" | head keep 0 | HTTP/1.1 202 Accepted\r\ndate: Thu, 01 Jan 1970 00:00:00 GMT\r\ncontent-length: 0\r\n\r\n
+204 | "" | - | "" | head keep 0 | HTTP/1.1 204 No Content\r\ndate: Thu, 01 Jan 1970 00:00:00 GMT\r\n\r\n
+205 | "" | - | "" | head keep 0 | HTTP/1.1 205 Reset Content\r\ndate: Thu, 01 Jan 1970 00:00:00 GMT\r\ncontent-length: 0\r\n\r\n
+206 | "" | - | "" | head keep 0 | HTTP/1.1 206 Partial Content\r\ndate: Thu, 01 Jan 1970 00:00:00 GMT\r\ncontent-length: 0\r\n\r\n
+299 | "" | - | "" | head keep 0 | HTTP/1.1 299 \r\ndate: Thu, 01 Jan 1970 00:00:00 GMT\r\ncontent-length: 0\r\n\r\n
+300 | "" | - | "" | head keep 0 | HTTP/1.1 300 Multiple Choices\r\ndate: Thu, 01 Jan 1970 00:00:00 GMT\r\ncontent-length: 0\r\n\r\n
+301 | "" | - | "" | head keep 0 | HTTP/1.1 301 Moved Permanently\r\ndate: Thu, 01 Jan 1970 00:00:00 GMT\r\ncontent-length: 0\r\n\r\n
+302 | "" | - | "" | head keep 0 | HTTP/1.1 302 Found\r\ndate: Thu, 01 Jan 1970 00:00:00 GMT\r\ncontent-length: 0\r\n\r\n
+303 | "" | - | "" | head keep 0 | HTTP/1.1 303 See Other\r\ndate: Thu, 01 Jan 1970 00:00:00 GMT\r\ncontent-length: 0\r\n\r\n
+304 | "" | - | "" | head keep 0 | HTTP/1.1 304 Not Modified\r\ndate: Thu, 01 Jan 1970 00:00:00 GMT\r\ncontent-length: 0\r\n\r\n
+306 | "" | - | "" | head keep 0 | HTTP/1.1 306 \r\ndate: Thu, 01 Jan 1970 00:00:00 GMT\r\ncontent-length: 0\r\n\r\n
+307 | "" | - | "" | head keep 0 | HTTP/1.1 307 Temporary Redirect\r\ndate: Thu, 01 Jan 1970 00:00:00 GMT\r\ncontent-length: 0\r\n\r\n
+308 | "" | - | "" | head keep 0 | HTTP/1.1 308 Permanent Redirect\r\ndate: Thu, 01 Jan 1970 00:00:00 GMT\r\ncontent-length: 0\r\n\r\n
+400 | "" | - | "" | head keep 0 | HTTP/1.1 400 Bad Request\r\ndate: Thu, 01 Jan 1970 00:00:00 GMT\r\ncontent-length: 0\r\n\r\n
+401 | "" | - | "" | head keep 0 | HTTP/1.1 401 Unauthorized\r\ndate: Thu, 01 Jan 1970 00:00:00 GMT\r\ncontent-length: 0\r\n\r\n
+403 | "" | - | "" | head keep 0 | HTTP/1.1 403 Forbidden\r\ndate: Thu, 01 Jan 1970 00:00:00 GMT\r\ncontent-length: 0\r\n\r\n
+404 | "" | - | "" | head keep 0 | HTTP/1.1 404 Not Found\r\ndate: Thu, 01 Jan 1970 00:00:00 GMT\r\ncontent-length: 0\r\n\r\n
+405 | "" | - | "" | head keep 0 | HTTP/1.1 405 Method Not Allowed\r\ndate: Thu, 01 Jan 1970 00:00:00 GMT\r\ncontent-length: 0\r\n\r\n
+406 | "" | - | "" | head keep 0 | HTTP/1.1 406 Not Acceptable\r\ndate: Thu, 01 Jan 1970 00:00:00 GMT\r\ncontent-length: 0\r\n\r\n
+408 | "" | - | "" | head keep 0 | HTTP/1.1 408 Request Timeout\r\ndate: Thu, 01 Jan 1970 00:00:00 GMT\r\ncontent-length: 0\r\n\r\n
+409 | "" | - | "" | head keep 0 | HTTP/1.1 409 Conflict\r\ndate: Thu, 01 Jan 1970 00:00:00 GMT\r\ncontent-length: 0\r\n\r\n
+410 | "" | - | "" | head keep 0 | HTTP/1.1 410 Gone\r\ndate: Thu, 01 Jan 1970 00:00:00 GMT\r\ncontent-length: 0\r\n\r\n
+411 | "" | - | "" | head keep 0 | HTTP/1.1 411 Length Required\r\ndate: Thu, 01 Jan 1970 00:00:00 GMT\r\ncontent-length: 0\r\n\r\n
+412 | "" | - | "" | head keep 0 | HTTP/1.1 412 Precondition Failed\r\ndate: Thu, 01 Jan 1970 00:00:00 GMT\r\ncontent-length: 0\r\n\r\n
+413 | "" | - | "" | head keep 0 | HTTP/1.1 413 Payload Too Large\r\ndate: Thu, 01 Jan 1970 00:00:00 GMT\r\ncontent-length: 0\r\n\r\n
+414 | "" | - | "" | head keep 0 | HTTP/1.1 414 URI Too Long\r\ndate: Thu, 01 Jan 1970 00:00:00 GMT\r\ncontent-length: 0\r\n\r\n
+415 | "" | - | "" | head keep 0 | HTTP/1.1 415 Unsupported Media Type\r\ndate: Thu, 01 Jan 1970 00:00:00 GMT\r\ncontent-length: 0\r\n\r\n
+417 | "" | - | "" | head keep 0 | HTTP/1.1 417 Expectation Failed\r\ndate: Thu, 01 Jan 1970 00:00:00 GMT\r\ncontent-length: 0\r\n\r\n
+426 | "" | - | "" | head keep 0 | HTTP/1.1 426 Upgrade Required\r\ndate: Thu, 01 Jan 1970 00:00:00 GMT\r\ncontent-length: 0\r\n\r\n
+429 | "" | - | "" | head keep 0 | HTTP/1.1 429 Too Many Requests\r\ndate: Thu, 01 Jan 1970 00:00:00 GMT\r\ncontent-length: 0\r\n\r\n
+431 | "" | - | "" | head keep 0 | HTTP/1.1 431 Request Header Fields Too Large\r\ndate: Thu, 01 Jan 1970 00:00:00 GMT\r\ncontent-length: 0\r\n\r\n
+499 | "" | - | "" | head keep 0 | HTTP/1.1 499 \r\ndate: Thu, 01 Jan 1970 00:00:00 GMT\r\ncontent-length: 0\r\n\r\n
+500 | "" | - | "" | head keep 0 | HTTP/1.1 500 Internal Server Error\r\ndate: Thu, 01 Jan 1970 00:00:00 GMT\r\ncontent-length: 0\r\n\r\n
+501 | "" | - | "" | head keep 0 | HTTP/1.1 501 Not Implemented\r\ndate: Thu, 01 Jan 1970 00:00:00 GMT\r\ncontent-length: 0\r\n\r\n
+502 | "" | - | "" | head keep 0 | HTTP/1.1 502 Bad Gateway\r\ndate: Thu, 01 Jan 1970 00:00:00 GMT\r\ncontent-length: 0\r\n\r\n
+503 | "" | - | "" | head keep 0 | HTTP/1.1 503 Service Unavailable\r\ndate: Thu, 01 Jan 1970 00:00:00 GMT\r\ncontent-length: 0\r\n\r\n
+504 | "" | - | "" | head keep 0 | HTTP/1.1 504 Gateway Timeout\r\ndate: Thu, 01 Jan 1970 00:00:00 GMT\r\ncontent-length: 0\r\n\r\n
+505 | "" | - | "" | head keep 0 | HTTP/1.1 505 HTTP Version Not Supported\r\ndate: Thu, 01 Jan 1970 00:00:00 GMT\r\ncontent-length: 0\r\n\r\n
+511 | "" | - | "" | head keep 0 | HTTP/1.1 511 Network Authentication Required\r\ndate: Thu, 01 Jan 1970 00:00:00 GMT\r\ncontent-length: 0\r\n\r\n
+599 | "" | - | "" | head keep 0 | HTTP/1.1 599 \r\ndate: Thu, 01 Jan 1970 00:00:00 GMT\r\ncontent-length: 0\r\n\r\n
+600 | "" | - | "" | head keep 0 | HTTP/1.1 600 \r\ndate: Thu, 01 Jan 1970 00:00:00 GMT\r\ncontent-length: 0\r\n\r\n
+999 | "" | - | "" | head keep 0 | HTTP/1.1 999 \r\ndate: Thu, 01 Jan 1970 00:00:00 GMT\r\ncontent-length: 0\r\n\r\n
+
+-- RFC 9110, section 5.6.7: a moment in seconds since 1970 has its date
+-- the first seconds, minutes, hours and days
+200 | "" | - | "" | head keep 0            | HTTP/1.1 200 OK\r\ndate: Thu, 01 Jan 1970 00:00:00 GMT\r\ncontent-length: 0\r\n\r\n
+200 | "" | - | "" | head keep 1            | HTTP/1.1 200 OK\r\ndate: Thu, 01 Jan 1970 00:00:01 GMT\r\ncontent-length: 0\r\n\r\n
+200 | "" | - | "" | head keep 59           | HTTP/1.1 200 OK\r\ndate: Thu, 01 Jan 1970 00:00:59 GMT\r\ncontent-length: 0\r\n\r\n
+200 | "" | - | "" | head keep 60           | HTTP/1.1 200 OK\r\ndate: Thu, 01 Jan 1970 00:01:00 GMT\r\ncontent-length: 0\r\n\r\n
+200 | "" | - | "" | head keep 3599         | HTTP/1.1 200 OK\r\ndate: Thu, 01 Jan 1970 00:59:59 GMT\r\ncontent-length: 0\r\n\r\n
+200 | "" | - | "" | head keep 3600         | HTTP/1.1 200 OK\r\ndate: Thu, 01 Jan 1970 01:00:00 GMT\r\ncontent-length: 0\r\n\r\n
+200 | "" | - | "" | head keep 86399        | HTTP/1.1 200 OK\r\ndate: Thu, 01 Jan 1970 23:59:59 GMT\r\ncontent-length: 0\r\n\r\n
+200 | "" | - | "" | head keep 86400        | HTTP/1.1 200 OK\r\ndate: Fri, 02 Jan 1970 00:00:00 GMT\r\ncontent-length: 0\r\n\r\n
+-- the example of RFC 9110, section 5.6.7
+200 | "" | - | "" | head keep 784111777    | HTTP/1.1 200 OK\r\ndate: Sun, 06 Nov 1994 08:49:37 GMT\r\ncontent-length: 0\r\n\r\n
+-- each month and each day of the week
+200 | "" | - | "" | head keep 1672622401   | HTTP/1.1 200 OK\r\ndate: Mon, 02 Jan 2023 01:20:01 GMT\r\ncontent-length: 0\r\n\r\n
+200 | "" | - | "" | head keep 1675390802   | HTTP/1.1 200 OK\r\ndate: Fri, 03 Feb 2023 02:20:02 GMT\r\ncontent-length: 0\r\n\r\n
+200 | "" | - | "" | head keep 1677900003   | HTTP/1.1 200 OK\r\ndate: Sat, 04 Mar 2023 03:20:03 GMT\r\ncontent-length: 0\r\n\r\n
+200 | "" | - | "" | head keep 1680668404   | HTTP/1.1 200 OK\r\ndate: Wed, 05 Apr 2023 04:20:04 GMT\r\ncontent-length: 0\r\n\r\n
+200 | "" | - | "" | head keep 1683350405   | HTTP/1.1 200 OK\r\ndate: Sat, 06 May 2023 05:20:05 GMT\r\ncontent-length: 0\r\n\r\n
+200 | "" | - | "" | head keep 1686118806   | HTTP/1.1 200 OK\r\ndate: Wed, 07 Jun 2023 06:20:06 GMT\r\ncontent-length: 0\r\n\r\n
+200 | "" | - | "" | head keep 1688973607   | HTTP/1.1 200 OK\r\ndate: Mon, 10 Jul 2023 07:20:07 GMT\r\ncontent-length: 0\r\n\r\n
+200 | "" | - | "" | head keep 1691569208   | HTTP/1.1 200 OK\r\ndate: Wed, 09 Aug 2023 08:20:08 GMT\r\ncontent-length: 0\r\n\r\n
+200 | "" | - | "" | head keep 1693560009   | HTTP/1.1 200 OK\r\ndate: Fri, 01 Sep 2023 09:20:09 GMT\r\ncontent-length: 0\r\n\r\n
+200 | "" | - | "" | head keep 1696206000   | HTTP/1.1 200 OK\r\ndate: Mon, 02 Oct 2023 00:20:00 GMT\r\ncontent-length: 0\r\n\r\n
+200 | "" | - | "" | head keep 1698974401   | HTTP/1.1 200 OK\r\ndate: Fri, 03 Nov 2023 01:20:01 GMT\r\ncontent-length: 0\r\n\r\n
+200 | "" | - | "" | head keep 1701483602   | HTTP/1.1 200 OK\r\ndate: Sat, 02 Dec 2023 02:20:02 GMT\r\ncontent-length: 0\r\n\r\n
+-- the ends of years, leap days, and years by 100 and 400
+200 | "" | - | "" | head keep 68169600     | HTTP/1.1 200 OK\r\ndate: Tue, 29 Feb 1972 00:00:00 GMT\r\ncontent-length: 0\r\n\r\n
+200 | "" | - | "" | head keep 68256000     | HTTP/1.1 200 OK\r\ndate: Wed, 01 Mar 1972 00:00:00 GMT\r\ncontent-length: 0\r\n\r\n
+200 | "" | - | "" | head keep 946684799    | HTTP/1.1 200 OK\r\ndate: Fri, 31 Dec 1999 23:59:59 GMT\r\ncontent-length: 0\r\n\r\n
+200 | "" | - | "" | head keep 946684800    | HTTP/1.1 200 OK\r\ndate: Sat, 01 Jan 2000 00:00:00 GMT\r\ncontent-length: 0\r\n\r\n
+200 | "" | - | "" | head keep 951782399    | HTTP/1.1 200 OK\r\ndate: Mon, 28 Feb 2000 23:59:59 GMT\r\ncontent-length: 0\r\n\r\n
+200 | "" | - | "" | head keep 951782400    | HTTP/1.1 200 OK\r\ndate: Tue, 29 Feb 2000 00:00:00 GMT\r\ncontent-length: 0\r\n\r\n
+200 | "" | - | "" | head keep 951868800    | HTTP/1.1 200 OK\r\ndate: Wed, 01 Mar 2000 00:00:00 GMT\r\ncontent-length: 0\r\n\r\n
+200 | "" | - | "" | head keep 4107542399   | HTTP/1.1 200 OK\r\ndate: Sun, 28 Feb 2100 23:59:59 GMT\r\ncontent-length: 0\r\n\r\n
+200 | "" | - | "" | head keep 4107542400   | HTTP/1.1 200 OK\r\ndate: Mon, 01 Mar 2100 00:00:00 GMT\r\ncontent-length: 0\r\n\r\n
+200 | "" | - | "" | head keep 13574563199  | HTTP/1.1 200 OK\r\ndate: Mon, 28 Feb 2400 23:59:59 GMT\r\ncontent-length: 0\r\n\r\n
+200 | "" | - | "" | head keep 13574563200  | HTTP/1.1 200 OK\r\ndate: Tue, 29 Feb 2400 00:00:00 GMT\r\ncontent-length: 0\r\n\r\n
+-- behind the greatest numbers of 31 and 32 bits
+200 | "" | - | "" | head keep 2147483648   | HTTP/1.1 200 OK\r\ndate: Tue, 19 Jan 2038 03:14:08 GMT\r\ncontent-length: 0\r\n\r\n
+200 | "" | - | "" | head keep 4294967296   | HTTP/1.1 200 OK\r\ndate: Sun, 07 Feb 2106 06:28:16 GMT\r\ncontent-length: 0\r\n\r\n
+-- the last second of the year 9999, which stands for every later moment
+200 | "" | - | "" | head keep 253370764800 | HTTP/1.1 200 OK\r\ndate: Fri, 01 Jan 9999 00:00:00 GMT\r\ncontent-length: 0\r\n\r\n
+200 | "" | - | "" | head keep 253402300798 | HTTP/1.1 200 OK\r\ndate: Fri, 31 Dec 9999 23:59:58 GMT\r\ncontent-length: 0\r\n\r\n
+200 | "" | - | "" | head keep 253402300799 | HTTP/1.1 200 OK\r\ndate: Fri, 31 Dec 9999 23:59:59 GMT\r\ncontent-length: 0\r\n\r\n
+200 | "" | - | "" | head keep 253402300800 | HTTP/1.1 200 OK\r\ndate: Fri, 31 Dec 9999 23:59:59 GMT\r\ncontent-length: 0\r\n\r\n
+200 | "" | - | "" | head keep 18446744073709551615 | HTTP/1.1 200 OK\r\ndate: Fri, 31 Dec 9999 23:59:59 GMT\r\ncontent-length: 0\r\n\r\n
 "#;
 
 #[test]
 fn a_response_is_written_behind_what_stands_there(rt: HostRuntime) -> Result<(), Strays> {
     hold(&rt, &[ROWS], &Responses)
-}
-
-/// Status, phrase (RFC 9110, section 15; RFC 6585). A status that none defines has the empty phrase.
-const PHRASES: &str = r#"
-100 | Continue
-101 | Switching Protocols
-199 | ""
-200 | OK
-201 | Created
-202 | Accepted
-204 | No Content
-205 | Reset Content
-206 | Partial Content
-299 | ""
-300 | Multiple Choices
-301 | Moved Permanently
-302 | Found
-303 | See Other
-304 | Not Modified
-306 | ""
-307 | Temporary Redirect
-308 | Permanent Redirect
-400 | Bad Request
-401 | Unauthorized
-403 | Forbidden
-404 | Not Found
-405 | Method Not Allowed
-406 | Not Acceptable
-408 | Request Timeout
-409 | Conflict
-410 | Gone
-411 | Length Required
-412 | Precondition Failed
-413 | Payload Too Large
-414 | URI Too Long
-415 | Unsupported Media Type
-417 | Expectation Failed
-426 | Upgrade Required
-429 | Too Many Requests
-431 | Request Header Fields Too Large
-499 | ""
-500 | Internal Server Error
-501 | Not Implemented
-502 | Bad Gateway
-503 | Service Unavailable
-504 | Gateway Timeout
-505 | HTTP Version Not Supported
-511 | Network Authentication Required
-599 | ""
-600 | ""
-999 | ""
-"#;
-
-#[test]
-fn a_status_has_its_phrase(rt: HostRuntime) -> Result<(), Strays> {
-    hold(&rt, &[PHRASES], &Phrases)
-}
-
-/// Moment in seconds since 1970, IMF-fixdate (RFC 9110, section 5.6.7).
-const DATES: &str = r#"
--- the first seconds, minutes, hours and days
-0                    | Thu, 01 Jan 1970 00:00:00 GMT
-1                    | Thu, 01 Jan 1970 00:00:01 GMT
-59                   | Thu, 01 Jan 1970 00:00:59 GMT
-60                   | Thu, 01 Jan 1970 00:01:00 GMT
-3599                 | Thu, 01 Jan 1970 00:59:59 GMT
-3600                 | Thu, 01 Jan 1970 01:00:00 GMT
-86399                | Thu, 01 Jan 1970 23:59:59 GMT
-86400                | Fri, 02 Jan 1970 00:00:00 GMT
--- the example of RFC 9110, section 5.6.7
-784111777            | Sun, 06 Nov 1994 08:49:37 GMT
--- each month and each day of the week
-1672622401           | Mon, 02 Jan 2023 01:20:01 GMT
-1675390802           | Fri, 03 Feb 2023 02:20:02 GMT
-1677900003           | Sat, 04 Mar 2023 03:20:03 GMT
-1680668404           | Wed, 05 Apr 2023 04:20:04 GMT
-1683350405           | Sat, 06 May 2023 05:20:05 GMT
-1686118806           | Wed, 07 Jun 2023 06:20:06 GMT
-1688973607           | Mon, 10 Jul 2023 07:20:07 GMT
-1691569208           | Wed, 09 Aug 2023 08:20:08 GMT
-1693560009           | Fri, 01 Sep 2023 09:20:09 GMT
-1696206000           | Mon, 02 Oct 2023 00:20:00 GMT
-1698974401           | Fri, 03 Nov 2023 01:20:01 GMT
-1701483602           | Sat, 02 Dec 2023 02:20:02 GMT
--- the ends of years, leap days, and years by 100 and 400
-68169600             | Tue, 29 Feb 1972 00:00:00 GMT
-68256000             | Wed, 01 Mar 1972 00:00:00 GMT
-946684799            | Fri, 31 Dec 1999 23:59:59 GMT
-946684800            | Sat, 01 Jan 2000 00:00:00 GMT
-951782399            | Mon, 28 Feb 2000 23:59:59 GMT
-951782400            | Tue, 29 Feb 2000 00:00:00 GMT
-951868800            | Wed, 01 Mar 2000 00:00:00 GMT
-4107542399           | Sun, 28 Feb 2100 23:59:59 GMT
-4107542400           | Mon, 01 Mar 2100 00:00:00 GMT
-13574563199          | Mon, 28 Feb 2400 23:59:59 GMT
-13574563200          | Tue, 29 Feb 2400 00:00:00 GMT
--- behind the greatest numbers of 31 and 32 bits
-2147483648           | Tue, 19 Jan 2038 03:14:08 GMT
-4294967296           | Sun, 07 Feb 2106 06:28:16 GMT
--- the last second of the year 9999, which stands for every later moment
-253370764800         | Fri, 01 Jan 9999 00:00:00 GMT
-253402300798         | Fri, 31 Dec 9999 23:59:58 GMT
-253402300799         | Fri, 31 Dec 9999 23:59:59 GMT
-253402300800         | Fri, 31 Dec 9999 23:59:59 GMT
-18446744073709551615 | Fri, 31 Dec 9999 23:59:59 GMT
-"#;
-
-#[test]
-fn a_moment_has_its_date(rt: HostRuntime) -> Result<(), Strays> {
-    hold(&rt, &[DATES], &Dates)
 }

@@ -4,7 +4,7 @@ ghost use Rattle.std.specs.Prelude.{◌<◌};
 
 use crate::reading::Reading;
 use std::alloc::Global;
-use sv_rows::{Asks, cell, unescaped};
+use sv_rows::{Asks, Draft, add_unescaped, cell};
 use sv_text::NoMemory;
 
 /// The items of a row's stream, and what its end means, however it is cut, alone and behind a good request.
@@ -40,40 +40,51 @@ impl Asks for Streams {
     const QUESTION: usize = 1;
 
     fn answer(&self, alloc: Global, row: &str, answer: &mut Vec<u8>) -> Result<(), NoMemory> {
-        let stream = joined(alloc, self.head, unescaped(alloc, cell(row, 0))?.as_slice())?;
-        let told = told(alloc, b"", stream.as_slice(), 1)?;
-        push_told(answer, self.message, told.as_slice())?;
-        if !is_told(alloc, stream.as_slice(), told.as_slice())? {
-            answer.extend_from_slice(b" but not however it is cut")?;
-        }
-        if !is_told_behind(alloc, stream.as_slice(), told.as_slice())? {
-            answer.extend_from_slice(b" but not behind a request")?;
-        }
-        Ok(())
+        let mut stream = Draft::new(alloc);
+        stream.add_bytes(self.head);
+        add_unescaped(&mut stream, cell(row, 0));
+        let stream = stream.finish()?;
+        self.found(alloc, stream.as_slice())?.add_to(answer)
     }
 }
 
-/// Appends the items with `@` for the message that they begin with.
-fn push_told(answer: &mut Vec<u8>, message: &[u8], told: &[u8]) -> Result<(), NoMemory> {
+impl Streams {
+    /// What is told of a stream.
+    fn found(&self, alloc: Global, stream: &[u8]) -> Result<Draft, NoMemory> {
+        let told = told(alloc, b"", stream, 1)?;
+        let told = told.as_slice();
+        let mut found = Draft::new(alloc);
+        add_told(&mut found, self.message, told);
+        if !is_told(alloc, stream, told) {
+            found.add(" but not however it is cut");
+        }
+        if !is_told_behind(alloc, stream, told)? {
+            found.add(" but not behind a request");
+        }
+        Ok(found)
+    }
+}
+
+/// Adds the items with `@` for the message that they begin with.
+fn add_told(found: &mut Draft, message: &[u8], told: &[u8]) {
     match told.strip_prefix(message) {
         Some(rest) if !message.is_empty() => {
-            answer.extend_from_slice(b"@")?;
-            answer.extend_from_slice(rest)?;
+            found.add("@");
+            found.add_bytes(rest);
         }
-        _ => answer.extend_from_slice(told)?,
+        _ => found.add_bytes(told),
     }
-    Ok(())
 }
 
 /// Whether that is told of a stream however it is cut in two.
-fn is_told(alloc: Global, stream: &[u8], wanted: &[u8]) -> Result<bool, NoMemory> {
+fn is_told(alloc: Global, stream: &[u8], wanted: &[u8]) -> bool {
     for (cut, _) in stream.iter().enumerate() {
         let (front, back) = stream.split_at(cut);
-        if told(alloc, front, back, usize::MAX)?.as_slice() != wanted {
-            return Ok(false);
+        if !is_told_of(alloc, front, back, usize::MAX, wanted) {
+            return false;
         }
     }
-    Ok(true)
+    true
 }
 
 /// Whether that is told of a stream behind a good request, however both are cut in two, and byte by byte.
@@ -85,26 +96,33 @@ fn is_told_behind(alloc: Global, stream: &[u8], wanted: &[u8]) -> Result<bool, N
     };
     let stream = joined(alloc, GOOD, stream)?;
     let wanted = joined(alloc, good, wanted)?;
-    let single = told(alloc, b"", stream.as_slice(), 1)?;
-    Ok(
-        single.as_slice() == wanted.as_slice()
-            && is_told(alloc, stream.as_slice(), wanted.as_slice())?,
-    )
+    let (stream, wanted) = (stream.as_slice(), wanted.as_slice());
+    Ok(is_told_of(alloc, b"", stream, 1, wanted) && is_told(alloc, stream, wanted))
+}
+
+/// Whether that is told of a stream that comes in two parts, the second in pieces of a size.
+fn is_told_of(alloc: Global, front: &[u8], back: &[u8], size: usize, wanted: &[u8]) -> bool
+    requires { 0 < size }
+{
+    match told(alloc, front, back, size) {
+        Ok(told) => told.as_slice() == wanted,
+        Err(_) => false,
+    }
 }
 
 /// The items of a stream and behind a bar what its end means. It comes in two parts, the second in pieces of a size.
 fn told(alloc: Global, front: &[u8], back: &[u8], size: usize) -> Result<Vec<u8>, NoMemory>
     requires { 0 < size }
 {
-    let reading = Reading::of(alloc, front, back, size)?;
-    let mut text = reading.items;
-    text.extend_from_slice(b" | ")?;
-    text.extend_from_slice(reading.end.as_bytes())?;
-    Ok(text)
+    let Reading { mut items, end, .. } = Reading::of(alloc, front, back, size);
+    items.add(" | ");
+    items.add(end);
+    items.finish()
 }
 
 fn joined(alloc: Global, front: &[u8], back: &[u8]) -> Result<Vec<u8>, NoMemory> {
-    let mut text = front.to_vec(alloc)?;
-    text.extend_from_slice(back)?;
-    Ok(text)
+    let mut text = Draft::new(alloc);
+    text.add_bytes(front);
+    text.add_bytes(back);
+    text.finish()
 }

@@ -1,6 +1,5 @@
 //! Requests without bodies, and the items that an inbox reads from them.
 
-use std::test::Fail;
 use sv_wire::{Ended, Inbox};
 
 /// Stream, items, what its end means.
@@ -147,13 +146,19 @@ G                                                          | ""                 
 "#;
 
 #[test]
-fn an_inbox_is_spent_after_its_end(rt: HostRuntime) -> Result<(), Fail> {
+fn an_inbox_is_spent_after_its_end(rt: HostRuntime) {
     let mut inbox = Inbox::new(rt.alloc());
-    let before = inbox.feed(b"GET / HT")?.len();
+    assert!(rt; gives_nothing(&mut inbox, b"GET / HT"));
     assert!(rt; matches!(inbox.end(), Ended::Truncated));
-    let behind = inbox.feed(b"GET / HTTP/1.1\r\nHost: h\r\n\r\n")?.len();
-    assert_eq!(rt; (before, behind), (0, 0));
+    assert!(rt; gives_nothing(&mut inbox, b"GET / HTTP/1.1\r\nHost: h\r\n\r\n"));
     assert!(rt; matches!(inbox.end(), Ended::Spent));
     assert!(rt; matches!(inbox.end(), Ended::Spent));
-    Ok(())
+}
+
+/// Whether an inbox reads no item from a piece.
+fn gives_nothing(inbox: &mut Inbox, piece: &[u8]) -> bool {
+    match inbox.feed(piece) {
+        Ok(items) => items.as_slice().is_empty(),
+        Err(_) => false,
+    }
 }

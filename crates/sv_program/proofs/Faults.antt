@@ -10,7 +10,7 @@ use Rattle.sv_explain.specs.declared.fault.ExplainFault.TheVariants.{BadMethod, 
 use Rattle.sv_explain.specs.declared.fault.ExplainFault.TheVariants as explain
 use Rattle.sv_text.specs.Steps.{◌>>=◌}
 use Rattle.sv_program.specs.Configuration.{Step, configured_context, configured_contexts, descriptor_in, each, server_in, text_of, told, users_in, users_named}
-use Rattle.sv_program.specs.Policy.{answered, explained, line_for, policy_line}
+use Rattle.sv_program.specs.Policy.{answered, explained_by, line_for, policy_line}
 use Rattle.sv_program.specs.declared.command_fault.CommandFault.{CommandFault}
 use Rattle.sv_program.specs.declared.command_fault.CommandFault.TheVariants.{Input, Output, File, Descriptor, Users, User, Method, NoMemory}
 use Rattle.sv_program.specs.declared.command_fault.CommandFault.TheVariants as command
@@ -72,8 +72,9 @@ answer_asked (Err explain.NoMemory) = λ fault h. only NoMemory fault tt h
 
 line_asked : (texts : List ContextTexts) (question : Question) → FaultsAreAsked (policy_line texts question)
 line_asked texts question =
-    then (configured_contexts texts) _ (each_asked configured_context context_asked texts)
-    (λ contexts. then (explained contexts question) _ (answer_asked _) (λ explanation. done _))
+    then (explained_by texts question) _
+    (then (configured_contexts texts) _ (each_asked configured_context context_asked texts) (λ contexts. answer_asked _))
+    (λ explanation. done _)
 
 pub server_asked : {A : Type 0} (read : Reads A) → FaultsAreAsked (told command.Server read)
 server_asked (Ok a) = done a

@@ -1,5 +1,6 @@
 pub mod Arguments
 pub mod CommandFault
+pub mod FaultLine
 pub mod Configuration
 pub mod FileStore
 pub mod ConfigurationFiles

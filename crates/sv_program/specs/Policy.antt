@@ -39,11 +39,16 @@ abbrev pub explained : List ContextPolicy → Question → Step Explanation
 explained contexts question =
     answered (explanation contexts question.method.now question.target.now (option_copied question.user))
 
+-- the explanation by the contexts that the texts configure
+abbrev pub explained_by : List ContextTexts → Question → Step Explanation
+explained_by texts question = do
+  contexts ← configured_contexts texts
+  explained contexts question
+
 -- the line for contexts with these texts
 abbrev pub policy_line : List ContextTexts → Question → Step (List ℕ)
 policy_line texts question = do
-  contexts ← configured_contexts texts
-  found ← explained contexts question
+  found ← explained_by texts question
   Ok (explanation_text found)
 
 -- the line for a server file with this text, if it could be read, and contexts with these

@@ -2,6 +2,7 @@
 
 ghost use Rattle.std.specs.Prelude.{◌≡◌, Some};
 ghost use Rattle.sv_program.specs.CommandFault.{fault_line, fault_text, key_text, status_of};
+ghost use Rattle.sv_program.specs.FaultLine.{line_text, shown_text};
 
 use std::alloc::{AllocError, AllocFailed};
 use std::error::Error;
@@ -12,7 +13,7 @@ use sv_text::{NoMemory, Text};
 
 /// Why a command ended early. Its text is the line that the program writes on standard error. Every fault but `Output`
 /// leaves standard output unwritten.
-#[derive(Debug, Drop)]
+#[derive(Drop)]
 pub enum CommandFault {
     /// Standard input could not be read: `sv: file stdin`, status 1.
     Input,
@@ -67,37 +68,99 @@ impl fmt::Display for CommandFault {
     ghost output = { λ fault. Some (fault_line fault) };
 
     fn fmt<W: fmt::Write>(&self, f: &mut fmt::Formatter<W>) -> fmt::Result {
+        self.line().fmt(f)
+    }
+}
+
+impl CommandFault {
+    /// The line on standard error.
+    fn line(&self) -> Line<'_>
+        ensures { line_text result ≡ fault_line self.now }
+    {
         match self {
-            CommandFault::Input => f.write_str("sv: file stdin"),
-            CommandFault::Output => f.write_str("sv: file stdout"),
-            CommandFault::File(name) => write!(f, "sv: file {name}"),
-            CommandFault::Server(fault) => write!(f, "sv: server {}", Shown(fault)),
-            CommandFault::Descriptor { context, fault } => {
-                let context = shown_context(context.as_str());
-                write!(f, "sv: descriptor {context} {}", Shown(fault))
-            }
-            CommandFault::Users { context, fault } => {
-                let context = shown_context(context.as_str());
-                write!(f, "sv: users {context} {}", Shown(fault))
-            }
-            CommandFault::User => f.write_str("sv: user"),
-            CommandFault::Method => f.write_str("sv: method"),
-            CommandFault::NoMemory => f.write_str("sv: no memory"),
+            CommandFault::Input => plain("sv: file stdin"),
+            CommandFault::Output => plain("sv: file stdout"),
+            CommandFault::File(name) => Line {
+                front: "sv: file ",
+                place: name.as_str(),
+                fault: None,
+            },
+            CommandFault::Server(fault) => Line {
+                front: "sv: server",
+                place: "",
+                fault: Some(numbered(fault)),
+            },
+            CommandFault::Descriptor { context, fault } => Line {
+                front: "sv: descriptor ",
+                place: shown_context(context.as_str()),
+                fault: Some(numbered(fault)),
+            },
+            CommandFault::Users { context, fault } => Line {
+                front: "sv: users ",
+                place: shown_context(context.as_str()),
+                fault: Some(numbered(fault)),
+            },
+            CommandFault::User => plain("sv: user"),
+            CommandFault::Method => plain("sv: method"),
+            CommandFault::NoMemory => plain("sv: no memory"),
         }
     }
 }
 
-/// Prints a fault of a configuration file as its number and its key.
+/// A line on standard error.
 #[derive(Clone, Copy)]
-struct Shown<'a>(&'a DescriptorFault);
+struct Line<'a> {
+    front: &'static str,
+    /// The name of a file or the path of a context, which stands next.
+    place: &'a str,
+    /// The fault of a configuration file, which stands last behind a blank.
+    fault: Option<Shown<'a>>,
+}
 
-impl fmt::Display for Shown<'_> {
-    ghost output = { λ shown. Some (fault_text shown.0.now) };
+/// The line that is this text.
+fn plain(text: &'static str) -> Line<'static>
+    ensures { line_text result ≡ text.now }
+{
+    Line {
+        front: text,
+        place: "",
+        fault: None,
+    }
+}
+
+impl fmt::Display for Line<'_> {
+    ghost output = { λ line. Some (line_text line) };
 
     fn fmt<W: fmt::Write>(&self, f: &mut fmt::Formatter<W>) -> fmt::Result {
-        let code = self.0.code.number();
-        let key = shown_key(self.0.key.as_str());
-        write!(f, "{code} {key}")
+        match &self.fault {
+            None => write!(f, "{}{}", self.front, self.place),
+            Some(fault) => write!(f, "{}{} {fault}", self.front, self.place),
+        }
+    }
+}
+
+/// A fault of a configuration file: its number and its key.
+#[derive(Clone, Copy)]
+struct Shown<'a> {
+    code: u8,
+    key: &'a str,
+}
+
+impl fmt::Display for Shown<'_> {
+    ghost output = { λ shown. Some (shown_text shown) };
+
+    fn fmt<W: fmt::Write>(&self, f: &mut fmt::Formatter<W>) -> fmt::Result {
+        write!(f, "{} {}", self.code, self.key)
+    }
+}
+
+/// The number and the key of a fault.
+fn numbered(fault: &DescriptorFault) -> Shown<'_>
+    ensures { shown_text result ≡ fault_text fault.now }
+{
+    Shown {
+        code: fault.code.number(),
+        key: shown_key(fault.key.as_str()),
     }
 }
 
@@ -106,6 +169,12 @@ fn shown_key(key: &str) -> &str
     ensures { result.now ≡ key_text key.now }
 {
     if key.is_empty() { "-" } else { key }
+}
+
+impl fmt::Debug for CommandFault {
+    fn fmt<W: fmt::Write>(&self, f: &mut fmt::Formatter<W>) -> fmt::Result {
+        fmt::Display::fmt(self, f)
+    }
 }
 
 impl Error for CommandFault {}

@@ -65,10 +65,13 @@ pub fn configured_contexts(
 fn configured_context(alloc: Global, texts: &ContextTexts) -> Result<ContextPolicy, CommandFault>
     ensures { Gives command_fault result (spec.configured_context texts.now) }
 {
+    let path = Text::copy_of(alloc, texts.context.path.as_str())?;
+    let descriptor = descriptor_in(alloc, texts)?;
+    let realm = realm_in(alloc, texts)?;
     Ok(ContextPolicy {
-        path: Text::copy_of(alloc, texts.context.path.as_str())?,
-        descriptor: descriptor_in(alloc, texts)?,
-        realm: realm_in(alloc, texts)?,
+        path,
+        descriptor,
+        realm,
     })
 }
 

@@ -1,6 +1,6 @@
 //! The fixed policy that the command `first` decides by.
 
-ghost use Rattle.std.specs.Prelude.{◌≡◌, IfOk, IsTrue};
+ghost use Rattle.std.specs.Prelude.{◌≡◌, [], ◌∷◌, IfOk, IsTrue};
 ghost use Rattle.sv_text.specs.Gives.{GivesAnswer};
 ghost use Rattle.sv_mapping.specs.Pattern.{is_pattern};
 ghost use Rattle.sv_program.specs.ExamplePolicy.{constraint_on, example_constraints};
@@ -15,10 +15,11 @@ use sv_text::{Listed, NoMemory, Text};
 pub fn example_constraints(alloc: Global) -> Result<Vec<Constraint>, NoMemory>
     ensures { IfOk result (λ policy. policy.items ≡ example_constraints) }
 {
-    let everywhere = constraint_on(alloc, 1, "/*", Methods::All)?;
-    let get = Listed::from_vec(vec![in alloc; Text::copy_of(alloc, "GET")?]?);
-    let public = constraint_on(alloc, 2, "/pub/*", Methods::Only(get))?;
-    Ok(vec![in alloc; everywhere, public]?)
+    let get = one(alloc, Text::copy_of(alloc, "GET")?)?;
+    let mut policy = Vec::new(alloc);
+    policy.push(constraint_on(alloc, 1, "/*", Methods::All)?)?;
+    policy.push(constraint_on(alloc, 2, "/pub/*", Methods::Only(get))?)?;
+    Ok(policy)
 }
 
 /// The constraint of this number that asks for the role `manager` at one pattern.
@@ -36,15 +37,22 @@ fn constraint_on(
         Err(PatternFault::BadPattern) => unreachable!(),
         Err(PatternFault::NoMemory) => return Err(NoMemory),
     };
-    let collection = Collection {
-        patterns: Listed::from_vec(vec![in alloc; pattern]?),
-        methods,
-    };
+    let patterns = one(alloc, pattern)?;
+    let collections = one(alloc, Collection { patterns, methods })?;
     let manager = Text::copy_of(alloc, "manager")?;
     Ok(Constraint {
         number,
-        collections: Listed::from_vec(vec![in alloc; collection]?),
-        auth: Auth::Roles(Listed::from_vec(vec![in alloc; manager]?)),
+        collections,
+        auth: Auth::Roles(one(alloc, manager)?),
         transport: Transport::Absent,
     })
+}
+
+/// The list of one item.
+fn one<T: Drop>(alloc: Global, item: T) -> Result<Listed<T>, NoMemory>
+    ensures { GivesAnswer result (item ∷ []) }
+{
+    let mut items = Vec::new(alloc);
+    items.push(item)?;
+    Ok(Listed::from_vec(items))
 }

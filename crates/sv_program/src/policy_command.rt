@@ -63,9 +63,20 @@ pub fn policy_line(
 ) -> Result<Text, CommandFault>
     ensures { Gives command_fault result (spec.policy_line texts.now question.now) }
 {
-    let contexts = configured_contexts(alloc, texts)?;
-    let explanation = explained(alloc, contexts.as_slice(), question)?;
+    let explanation = explained_by(alloc, texts, question)?;
     Ok(Text::from_string(format!(in alloc; "{explanation}")?))
+}
+
+/// The explanation of the request by the contexts that the texts configure.
+fn explained_by(
+    alloc: Global,
+    texts: &[ContextTexts],
+    question: &Question<'_>,
+) -> Result<Explanation, CommandFault>
+    ensures { Gives command_fault result (spec.explained_by texts.now question.now) }
+{
+    let contexts = configured_contexts(alloc, texts)?;
+    explained(alloc, contexts.as_slice(), question)
 }
 
 fn explained(
