@@ -2,8 +2,7 @@
 
 use crate::ample_memory::{DESCRIPTOR, LINE, SERVER, USERS};
 use std::alloc::Global;
-use std::test::Fail;
-use sv_program::{FileStore, Question, policy};
+use sv_program::{CommandFault, FileStore, Question, policy};
 use sv_text::{NoMemory, Text};
 
 /// A store in memory, and the names that it was asked for, a blank behind each.
@@ -14,22 +13,26 @@ struct Noting {
 
 impl FileStore for Noting {
     fn read_text(&mut self, alloc: Global, name: &str) -> Result<Option<Text>, NoMemory> {
-        self.asked.push_str(name)?;
-        self.asked.push_str(" ")?;
-        let text = match name {
-            "folder/server.toml" => SERVER,
-            "folder/root.toml" => DESCRIPTOR,
-            "folder/users.toml" => USERS,
-            _ => return Ok(None),
-        };
-        Ok(Some(Text::copy_of(alloc, text)?))
+        if self.asked.push_str(name).is_err() || self.asked.push_str(" ").is_err() {
+            return Err(NoMemory);
+        }
+        match name {
+            "folder/server.toml" => text(alloc, SERVER),
+            "folder/root.toml" => text(alloc, DESCRIPTOR),
+            "folder/users.toml" => text(alloc, USERS),
+            _ => Ok(None),
+        }
     }
+}
+
+fn text(alloc: Global, text: &str) -> Result<Option<Text>, NoMemory> {
+    Ok(Some(Text::copy_of(alloc, text)?))
 }
 
 #[test]
 fn the_server_file_is_asked_for_and_then_the_files_of_its_folder(
     rt: HostRuntime,
-) -> Result<(), Fail> {
+) -> Result<(), CommandFault> {
     let question = Question {
         config: "folder/server.toml",
         method: "GET",

@@ -1,5 +1,5 @@
 -- A body that is being read, and what its stream begins with.
-use Rattle.std.proofs.Common.{◌≡◌, ℕ, ◌+◌, ◌-◌, ◌≤◌, Bool, true, false, ◌⊎◌, List, [], ◌++◌, length, take, drop, None, Some, refl, sym, ap, ◌∙◌, subst, inl, inr, cond, arith, Result, Ok, Err}
+use Rattle.std.proofs.Common.{◌≡◌, ℕ, ◌+◌, ◌-◌, ◌≤◌, Bool, true, false, ◌⊎◌, List, [], ◌∷◌, ◌++◌, length, take, drop, None, Some, refl, sym, ap, ◌∙◌, subst, inl, inr, cond, arith, Result, Ok, Err}
 use Rattle.std.specs.Bool.{MatchBool}
 use Rattle.std.specs.Result.{IfOk}
 use Rattle.std.proofs.lemmas.List.{append_assoc, append-nil, take-append-le, drop-append-le, length-take, length-drop, take_all, drop_all, drop-drop, take-append-drop, take-take}
@@ -25,6 +25,8 @@ use Rattle.sv_wire.specs.declared.reading.Next.TheVariants.{Found, AwaitsHead, A
 use Rattle.sv_wire.specs.declared.wire_fault.WireFault.{WireFault}
 use Rattle.sv_wire.specs.declared.wire_fault.WireFault.TheVariants.{HeadTooLarge}
 use Rattle.sv_wire.specs.EmptyLines.{drop_empty_lines}
+use Rattle.sv_wire.specs.Inbox.{end_within}
+use Rattle.sv_wire.specs.declared.inbox.Ended.TheVariants.{Truncated}
 use Rattle.sv_wire.specs.Head.{ends_head}
 use Rattle.sv_wire.specs.Next.{HoldsText, StartsNext, ComesNext, IsHeadAt}
 use Rattle.sv_wire.specs.Pending.{IsHeadOf, owed_by, rest_of, IsSound, Begins, ReadsPiece}
@@ -291,3 +293,14 @@ module _ (stream head : List ℕ) (at start : ℕ) (within : at ≤ length strea
 pub if_ok_map : {A E : Type 0} (P Q : A → Type 0) (r : Result A E) → ((x : A) → P x → Q x) → IfOk r P → IfOk r Q
 if_ok_map P Q (Ok x) map_it holds = map_it x holds
 if_ok_map P Q (Err e) map_it holds = tt
+
+-- ---- the end of the stream
+
+-- within a body it cuts a message off
+pub end_in_body : (asked : Bool) (head came : List ℕ) (owed : OwedHead) → MatchBool asked (head ≡ []) (IsHeadOf head owed)
+    → end_within (cond asked (Some owed) None) (head ++ came) ≡ Truncated
+end_in_body true head came owed sound = refl
+end_in_body false [] came owed sound =
+    let none : cut_head [] ≡ Unended = refl in
+    let same = sym sound.whole ∙ none in absurd (cc)
+end_in_body false (b ∷ head) came owed sound = refl
