@@ -1,9 +1,8 @@
 -- A start that went through, and one that is undone.
-use Rattle.std.proofs.Common.{◌≡◌, ℕ, ◌<◌, ◌≤◌, Bool, true, false, inl, inr, List, [], ◌∷◌, ◌++◌, length, get_or, map, take, Option, None, Some, Ok, Err, refl, sym, ◌∙◌, ap, subst, arith}
-use Rattle.std.specs.Prelude.{cond, is_some, not, replicate}
+use Rattle.std.proofs.Common.{◌≡◌, ℕ, ◌<◌, Bool, true, false, inl, inr, List, [], ◌∷◌, ◌++◌, length, get_or, map, take, Option, None, Some, Ok, Err, refl, sym, ◌∙◌, ap, subst, arith}
+use Rattle.std.specs.Prelude.{cond, is_some, not}
 use Rattle.std.specs.Prelude.{IfSome}
 use Rattle.std.specs.List.{All, filter, range_with_len}
-use Rattle.std.specs.List.Sorted.{IsPermutation}
 use Rattle.std.specs.Option.{option_map, option_to_list}
 use Rattle.std.proofs.lemmas.List.{append-nil, append_assoc, get_or-map, get_or_append_left, length-append, length-map, length-replicate, map-append}
 use Rattle.std.proofs.lemmas.List.Elements.{All-append, All-filter, All-map}
@@ -24,10 +23,8 @@ use Rattle.sv_listeners.proofs.Growing.{grows_join, grows_none}
 use Rattle.sv_lifecycle.specs.Begins.{Begins}
 use Rattle.sv_lifecycle.specs.Calls.{Answered, inited, initialised, is_ready, lets_go_on, places_of, start_calls, stop_calls, undone_calls}
 use Rattle.sv_lifecycle.specs.Fit.{Fits}
-use Rattle.sv_lifecycle.specs.Order.{IsLoadOrder, init_order}
 use Rattle.sv_lifecycle.specs.Plan.{IsPlan}
-use Rattle.sv_lifecycle.specs.Standing.{LiveState}
-use Rattle.sv_lifecycle.specs.Starting.{Attempt, GoesInOrder, IsUndone, Refuses, Starts, called, code_of, is_no_memory}
+use Rattle.sv_lifecycle.specs.Starting.{Attempt, GoesInOrder, IsUndone, Refuses, Starts, code_of, is_no_memory}
 use Rattle.sv_lifecycle.specs.World.{HasSameCounts, IsPlaceIn, world}
 use Rattle.sv_lifecycle.specs.declared.begin.Begun.{Begun}
 use Rattle.sv_lifecycle.specs.declared.order.Place.{Place}
@@ -36,7 +33,6 @@ use Rattle.sv_lifecycle.specs.declared.parts.Parts.{Parts}
 use Rattle.sv_lifecycle.specs.declared.plan.Plan.{Plan}
 use Rattle.sv_lifecycle.specs.declared.standing.Standing.TheVariants.{Serving}
 use Rattle.sv_lifecycle.specs.declared.start_fault.StartCode.{StartCode}
-use Rattle.sv_lifecycle.specs.declared.start_fault.StartCode.TheVariants as codes
 use Rattle.sv_lifecycle.proofs.Beginning.{initialised_push}
 use Rattle.sv_lifecycle.proofs.Fitting.{same_length}
 use Rattle.sv_lifecycle.proofs.Places.{all_kept}

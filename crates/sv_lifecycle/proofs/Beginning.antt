@@ -1,15 +1,15 @@
 -- The inits of a start, one after another.
-use Rattle.std.proofs.Common.{◌≡◌, ℕ, ◌+◌, ◌<◌, ◌≤◌, Bool, true, false, List, [], ◌∷◌, ◌++◌, length, get_or, map, set, take, drop, inl, inr, Some, None, refl, sym, ◌∙◌, ap, ap₂, subst, arith}
-use Rattle.std.specs.Prelude.{◌==◌, ◌||◌, cond, if◌then◌else◌}
+use Rattle.std.proofs.Common.{◌≡◌, ℕ, ◌+◌, ◌<◌, ◌≤◌, Bool, true, false, List, [], ◌∷◌, ◌++◌, length, get_or, map, set, take, drop, inl, inr, Some, None, refl, sym, ◌∙◌, ap, ap₂, subst}
+use Rattle.std.specs.Prelude.{◌==◌, ◌||◌, cond}
 use Rattle.std.specs.List.{All, filter, list_any}
-use Rattle.std.proofs.lemmas.Bool.{cases_Bool, cases_lt, cond-false, cond-true}
+use Rattle.std.proofs.lemmas.Bool.{cond-false, cond-true}
 use Rattle.std.proofs.lemmas.Bool.Decides.{eqb_tells}
-use Rattle.std.proofs.lemmas.List.{get_or-set_other, get_or-set_same, map-append, map_push, drop_all, get_or-replicate, take-append-drop, take_more, take_more_set, append-nil}
+use Rattle.std.proofs.lemmas.List.{get_or-set_other, get_or-set_same, map-append, map_push, drop_all, take-append-drop, take_more, take_more_set, append-nil}
 use Rattle.std.proofs.lemmas.List.Elements.{All-nil, All-push, filter-append}
 use Rattle.std.proofs.lemmas.List.Folds.{list_any-append}
 use Rattle.std.proofs.lemmas.Option.{unwrap_or-slice_get}
 use Rattle.sv_component.specs.Call.{Call}
-use Rattle.sv_component.specs.Runs.{Grows, Moves, Record}
+use Rattle.sv_component.specs.Runs.{Grows, Moves}
 use Rattle.sv_component.specs.World.{World}
 use Rattle.sv_component.specs.declared.config.Config.{Config}
 use Rattle.sv_component.specs.declared.answers.Init.{Init}
@@ -27,7 +27,7 @@ use Rattle.sv_lifecycle.specs.declared.plan.Plan.{Plan}
 use Rattle.sv_lifecycle.specs.declared.order.Place.{Place}
 use Rattle.sv_lifecycle.specs.declared.order.Place.TheVariants.{Filter, Servlet}
 use Rattle.sv_lifecycle.specs.declared.standing.Standing.{Standing}
-use Rattle.sv_lifecycle.specs.declared.standing.Standing.TheVariants.{Serving, Gone, Away}
+use Rattle.sv_lifecycle.specs.declared.standing.Standing.TheVariants.{Serving, Gone}
 
 abbrev pub Goes : Answered → Type 0
 Goes answered = lets_go_on answered.place answered.answer ≡ true

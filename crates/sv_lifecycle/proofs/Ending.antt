@@ -1,6 +1,5 @@
 -- What a stop destroys, and in which order.
-use Rattle.std.proofs.Common.{◌≡◌, ℕ, List, ◌++◌, length, map, reverse, sym, subst}
-use Rattle.std.specs.List.{filter}
+use Rattle.std.proofs.Common.{◌≡◌, ℕ, List, length, subst}
 use Rattle.sv_component.specs.Call.{Call}
 use Rattle.sv_component.specs.Runs.{Grows}
 use Rattle.sv_journal.specs.Journal.{JournalState}

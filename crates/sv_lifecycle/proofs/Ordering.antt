@@ -1,5 +1,5 @@
 -- The order of load-on-startup, from a stable sort of the places by their ranks.
-use Rattle.std.proofs.Common.{Greater, ◌≡◌, ℕ, ◌+◌, ◌<◌, ◌≤◌, inl, inr, List, [], ◌∷◌, ◌++◌, length, get_or, sym, ◌∙◌, ap, ap₂, subst, arith}
+use Rattle.std.proofs.Common.{Greater, ◌≡◌, ℕ, ◌+◌, inl, inr, List, [], ◌∷◌, ◌++◌, length, get_or, sym, ◌∙◌, ap, ap₂, subst, arith}
 use Rattle.std.specs.List.{range_with_len}
 use Rattle.std.specs.List.Sorted.{IsPermutation, IsSortedByKey, IsStableByKey}
 use Rattle.std.specs.Cmp.{nat_cmp_is}
@@ -9,7 +9,7 @@ use Rattle.std.proofs.lemmas.List.FromFn.{get_or-range_with_len, length-range_wi
 use Rattle.std.proofs.lemmas.List.{map-id}
 use Rattle.std.proofs.lemmas.List.Sorted.{IsNonDecreasingBy-from_sort, ties_still_rise}
 use Rattle.sv_descriptor.specs.declared.servlet.ServletEntry.{ServletEntry}
-use Rattle.sv_lifecycle.specs.Order.{ComesFirst, IsLoadOrder, rank_at}
+use Rattle.sv_lifecycle.specs.Order.{IsLoadOrder, rank_at}
 
 places_rise : (count : ℕ) → IsSortedByKey (λ place. place) nat_cmp (range_with_len 0 count)
 places_rise count k d low within =

@@ -1,5 +1,5 @@
 -- Places of components, and a list that is begun or ended place by place.
-use Rattle.std.proofs.Common.{◌≡◌, ℕ, ◌+◌, ◌-◌, ◌<◌, ◌≤◌, Bool, true, false, List, [], ◌∷◌, ◌++◌, length, get_or, map, replicate, reverse, set, take, drop, refl, sym, ◌∙◌, ap, subst, arith}
+use Rattle.std.proofs.Common.{◌≡◌, ℕ, ◌+◌, ◌-◌, ◌<◌, ◌≤◌, Bool, true, false, List, [], ◌∷◌, ◌++◌, length, get_or, map, replicate, reverse, set, take, drop, refl, sym, ◌∙◌, ap, arith}
 use Rattle.std.specs.Prelude.{cond}
 use Rattle.std.specs.List.{All}
 use Rattle.std.proofs.lemmas.List.{drop-drop, drop-set-lt, get_or-drop, get_or-map, get_or-replicate, get_or-reverse, length-map, length-replicate, length-reverse, length-set, take_more}
@@ -14,7 +14,7 @@ use Rattle.sv_lifecycle.specs.declared.order.Place.{Place}
 use Rattle.sv_lifecycle.specs.declared.order.Place.TheVariants.{Filter, Servlet}
 use Rattle.sv_lifecycle.specs.declared.parts.Parts.{Parts}
 use Rattle.sv_lifecycle.specs.declared.standing.Standing.{Standing}
-use Rattle.sv_lifecycle.specs.declared.standing.Standing.TheVariants.{Serving, Gone, Away}
+use Rattle.sv_lifecycle.specs.declared.standing.Standing.TheVariants.{Serving, Gone}
 
 pub not_both : {P : Type 0} (b : Bool) → b ≡ true → b ≡ false → P
 not_both b is_true is_false = absurd (cc)

@@ -1,5 +1,5 @@
 -- The inits of a start, as far as they went.
-use Rattle.std.specs.Prelude.{◌≡◌, ℕ, ◌<◌, ◌≤◌, true, false, List, [], ◌++◌, length, map, slice_set, take, Option, None, IfSome}
+use Rattle.std.specs.Prelude.{◌≡◌, ℕ, ◌<◌, true, false, List, [], ◌++◌, length, map, slice_set, take, Option, None, IfSome}
 use Rattle.std.specs.List.{All}
 use Rattle.std.specs.Option.{option_map, option_to_list}
 use Rattle.sv_component.specs.Call.{Call}
@@ -11,7 +11,7 @@ use Rattle.sv_journal.specs.Journal.{JournalState}
 use Rattle.sv_listeners.specs.Telling.{then_all}
 use Rattle.sv_lifecycle.specs.Calls.{Answered, inited, initialised, lets_go_on, places_of}
 use Rattle.sv_lifecycle.specs.Standing.{standing_after, standing_at}
-use Rattle.sv_lifecycle.specs.World.{HasSameCounts, world}
+use Rattle.sv_lifecycle.specs.World.{world}
 use Rattle.sv_lifecycle.specs.declared.begin.Begun.{Begun}
 use Rattle.sv_lifecycle.specs.declared.order.Place.{Place}
 use Rattle.sv_lifecycle.specs.declared.order.Place.TheVariants.{Filter, Servlet}

@@ -1,5 +1,8 @@
 //! How a servlet stands.
 
+ghost use Rattle.std.specs.Prelude.{◌≡◌};
+ghost use Rattle.sv_lifecycle.specs.Standing.{is_gone};
+
 /// How a servlet stands (Jakarta Servlet 6.0, section 2.3.3.2).
 #[derive(Clone, Copy, Debug, PartialEq, Eq)]
 pub enum Standing {
@@ -9,4 +12,17 @@ pub enum Standing {
     Gone,
     /// It is out of service until that moment, in seconds since 1970.
     Away(u64),
+}
+
+impl Standing {
+    /// Whether the servlet is out of service for good. It is not called then.
+    pub fn is_gone(self) -> bool
+        ensures { result ≡ is_gone self }
+    {
+        match self {
+            Standing::Serving => false,
+            Standing::Gone => true,
+            Standing::Away(_) => false,
+        }
+    }
 }

@@ -184,7 +184,7 @@ fn is_in_service(standings: &[Standing], place: Place) -> bool
 {
     match place {
         Place::Filter(_) => true,
-        Place::Servlet(servlet) => standing_at(standings, servlet) != Standing::Gone,
+        Place::Servlet(servlet) => !standing_at(standings, servlet).is_gone(),
     }
 }
 

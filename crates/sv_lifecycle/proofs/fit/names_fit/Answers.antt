@@ -1,4 +1,4 @@
-use Rattle.std.proofs.Common.{◌≡◌, arith, sym, ◌∙◌, ap}
+use Rattle.std.proofs.Common.{arith, sym, ◌∙◌, ap}
 use Rattle.sv_lifecycle.proofs.Fitting.{names_more, same_at, texts_differ, texts_equal}
 use Rattle.sv_lifecycle.proofs.fit.names_fit.Goals as goal
 

@@ -1,4 +1,4 @@
-use Rattle.std.proofs.Common.{◌≡◌, ◌∷◌, [], ◌++◌, length, map, reverse, take, arith, refl, sym, ◌∙◌, subst}
+use Rattle.std.proofs.Common.{map, reverse, take, sym, ◌∙◌, subst}
 use Rattle.sv_component.specs.Runs.{Grows}
 use Rattle.sv_listeners.specs.Telling.{then_all}
 use Rattle.sv_listeners.proofs.Growing.{grows_more}

@@ -1,4 +1,4 @@
-use Rattle.std.proofs.Common.{◌≡◌, false, None, length, replicate, sym, ◌∙◌, ap, subst}
+use Rattle.std.proofs.Common.{length, replicate, sym, ◌∙◌, ap, subst}
 use Rattle.sv_component.specs.Runs.{Grows}
 use Rattle.sv_journal.specs.declared.event.Event.TheVariants.{ContextInitialized}
 use Rattle.sv_listeners.specs.Telling.{then_all, told}

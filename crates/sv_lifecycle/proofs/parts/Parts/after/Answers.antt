@@ -1,8 +1,7 @@
-use Rattle.std.proofs.Common.{◌≡◌, Some, None, Ok, is_ok, refl, ap}
-use Rattle.sv_component.specs.Call.{Destroyed, Entered, Inited, Left, Serviced}
-use Rattle.sv_component.specs.Noted.{gate_answer, init_answer, step_answer}
+use Rattle.std.proofs.Common.{is_ok, refl}
+use Rattle.sv_component.specs.Call.{Left}
 use Rattle.sv_lifecycle.specs.World.{world}
-use Rattle.sv_lifecycle.proofs.Moving.{moves_filter, moves_servlet}
+use Rattle.sv_lifecycle.proofs.Moving.{moves_filter}
 use Rattle.sv_lifecycle.proofs.parts.Parts.after.Goals as goal
 
 pub returns-clause-moves : goal.returns-clause-moves
