@@ -28,6 +28,7 @@ pub fn answer(alloc: Global, sessions: &mut Sessions, call: &str) -> Result<Stri
         "crowd" => crowded(alloc, sessions, call),
         "fill" => filled(alloc, sessions, call),
         "set" => set(alloc, sessions, call),
+        "save" => saved(alloc, sessions, call),
         "get" | "remove" | "find" => named(alloc, sessions, call),
         "open" | "rename" | "id" | "least" => identity(alloc, sessions, call),
         "touch" | "expire" | "end" => ending(alloc, sessions, call),
@@ -68,7 +69,13 @@ fn named(alloc: Global, sessions: &mut Sessions, call: &str) -> Result<String, N
     }
 }
 
-/// `enter NUMBER CALLER` (`none` for none), `caller NUMBER`, `save NUMBER TARGET`, `take NUMBER`.
+/// `save NUMBER TARGET`.
+fn saved(alloc: Global, sessions: &mut Sessions, call: &str) -> Result<String, NoMemory> {
+    let target = text(alloc, call, 2)?;
+    told_flag(alloc, sessions.save(number(call, 1), target))
+}
+
+/// `enter NUMBER CALLER` (`none` for none), `caller NUMBER`, `take NUMBER`.
 fn login(alloc: Global, sessions: &mut Sessions, call: &str) -> Result<String, NoMemory> {
     match word(call, 0) {
         "enter" => {
@@ -76,10 +83,6 @@ fn login(alloc: Global, sessions: &mut Sessions, call: &str) -> Result<String, N
             told_flag(alloc, sessions.enter_caller(number(call, 1), caller))
         }
         "caller" => told_some(alloc, sessions.caller(number(call, 1)).map(u64::from)),
-        "save" => {
-            let target = Text::copy_of(alloc, word(call, 2))?;
-            told_flag(alloc, sessions.save(number(call, 1), target))
-        }
         _ => told_value(alloc, sessions.take_saved(number(call, 1))),
     }
 }
