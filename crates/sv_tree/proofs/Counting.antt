@@ -1,9 +1,8 @@
 -- Calls are counted.
-use Rattle.std.proofs.Common.{◌≡◌, ℕ, suc, ◌+◌, ◌≤◌, ◌<◌, Bool, true, false, List, [], ◌∷◌, ◌++◌, None, Some, sym, arith, zero-add}
+use Rattle.std.proofs.Common.{◌≡◌, ℕ, suc, ◌+◌, ◌≤◌, ◌<◌, Bool, true, false, List, [], ◌∷◌, ◌++◌, ◌∙◌, sym, subst, arith, zero-add}
 use Rattle.std.proofs.lemmas.Bool.{leb-false}
 use Rattle.sv_component.specs.Runs.{Record}
 use Rattle.sv_component.specs.declared.answers.Step.{Step}
-use Rattle.sv_component.specs.declared.answers.Step.TheVariants as steps
 use Rattle.sv_mapping.specs.declared.kind.Kind.{Kind}
 use Rattle.sv_mapping.specs.declared.kind.Kind.TheVariants as kinds
 use Rattle.sv_tree.specs.Laws.{CallsAreCounted, count_all}
@@ -11,7 +10,7 @@ use Rattle.sv_tree.specs.Site.{Site}
 use Rattle.sv_tree.specs.State.{Exchange, State, is_full}
 use Rattle.sv_tree.specs.Tree.{service_of}
 use Rattle.sv_tree.specs.declared.limits.TheConstants.{MAX_CALLS}
-use Rattle.sv_tree.proofs.Keeping.{FilterSteps, Opens, Steps, away_by, called, tree_keeps, within_keeps}
+use Rattle.sv_tree.proofs.Keeping.{FilterSteps, Opens, Steps, away_by, away_calls, called, tree_keeps, within_keeps}
 
 abbrev pub Counts : ℕ → State → List Record → State → Bool → Type 0
 Counts room x r y b = (y.calls ≡ count_all r + x.calls) × (x.calls ≤ MAX_CALLS → y.calls ≤ MAX_CALLS)
@@ -28,14 +27,10 @@ none_more x = (sym (zero-add x.calls), λ h. h)
 
 away_counts : (x : State) (place turn : ℕ) (step : Step) (e : Exchange) → is_full x ≡ false
     → Counts 0 x (service_of place turn x.exchange step e ∷ []) (away_by place step (called e x)) true
-away_counts x place turn (steps.Unavailable None) e left = one_more x left
-away_counts x place turn (steps.Unavailable (Some seconds)) e left = one_more x left
-away_counts x place turn steps.Done e left = one_more x left
-away_counts x place turn (steps.Forward text) e left = one_more x left
-away_counts x place turn (steps.Include text) e left = one_more x left
-away_counts x place turn (steps.Error code text) e left = one_more x left
-away_counts x place turn (steps.Failed kind text) e left = one_more x left
-away_counts x place turn steps.NoMemory e left = one_more x left
+away_counts x place turn step e left =
+    let same = away_calls x place step e in
+    let one = one_more x left in
+    (same ∙ one.0, λ below. subst (λ n. n ≤ MAX_CALLS) (sym same) (one.1 below))
 
 module _ (site : Site) where
   pub opens : (kind : Kind) → Opens site Counts kind

@@ -1,18 +1,15 @@
 -- Includes change neither status nor fields.
-use Rattle.std.proofs.Common.{◌≡◌, ℕ, Bool, true, false, List, None, Some, refl, sym, ap, ◌∙◌}
+use Rattle.std.proofs.Common.{◌≡◌, ℕ, Bool, true, false, List, refl, sym, ap, ◌∙◌}
 use Rattle.sv_component.specs.Runs.{Record}
-use Rattle.sv_component.specs.declared.answers.Step.{Step}
-use Rattle.sv_component.specs.declared.answers.Step.TheVariants as steps
-use Rattle.sv_exchange.specs.Changing.{Changes}
 use Rattle.sv_exchange.specs.Dispatches.{Leaves, entered, is_within_include}
 use Rattle.sv_mapping.specs.declared.kind.Kind.{Kind}
 use Rattle.sv_mapping.specs.declared.kind.Kind.TheVariants as kinds
 use Rattle.sv_tree.specs.Laws.{IncludesKeep, is_included}
 use Rattle.sv_tree.specs.Site.{Site, begun, paths_in}
 use Rattle.sv_tree.specs.State.{Exchange, State, on_exchange}
-use Rattle.sv_tree.proofs.Changing.{SameHead, Unchanged, emptied_head, emptied_unchanged, made_unchanged, same_dispatches, still_within, unchanged, within_begun, within_inner}
+use Rattle.sv_tree.proofs.Changing.{SameHead, emptied_head, emptied_unchanged, made_unchanged, same_dispatches, still_within, unchanged, within_begun, within_inner}
 use Rattle.sv_tree.proofs.Doing.{not_true}
-use Rattle.sv_tree.proofs.Keeping.{FilterSteps, Opens, Steps, away_by, called, tree_gives, within_keeps}
+use Rattle.sv_tree.proofs.Keeping.{FilterSteps, Opens, Steps, away_unchanged, tree_gives, within_keeps}
 use Rattle.sv_uri.specs.declared.path.Canon.{Canon}
 
 abbrev Includes : ℕ → State → List Record → State → Bool → Type 0
@@ -21,16 +18,6 @@ Includes room x r y b =
 
 head_then : (x y z : Exchange) → SameHead x y → SameHead y z → SameHead x z
 head_then x y z one two = (two.0 ∙ one.0, two.1 ∙ one.1)
-
-away_unchanged : (x : State) (place : ℕ) (step : Step) (e : Exchange) → Changes x.exchange e → Unchanged x.exchange (away_by place step (called e x)).exchange
-away_unchanged x place (steps.Unavailable None) e changes = unchanged x.exchange e changes
-away_unchanged x place (steps.Unavailable (Some seconds)) e changes = unchanged x.exchange e changes
-away_unchanged x place steps.Done e changes = unchanged x.exchange e changes
-away_unchanged x place (steps.Forward text) e changes = unchanged x.exchange e changes
-away_unchanged x place (steps.Include text) e changes = unchanged x.exchange e changes
-away_unchanged x place (steps.Error code text) e changes = unchanged x.exchange e changes
-away_unchanged x place (steps.Failed kind text) e changes = unchanged x.exchange e changes
-away_unchanged x place steps.NoMemory e changes = unchanged x.exchange e changes
 
 module _ (site : Site) where
   -- what a dispatch within an include leaves, and an include itself

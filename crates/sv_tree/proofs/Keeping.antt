@@ -28,7 +28,7 @@ use Rattle.sv_tree.specs.declared.dispatch_fault.DispatchFault.TheVariants.{Disp
 use Rattle.sv_tree.specs.declared.finished.Finished.{Finished}
 use Rattle.sv_tree.specs.declared.finished.Finished.TheVariants.{Done, Error, Failed}
 use Rattle.sv_tree.specs.declared.limits.TheConstants.{FOUND, METHOD_NOT_ALLOWED, NOT_FOUND, SERVICE_UNAVAILABLE, INTERNAL_SERVER_ERROR}
-use Rattle.sv_tree.proofs.Changing.{unchanged}
+use Rattle.sv_tree.proofs.Changing.{Unchanged, unchanged}
 use Rattle.sv_tree.proofs.Doing.{absurd_result, becomes_then, chosen_then, tries_then}
 use Rattle.sv_uri.specs.declared.path.Canon.{Canon}
 use Rattle.sv_wire.specs.ResponseText.{phrase_of}
@@ -43,9 +43,27 @@ abbrev pub away_by : ℕ → Step → State → State
 away_by place (steps.Unavailable (Some seconds)) state = away_for place seconds state
 away_by place step state = state
 
+away_same : (place : ℕ) (step : Step) (state : State)
+    → ((away_by place step state).exchange ≡ state.exchange) × ((away_by place step state).calls ≡ state.calls)
+away_same place (steps.Unavailable (Some seconds)) state = (refl, refl)
+away_same place (steps.Unavailable None) state = (refl, refl)
+away_same place steps.Done state = (refl, refl)
+away_same place (steps.Forward text) state = (refl, refl)
+away_same place (steps.Include text) state = (refl, refl)
+away_same place (steps.Error code text) state = (refl, refl)
+away_same place (steps.Failed kind text) state = (refl, refl)
+away_same place steps.NoMemory state = (refl, refl)
+
 -- the state behind a call that counts
 abbrev pub called : Exchange → State → State
 called exchange state = with_exchange exchange (counted state)
+
+pub away_unchanged : (x : State) (place : ℕ) (step : Step) (e : Exchange) → Changes x.exchange e
+    → Unchanged x.exchange (away_by place step (called e x)).exchange
+away_unchanged x place step e changes = subst (Unchanged x.exchange) (sym (away_same place step (called e x)).0) (unchanged x.exchange e changes)
+
+pub away_calls : (x : State) (place : ℕ) (step : Step) (e : Exchange) → (away_by place step (called e x)).calls ≡ suc x.calls
+away_calls x place step e = (away_same place step (called e x)).1
 
 abbrev pub stands : ℕ → State → Standing
 stands place state = standing_at state.exchange.moment place state.standings

@@ -1,10 +1,9 @@
 -- Dispatches stand one within another, and what they show lasts to their end.
 use Rattle.std.specs.Prelude.{length}
-use Rattle.std.proofs.Common.{◌≡◌, ℕ, suc, ◌+◌, ◌≤◌, Bool, true, List, [], ◌∷◌, ◌++◌, Option, None, Some, refl, sym, ap, ◌∙◌, subst, arith}
+use Rattle.std.proofs.Common.{◌≡◌, ℕ, suc, ◌+◌, ◌≤◌, Bool, true, List, [], ◌∷◌, ◌++◌, Option, Some, refl, sym, ap, ◌∙◌, subst, arith}
 use Rattle.std.proofs.lemmas.List.{length-append}
 use Rattle.sv_component.specs.Runs.{Record}
 use Rattle.sv_component.specs.declared.answers.Step.{Step}
-use Rattle.sv_component.specs.declared.answers.Step.TheVariants as steps
 use Rattle.sv_exchange.specs.Changing.{Changes}
 use Rattle.sv_exchange.specs.Dispatches.{Leaves, client_in, entered}
 use Rattle.sv_mapping.specs.declared.kind.Kind.{Kind}
@@ -16,22 +15,12 @@ use Rattle.sv_tree.specs.Tree.{Tree, service_of}
 use Rattle.sv_tree.specs.declared.finished.Finished.{Finished}
 use Rattle.sv_tree.proofs.Changing.{begun_dispatches, emptied_request, emptied_unchanged, made_unchanged, request_then, same_dispatches, same_request, unchanged}
 use Rattle.sv_tree.proofs.Doing.{not_true}
-use Rattle.sv_tree.proofs.Keeping.{FilterSteps, Opens, Steps, away_by, called, came, tree_gives, tree_keeps, within_keeps}
+use Rattle.sv_tree.proofs.Keeping.{FilterSteps, Opens, Steps, away_by, away_unchanged, called, came, tree_gives, tree_keeps, within_keeps}
 use Rattle.sv_uri.specs.declared.path.Canon.{Canon}
 
 -- what an exchange shows stays
 abbrev pub Shows : ℕ → State → List Record → State → Bool → Type 0
 Shows room x r y b = b ≡ true → SameRequest x.exchange y.exchange
-
-away_shows : (x : State) (place : ℕ) (step : Step) (e : Exchange) → Changes x.exchange e → SameRequest x.exchange (away_by place step (called e x)).exchange
-away_shows x place (steps.Unavailable None) e changes = (unchanged x.exchange e changes).0
-away_shows x place (steps.Unavailable (Some seconds)) e changes = (unchanged x.exchange e changes).0
-away_shows x place steps.Done e changes = (unchanged x.exchange e changes).0
-away_shows x place (steps.Forward text) e changes = (unchanged x.exchange e changes).0
-away_shows x place (steps.Include text) e changes = (unchanged x.exchange e changes).0
-away_shows x place (steps.Error code text) e changes = (unchanged x.exchange e changes).0
-away_shows x place (steps.Failed kind text) e changes = (unchanged x.exchange e changes).0
-away_shows x place steps.NoMemory e changes = (unchanged x.exchange e changes).0
 
 module _ (site : Site) where
   -- a dispatch, from its beginning to its end
@@ -48,29 +37,16 @@ module _ (site : Site) where
         dispatches = same_dispatches site kind canon x y z same.dispatches left;
       }
 
-  forward_shows : Opens site Shows kinds.Forward
-  forward_shows room canon = record {
+  -- a dispatch of another kind than a request leaves what the client asked for
+  inner_shows : (kind : Kind) → ((canon : Canon) (x : Exchange) → client_in kind (paths_in site canon x) x.client ≡ x.client) → Opens site Shows kind
+  inner_shows kind client room canon = record {
     stays = λ x b. not_true b;
-    ends = λ x y z r h left b. let same = dispatch_shows kinds.Forward canon x.exchange y.exchange z (h refl) left in record {
+    ends = λ x y z r h left b. let same = dispatch_shows kind canon x.exchange y.exchange z (h refl) left in record {
       method = same.method;
       context_path = same.context_path;
       request_fields = same.request_fields;
       moment = same.moment;
-      client = same.client;
-      dispatches = same.dispatches;
-    };
-    breaks = λ x y r h b. not_true b;
-  }
-
-  include_shows : Opens site Shows kinds.Include
-  include_shows room canon = record {
-    stays = λ x b. not_true b;
-    ends = λ x y z r h left b. let same = dispatch_shows kinds.Include canon x.exchange y.exchange z (h refl) left in record {
-      method = same.method;
-      context_path = same.context_path;
-      request_fields = same.request_fields;
-      moment = same.moment;
-      client = same.client;
+      client = same.client ∙ client canon x.exchange;
       dispatches = same.dispatches;
     };
     breaks = λ x y r h b. not_true b;
@@ -84,10 +60,10 @@ module _ (site : Site) where
     makes = λ room x change came. (made_unchanged change x.exchange).0;
     empties = λ room x came. (emptied_unchanged x.exchange).0;
     breaks = λ room x place turn step e left serving changes came. (unchanged x.exchange e changes).0;
-    serves = λ room x place turn step e left serving changes came. away_shows x place step e changes;
+    serves = λ room x place turn step e left serving changes came. (away_unchanged x place step e changes).0;
     destroys = λ room x place b serving came. same_request x.exchange x.exchange refl;
-    forwards = forward_shows;
-    includes = include_shows;
+    forwards = inner_shows kinds.Forward (λ canon x. refl);
+    includes = inner_shows kinds.Include (λ canon x. refl);
   }
 
   pub filters_show : FilterSteps site Shows
@@ -123,7 +99,7 @@ nest_one room x e changes = ((unchanged x e changes).0.dispatches, omega arith)
 away_nests : (room : ℕ) (x : State) (place turn : ℕ) (step : Step) (e : Exchange) → Changes x.exchange e
     → Nests room x (service_of place turn x.exchange step e ∷ []) (away_by place step (called e x)) true
 away_nests room x place turn step e changes =
-    (λ _. (away_shows x place step e changes).dispatches, ((nest_one room x.exchange e changes).1, tt))
+    (λ _. (away_unchanged x place step e changes).0.dispatches, ((nest_one room x.exchange e changes).1, tt))
 
 module _ (site : Site) where
   deeper : (room : ℕ) (kind : Kind) (canon : Canon) (x : Exchange)
