@@ -1,19 +1,18 @@
 -- The tables of patterns are whole.
-use Rattle.std.proofs.Common.{arith, subst, ◌≡◌, ℕ, ◌+◌, ◌<◌, Bool, true, false, not, ◌&&◌, List, [], ◌∷◌, ◌++◌, length, take, get_or, map, refl, ap, sym, ◌∙◌, cond, append-nil}
+use Rattle.std.proofs.Common.{arith, subst, ◌≡◌, ℕ, ◌+◌, ◌<◌, Bool, true, false, not, List, [], ◌∷◌, ◌++◌, length, take, get_or, map, ap, sym, ◌∙◌, cond, append-nil}
 use Rattle.std.specs.Borrow.{Bor}
 use Rattle.std.specs.Prelude.{All, filter}
 use Rattle.std.proofs.lemmas.List.{append_assoc, map-append}
 use Rattle.std.proofs.lemmas.List.Elements.{filter-append}
-use Rattle.sv_constraints.specs.Covering.{all_patterns, covers, lists}
+use Rattle.sv_constraints.specs.Covering.{covers}
 use Rattle.sv_constraints.specs.declared.constraint.Constraint.{Constraint}
 use Rattle.sv_constraints.specs.declared.rules.Rules.{Rules}
 use Rattle.sv_merged.proofs.Joined.{seen_more}
-use Rattle.sv_merged.proofs.Rising.{passing_lists}
 use Rattle.sv_merged.specs.Merged.{IsMerged}
 use Rattle.sv_merged.specs.Table.{IsTable, entry_of}
 use Rattle.sv_merged.specs.declared.table.Table.{Table}
-use Rattle.sv_policy.proofs.Listed.{covers_listed, different_lists, filter_within}
-use Rattle.sv_policy.specs.Patterns.{different, lists_pattern}
+use Rattle.sv_policy.proofs.Listed.{covers_listed, filter_within}
+use Rattle.sv_policy.specs.Patterns.{lists_pattern}
 
 -- a table of the constraints that list its pattern is one of all constraints
 pub table_of_all : (rules : Rules) (constraints : List Constraint) (members : List Constraint) (table : Table) (pattern : List ℕ) → members ≡ filter (λ c. lists_pattern c pattern) constraints → pattern ≡ table.pattern → IsTable rules members table → IsTable rules constraints table

@@ -1,4 +1,4 @@
-use Rattle.std.proofs.Common.{ap, filter, map, sym, ◌∙◌}
+use Rattle.std.proofs.Common.{ap, filter, map, ◌∙◌}
 use Rattle.sv_constraints.specs.Covering.{all_patterns, lists}
 use Rattle.sv_policy.proofs.Grouped.{no_members}
 use Rattle.sv_policy.proofs.Whole.{nothing_pushed}
