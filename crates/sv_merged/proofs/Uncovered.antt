@@ -1,7 +1,7 @@
 -- The methods that are uncovered at a pattern.
 use Rattle.std.proofs.lemmas.Bool.{false≢true}
-use Rattle.std.proofs.Common.{arith, subst, ◌≡◌, ℕ, zero, suc, ◌+◌, ◌<◌, ◌≤◌, Bool, true, false, not, ◌||◌, ◌&&◌, List, [], ◌∷◌, ◌++◌, length, map, refl, ap, ap₂, sym, ◌∙◌, Option, Some, None, cond, is_none, nat_cmp, ◌==◌}
-use Rattle.std.specs.Prelude.{filter, unwrap_or, min, fold}
+use Rattle.std.proofs.Common.{arith, ◌≡◌, ℕ, zero, suc, ◌+◌, ◌<◌, Bool, true, false, not, ◌||◌, ◌&&◌, List, [], ◌∷◌, ◌++◌, length, refl, ap, ap₂, sym, ◌∙◌, Option, Some, None, cond, is_none, nat_cmp, ◌==◌}
+use Rattle.std.specs.Prelude.{filter, unwrap_or}
 use Rattle.std.specs.Cmp.Lexicographic.{slice_cmp}
 use Rattle.std.specs.List.{list_any}
 use Rattle.std.specs.Option.{option_map_or}
@@ -10,17 +10,15 @@ use Rattle.std.proofs.lemmas.List.Folds.{list_any-append}
 use Rattle.std.proofs.lemmas.List.Kept.{IsStrictlySortedBy-filter}
 use Rattle.std.proofs.lemmas.Slice.Eq.{bytes_eq-Decides}
 use Rattle.sv_constraints.specs.Covering.{covers, covers_method, lists}
-use Rattle.sv_constraints.specs.Findings.{findings_of}
 use Rattle.sv_constraints.specs.Verdict.{least_number}
 use Rattle.sv_constraints.specs.declared.constraint.Constraint.{Constraint}
-use Rattle.sv_constraints.specs.declared.constraint.Methods.{Methods}
 use Rattle.sv_constraints.specs.declared.constraint.Methods.TheVariants.{Except, Only}
 use Rattle.sv_constraints.specs.declared.findings.Findings.{Findings}
 use Rattle.sv_constraints.specs.declared.rules.Rules.{Rules}
 use Rattle.sv_merged.proofs.Joined.{filter_same}
 use Rattle.sv_merged.proofs.Named.{first_false, second_false, unnamed_members}
 use Rattle.sv_merged.proofs.Rising.{passing_lists, rising_lists, rising_rises, rising_same}
-use Rattle.sv_merged.specs.Covering.{covers_at, covers_unnamed, method_names, named_methods}
+use Rattle.sv_merged.specs.Covering.{covers_unnamed, method_names, named_methods}
 use Rattle.sv_merged.specs.Merged.{IsMerged}
 use Rattle.sv_merged.specs.Uncovered.{IsRising, are_others_uncovered, differ, is_bare, is_uncovered, rising, uncovered_methods}
 use Rattle.sv_merged.specs.declared.merged.Merged.{Merged}

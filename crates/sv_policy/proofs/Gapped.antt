@@ -1,6 +1,6 @@
 -- The gaps of tables are those of their constraints.
 use Rattle.std.proofs.lemmas.Bool.{false≢true}
-use Rattle.std.proofs.Common.{subst, ◌≡◌, ℕ, ◌+◌, ◌<◌, ◌≤◌, zero, suc, Bool, true, false, ◌||◌, ◌&&◌, List, [], ◌∷◌, ◌++◌, length, take, get_or, map, refl, ap, sym, ◌∙◌, cond, arith, not, ◌==◌}
+use Rattle.std.proofs.Common.{subst, ◌≡◌, ℕ, ◌+◌, ◌<◌, ◌≤◌, Bool, true, false, ◌||◌, ◌&&◌, List, [], ◌∷◌, ◌++◌, length, take, get_or, map, refl, ap, sym, ◌∙◌, cond, arith, not, ◌==◌}
 use Rattle.std.specs.Borrow.{Bor}
 use Rattle.std.specs.Prelude.{All, Contains, filter}
 use Rattle.std.specs.List.{list_any}
@@ -15,17 +15,14 @@ use Rattle.sv_constraints.specs.Covering.{all_patterns, covers_method, lists}
 use Rattle.sv_constraints.specs.declared.constraint.Constraint.{Constraint}
 use Rattle.sv_constraints.specs.declared.constraint.Methods.{Methods}
 use Rattle.sv_constraints.specs.declared.constraint.Methods.TheVariants as methods
-use Rattle.sv_constraints.specs.declared.rules.Rules.{Rules}
 use Rattle.sv_merged.proofs.Joined.{gone_over, seen_more}
 use Rattle.sv_merged.proofs.Rising.{rising_lists, rising_rises, rising_same}
 use Rattle.sv_merged.proofs.Uncovered.{uncovered_exact, uncovered_rise}
 use Rattle.sv_merged.specs.Covering.{method_names, named_methods}
-use Rattle.sv_merged.specs.Table.{IsTable}
 use Rattle.sv_merged.specs.Uncovered.{IsRising, are_others_uncovered, has_methods, is_uncovered, rising, uncovered_methods}
 use Rattle.sv_merged.specs.declared.table.Table.{Table}
 use Rattle.sv_policy.proofs.Whole.{all_none}
-use Rattle.sv_policy.specs.Compiled.{AreCompiled}
-use Rattle.sv_policy.specs.Gaps.{GapsAreExact, GapsRise, gap_at, gaps, holds, is_all}
+use Rattle.sv_policy.specs.Gaps.{GapsAreExact, GapsRise, gap_at, holds, is_all}
 use Rattle.sv_policy.specs.declared.gap.Gap.{Gap}
 
 -- a table among whole ones is whole

@@ -7,3 +7,4 @@ pub mod Gapped
 pub mod Best
 pub mod Elsewhere
 pub mod Outcomes
+pub mod Grouped

@@ -1,19 +1,18 @@
 -- The tables of patterns are whole.
-use Rattle.std.proofs.Common.{arith, subst, ◌≡◌, ℕ, ◌+◌, ◌<◌, Bool, true, false, not, ◌&&◌, List, [], ◌∷◌, ◌++◌, length, take, get_or, map, refl, ap, sym, ◌∙◌, cond, append-nil}
+use Rattle.std.proofs.Common.{arith, subst, ◌≡◌, ℕ, ◌+◌, ◌<◌, Bool, true, false, not, List, [], ◌∷◌, ◌++◌, length, take, get_or, map, ap, sym, ◌∙◌, cond, append-nil}
 use Rattle.std.specs.Borrow.{Bor}
 use Rattle.std.specs.Prelude.{All, filter}
 use Rattle.std.proofs.lemmas.List.{append_assoc, map-append}
 use Rattle.std.proofs.lemmas.List.Elements.{filter-append}
-use Rattle.sv_constraints.specs.Covering.{all_patterns, covers, lists}
+use Rattle.sv_constraints.specs.Covering.{covers}
 use Rattle.sv_constraints.specs.declared.constraint.Constraint.{Constraint}
 use Rattle.sv_constraints.specs.declared.rules.Rules.{Rules}
 use Rattle.sv_merged.proofs.Joined.{seen_more}
-use Rattle.sv_merged.proofs.Rising.{passing_lists}
 use Rattle.sv_merged.specs.Merged.{IsMerged}
 use Rattle.sv_merged.specs.Table.{IsTable, entry_of}
 use Rattle.sv_merged.specs.declared.table.Table.{Table}
-use Rattle.sv_policy.proofs.Listed.{covers_listed, different_lists, filter_within}
-use Rattle.sv_policy.specs.Patterns.{different, lists_pattern}
+use Rattle.sv_policy.proofs.Listed.{covers_listed, filter_within}
+use Rattle.sv_policy.specs.Patterns.{lists_pattern}
 
 -- a table of the constraints that list its pattern is one of all constraints
 pub table_of_all : (rules : Rules) (constraints : List Constraint) (members : List Constraint) (table : Table) (pattern : List ℕ) → members ≡ filter (λ c. lists_pattern c pattern) constraints → pattern ≡ table.pattern → IsTable rules members table → IsTable rules constraints table
@@ -40,20 +39,3 @@ texts_more test items i text old before after within at_i was pushed =
 
 pub all_none : {X : Type 0} (P : X → Type 0) → All P []
 all_none P k d below = let impossible : ⊥ = omega arith in absurd impossible
-
-and_same : (a : Bool) → (a && a) ≡ a
-and_same true = refl
-and_same false = refl
-
-seen_twice : {A B C : Type 0} (f : A → B) (g : B → C) (xs : List A) → map g (map f xs) ≡ map (λ x. g (f x)) xs
-seen_twice f g [] = refl
-seen_twice f g (x ∷ xs) = ap (λ rest. g (f x) ∷ rest) (seen_twice f g xs)
-
--- the tables of the different patterns of all constraints have all their texts
-pub texts_of_all : {A : Type 0} (value : A → Table) (constraints : List Constraint) (tables : List A) (patterns : List (List ℕ)) → map (λ t. (value t).pattern) tables ≡ filter (λ text. lists (all_patterns (constraints ++ [])) text) patterns → patterns ≡ different (all_patterns constraints)
-    → (text : List ℕ) → lists (map (λ table. table.pattern) (map value tables)) text ≡ lists (all_patterns constraints) text
-texts_of_all value constraints tables patterns are different_ones text =
-    ap (λ texts. lists texts text) (seen_twice value (λ table. table.pattern) tables ∙ are ∙ ap (λ cs. filter (λ t. lists (all_patterns cs) t) patterns) (append-nil constraints))
-    ∙ passing_lists (λ t. lists (all_patterns constraints) t) patterns text
-    ∙ ap (λ b. b && lists (all_patterns constraints) text) (ap (λ texts. lists texts text) different_ones ∙ different_lists (all_patterns constraints) text)
-    ∙ and_same (lists (all_patterns constraints) text)

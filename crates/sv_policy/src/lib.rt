@@ -6,6 +6,7 @@ mod edit;
 mod edit_fault;
 mod editing;
 mod gap;
+mod grouping;
 mod laws;
 mod limits;
 mod patterns;

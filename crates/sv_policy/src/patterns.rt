@@ -3,7 +3,7 @@
 ghost use Rattle.std.specs.Prelude.{◌≡◌, map, fold, IfOk, OnOk};
 ghost use Rattle.std.specs.List.{list_any};
 ghost use Rattle.std.specs.Str.{bytes_eq};
-ghost use Rattle.sv_constraints.specs.Covering.{all_patterns, lists};
+ghost use Rattle.sv_constraints.specs.Covering.{lists};
 ghost use Rattle.sv_policy.specs.Patterns.{different, kept_once, listed_in, lists_pattern};
 ghost use Rattle.sv_text.specs.Gives.{GivesAnswer};
 
@@ -34,7 +34,7 @@ fn lists_pattern(patterns: &[Pattern], text: &str) -> bool
 pub fn is_among(patterns: &[&Pattern], text: &str) -> bool
     ensures { result ≡ list_any (λ pattern. bytes_eq pattern.now text.now) patterns.now }
 {
-    patterns.iter().any(|listed| listed.text() == text)
+    patterns.iter().any(|other| other.text() == text)
 }
 
 /// Whether a constraint lists a pattern with this text.
@@ -45,20 +45,6 @@ pub fn is_listed(constraint: &Constraint, text: &str) -> bool
         collection.patterns.as_slice(),
         text,
     ))
-}
-
-/// The patterns of constraints, each text once.
-pub fn different_patterns(
-    alloc: Global,
-    constraints: &[Constraint],
-) -> Result<Vec<&Pattern>, NoMemory>
-    ensures { IfOk result (λ patterns. map (λ pattern. pattern.now) patterns.items ≡ different (all_patterns constraints.now)) }
-{
-    let mut patterns = Vec::new(alloc);
-    for constraint in constraints {
-        keep_listed(&mut patterns, constraint.collections.as_slice())?;
-    }
-    Ok(patterns)
 }
 
 /// The patterns of collections, each text once.

@@ -1,9 +1,11 @@
 //! A compiled policy.
 
-ghost use Rattle.std.specs.Prelude.{◌≡◌, ◌≤◌, ◌+◌, IfOk, map, slice_get};
+ghost use Rattle.std.specs.Prelude.{◌≡◌, ◌≤◌, ◌<◌, ◌+◌, IfOk, is_some, map, true, slice_get};
 ghost use Rattle.std.specs.Option.{option_and_then, option_copied};
+ghost use Rattle.sv_constraints.specs.Covering.{all_patterns};
 ghost use Rattle.sv_constraints.specs.Decision.{seen};
 ghost use Rattle.sv_constraints.specs.Verdict.{verdict};
+ghost use Rattle.sv_mapping.specs.BestMatch.{best_pattern};
 ghost use Rattle.sv_pattern_table.specs.Segments.{segments};
 ghost use Rattle.sv_policy.specs.Compiled.{compiled, greatest_number};
 ghost use Rattle.sv_policy.specs.Gaps.{gaps};
@@ -103,6 +105,7 @@ impl Policy {
     pub fn decide<'a>(&'a self, method: &str, path: &str, caller: Option<&Caller>) -> Decided<'a>
         ensures decision { seen result.decision ≡ verdict self.now.constraints self.now.rules method.now path.now (option_copied caller.entry) }
         ensures probes { result.probes ≤ segments path.now + 2 }
+        ensures counted { is_some (best_pattern (all_patterns self.now.constraints) path.now) ≡ true → 0 < result.probes }
     {
         let looked = self.index.lookup(path);
         match table_at(self.tables.as_slice(), looked.best) {

@@ -1,13 +1,16 @@
 //! The merged tables of patterns.
 
-ghost use Rattle.std.specs.Prelude.{◌≡◌, ◌++◌, ◌∷◌, [], map, filter, if◌then◌else◌, All, IfOk, OnOk};
+ghost use Rattle.std.specs.Prelude.{◌≡◌, ◌++◌, ◌∷◌, [], List, map, filter, if◌then◌else◌, All, IfOk, OnOk};
 ghost use Rattle.sv_constraints.specs.Covering.{all_patterns, lists};
+ghost use Rattle.sv_constraints.specs.declared.constraint.Constraint.{Constraint};
 ghost use Rattle.sv_merged.specs.Table.{IsTable};
 ghost use Rattle.sv_policy.specs.Compiled.{AreCompiled};
+ghost use Rattle.sv_policy.specs.Groups.{IsGrouped};
 ghost use Rattle.sv_policy.specs.Patterns.{lists_pattern};
 ghost use Rattle.sv_text.specs.Gives.{GivesAnswer};
 
-use crate::patterns::{copied, different_patterns, is_listed};
+use crate::grouping::{Groups, grouped};
+use crate::patterns::{copied, is_listed};
 use std::alloc::Global;
 use std::rc::Rc;
 use sv_constraints::{Constraint, Rules};
@@ -82,15 +85,33 @@ fn push_table(
         All (λ table. IsTable rules.now (front.now ++ back.now) table.value) tables.new.items) }
 {
     let members = members_of(alloc, front, back, pattern.text())?;
-    if members.as_slice().is_empty() {
+    push_merged(tables, alloc, rules, pattern, members.as_slice())
+}
+
+/// Merges the constraints that list a pattern, if there are any.
+fn push_merged(
+    tables: &mut Vec<Rc<Table>>,
+    alloc: Global,
+    rules: &Rules,
+    pattern: &Pattern,
+    members: &[&Constraint],
+) -> Result<(), NoMemory>
+    ensures texts { (constraints : List Constraint) → map (λ member. member.now) members.now ≡ filter (λ constraint. lists_pattern constraint pattern.now) constraints →
+        OnOk result (map (λ table. table.value.pattern) tables.new.items ≡ map (λ table. table.value.pattern) tables.old.items ++
+        (if lists (all_patterns constraints) pattern.now then pattern.now ∷ [] else [])) }
+    ensures tables { (constraints : List Constraint) → map (λ member. member.now) members.now ≡ filter (λ constraint. lists_pattern constraint pattern.now) constraints →
+        OnOk result (All (λ table. IsTable rules.now constraints table.value) tables.old.items →
+        All (λ table. IsTable rules.now constraints table.value) tables.new.items) }
+{
+    if members.is_empty() {
         return Ok(());
     }
-    let table = Table::merge(alloc, rules, copied(alloc, pattern)?, members.as_slice())?;
+    let table = Table::merge(alloc, rules, copied(alloc, pattern)?, members)?;
     tables.push(Rc::new(alloc, table)?)?;
     Ok(())
 }
 
-/// The tables of constraints.
+/// The tables of constraints. Each is merged of the constraints on its pattern, without going over the others.
 pub fn tables_of(
     alloc: Global,
     rules: &Rules,
@@ -98,17 +119,51 @@ pub fn tables_of(
 ) -> Result<Vec<Rc<Table>>, NoMemory>
     ensures { IfOk result (λ tables. AreCompiled rules.now constraints.now (map (λ table. table.value) tables.items)) }
 {
-    let patterns = different_patterns(alloc, constraints)?;
-    let mut tables = Vec::new(alloc);
-    push_tables(
-        &mut tables,
-        alloc,
-        rules,
-        constraints,
-        &[],
-        patterns.as_slice(),
-    )?;
+    let groups = grouped(alloc, constraints)?;
+    let mut tables = Vec::with_capacity(alloc, groups.patterns.len())?;
+    push_groups(&mut tables, alloc, rules, &groups)?;
     Ok(tables)
+}
+
+/// Merges the groups of constraints.
+fn push_groups(
+    tables: &mut Vec<Rc<Table>>,
+    alloc: Global,
+    rules: &Rules,
+    groups: &Groups<'_>,
+) -> Result<(), NoMemory>
+    ensures texts { (constraints : List Constraint) → IsGrouped constraints groups.now →
+        OnOk result (map (λ table. table.value.pattern) tables.new.items ≡ map (λ table. table.value.pattern) tables.old.items ++
+        filter (λ text. lists (all_patterns constraints) text) (map (λ pattern. pattern.now) groups.now.patterns.items)) }
+    ensures tables { (constraints : List Constraint) → IsGrouped constraints groups.now →
+        OnOk result (All (λ table. IsTable rules.now constraints table.value) tables.old.items →
+        All (λ table. IsTable rules.now constraints table.value) tables.new.items) }
+{
+    for pattern in groups.patterns.as_slice() {
+        push_group(tables, alloc, rules, groups, *pattern)?;
+    }
+    Ok(())
+}
+
+/// Merges the group of a pattern, if it has one.
+fn push_group(
+    tables: &mut Vec<Rc<Table>>,
+    alloc: Global,
+    rules: &Rules,
+    groups: &Groups<'_>,
+    pattern: &Pattern,
+) -> Result<(), NoMemory>
+    ensures texts { (constraints : List Constraint) → IsGrouped constraints groups.now →
+        OnOk result (map (λ table. table.value.pattern) tables.new.items ≡ map (λ table. table.value.pattern) tables.old.items ++
+        (if lists (all_patterns constraints) pattern.now then pattern.now ∷ [] else [])) }
+    ensures tables { (constraints : List Constraint) → IsGrouped constraints groups.now →
+        OnOk result (All (λ table. IsTable rules.now constraints table.value) tables.old.items →
+        All (λ table. IsTable rules.now constraints table.value) tables.new.items) }
+{
+    match groups.on(pattern.text()) {
+        None => Ok(()),
+        Some(members) => push_merged(tables, alloc, rules, pattern, members.as_slice()),
+    }
 }
 
 /// Compiles the patterns of tables for look-ups.

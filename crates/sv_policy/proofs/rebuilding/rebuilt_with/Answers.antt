@@ -1,5 +1,4 @@
-use Rattle.std.proofs.Common.{IfOk, ap₂, ap, subst, sym, refl, ◌∷◌, [], ◌++◌}
-use Rattle.sv_constraints.specs.declared.constraint.Constraint.{Constraint}
+use Rattle.std.proofs.Common.{IfOk, subst, sym, ◌++◌}
 use Rattle.sv_policy.proofs.Elsewhere.{same_with}
 use Rattle.sv_policy.specs.Patterns.{listed_in}
 use Rattle.sv_policy.specs.Rebuilt.{AreSameElsewhere, IsRebuilt}

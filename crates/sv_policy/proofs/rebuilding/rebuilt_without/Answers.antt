@@ -1,5 +1,4 @@
-use Rattle.std.proofs.Common.{◌≡◌, IfOk, List, ap, ap₂, get_or, subst, sym, remove, ◌∙◌, ◌++◌}
-use Rattle.sv_constraints.specs.declared.constraint.Collection.{Collection}
+use Rattle.std.proofs.Common.{◌≡◌, IfOk, ap, ap₂, subst, sym, remove, ◌∙◌, ◌++◌}
 use Rattle.sv_constraints.specs.declared.constraint.Constraint.{Constraint}
 use Rattle.sv_policy.proofs.Elsewhere.{at_any, same_without}
 use Rattle.sv_policy.specs.Patterns.{listed_in}

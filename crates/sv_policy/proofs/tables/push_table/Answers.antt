@@ -1,33 +1,13 @@
-use Rattle.std.proofs.Common.{[], ap, sym, ◌∙◌, ◌++◌, ◌==◌, map, not, length, subst}
-use Rattle.std.specs.Prelude.{All}
-use Rattle.std.proofs.lemmas.List.Elements.{All-append, All-cons}
-use Rattle.sv_constraints.specs.Covering.{all_patterns, lists}
-use Rattle.sv_merged.specs.Table.{IsTable}
-use Rattle.sv_policy.proofs.Listed.{listed_members}
-use Rattle.sv_policy.proofs.Whole.{all_none, nothing_pushed, table_of_all, text_pushed}
+use Rattle.std.proofs.Common.{ap, filter, map, ◌∙◌, ◌++◌}
+use Rattle.sv_policy.specs.Patterns.{lists_pattern}
 use Rattle.sv_policy.proofs.tables.push_table.Goals as goal
-
-pub returns-then-is_empty-clause-texts : goal.returns-then-is_empty-clause-texts
-returns-then-is_empty-clause-texts c =
-    nothing_pushed (map (λ table. table.value.pattern) c.args.tables.now.items) c.args.pattern.now (lists (all_patterns (c.args.front.now ++ c.args.back.now)) c.args.pattern.now)
-    (ap not (sym c.if-is_empty.true ∙ c.is_empty.ensures ∙ ap (λ xs. length xs == 0) c.as_slice.ensures.value)
-    ∙ listed_members (c.args.front.now ++ c.args.back.now) c.text.result.now c.args.pattern.now c.in_ok-members.members.items c.in_ok-members.ensures c.text.ensures.value)
 
 pub returns-clause-texts : goal.returns-clause-texts
 returns-clause-texts c =
-    text_pushed (λ table. table.value.pattern) c.args.tables.now.items c.push.new.self.items c.in_ok-new.field-0 c.args.pattern.now (lists (all_patterns (c.args.front.now ++ c.args.back.now)) c.args.pattern.now)
-    c.in_ok-push.ensures.items
-    (ap (λ table. table.pattern) c.in_ok-new.ensures.ok ∙ c.in_ok-table.ensures.pattern ∙ c.in_ok-copied.ensures)
-    (ap not (sym c.if-is_empty.false ∙ c.is_empty.ensures ∙ ap (λ xs. length xs == 0) c.as_slice.ensures.value)
-    ∙ listed_members (c.args.front.now ++ c.args.back.now) c.text.result.now c.args.pattern.now c.in_ok-members.members.items c.in_ok-members.ensures c.text.ensures.value)
+    c.push_merged.ensures.texts (c.args.front.now ++ c.args.back.now)
+    (ap (map (λ member. member.now)) c.as_slice.ensures.value ∙ c.in_ok-members.ensures ∙ ap (λ text. filter (λ constraint. lists_pattern constraint text) (c.args.front.now ++ c.args.back.now)) c.text.ensures.value)
 
 pub returns-clause-tables : goal.returns-clause-tables
-returns-clause-tables c = λ all.
-    subst (All (λ table. IsTable c.args.rules.now (c.args.front.now ++ c.args.back.now) table.value)) (sym c.in_ok-push.ensures.items)
-    (All-append (λ table. IsTable c.args.rules.now (c.args.front.now ++ c.args.back.now) table.value) c.args.tables.now.items _ all
-    (All-cons (λ table. IsTable c.args.rules.now (c.args.front.now ++ c.args.back.now) table.value) c.in_ok-new.field-0 []
-    (table_of_all c.args.rules.now (c.args.front.now ++ c.args.back.now) (map (λ member. member.now) c.as_slice-2.result.now) c.in_ok-new.field-0.value c.text.result.now
-    (ap (map (λ member. member.now)) c.as_slice-2.ensures.value ∙ c.in_ok-members.ensures)
-    (c.text.ensures.value ∙ sym c.in_ok-copied.ensures ∙ sym c.in_ok-table.ensures.pattern ∙ ap (λ table. table.pattern) (sym c.in_ok-new.ensures.ok))
-    (subst (IsTable c.args.rules.now (map (λ member. member.now) c.as_slice-2.result.now)) (sym c.in_ok-new.ensures.ok) c.in_ok-table.ensures.table))
-    (all_none (λ table. IsTable c.args.rules.now (c.args.front.now ++ c.args.back.now) table.value))))
+returns-clause-tables c =
+    c.push_merged.ensures.tables (c.args.front.now ++ c.args.back.now)
+    (ap (map (λ member. member.now)) c.as_slice.ensures.value ∙ c.in_ok-members.ensures ∙ ap (λ text. filter (λ constraint. lists_pattern constraint text) (c.args.front.now ++ c.args.back.now)) c.text.ensures.value)
