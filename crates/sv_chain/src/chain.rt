@@ -73,11 +73,7 @@ fn push_by_servlet(
     Ok(())
 }
 
-fn push_filter(
-    places: &mut Vec<usize>,
-    filters: &[FilterEntry],
-    name: &str,
-) -> Result<(), NoMemory>
+fn push_filter(places: &mut Vec<usize>, filters: &[FilterEntry], name: &str) -> Result<(), NoMemory>
     ensures { OnOk result (places.new.items ≡ places.old.items ++ option_to_list (spec.filter_place filters.now name.now)) }
 {
     if let Some(place) = filter_place(filters, name) {

@@ -10,11 +10,7 @@ use sv_descriptor::{Descriptor, ErrorPage, PageFor};
 /// The page for an error: the first that is for the fault's kind, else the first for the status, else the first that is for all that
 /// has no other page. An error that is no fault has no kind. The answer is the page's path within the context, with or without a
 /// query, and has a canonical path. Kinds are compared with case.
-pub fn page_for<'a>(
-    descriptor: &'a Descriptor,
-    status: u16,
-    kind: Option<&str>,
-) -> Option<&'a str>
+pub fn page_for<'a>(descriptor: &'a Descriptor, status: u16, kind: Option<&str>) -> Option<&'a str>
     ensures place { option_copied result ≡ spec.page_for descriptor.now.error_pages status (option_copied kind.entry) }
     ensures canonical { IfSome result (λ page. IsTrue (is_location page.now)) }
 {
@@ -22,11 +18,7 @@ pub fn page_for<'a>(
     Some(chosen(pages, status, kind)?.location.text())
 }
 
-fn chosen<'a>(
-    pages: &'a [ErrorPage],
-    status: u16,
-    kind: Option<&str>,
-) -> Option<&'a ErrorPage>
+fn chosen<'a>(pages: &'a [ErrorPage], status: u16, kind: Option<&str>) -> Option<&'a ErrorPage>
     ensures { option_copied result ≡ spec.chosen pages.now status (option_copied kind.entry) }
 {
     if let Some(page) = page_for_fault(pages, kind) {
@@ -56,7 +48,9 @@ fn page_for_kind<'a>(pages: &'a [ErrorPage], kind: &str) -> Option<&'a ErrorPage
 fn page_for_status(pages: &[ErrorPage], status: u16) -> Option<&ErrorPage>
     ensures { option_copied result ≡ spec.first_page (spec.is_for_status status) pages.now }
 {
-    pages.iter().find(|page| is_for_status(&page.page_for, status))
+    pages
+        .iter()
+        .find(|page| is_for_status(&page.page_for, status))
 }
 
 fn page_for_any(pages: &[ErrorPage]) -> Option<&ErrorPage>

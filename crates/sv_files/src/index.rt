@@ -33,8 +33,7 @@ impl Index {
         }
     }
 
-    /// Enters the file that stands at the place behind all others, and answers whether its path is new. Where it is not, the index is
-    /// as before.
+    /// Enters the file that stands at the place behind all others, and answers whether its path is new. Only then is it entered.
     pub(crate) fn enter(
         &mut self,
         alloc: Global,

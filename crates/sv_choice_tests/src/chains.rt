@@ -1,0 +1,127 @@
+//! The filters that a dispatch passes.
+
+use std::alloc::Global;
+use sv_chain::chain_plain;
+use sv_descriptor::{Descriptor, Kind, read_descriptor};
+use sv_rows::{Asks, Strays, cell, hold};
+use sv_text::NoMemory;
+
+/// The chain of a path, a servlet and a kind of dispatches, by the places of its filters.
+#[derive(Drop)]
+struct Chains(Descriptor);
+
+impl Asks for Chains {
+    const QUESTION: usize = 3;
+
+    fn answer(&self, alloc: Global, row: &str, answer: &mut Vec<u8>) -> Result<(), NoMemory> {
+        let kind = kind_of(cell(row, 2));
+        for place in &chain_plain(alloc, &self.0, cell(row, 0), cell(row, 1), kind)? {
+            let text = format!(in alloc; "{place}")?;
+            answer.extend_from_slice(text.as_bytes())?;
+        }
+        Ok(())
+    }
+}
+
+/// The kind of this name.
+pub fn kind_of(name: &str) -> Kind {
+    match name {
+        "FORWARD" => Kind::Forward,
+        "INCLUDE" => Kind::Include,
+        "ERROR" => Kind::Error,
+        _ => Kind::Request,
+    }
+}
+
+/// Whether the rows hold of the descriptor.
+fn hold_of<R: Eprint + AllocGlobal>(rt: &R, descriptor: &str, rows: &str) -> Result<(), Strays> {
+    match read_descriptor(rt.alloc(), descriptor) {
+        Ok(descriptor) => hold(rt, &[rows], &Chains(descriptor)),
+        Err(_) => Err(Strays::NoMemory),
+    }
+}
+
+/// Filters 0 to 3, mapped by patterns and by servlets in a mixed order.
+const MIXED: &str = r#"
+servlet = [
+    { servlet-name = "s", servlet-class = "S" },
+    { servlet-name = "t", servlet-class = "T" },
+]
+filter = [
+    { filter-name = "a", filter-class = "A" },
+    { filter-name = "b", filter-class = "B" },
+    { filter-name = "c", filter-class = "C" },
+    { filter-name = "d", filter-class = "D" },
+]
+filter-mapping = [
+    { filter-name = "c", servlet-name = ["s"] },
+    { filter-name = "a", url-pattern = ["/x/*"] },
+    { filter-name = "b", servlet-name = ["t", "s"], dispatcher = ["FORWARD", "INCLUDE"] },
+    { filter-name = "d", url-pattern = ["*.do", "/y"], servlet-name = ["t"] },
+    { filter-name = "a", url-pattern = ["/"], dispatcher = ["ERROR"] },
+    { filter-name = "b", url-pattern = ["/x/1"], dispatcher = ["REQUEST", "FORWARD"] },
+    { filter-name = "c", servlet-name = ["default"], dispatcher = ["INCLUDE"] },
+]
+"#;
+
+/// Path, servlet, kind, chain.
+const MIXED_ROWS: &str = r#"
+-- Servlet, section 6.2.4: the patterns that match first, then the names, each in the order of the descriptor
+/x/1      | s       | REQUEST | 012
+/x/1      | t       | REQUEST | 013
+/x/2.do   | s       | REQUEST | 032
+/x        | default | REQUEST | 0
+/x/       | default | REQUEST | 0
+/xx       | s       | REQUEST | 2
+/z        | default | REQUEST | ""
+/z        | t       | REQUEST | 3
+""        | s       | REQUEST | 2
+-- a filter that matches by a pattern and by a name stands once, where it matches first
+/y        | t       | REQUEST | 3
+/x/1      | s       | FORWARD | 1
+/x/2.do   | t       | REQUEST | 03
+-- section 6.2.5: a mapping is for the kinds that it names, and for requests alone where it names none
+/x/2      | s       | FORWARD | 1
+/x/2      | t       | INCLUDE | 1
+/x/2      | default | INCLUDE | 2
+/x/2      | default | FORWARD | ""
+/x/1      | s       | ERROR   | 0
+/z        | default | ERROR   | 0
+-- names and paths are compared with case
+/X/1      | s       | REQUEST | 2
+/z        | S       | REQUEST | ""
+"#;
+
+#[test]
+fn patterns_stand_before_names_in_the_order_of_the_descriptor(
+    rt: HostRuntime,
+) -> Result<(), Strays> {
+    hold_of(&rt, MIXED, MIXED_ROWS)
+}
+
+/// A filter for all servlets, which a later pattern sets before it, and filters of a failing servlet.
+const ALL: &str = r#"
+filter = [
+    { filter-name = "f", filter-class = "F" },
+    { filter-name = "g", filter-class = "G" },
+]
+filter-mapping = [
+    { filter-name = "g", servlet-name = ["*"] },
+    { filter-name = "f", url-pattern = ["/*"] },
+    { filter-name = "g", url-pattern = ["/x"] },
+]
+"#;
+
+/// Path, servlet, kind, chain.
+const ALL_ROWS: &str = r#"
+/x        | default | REQUEST | 01
+/x        | s       | REQUEST | 01
+/x        | s       | FORWARD | ""
+/bad      | bad     | REQUEST | 01
+/bad      | bad     | ERROR   | ""
+"#;
+
+#[test]
+fn a_star_names_every_servlet(rt: HostRuntime) -> Result<(), Strays> {
+    hold_of(&rt, ALL, ALL_ROWS)
+}
