@@ -47,7 +47,9 @@ impl Decisions {
         let mut patterns = Vec::new(alloc);
         for number in 0..count {
             let text = format!(in alloc; "/area/{number}/*").ok()?;
-            patterns.push(Pattern::parse(alloc, text.as_str()).ok()?).ok()?;
+            patterns
+                .push(Pattern::parse(alloc, text.as_str()).ok()?)
+                .ok()?;
         }
         Some(Decisions {
             policy: policy_on(alloc, patterns)?,

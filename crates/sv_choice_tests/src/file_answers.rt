@@ -31,7 +31,14 @@ fn push_answer_of(
     let names = names_of(alloc, cell(row, 1))?;
     let patterns = patterns_of(alloc, cell(row, 2))?;
     let (path, method, kind) = (cell(row, 3), cell(row, 4), kind_of(cell(row, 5)));
-    let found = files.answer(alloc, path, method, kind, names.as_slice(), patterns.as_slice())?;
+    let found = files.answer(
+        alloc,
+        path,
+        method,
+        kind,
+        names.as_slice(),
+        patterns.as_slice(),
+    )?;
     push_answer(answer, &found)
 }
 
