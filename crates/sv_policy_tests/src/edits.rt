@@ -54,11 +54,11 @@ impl Asks for Edits {
 
     fn answer(&self, alloc: Global, row: &str, answer: &mut Vec<u8>) -> Result<(), NoMemory> {
         let mut policy = policy_of(alloc, cell(row, 0), cell(row, 1))?;
-        let mut between = "";
-        for step in cell(row, 2).split(" > ") {
-            answer.extend_from_slice(between.as_bytes())?;
+        for (place, step) in cell(row, 2).split(" > ").enumerate() {
+            if place > 0 {
+                answer.extend_from_slice(b" > ")?;
+            }
             answer.extend_from_slice(told(alloc, &mut policy, step)?.as_bytes())?;
-            between = " > ";
         }
         Ok(())
     }
