@@ -3,7 +3,6 @@
 #![tactic(auto)]
 
 mod bodies;
-mod compiled;
 mod constraints;
 mod exchange_figures;
 mod exchanges;
@@ -33,7 +32,6 @@ fn run<R: Env + Clock + Print + AllocGlobal>(rt: &R) -> Option<()> {
     figures::patterns(rt, wanted)?;
     figures::constraints(rt, wanted)?;
     figures::many_constraints(rt, wanted)?;
-    compiled::policies(rt, wanted)?;
     figures::head(rt, wanted)?;
     figures::body(rt, wanted)?;
     exchange_figures::exchange(rt, wanted)

@@ -8,6 +8,10 @@ mod best_matches;
 #[cfg(test)]
 mod credentials;
 #[cfg(test)]
+mod edit_load;
+#[cfg(test)]
+mod edits;
+#[cfg(test)]
 mod generated;
 #[cfg(test)]
 mod load;

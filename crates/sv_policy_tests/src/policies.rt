@@ -113,7 +113,8 @@ fn constraints_of(alloc: Global, cell: &str) -> Result<Vec<Constraint>, NoMemory
     Ok(constraints)
 }
 
-fn constraint_of(alloc: Global, place: usize, text: &str) -> Result<Constraint, NoMemory> {
+/// A constraint as a cell writes it; the place gives its number where it has none.
+pub fn constraint_of(alloc: Global, place: usize, text: &str) -> Result<Constraint, NoMemory> {
     let (number, text) = text.split_once(": ").unwrap_or(("", text));
     let (who, coverage) = text.split_once(" on ").unwrap_or((text, ""));
     let (who, guarantee) = who.split_once(" over ").unwrap_or((who, ""));
