@@ -5,4 +5,5 @@ pub mod Laws
 pub mod Motion
 pub mod Noted
 pub mod Runs
+pub mod Standing
 pub mod World

@@ -8,6 +8,7 @@ mod config;
 mod laws;
 mod named;
 mod noted;
+mod standing;
 
 pub use answers::{Gate, Init, Step};
 pub use components::{Filter, Listener, Servlet};
@@ -15,5 +16,6 @@ pub use config::{Config, Param};
 pub use laws::{runs_are_journalled, runs_join, runs_move_components};
 pub use named::Named;
 pub use noted::{gate_answer, init_answer, step_answer};
+pub use standing::Standing;
 pub use sv_exchange::{Exchange, ExchangeFault};
 pub use sv_journal::Event;
