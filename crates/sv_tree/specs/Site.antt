@@ -8,12 +8,9 @@ use Rattle.sv_mapping.specs.Split.{path_info, servlet_path}
 use Rattle.sv_mapping.specs.declared.kind.Kind.{Kind}
 use Rattle.sv_mapping.specs.declared.kind.Kind.TheVariants as kinds
 use Rattle.sv_tree.specs.State.{Exchange}
+pub use Rattle.sv_tree.specs.declared.resource.Resource.{Resource}
+pub use Rattle.sv_tree.specs.declared.resource.Resource.TheVariants.{Servlet, Files}
 use Rattle.sv_uri.specs.declared.path.Canon.{Canon}
-
--- who answers behind the filters: the servlet at a place, or the file servlet
-pub data Resource : Type 0 where
-  Servlet : ℕ → Resource
-  Files : Resource
 
 -- what the file servlet has for a path: a content type and the bytes of a file, the location to which it sends the client, nothing, or
 -- nothing that can be asked for by this method
@@ -63,10 +60,11 @@ name_of site (Servlet place) = slice_index_or site.names place []
 name_of site Files = codes "default"
 
 -- what the path calls of the exchange show in a dispatch of that path
+abbrev pub paths_by : Chosen → Canon → Exchange → Paths
+paths_by found canon exchange = paths_at exchange.context_path canon.path (Some found.servlet_path) found.path_info canon.query
+
 abbrev pub paths_in : Site → Canon → Exchange → Paths
-paths_in site canon exchange =
-    let found = chosen site canon.path in
-    paths_at exchange.context_path canon.path (Some found.servlet_path) found.path_info canon.query
+paths_in site canon exchange = paths_by (chosen site canon.path) canon exchange
 
 -- a forward finds an empty buffer; the fields stay (section 9.4)
 abbrev pub emptied_for : Kind → Exchange → Exchange
@@ -75,6 +73,9 @@ emptied_for kinds.Request exchange = exchange
 emptied_for kinds.Include exchange = exchange
 emptied_for kinds.Error exchange = exchange
 
--- a dispatch of that kind to that path begins
+-- a dispatch of that kind to that path, which is split so, begins
+abbrev pub begun_by : Chosen → Kind → Canon → Exchange → Exchange
+begun_by found kind canon exchange = emptied_for kind (entered kind (paths_by found canon exchange) exchange)
+
 abbrev pub begun : Site → Kind → Canon → Exchange → Exchange
-begun site kind canon exchange = emptied_for kind (entered kind (paths_in site canon exchange) exchange)
+begun site kind canon = begun_by (chosen site canon.path) kind canon

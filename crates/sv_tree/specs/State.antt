@@ -1,17 +1,14 @@
 -- What a dispatch changes: the exchange, which servlets are in service, how many calls the request has had, and the error of which its
 -- answer will speak (Jakarta Servlet 6.0, section 2.3.3.2 and chapters 6, 9 and 10).
-use Rattle.std.specs.Prelude.{ℕ, suc, ◌+◌, Bool, nat_le, nat_lt, List, Option, Some, slice_index_or, slice_set, if◌then◌else◌}
+use Rattle.std.specs.Prelude.{ℕ, suc, ◌+◌, Bool, nat_le, List, Option, Some, slice_index_or, slice_set}
 use Rattle.sv_exchange.specs.State as exchanges
+use Rattle.sv_component.specs.Standing.{standing_now}
+pub use Rattle.sv_component.specs.declared.standing.Standing.{Standing}
+pub use Rattle.sv_component.specs.declared.standing.Standing.TheVariants.{Serving, Gone, Away}
 use Rattle.sv_tree.specs.declared.limits.TheConstants.{MAX_CALLS}
 
 abbrev pub Exchange : Type 0
 Exchange = exchanges.State
-
--- a servlet is in service, or it is gone, or it is away until a moment
-pub data Standing : Type 0 where
-  Serving : Standing
-  Gone : Standing
-  Away : ℕ → Standing
 
 -- the error of which the answer will speak: its status, its text, the servlet in which it arose where there is one, and the field that
 -- goes with it
@@ -51,12 +48,6 @@ with_standing place standing state = record state { standings = slice_set state.
 -- the servlet is away for so many seconds from the moment of the exchange
 abbrev pub away_for : ℕ → ℕ → State → State
 away_for place seconds state = with_standing place (Away (state.exchange.moment + seconds)) state
-
--- a time away that has passed is over
-abbrev pub standing_now : ℕ → Standing → Standing
-standing_now moment Serving = Serving
-standing_now moment Gone = Gone
-standing_now moment (Away until) = if nat_lt moment until then Away until else Serving
 
 -- how the servlet at a place stands
 abbrev pub standing_at : ℕ → ℕ → List Standing → Standing

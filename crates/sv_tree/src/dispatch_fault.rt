@@ -1,6 +1,6 @@
 //! The failures that are a dispatch's own.
 
-ghost use Rattle.std.specs.Prelude.{Some};
+ghost use Rattle.std.specs.Prelude.{◌≡◌, Some};
 ghost use Rattle.sv_tree.specs.Faults.{fault_name};
 
 use std::fmt;
@@ -20,16 +20,25 @@ pub enum DispatchFault {
     TooLarge,
 }
 
-impl fmt::Display for DispatchFault {
-    ghost output = { λ fault. Some (fault_name fault) };
-
-    fn fmt<W: fmt::Write>(&self, f: &mut fmt::Formatter<W>) -> fmt::Result {
-        f.write_str(match self {
+impl DispatchFault {
+    /// The fault's name, which is its kind and its text too.
+    pub fn name(self) -> &'static str
+        ensures { result.now ≡ fault_name self }
+    {
+        match self {
             DispatchFault::Committed => "Committed",
             DispatchFault::BadDispatchPath => "BadDispatchPath",
             DispatchFault::DispatchLimit => "DispatchLimit",
             DispatchFault::MissingInclude => "MissingInclude",
             DispatchFault::TooLarge => "TooLarge",
-        })
+        }
+    }
+}
+
+impl fmt::Display for DispatchFault {
+    ghost output = { λ fault. Some (fault_name fault) };
+
+    fn fmt<W: fmt::Write>(&self, f: &mut fmt::Formatter<W>) -> fmt::Result {
+        f.write_str(self.name())
     }
 }

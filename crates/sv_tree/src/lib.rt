@@ -5,6 +5,7 @@ mod dispatch_fault;
 mod finished;
 mod laws;
 mod limits;
+mod resource;
 
 pub use dispatch_fault::DispatchFault;
 pub use finished::Finished;
@@ -17,3 +18,4 @@ pub use limits::{
     FOUND, INTERNAL_SERVER_ERROR, LEAST_ERROR, MAX_CALLS, MAX_ERROR, MAX_NESTING,
     METHOD_NOT_ALLOWED, NOT_FOUND, SERVICE_UNAVAILABLE,
 };
+pub use resource::Resource;
