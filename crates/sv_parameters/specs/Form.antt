@@ -8,9 +8,13 @@ use Rattle.sv_parameters.specs.Parameters.{parameters_of}
 abbrev pub semicolon : ℕ
 semicolon = 59
 
--- what stands before the parameters of a Content-Type, without the blanks around it (RFC 9110, section 8.3.1)
+-- what stands before the parameters of a Content-Type (RFC 9110, section 8.3.1)
+abbrev pub before_parameters : List ℕ → List ℕ
+before_parameters value = take (position_or_len (λ b. b == semicolon) value) value
+
+-- the same without the blanks around it
 abbrev pub media_type : List ℕ → List ℕ
-media_type value = trim_ows (take (position_or_len (λ b. b == semicolon) value) value)
+media_type value = trim_ows (before_parameters value)
 
 -- whether it is that of a form, in any case
 abbrev pub is_form_type : List ℕ → Bool

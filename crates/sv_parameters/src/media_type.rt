@@ -2,7 +2,7 @@
 
 ghost use Rattle.std.specs.Prelude.{◌≡◌, reverse};
 ghost use Rattle.httparse.specs.Grammar.{skip_ows, trim_ows};
-ghost use Rattle.sv_parameters.specs.Form.{is_form_type, media_type};
+ghost use Rattle.sv_parameters.specs.Form.{before_parameters, is_form_type, media_type};
 
 use httparse::is_space_or_tab;
 
@@ -13,13 +13,19 @@ pub(crate) fn is_form_type(value: &[u8]) -> bool
     media_type(value).eq_ignore_ascii_case(b"application/x-www-form-urlencoded")
 }
 
-// What stands before the parameters.
+// The type without its parameters.
 fn media_type(value: &[u8]) -> &[u8]
     ensures { result.now ≡ media_type value.now }
 {
+    trimmed(before_parameters(value))
+}
+
+fn before_parameters(value: &[u8]) -> &[u8]
+    ensures { result.now ≡ before_parameters value.now }
+{
     match value.iter().position(|b| *b == b';') {
-        Some(end) => trimmed(&value[..end]),
-        None => trimmed(value),
+        Some(end) => &value[..end],
+        None => value,
     }
 }
 
