@@ -1,5 +1,5 @@
 -- The laws of filter chains: Jakarta Servlet 6.0, sections 6.2.4 (their order) and 6.2.5 (the kinds of dispatches).
-use Rattle.std.specs.Prelude.{◌≡◌, ◌≢◌, ℕ, ◌<◌, Bool, ◌&&◌, ◌||◌, ◌==◌, List, map, ◌⊎◌}
+use Rattle.std.specs.Prelude.{◌≡◌, ◌≢◌, ℕ, ◌<◌, Bool, ◌&&◌, ◌||◌, ◌==◌, List, ◌⊎◌}
 use Rattle.std.specs.List.{AllPairs, list_any, position_or_len}
 use Rattle.std.specs.Option.{option_to_list}
 use Rattle.sv_chain.specs.FilterChain.{filter_chain, filter_place, maps_path, maps_servlet}
