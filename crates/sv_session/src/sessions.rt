@@ -77,11 +77,11 @@ impl Sessions {
         Ok(serial)
     }
 
-    /// The number of the session of an id, if one lives.
-    pub fn find(&self, id: &str) -> Option<u64>
+    /// The number of the session of an id, if one lives. The bytes are what a client sent, and may be no text.
+    pub fn find(&self, id: &[u8]) -> Option<u64>
         ensures { result ≡ number_of id.now self.now }
     {
-        let session = self.sessions.iter().find(|session| session.id() == id)?;
+        let session = self.sessions.iter().find(|session| session.id().as_bytes() == id)?;
         Some(session.number())
     }
 
