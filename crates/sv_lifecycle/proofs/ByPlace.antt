@@ -8,7 +8,7 @@ use Rattle.sv_lifecycle.specs.Calling.{CallsOnce, Retires}
 use Rattle.sv_lifecycle.specs.Standing.{LiveState}
 use Rattle.sv_lifecycle.specs.World.{world}
 use Rattle.sv_lifecycle.specs.declared.parts.Parts.{Parts}
-use Rattle.sv_lifecycle.specs.declared.standing.Standing.TheVariants.{Gone}
+use Rattle.sv_component.specs.declared.standing.Standing.TheVariants.{Gone}
 
 module _ {S F L : Type 0} (ss : S → Call → S → Type 0) (fs : F → Call → F → Type 0) (ls : L → Call → L → Type 0) where
   pub calls_once : (before opened : LiveState S F L) (text : List ℕ) (noted : JournalState) (call : Record) (parts_after : Parts S F L) (noted_after : JournalState)

@@ -13,8 +13,8 @@ use Rattle.sv_lifecycle.specs.World.{HasSameCounts, IsPlaceIn}
 use Rattle.sv_lifecycle.specs.declared.order.Place.{Place}
 use Rattle.sv_lifecycle.specs.declared.order.Place.TheVariants.{Filter, Servlet}
 use Rattle.sv_lifecycle.specs.declared.parts.Parts.{Parts}
-use Rattle.sv_lifecycle.specs.declared.standing.Standing.{Standing}
-use Rattle.sv_lifecycle.specs.declared.standing.Standing.TheVariants.{Serving, Gone}
+use Rattle.sv_component.specs.declared.standing.Standing.{Standing}
+use Rattle.sv_component.specs.declared.standing.Standing.TheVariants.{Serving, Gone}
 
 pub not_both : {P : Type 0} (b : Bool) → b ≡ true → b ≡ false → P
 not_both b is_true is_false = absurd (cc)

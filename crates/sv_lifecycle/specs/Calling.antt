@@ -9,8 +9,8 @@ use Rattle.sv_component.specs.declared.answers.Step.TheVariants as steps
 use Rattle.sv_exchange.specs.State.{State}
 use Rattle.sv_journal.specs.Journal.{JournalState}
 use Rattle.sv_lifecycle.specs.Standing.{LiveState, live_world}
-use Rattle.sv_lifecycle.specs.declared.standing.Standing.{Standing}
-use Rattle.sv_lifecycle.specs.declared.standing.Standing.TheVariants.{Gone}
+use Rattle.sv_component.specs.declared.standing.Standing.{Standing}
+use Rattle.sv_component.specs.declared.standing.Standing.TheVariants.{Gone}
 use Rattle.sv_text.specs.declared.no_memory.NoMemory.{NoMemory}
 
 -- the context, what was initialised and the standings stay

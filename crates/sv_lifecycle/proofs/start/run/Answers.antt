@@ -5,7 +5,7 @@ use Rattle.sv_listeners.specs.Telling.{then_all, told}
 use Rattle.sv_lifecycle.specs.Calls.{stop_calls}
 use Rattle.sv_lifecycle.specs.Starting.{code_of}
 use Rattle.sv_lifecycle.specs.World.{world}
-use Rattle.sv_lifecycle.specs.declared.standing.Standing.TheVariants as standings
+use Rattle.sv_component.specs.declared.standing.Standing.TheVariants as standings
 use Rattle.sv_lifecycle.proofs.Attempts.{counts_join, kept_there, none_from, not_none_from, plan_places, plan_standings, started, undone}
 use Rattle.sv_lifecycle.proofs.Places.{all_kept}
 use Rattle.sv_lifecycle.proofs.start.run.Goals.{else-is_none-via-then-is_none+else-whole, else-is_none-via-else-is_none}
