@@ -38,8 +38,10 @@ fn end_least(sessions: &mut Sessions) -> Option<EndedSession>
     ensures left { by_number sessions.new.sessions ≡ drop 1 (by_number sessions.old.sessions) }
     ensures rest { sessions.new ≡ record sessions.old { sessions = sessions.new.sessions } }
 {
-    let number = sessions.least()?;
-    sessions.end(number)
+    match sessions.least() {
+        Some(number) => sessions.end(number),
+        None => None,
+    }
 }
 
 // Has the listeners hear that a session has ended, and that its attributes have gone.
@@ -58,6 +60,11 @@ fn tell_end<S: Servlet, F: Filter, L: Listener>(
     parts.tell(alloc, context, &Event::SessionDestroyed(number), journal);
     for attribute in attributes.into_vec() {
         let Attribute { name, .. } = attribute;
-        parts.tell(alloc, context, &Event::AttributeRemoved(number, name), journal);
+        parts.tell(
+            alloc,
+            context,
+            &Event::AttributeRemoved(number, name),
+            journal,
+        );
     }
 }
