@@ -8,9 +8,9 @@ use Rattle.sv_mapping.specs.declared.kind.Kind.TheVariants as kinds
 use Rattle.sv_tree.specs.Laws.{CallsAreCounted, count_all}
 use Rattle.sv_tree.specs.Site.{Site}
 use Rattle.sv_tree.specs.State.{Exchange, State, is_full}
-use Rattle.sv_tree.specs.Tree.{service_of}
+use Rattle.sv_tree.specs.Tree.{Tree, Turn, service_of}
 use Rattle.sv_tree.specs.declared.limits.TheConstants.{MAX_CALLS}
-use Rattle.sv_tree.proofs.Keeping.{FilterSteps, Opens, Steps, away_by, away_calls, called, tree_keeps, within_keeps}
+use Rattle.sv_tree.proofs.Keeping.{FilterSteps, Keeps, Opens, Steps, away_by, away_calls, called, tree_keeps, turn_keeps, within_keeps}
 
 abbrev pub Counts : ℕ → State → List Record → State → Bool → Type 0
 Counts room x r y b = (y.calls ≡ count_all r + x.calls) × (x.calls ≤ MAX_CALLS → y.calls ≤ MAX_CALLS)
@@ -63,3 +63,9 @@ module _ (site : Site) where
   pub calls_are_counted : CallsAreCounted site
   calls_are_counted room kind canon x y r result h =
       tree_keeps site Counts law (within_keeps site Counts law filters) room kind (opens kind) canon x y r result h
+
+  -- a turn, and what it leads to
+  pub turn_counts : (room place turn : ℕ) → Keeps site Counts room (Turn site room (Tree site room) place turn)
+  turn_counts room place turn =
+      turn_keeps site Counts law room (Tree site room) (λ canon x y r result h. calls_are_counted room kinds.Forward canon x y r result h)
+      (λ canon x y r result h. calls_are_counted room kinds.Include canon x y r result h) place turn

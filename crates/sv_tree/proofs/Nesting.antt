@@ -9,13 +9,13 @@ use Rattle.sv_exchange.specs.Dispatches.{Leaves, client_in, entered}
 use Rattle.sv_mapping.specs.declared.kind.Kind.{Kind}
 use Rattle.sv_mapping.specs.declared.kind.Kind.TheVariants as kinds
 use Rattle.sv_tree.specs.Laws.{AreWithin, DispatchesEnd, DispatchesNest, SameRequest}
-use Rattle.sv_tree.specs.Site.{Site, begun, paths_in}
+use Rattle.sv_tree.specs.Site.{Site, begun, chosen, paths_in}
 use Rattle.sv_tree.specs.State.{Exchange, State}
-use Rattle.sv_tree.specs.Tree.{Tree, service_of}
+use Rattle.sv_tree.specs.Tree.{Tree, Within, service_of}
 use Rattle.sv_tree.specs.declared.finished.Finished.{Finished}
 use Rattle.sv_tree.proofs.Changing.{begun_dispatches, emptied_request, emptied_unchanged, made_unchanged, request_then, same_dispatches, same_request, unchanged}
 use Rattle.sv_tree.proofs.Doing.{not_true}
-use Rattle.sv_tree.proofs.Keeping.{FilterSteps, Opens, Steps, away_by, away_unchanged, called, came, tree_gives, tree_keeps, within_keeps}
+use Rattle.sv_tree.proofs.Keeping.{FilterSteps, Keeps, Opens, Steps, away_by, away_unchanged, called, came, inside_keeps, tree_gives, tree_keeps, within_keeps}
 use Rattle.sv_uri.specs.declared.path.Canon.{Canon}
 
 -- what an exchange shows stays
@@ -71,6 +71,10 @@ module _ (site : Site) where
     before = λ room place x gate e b left changes came. (unchanged x.exchange e changes).0;
     after = λ room place x done e b changes came. (unchanged x.exchange e changes).0;
   }
+
+  pub within_shows : (room : ℕ) (kind : Kind) (canon : Canon)
+      → Keeps site Shows room (Within site room (Tree site room) (chosen site canon.path).resource kind canon)
+  within_shows room kind canon = inside_keeps site Shows shows (within_keeps site Shows shows filters_show) room kind canon
 
   abbrev Lasts : Kind → Canon → State → List Record → State → Bool → Type 0
   Lasts kind canon x r y b = b ≡ true

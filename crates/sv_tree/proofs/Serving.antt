@@ -10,7 +10,7 @@ use Rattle.sv_mapping.specs.declared.kind.Kind.{Kind}
 use Rattle.sv_mapping.specs.declared.kind.Kind.TheVariants as kinds
 use Rattle.sv_tree.specs.Laws.{AreOfServing, OnlyServingAreCalled, stands_after, stands_after_all}
 use Rattle.sv_tree.specs.Site.{Site, begun, paths_in}
-use Rattle.sv_tree.specs.State.{Exchange, State, Standing, Serving, Away, on_exchange}
+use Rattle.sv_tree.specs.State.{Exchange, State, Standing, Serving, Away, moment_after, on_exchange}
 use Rattle.sv_tree.specs.Tree.{service_of}
 use Rattle.sv_tree.proofs.Changing.{emptied_request, emptied_unchanged, made_unchanged, unchanged}
 use Rattle.sv_tree.proofs.Doing.{not_true}
@@ -50,7 +50,7 @@ served : (x : State) (place turn : ℕ) (step : Step) (e : Exchange) → stands 
 served x place turn (steps.Unavailable None) e serving changes = ((serving, tt), λ _. refl, (unchanged x.exchange e changes).0.moment)
 served x place turn (steps.Unavailable (Some seconds)) e serving changes = (
   (serving, tt),
-  λ _. ap (λ m. slice_set x.standings place (Away (m + seconds))) (unchanged x.exchange e changes).0.moment,
+  λ _. ap (λ m. slice_set x.standings place (Away (moment_after m seconds))) (unchanged x.exchange e changes).0.moment,
   (unchanged x.exchange e changes).0.moment,
 )
 served x place turn steps.Done e serving changes = ((serving, tt), λ _. refl, (unchanged x.exchange e changes).0.moment)

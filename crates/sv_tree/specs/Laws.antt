@@ -9,7 +9,7 @@ use Rattle.sv_mapping.specs.declared.kind.Kind.{Kind}
 use Rattle.sv_mapping.specs.declared.kind.Kind.TheVariants as kinds
 use Rattle.sv_tree.specs.Served.{Served}
 use Rattle.sv_tree.specs.Site.{Site, paths_in}
-use Rattle.sv_tree.specs.State.{Exchange, Kept, State, Standing, Serving, Gone, Away, standing_at}
+use Rattle.sv_tree.specs.State.{Exchange, Kept, State, Standing, Serving, Gone, Away, moment_after, standing_at}
 use Rattle.sv_tree.specs.Tree.{Tree}
 use Rattle.sv_tree.specs.declared.finished.Finished.{Finished}
 use Rattle.sv_tree.specs.declared.finished.Finished.TheVariants.{Done, Error, Failed}
@@ -52,7 +52,7 @@ FiltersAreClosed site =
 -- the standings behind a call
 abbrev pub stands_after : ℕ → Record → List Standing → List Standing
 stands_after moment (OfServlet place (Serviced before turn (steps.Unavailable (Some seconds)) after)) standings =
-    slice_set standings place (Away (moment + seconds))
+    slice_set standings place (Away (moment_after moment seconds))
 stands_after moment (OfServlet place Destroyed) standings = slice_set standings place Gone
 stands_after moment made standings = standings
 

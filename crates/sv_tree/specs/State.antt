@@ -1,11 +1,11 @@
 -- What a dispatch changes: the exchange, which servlets are in service, how many calls the request has had, and the error of which its
 -- answer will speak (Jakarta Servlet 6.0, section 2.3.3.2 and chapters 6, 9 and 10).
-use Rattle.std.specs.Prelude.{ℕ, suc, ◌+◌, Bool, nat_le, List, Option, Some, slice_index_or, slice_set}
+use Rattle.std.specs.Prelude.{ℕ, suc, ◌+◌, Bool, min, nat_le, List, Option, Some, slice_index_or, slice_set}
 use Rattle.sv_exchange.specs.State as exchanges
 use Rattle.sv_component.specs.Standing.{standing_now}
 pub use Rattle.sv_component.specs.declared.standing.Standing.{Standing}
 pub use Rattle.sv_component.specs.declared.standing.Standing.TheVariants.{Serving, Gone, Away}
-use Rattle.sv_tree.specs.declared.limits.TheConstants.{MAX_CALLS}
+use Rattle.sv_tree.specs.declared.limits.TheConstants.{LAST_MOMENT, MAX_CALLS}
 
 abbrev pub Exchange : Type 0
 Exchange = exchanges.State
@@ -45,9 +45,13 @@ counted state = record state { calls = suc state.calls }
 abbrev pub with_standing : ℕ → Standing → State → State
 with_standing place standing state = record state { standings = slice_set state.standings place standing }
 
+-- the moment so many seconds later, or the last one
+abbrev pub moment_after : ℕ → ℕ → ℕ
+moment_after moment seconds = min (moment + seconds) LAST_MOMENT
+
 -- the servlet is away for so many seconds from the moment of the exchange
 abbrev pub away_for : ℕ → ℕ → State → State
-away_for place seconds state = with_standing place (Away (state.exchange.moment + seconds)) state
+away_for place seconds state = with_standing place (Away (moment_after state.exchange.moment seconds)) state
 
 -- how the servlet at a place stands
 abbrev pub standing_at : ℕ → ℕ → List Standing → Standing

@@ -35,17 +35,20 @@ last ending = do
   gives (Some result)
 
 -- a servlet goes on behind an include, unless a failure came out of it
+abbrev pub behind_include : Finished → Option Finished
+behind_include Done = None
+behind_include (Error status text) = None
+behind_include (Failed kind text) = Some (Failed kind text)
+
 abbrev pub GoesOn : Finished → Does (Option Finished)
-GoesOn Done = gives None
-GoesOn (Error status text) = gives None
-GoesOn (Failed kind text) = gives (Some (Failed kind text))
+GoesOn finished = gives (behind_include finished)
 
 -- a forward comes too late once the answer is committed
-abbrev pub is_too_late : Kind → Exchange → Bool
-is_too_late kinds.Forward exchange = exchange.committed
-is_too_late kinds.Request exchange = false
-is_too_late kinds.Include exchange = false
-is_too_late kinds.Error exchange = false
+abbrev pub is_too_late : Kind → Bool → Bool
+is_too_late kinds.Forward committed = committed
+is_too_late kinds.Request committed = false
+is_too_late kinds.Include committed = false
+is_too_late kinds.Error committed = false
 
 -- a path that cannot be read, or for which there is no room
 abbrev pub admitted : Result Canon PathFault → ℕ → Result Canon DispatchFault
@@ -55,7 +58,7 @@ admitted (Ok canon) (suc room) = Ok canon
 
 -- the path of a dispatch that a servlet asks for, or the first of what refuses it
 abbrev pub asked_for : ℕ → Kind → List ℕ → Exchange → Result Canon DispatchFault
-asked_for room kind text exchange = if is_too_late kind exchange then Err Committed else admitted (canonical text) room
+asked_for room kind text exchange = if is_too_late kind exchange.committed then Err Committed else admitted (canonical text) room
 
 -- `room` is how many dispatches may still stand one within another, and `inner` is such a dispatch
 module _ (site : Site) (room : ℕ) (inner : Kind → Canon → Does Finished) where

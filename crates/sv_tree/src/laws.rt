@@ -1,9 +1,9 @@
 //! The laws of dispatches, each the contract of a function that does nothing.
 
-ghost use Rattle.std.specs.Prelude.{◌≡◌};
+ghost use Rattle.std.specs.Prelude.{◌≡◌, ◌-◌, ◌^◌};
 ghost use Rattle.sv_tree.specs.Laws.{AnswersOnce, CallsAreCounted, CallsDecide, DispatchesEnd, DispatchesNest, EndingsAreKept, FiltersAreClosed, ForwardsBeginEmpty, IncludesEndInNoError, IncludesKeep, OnlyServingAreCalled, RequestsAreBounded};
 ghost use Rattle.sv_tree.specs.Site.{Site};
-ghost use Rattle.sv_tree.specs.declared.limits.TheConstants.{FOUND, INTERNAL_SERVER_ERROR, LEAST_ERROR, MAX_CALLS, MAX_ERROR, MAX_NESTING, METHOD_NOT_ALLOWED, NOT_FOUND, SERVICE_UNAVAILABLE};
+ghost use Rattle.sv_tree.specs.declared.limits.TheConstants.{FOUND, INTERNAL_SERVER_ERROR, LAST_MOMENT, LEAST_ERROR, MAX_CALLS, MAX_ERROR, MAX_NESTING, METHOD_NOT_ALLOWED, NOT_FOUND, SERVICE_UNAVAILABLE};
 
 /// A dispatch is decided by its calls: what it leaves, and how it ends.
 pub fn calls_decide()
@@ -69,6 +69,7 @@ pub fn forwards_begin_empty()
 pub fn limits_are_as_stated()
     ensures calls { MAX_CALLS ≡ 1024 }
     ensures nesting { MAX_NESTING ≡ 16 }
+    ensures last_moment { LAST_MOMENT ≡ 2 ^ 64 - 1 }
     ensures least_error { LEAST_ERROR ≡ 400 }
     ensures greatest_error { MAX_ERROR ≡ 599 }
     ensures found { FOUND ≡ 302 }

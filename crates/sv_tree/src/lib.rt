@@ -15,7 +15,7 @@ pub use laws::{
     includes_keep, limits_are_as_stated, only_serving_are_called, requests_are_bounded,
 };
 pub use limits::{
-    FOUND, INTERNAL_SERVER_ERROR, LEAST_ERROR, MAX_CALLS, MAX_ERROR, MAX_NESTING,
+    FOUND, INTERNAL_SERVER_ERROR, LAST_MOMENT, LEAST_ERROR, MAX_CALLS, MAX_ERROR, MAX_NESTING,
     METHOD_NOT_ALLOWED, NOT_FOUND, SERVICE_UNAVAILABLE,
 };
 pub use resource::Resource;

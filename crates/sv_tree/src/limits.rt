@@ -26,3 +26,6 @@ pub const INTERNAL_SERVER_ERROR: u16 = 500;
 
 /// The servlet is away for a time (RFC 9110, section 15.6.4).
 pub const SERVICE_UNAVAILABLE: u16 = 503;
+
+/// The last moment, in seconds since 1970.
+pub const LAST_MOMENT: u64 = u64::MAX;
