@@ -1,5 +1,5 @@
 -- The first parameter of a name in the queries of dispatches.
-use Rattle.std.proofs.Common.{◌≡◌, ℕ, List, [], ◌∷◌, ◌++◌, reverse, None, Some, sym, ◌∙◌, ap}
+use Rattle.std.proofs.Common.{◌≡◌, ℕ, List, [], ◌∷◌, ◌++◌, reverse, None, Some, ◌∙◌, ap}
 use Rattle.std.specs.List.{IsLastAndRest, flat_map}
 use Rattle.std.proofs.lemmas.List.{reverse-append}
 use Rattle.sv_parameters.proofs.Joining.{first_behind, first_in_front}
