@@ -1,0 +1,6 @@
+pub mod Deeds
+pub mod DispatchDeeds
+pub mod FilingDeeds
+pub mod FilterDeeds
+pub mod LeaveDeeds
+pub mod TurnDeeds

@@ -1,0 +1,38 @@
+-- What a machine did, as contracts see it: the calls that it made, as one flat list, and what holds of them.
+use Rattle.std.specs.Prelude.{◌≡◌, ℕ, List, ◌++◌, Option, Some, None, Result, Ok, Err, reverse, take}
+use Rattle.std.specs.Borrow.{GName}
+use Rattle.sv_component.specs.Runs.{Record}
+use Rattle.sv_dispatch.specs.declared.filters.Passed.{Passed}
+use Rattle.sv_tree.specs.Does.{Does}
+use Rattle.sv_tree.specs.Filters.{Reached}
+use Rattle.sv_tree.specs.State.{State}
+
+-- what no call changes: how many servlets and filters there are, and which values were lent
+pub record Frame : Type 0 where
+  pub servlets : ℕ
+  pub filters : ℕ
+  pub live : GName
+  pub exchange : GName
+  pub journal : GName
+
+-- these calls were made, whatever was made before them, the relation holds of them, and the frame stays
+pub record Did {M A : Type 0} (state : M → State) (frame : M → Frame) (ran : M → List Record → M → Type 0) (does : Does A) (before after : M) (result : Option A) : Type 0 where
+  pub made : List Record
+  pub does_so : does (state before) made (state after) result
+  pub runs : (from : M) (done : List Record) → ran from done before → ran from (done ++ made) after
+  pub stays : frame after ≡ frame before
+
+-- a result, and none where memory ended it
+abbrev pub seen : {A E : Type 0} → Result A E → Option A
+seen (Ok value) = Some value
+seen (Err refusal) = None
+
+-- how a dispatch ends, for good
+abbrev pub lasting : {A E : Type 0} → Result A E → Result (Option A) E
+lasting (Ok value) = Ok (Some value)
+lasting (Err refusal) = Err refusal
+
+-- the filters that passed are the first of the chain
+abbrev pub reached_by : {E : Type 0} → List ℕ → Result Passed E → Option Reached
+reached_by chain (Ok passed) = Some record { passed = reverse (take passed.count chain); ended = passed.ended }
+reached_by chain (Err refusal) = None

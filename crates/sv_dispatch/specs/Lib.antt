@@ -1,0 +1,2 @@
+pub mod Did
+pub mod Seen

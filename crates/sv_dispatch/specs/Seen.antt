@@ -1,0 +1,40 @@
+-- What code hands from one step of a dispatch to the next, as the definitions have it.
+use Rattle.std.specs.Prelude.{ℕ, ◌≡◌, false, List, codes, decimal, length, Option, Some, None, slice_index_or}
+use Rattle.std.specs.Option.{option_copied}
+use Rattle.sv_component.specs.Standing.{is_gone}
+use Rattle.sv_dispatch.specs.declared.error_field.ErrorField.{ErrorField}
+use Rattle.sv_dispatch.specs.declared.error_field.ErrorField.TheVariants as fields
+use Rattle.sv_dispatch.specs.declared.tables.Chosen.{Chosen}
+use Rattle.sv_dispatch.specs.declared.tables.Found.{Found}
+use Rattle.sv_dispatch.specs.declared.tables.Found.TheVariants as found
+use Rattle.sv_exchange.specs.Changing.{Write, has_room}
+use Rattle.sv_tree.specs.Does.{Does, ◌>>◌, choose, gives, makes, sees}
+use Rattle.sv_tree.specs.Site as site
+use Rattle.sv_tree.specs.State.{State}
+use Rattle.sv_component.specs.declared.standing.Standing.TheVariants.{Gone}
+use Rattle.std.specs.Prelude.{Bool, true}
+
+-- who answers, with the path split
+abbrev pub chosen_seen : Chosen → site.Chosen
+chosen_seen chosen = record { resource = chosen.resource; servlet_path = chosen.servlet_path.now; path_info = option_copied chosen.path_info }
+
+-- what the file servlet has
+abbrev pub found_seen : Found → site.FileAnswer
+found_seen (found.File content_type bytes) = site.File content_type.now bytes.now
+found_seen (found.Redirect location) = site.Redirect location
+found_seen found.Missing = site.Missing
+found_seen found.NotAllowed = site.NotAllowed
+
+-- the field that goes with an error (RFC 9110, sections 10.2.1 and 10.2.3)
+abbrev pub field_of : ErrorField → Option (List ℕ × List ℕ)
+field_of fields.Nothing = None
+field_of fields.Allow = Some (codes "allow", codes "GET, HEAD")
+field_of (fields.RetryAfter seconds) = Some (codes "retry-after", decimal seconds)
+
+-- bytes are written where the body can take them, and whether it could
+abbrev pub offers : List ℕ → Does Bool
+offers bytes = sees λ state. choose (has_room (length bytes) state.exchange) (makes (Write bytes) >> gives true) (gives false)
+
+-- the servlet at the place is not gone, though it may be away
+abbrev pub IsHere : ℕ → State → Type 0
+IsHere place state = is_gone (slice_index_or state.standings place Gone) ≡ false

@@ -1,0 +1,89 @@
+//! The file servlet's part in a dispatch.
+
+ghost use Rattle.std.specs.Prelude.{◌≡◌, codes};
+ghost use Rattle.sv_dispatch.specs.Did.{Did, seen};
+ghost use Rattle.sv_dispatch.specs.Seen.{found_seen};
+ghost use Rattle.sv_tree.specs.Files.{Filed, Misses, Sends, SendsTo};
+
+use crate::endings::{fault, missing, not_allowed};
+use crate::machine::Machine;
+use crate::tables::{Found, Tables};
+use std::alloc::Global;
+use sv_mapping::Kind;
+use sv_text::NoMemory;
+use sv_tree::{DispatchFault, FOUND, Finished, Resource};
+
+/// What the file servlet has is answered (Jakarta Servlet 6.0, section 12.2).
+pub(crate) fn filed<M: Machine, T: Tables>(
+    alloc: Global,
+    machine: &mut M,
+    tables: &T,
+    kind: Kind,
+    found: Found<'_>,
+) -> Result<Finished, NoMemory>
+    ensures { Did M.state M.frame M.ran (Filed (T.site tables.now) kind (found_seen found.entry)) machine.old machine.new (seen result) }
+{
+    match found {
+        Found::File(content_type, bytes) => send(alloc, machine, tables, content_type, bytes),
+        Found::Redirect(location) => send_to(machine, tables, location.as_str()),
+        Found::Missing => miss(alloc, machine, tables, kind),
+        Found::NotAllowed => not_allowed(alloc, machine, tables, Resource::Files),
+    }
+}
+
+// A file is sent: its type, and its bytes where the body can take them.
+fn send<M: Machine, T: Tables>(
+    alloc: Global,
+    machine: &mut M,
+    tables: &T,
+    content_type: &str,
+    bytes: &[u8],
+) -> Result<Finished, NoMemory>
+    ensures { Did M.state M.frame M.ran (Sends (T.site tables.now) content_type.now bytes.now) machine.old machine.new (seen result) }
+{
+    let Ok(()) = machine.set_header("content-type", content_type) else {
+        return Err(NoMemory);
+    };
+    let Ok(sent) = machine.offer(bytes) else {
+        return Err(NoMemory);
+    };
+    if sent {
+        return Ok(Finished::Done);
+    }
+    fault(alloc, machine, tables, Resource::Files, DispatchFault::TooLarge)
+}
+
+// The client is sent elsewhere.
+fn send_to<M: Machine, T: Tables>(
+    machine: &mut M,
+    tables: &T,
+    location: &str,
+) -> Result<Finished, NoMemory>
+    ensures { Did M.state M.frame M.ran (SendsTo (T.site tables.now) location.now) machine.old machine.new (seen result) }
+{
+    machine.empty();
+    let Ok(()) = machine.set_status(FOUND) else {
+        return Err(NoMemory);
+    };
+    let Ok(()) = machine.set_header("location", location) else {
+        return Err(NoMemory);
+    };
+    Ok(Finished::Done)
+}
+
+// Nothing stands at the path; an include of it fails.
+fn miss<M: Machine, T: Tables>(
+    alloc: Global,
+    machine: &mut M,
+    tables: &T,
+    kind: Kind,
+) -> Result<Finished, NoMemory>
+    ensures { Did M.state M.frame M.ran (Misses (T.site tables.now) kind) machine.old machine.new (seen result) }
+{
+    match kind {
+        Kind::Include => fault(alloc, machine, tables, Resource::Files, DispatchFault::MissingInclude),
+        Kind::Request => missing(alloc, machine, tables, Resource::Files),
+        Kind::Forward => missing(alloc, machine, tables, Resource::Files),
+        Kind::Error => missing(alloc, machine, tables, Resource::Files),
+    }
+}

@@ -1,0 +1,80 @@
+//! Filters before and after.
+
+ghost use Rattle.std.specs.Prelude.{◌≡◌, ◌≤◌, ◌<◌, IfOk, drop, length, reverse, take};
+ghost use Rattle.std.specs.List.{All};
+ghost use Rattle.sv_dispatch.specs.Did.{Did, reached_by, seen};
+ghost use Rattle.sv_tree.specs.Filters.{Afters, Befores};
+
+use crate::endings::{fail, fault};
+use crate::machine::Machine;
+use crate::tables::Tables;
+use std::alloc::Global;
+use sv_component::Gate;
+use sv_text::NoMemory;
+use sv_tree::{DispatchFault, Finished, Resource};
+
+/// How many filters of a chain passed, and how the dispatch ended where one did not.
+#[derive(Drop)]
+pub struct Passed {
+    pub count: usize,
+    pub ended: Option<Finished>,
+}
+
+/// Calls the filters of a chain from a place on, up to the first that does not pass (Jakarta Servlet 6.0, section 6.2.1).
+pub(crate) fn befores<M: Machine, T: Tables>(
+    alloc: Global,
+    machine: &mut M,
+    tables: &T,
+    resource: Resource,
+    chain: &[usize],
+    place: usize,
+) -> Result<Passed, NoMemory>
+    requires within { place ≤ length chain.now }
+    requires there { All (λ filter. filter < (M.frame machine.old).filters) chain.now }
+    ensures does { Did M.state M.frame M.ran (Befores (T.site tables.now) resource (reverse (take place chain.now)) (drop place chain.now))
+        machine.old machine.new (reached_by chain.now result) }
+    ensures count { IfOk result (λ passed. passed.count ≤ length chain.now) }
+{
+    if place == chain.len() {
+        return Ok(Passed { count: place, ended: None });
+    }
+    if machine.is_full() {
+        let Ok(ended) = fault(alloc, machine, tables, resource, DispatchFault::DispatchLimit) else {
+            return Err(NoMemory);
+        };
+        return Ok(Passed { count: place, ended: Some(ended) });
+    }
+    machine.count();
+    let Ok(gate) = machine.before(chain[place]) else {
+        return Err(NoMemory);
+    };
+    match gate {
+        Gate::Pass => befores(alloc, machine, tables, resource, chain, place + 1),
+        Gate::Stop => Ok(Passed { count: place, ended: Some(Finished::Done) }),
+        Gate::Failed(kind, text) => {
+            let Ok(ended) = fail(machine, tables, resource, kind, text) else {
+                return Err(NoMemory);
+            };
+            Ok(Passed { count: place, ended: Some(ended) })
+        }
+        Gate::NoMemory => Err(NoMemory),
+    }
+}
+
+/// Calls the first filters of a chain once more, the last first.
+pub(crate) fn afters<M: Machine>(machine: &mut M, chain: &[usize], count: usize) -> Result<(), NoMemory>
+    requires within { count ≤ length chain.now }
+    requires there { All (λ filter. filter < (M.frame machine.old).filters) chain.now }
+    ensures { Did M.state M.frame M.ran (Afters (reverse (take count chain.now))) machine.old machine.new (seen result) }
+{
+    if count == 0 {
+        return Ok(());
+    }
+    let Ok(done) = machine.after(chain[count - 1]) else {
+        return Err(NoMemory);
+    };
+    if !done {
+        return Err(NoMemory);
+    }
+    afters(machine, chain, count - 1)
+}

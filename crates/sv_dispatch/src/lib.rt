@@ -1,0 +1,16 @@
+//! The machine that makes dispatches, held to the definitions of `sv_tree`.
+#![tactic(auto)]
+
+mod dispatching;
+mod endings;
+mod error_field;
+mod filing;
+mod filters;
+mod machine;
+mod tables;
+
+pub use dispatching::dispatch_by;
+pub use error_field::ErrorField;
+pub use filters::Passed;
+pub use machine::Machine;
+pub use tables::{Chosen, Found, Tables};

@@ -1,0 +1,121 @@
+//! What a dispatch does by itself: one method for each step of the definitions.
+
+use crate::error_field::ErrorField;
+use crate::tables::Chosen;
+use sv_component::{Gate, Standing, Step};
+use sv_mapping::Kind;
+use sv_text::NoMemory;
+use sv_uri::path::Canon;
+
+/// The exchange of a request, with the components of its context and their journal.
+pub trait Machine: Sized {
+    ghost use Rattle.std.specs.Prelude.{◌≡◌, ◌<◌, List, Some, false, length};
+    ghost use Rattle.sv_component.specs.Runs.{Record};
+    ghost use Rattle.sv_dispatch.specs.Did.{Did, Frame, seen};
+    ghost use Rattle.sv_dispatch.specs.Seen.{IsHere, chosen_seen, field_of, offers};
+    ghost use Rattle.sv_exchange.specs.Changing.{SetHeader, SetStatus};
+    ghost use Rattle.sv_exchange.specs.Dispatches.{is_within_include};
+    ghost use Rattle.sv_tree.specs.Does.{asks, becomes, leaves, makes, tries};
+    ghost use Rattle.sv_tree.specs.Endings.{keeps};
+    ghost use Rattle.sv_tree.specs.Files.{emptied};
+    ghost use Rattle.sv_tree.specs.Filters.{after_of, before_of};
+    ghost use Rattle.sv_tree.specs.Site.{begun_by};
+    ghost use Rattle.sv_tree.specs.State.{State, away_for, counted, is_full, on_exchange, standing_at};
+    ghost use Rattle.sv_tree.specs.Tree.{destroys, service_of};
+
+    /// The state that dispatches see and change.
+    ghost state: { Self → State };
+
+    /// What stays.
+    ghost frame: { Self → Frame };
+
+    /// That from a machine these calls led to another, each of them made and noted.
+    ghost ran: { Self → List Record → Self → Type 0 };
+
+    fn is_committed(&self) -> bool
+        ensures { result ≡ (state self.now).exchange.committed };
+
+    /// Whether an include is under way, at any depth.
+    fn is_within_include(&self) -> bool
+        ensures { result ≡ is_within_include (state self.now).exchange };
+
+    /// Whether the request has had all calls that it may have.
+    fn is_full(&self) -> bool
+        ensures { result ≡ is_full (state self.now) };
+
+    fn moment(&self) -> u64
+        ensures { result ≡ (state self.now).exchange.moment };
+
+    fn method(&self) -> &str
+        ensures { result.now ≡ (state self.now).exchange.method };
+
+    /// How the servlet at the place stands at the moment of the exchange.
+    fn standing(&self, place: usize) -> Standing
+        requires { place < (frame self.now).servlets }
+        ensures { result ≡ standing_at (state self.now).exchange.moment place (state self.now).standings };
+
+    /// Begins a dispatch.
+    fn enter(&mut self, kind: Kind, chosen: &Chosen, canon: &Canon) -> Result<(), NoMemory>
+        ensures { Did state frame ran (tries (on_exchange (begun_by (chosen_seen chosen.now) kind canon.now))) self.old self.new (seen result) };
+
+    /// Ends the innermost dispatch.
+    fn leave(&mut self)
+        requires { 0 < length (state self.old).exchange.dispatches }
+        ensures { Did state frame ran leaves self.old self.new (Some tt) };
+
+    /// Counts a call.
+    fn count(&mut self)
+        requires { is_full (state self.old) ≡ false }
+        ensures { Did state frame ran (becomes counted) self.old self.new (Some tt) };
+
+    /// Keeps an error for the answer.
+    fn keep_error(
+        &mut self,
+        status: u16,
+        text: &str,
+        servlet: &str,
+        field: ErrorField,
+    ) -> Result<(), NoMemory>
+        ensures { Did state frame ran (keeps (record { status = status; text = text.now; servlet = Some servlet.now; field = field_of field }))
+            self.old self.new (seen result) };
+
+    fn set_status(&mut self, status: u16) -> Result<(), NoMemory>
+        ensures { Did state frame ran (makes (SetStatus status)) self.old self.new (seen result) };
+
+    fn set_header(&mut self, name: &str, value: &str) -> Result<(), NoMemory>
+        ensures { Did state frame ran (makes (SetHeader name.now value.now)) self.old self.new (seen result) };
+
+    /// Writes bytes where the body can take them, and answers whether it could.
+    fn offer(&mut self, bytes: &[u8]) -> Result<bool, NoMemory>
+        ensures { Did state frame ran (offers bytes.now) self.old self.new (seen result) };
+
+    /// Takes back what was written, unless it is committed.
+    fn empty(&mut self)
+        ensures { Did state frame ran (becomes (on_exchange emptied)) self.old self.new (Some tt) };
+
+    fn before(&mut self, place: usize) -> Result<Gate, NoMemory>
+        requires { place < (frame self.old).filters }
+        ensures { Did state frame ran (asks (before_of place)) self.old self.new (seen result) };
+
+    /// Answers whether the filter found the memory that it wanted.
+    fn after(&mut self, place: usize) -> Result<bool, NoMemory>
+        requires { place < (frame self.old).filters }
+        ensures { Did state frame ran (asks (after_of place)) self.old self.new (seen result) };
+
+    fn service(&mut self, place: usize, turn: u32) -> Result<Step, NoMemory>
+        requires there { place < (frame self.old).servlets }
+        requires here { IsHere place (state self.old) }
+        ensures { Did state frame ran (asks (service_of place turn)) self.old self.new (seen result) };
+
+    /// Destroys the servlet, which is gone then.
+    fn retire(&mut self, place: usize) -> Result<(), NoMemory>
+        requires there { place < (frame self.old).servlets }
+        requires here { IsHere place (state self.old) }
+        ensures { Did state frame ran (destroys place) self.old self.new (seen result) };
+
+    /// Puts the servlet out of service for so many seconds from the moment of the exchange.
+    fn away(&mut self, place: usize, seconds: u32)
+        requires there { place < (frame self.old).servlets }
+        requires here { IsHere place (state self.old) }
+        ensures { Did state frame ran (becomes (away_for place seconds)) self.old self.new (Some tt) };
+}
