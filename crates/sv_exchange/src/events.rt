@@ -1,6 +1,7 @@
 //! Events that are still to be told.
 
-ghost use Rattle.std.specs.Prelude.{◌≡◌, ◌++◌, ◌∷◌, ◌<◌, [], deque_capacity, deque_len, IfOk, option_to_list};
+ghost use Rattle.std.specs.Prelude.{◌≡◌, ◌++◌, ◌∷◌, ◌<◌, [], IfOk, option_to_list};
+ghost use Rattle.std.specs.VecDeque.{deque_capacity, deque_len};
 ghost use Rattle.sv_exchange.specs.Sessions.{ending_events};
 
 use crate::exchange::Exchange;
