@@ -33,7 +33,6 @@ fn run<R: Env + Clock + Print + AllocGlobal>(rt: &R) -> Option<()> {
     figures::path(rt, wanted)?;
     figures::patterns(rt, wanted)?;
     figures::constraints(rt, wanted)?;
-    figures::many_constraints(rt, wanted)?;
     policy_figures::policy(rt, wanted)?;
     figures::head(rt, wanted)?;
     figures::body(rt, wanted)?;
