@@ -5,7 +5,6 @@ ghost use Rattle.sv_files.specs.Answer.{answer_seen};
 ghost use Rattle.sv_site.specs.FileServlet as spec;
 ghost use Rattle.sv_site.specs.Seen.{found_seen};
 ghost use Rattle.sv_text.specs.Gives.{GivesAnswer};
-ghost use Rattle.sv_tree.specs.Site.{Redirect};
 
 use crate::redirect::sent_to;
 use std::alloc::Global;
@@ -18,7 +17,9 @@ use sv_uri::path::Canon;
 pub enum FileFound<'a> {
     /// A file: its content type and its bytes, which are the site's own.
     File {
+        /// By the extension of the path.
         content_type: &'static str,
+        /// What the file holds.
         bytes: &'a [u8],
     },
     /// The value of the Location field that sends the client to a welcome file or to a folder.
@@ -34,40 +35,29 @@ pub(crate) fn answered<'a>(
     alloc: Global,
     context_path: &str,
     canon: &Canon,
-    answer: FileAnswer<'a>,
+    answer: &FileAnswer<'a>,
 ) -> Result<FileFound<'a>, NoMemory>
-    ensures { IfOk result (λ found. found_seen found ≡ spec.answered context_path.now canon.now (answer_seen answer.entry)) }
+    ensures { IfOk result (λ found. found_seen found ≡ spec.answered context_path.now canon.now (answer_seen answer.now)) }
 {
-    match answer {
-        FileAnswer::File(bytes) => Ok(FileFound::File {
-            content_type: content_type_of(canon.path.as_str()),
-            bytes,
-        }),
-        FileAnswer::Welcome(path) => redirected(alloc, context_path, path.as_str(), canon),
-        FileAnswer::Slash => {
-            let folder = with_slash(alloc, canon.path.as_str())?;
-            redirected(alloc, context_path, folder.as_str(), canon)
+    let location = match answer {
+        FileAnswer::File(bytes) => {
+            return Ok(FileFound::File {
+                content_type: content_type_of(canon.path.as_str()),
+                bytes,
+            });
         }
-        FileAnswer::Missing => Ok(FileFound::Missing),
-        FileAnswer::Method => Ok(FileFound::NotAllowed),
-    }
+        FileAnswer::Missing => return Ok(FileFound::Missing),
+        FileAnswer::Method => return Ok(FileFound::NotAllowed),
+        FileAnswer::Welcome(path) => sent_to(alloc, context_path, path.as_str(), canon)?,
+        FileAnswer::Slash => sent_to_folder(alloc, context_path, canon)?,
+    };
+    Ok(FileFound::Redirect(location))
 }
 
-fn redirected<'a>(
-    alloc: Global,
-    context_path: &str,
-    path: &str,
-    canon: &Canon,
-) -> Result<FileFound<'a>, NoMemory>
-    ensures { IfOk result (λ found. found_seen found ≡ Redirect (spec.sent_to context_path.now path.now canon.now.query)) }
+fn sent_to_folder(alloc: Global, context_path: &str, canon: &Canon) -> Result<Text, NoMemory>
+    ensures { GivesAnswer result (spec.sent_to context_path.now (canon.now.path ++ codes "/") canon.now.query) }
 {
-    Ok(FileFound::Redirect(sent_to(alloc, context_path, path, canon)?))
-}
-
-fn with_slash(alloc: Global, path: &str) -> Result<Text, NoMemory>
-    ensures { GivesAnswer result (path.now ++ codes "/") }
-{
-    let mut text = String::from_str(alloc, path)?;
-    text.push_str("/")?;
-    Ok(Text::from_string(text))
+    let mut folder = String::from_str(alloc, canon.path.as_str())?;
+    folder.push_str("/")?;
+    sent_to(alloc, context_path, folder.as_str(), canon)
 }

@@ -1,7 +1,8 @@
 //! Lists beside the patterns of a descriptor's servlet mappings.
 
-ghost use Rattle.std.specs.Prelude.{◌≡◌, ◌++◌, IfOk, OnOk, map};
+ghost use Rattle.std.specs.Prelude.{◌≡◌, ◌++◌, IfOk, OnOk, map, position};
 ghost use Rattle.std.specs.List.{flat_map};
+ghost use Rattle.std.specs.Str.{bytes_eq};
 ghost use Rattle.sv_text.specs.Gives.{GivesAnswer};
 ghost use Rattle.sv_site.specs.ServletMappings as spec;
 
@@ -79,11 +80,16 @@ fn push_place_beside(
 fn servlet_place(servlets: &[ServletEntry], name: &str) -> usize
     ensures { result ≡ spec.servlet_place servlets.now name.now }
 {
-    match servlets
-        .iter()
-        .position(|servlet| servlet.servlet_name.as_str() == name)
-    {
+    match declared_place(servlets, name) {
         Some(place) => place,
         None => servlets.len(),
     }
+}
+
+fn declared_place(servlets: &[ServletEntry], name: &str) -> Option<usize>
+    ensures { result ≡ position (λ servlet. bytes_eq servlet.servlet_name name.now) servlets.now }
+{
+    servlets
+        .iter()
+        .position(|servlet| servlet.servlet_name.as_str() == name)
 }

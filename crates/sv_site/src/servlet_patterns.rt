@@ -1,6 +1,7 @@
 //! The patterns of a descriptor's servlets, compiled.
 
 ghost use Rattle.std.specs.Prelude.{◌≡◌, Some, find, map, slice_get};
+ghost use Rattle.sv_descriptor.specs.WellFormed.{IsWellFormed};
 ghost use Rattle.sv_mapping.specs.BestMatch.{best, is_best};
 ghost use Rattle.sv_text.specs.Gives.{GivesAnswer};
 ghost use Rattle.sv_tree.specs.Site.{chosen_by};
@@ -44,7 +45,8 @@ impl ServletPatterns {
     /// # Errors
     /// `NoMemory` where a growth was refused.
     pub fn of(alloc: Global, descriptor: &Descriptor) -> Result<ServletPatterns, NoMemory>
-        ensures { GivesAnswer result (spec.mappings_of descriptor.now) }
+        ensures gives { GivesAnswer result (spec.mappings_of descriptor.now) }
+        ensures well_formed { IsWellFormed descriptor.now }
     {
         let app = descriptor.web_app();
         let mappings = app.servlet_mappings.as_slice();

@@ -24,8 +24,8 @@ use sv_descriptor::{Descriptor, Kind};
 use sv_error_pages::page_for;
 use sv_files::Files;
 use sv_text::{NoMemory, Text};
-use sv_uri::fault::CanonFault;
 use sv_uri::canon;
+use sv_uri::fault::CanonFault;
 use sv_uri::path::Canon;
 
 /// What a dispatch asks of its context. Contracts see the context's path, its descriptor and its files; `site_of` says what they are in
@@ -40,6 +40,7 @@ pub struct Site {
 
 impl Model for Site {
     ghost use Rattle.std.specs.Prelude.{◌≡◌};
+    ghost use Rattle.sv_descriptor.specs.WellFormed.{IsWellFormed};
     ghost use Rattle.sv_site.specs.ServletMappings.{mappings_of};
     ghost use Rattle.sv_site.specs.Site.{Content};
 
@@ -47,19 +48,20 @@ impl Model for Site {
 
     ghost view = { λ site. record { context_path = site.context_path; app = site.descriptor; files = site.files } };
 
-    ghost invariant = { λ site. site.patterns ≡ mappings_of site.descriptor };
+    ghost invariant = { λ site. (site.patterns ≡ mappings_of site.descriptor) × IsWellFormed site.descriptor };
 }
 
 impl Site {
     /// A site of its parts, without taking memory. The context's path is empty for the root context, and the patterns are those of the
-    /// descriptor.
+    /// descriptor, which `ServletPatterns::of` gives.
     pub fn new(
         context_path: Text,
         descriptor: Descriptor,
         files: Files,
         patterns: ServletPatterns,
     ) -> Site
-        requires { patterns ≡ mappings_of descriptor }
+        requires patterns { patterns ≡ mappings_of descriptor }
+        requires well_formed { IsWellFormed descriptor }
         ensures { result ≡ record { context_path = context_path; app = descriptor; files = files } }
     {
         Site {
@@ -144,8 +146,10 @@ impl Site {
         let path = canon.path.as_str();
         let welcome = self.descriptor.web_app().welcome_files.as_slice();
         let patterns = self.patterns.patterns();
-        let answer = self.files.answer(alloc, path, method, kind, welcome, patterns)?;
-        answered(alloc, self.context_path.as_str(), canon, answer)
+        let answer = self
+            .files
+            .answer(alloc, path, method, kind, welcome, patterns)?;
+        answered(alloc, self.context_path.as_str(), canon, &answer)
     }
 
     /// The page for an error of the status, of this kind where it is a failure, as the path and the query of its location
