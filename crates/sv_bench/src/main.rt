@@ -15,6 +15,7 @@ mod patterns;
 mod policies;
 mod policy_figures;
 mod report;
+mod sessions;
 
 use std::env;
 use std::process::ExitCode;
@@ -36,7 +37,8 @@ fn run<R: Env + Clock + Print + AllocGlobal>(rt: &R) -> Option<()> {
     policy_figures::policy(rt, wanted)?;
     figures::head(rt, wanted)?;
     figures::body(rt, wanted)?;
-    exchange_figures::exchange(rt, wanted)
+    exchange_figures::exchange(rt, wanted)?;
+    sessions::sessions(rt, wanted)
 }
 
 fn wants_figures<R: Env + AllocGlobal>(rt: &R) -> Option<bool> {
