@@ -8,6 +8,7 @@ mod exchange_figures;
 mod exchanges;
 mod feeding;
 mod figures;
+mod files;
 mod heads;
 mod measure;
 mod paths;
@@ -34,7 +35,8 @@ fn run<R: Env + Clock + Print + AllocGlobal>(rt: &R) -> Option<()> {
     figures::many_constraints(rt, wanted)?;
     figures::head(rt, wanted)?;
     figures::body(rt, wanted)?;
-    exchange_figures::exchange(rt, wanted)
+    exchange_figures::exchange(rt, wanted)?;
+    files::files(rt, wanted)
 }
 
 fn wants_figures<R: Env + AllocGlobal>(rt: &R) -> Option<bool> {
