@@ -8,6 +8,7 @@ mod exchange_figures;
 mod exchanges;
 mod feeding;
 mod figures;
+mod files;
 mod heads;
 mod measure;
 mod paths;
@@ -38,7 +39,8 @@ fn run<R: Env + Clock + Print + AllocGlobal>(rt: &R) -> Option<()> {
     figures::head(rt, wanted)?;
     figures::body(rt, wanted)?;
     exchange_figures::exchange(rt, wanted)?;
-    sessions::sessions(rt, wanted)
+    sessions::sessions(rt, wanted)?;
+    files::files(rt, wanted)
 }
 
 fn wants_figures<R: Env + AllocGlobal>(rt: &R) -> Option<bool> {
