@@ -2,7 +2,7 @@
 
 use std::alloc::Global;
 use sv_journal::{Answer, CallName, Entry, Event, Journal};
-use sv_rows::{Asks, Strays, cell, hold};
+use sv_rows::{Asks, Draft, Strays, cell, hold};
 use sv_text::NoMemory;
 
 /// Whether the entry between two others could not be made, and the lines of the journal.
@@ -26,13 +26,13 @@ impl Asks for Journals {
     fn answer(&self, alloc: Global, row: &str, answer: &mut Vec<u8>) -> Result<(), NoMemory> {
         let event = Event::copy_of(alloc, &Event::SessionCreated(3))?;
         let journal = journal(alloc, &event, cell(row, 0) == "broken");
+        let mut lines = Draft::new(alloc);
         for entry in journal.entries() {
-            let line = format!(in alloc; "{entry}. ")?;
-            answer.extend_from_slice(line.as_bytes())?;
+            lines.add_shown(entry);
+            lines.add(". ");
         }
-        let word: &[u8] = if journal.whole() { b"whole" } else { b"broken" };
-        answer.extend_from_slice(word)?;
-        Ok(())
+        lines.add(if journal.whole() { "whole" } else { "broken" });
+        lines.add_to(answer)
     }
 }
 

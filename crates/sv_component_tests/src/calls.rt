@@ -6,13 +6,12 @@ use crate::requests::exchange;
 use std::alloc::Global;
 use sv_exchange::{Exchange, ExchangeFault};
 use sv_mapping::Kind;
-use sv_rows::unescaped;
+use sv_rows::unescaped_text;
 use sv_text::NoMemory;
 
 /// An exchange on which calls were made, which stand between semicolons, and what the last one answered.
 pub fn made(alloc: Global, calls: &str) -> Result<(Exchange, &'static str), NoMemory> {
-    let calls = unescaped(alloc, calls)?;
-    let calls = String::from_utf8_lossy(alloc, calls.as_slice())?;
+    let calls = unescaped_text(alloc, calls)?;
     let mut exchange = exchange(alloc)?;
     let done = make_all(alloc, &mut exchange, calls.as_str());
     Ok((exchange, answered(done)))

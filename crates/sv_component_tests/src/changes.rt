@@ -4,9 +4,8 @@ use crate::calls::made;
 use std::alloc::Global;
 use sv_exchange::Exchange;
 use sv_head::Field;
-use sv_rows::{Asks, Strays, cell, hold};
+use sv_rows::{Asks, Draft, Strays, cell, hold};
 use sv_text::NoMemory;
-use sv_wire::Response;
 
 /// Calls, the answer to the last one, and the response: its status, its fields, its body.
 const STATUSES: &str = r#"
@@ -129,48 +128,43 @@ impl Asks for Changes {
     const QUESTION: usize = 1;
 
     fn answer(&self, alloc: Global, row: &str, answer: &mut Vec<u8>) -> Result<(), NoMemory> {
-        let (exchange, said) = made(alloc, cell(row, 0))?;
-        write_outcome(alloc, said, &finished(exchange), answer)
+        let mut outcome = Draft::new(alloc);
+        match made(alloc, cell(row, 0)) {
+            Ok((exchange, said)) => add_outcome(&mut outcome, said, exchange),
+            Err(_) => outcome.fail(),
+        }
+        outcome.add_to(answer)
     }
 }
 
-fn finished(exchange: Exchange) -> Response {
+fn add_outcome(outcome: &mut Draft, said: &str, exchange: Exchange) {
     let (response, _sessions) = exchange.finish();
-    response
+    outcome.add(said);
+    outcome.add(" | ");
+    outcome.add_shown(&response.status);
+    outcome.add(" | ");
+    add_fields(outcome, response.fields.as_slice());
+    outcome.add(" | ");
+    add_body(outcome, response.body.as_slice());
 }
 
-fn write_outcome(
-    alloc: Global,
-    said: &str,
-    response: &Response,
-    answer: &mut Vec<u8>,
-) -> Result<(), NoMemory> {
-    let front = format!(in alloc; "{said} | {} | ", response.status)?;
-    answer.extend_from_slice(front.as_bytes())?;
-    write_fields(response.fields.as_slice(), answer)?;
-    answer.extend_from_slice(b" | ")?;
-    write_body(alloc, response.body.as_slice(), answer)
-}
-
-/// Writes fields with commas between them.
-pub fn write_fields(fields: &[Field], answer: &mut Vec<u8>) -> Result<(), NoMemory> {
-    let mut front: &[u8] = b"";
+/// Adds fields with commas between them.
+pub fn add_fields(text: &mut Draft, fields: &[Field]) {
+    let mut front = "";
     for field in fields {
-        answer.extend_from_slice(front)?;
-        answer.extend_from_slice(field.name.as_str().as_bytes())?;
-        answer.extend_from_slice(b": ")?;
-        answer.extend_from_slice(field.value.as_bytes())?;
-        front = b", ";
+        text.add(front);
+        text.add(field.name.as_str());
+        text.add(": ");
+        text.add_bytes(field.value.as_bytes());
+        front = ", ";
     }
-    Ok(())
 }
 
-fn write_body(alloc: Global, body: &[u8], answer: &mut Vec<u8>) -> Result<(), NoMemory> {
+fn add_body(text: &mut Draft, body: &[u8]) {
     if body.len() <= 100 {
-        answer.extend_from_slice(body)?;
+        text.add_bytes(body);
     } else {
-        let length = format!(in alloc; "{} bytes", body.len())?;
-        answer.extend_from_slice(length.as_bytes())?;
+        text.add_shown(&body.len());
+        text.add(" bytes");
     }
-    Ok(())
 }

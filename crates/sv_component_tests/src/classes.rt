@@ -1,7 +1,7 @@
 //! The program's component classes, in boxes.
 
 use crate::calls::made;
-use crate::changes::write_fields;
+use crate::changes::add_fields;
 use std::alloc::Global;
 use sv_classes::{Bad, Halt, Log, Mark, Who};
 use sv_component::{
@@ -9,7 +9,7 @@ use sv_component::{
     step_answer,
 };
 use sv_journal::Answer;
-use sv_rows::{Asks, Strays, cell, hold, unescaped};
+use sv_rows::{Asks, Draft, Strays, cell, hold, unescaped_text};
 use sv_text::{Listed, NoMemory, Text};
 
 /// A class, a component's name, calls made before its own, and then: the answers to `init` and to `service` or `before`, the fields
@@ -42,51 +42,57 @@ impl Asks for Classes {
     const QUESTION: usize = 3;
 
     fn answer(&self, alloc: Global, row: &str, answer: &mut Vec<u8>) -> Result<(), NoMemory> {
-        let name = unescaped(alloc, cell(row, 1))?;
-        let name = String::from_utf8_lossy(alloc, name.as_slice())?;
-        let config = config(alloc, name.as_str())?;
-        let (mut exchange, _) = made(alloc, cell(row, 2))?;
-        write_answers(alloc, cell(row, 0), &config, &mut exchange, answer)?;
-        write_response(exchange, answer)
+        let mut told = Draft::new(alloc);
+        match (named_config(alloc, cell(row, 1)), made(alloc, cell(row, 2))) {
+            (Ok(config), Ok((exchange, _))) => {
+                add_calls(alloc, cell(row, 0), &config, exchange, &mut told);
+            }
+            _ => told.fail(),
+        }
+        told.add_to(answer)
     }
 }
 
-fn write_answers(
+fn named_config(alloc: Global, name: &str) -> Result<Config, NoMemory> {
+    let name = unescaped_text(alloc, name)?;
+    config(alloc, name.as_str())
+}
+
+/// Makes the calls of a component, and adds their answers and the response.
+fn add_calls(
+    alloc: Global,
+    class: &str,
+    config: &Config,
+    mut exchange: Exchange,
+    told: &mut Draft,
+) {
+    if add_answers(alloc, class, config, &mut exchange, told).is_err() {
+        told.fail();
+    }
+    let (response, _sessions) = exchange.finish();
+    add_fields(told, response.fields.as_slice());
+    told.add(" | ");
+    told.add_bytes(response.body.as_slice());
+}
+
+fn add_answers(
     alloc: Global,
     class: &str,
     config: &Config,
     exchange: &mut Exchange,
-    answer: &mut Vec<u8>,
+    told: &mut Draft,
 ) -> Result<(), NoMemory> {
     match class {
-        "Who" => served(
-            alloc,
-            Box::new(alloc, Who::new())?,
-            config,
-            exchange,
-            answer,
-        ),
-        "Halt" => filtered(
-            alloc,
-            Box::new(alloc, Halt::new())?,
-            config,
-            exchange,
-            answer,
-        ),
+        "Who" => served(alloc, Box::new(alloc, Who::new())?, config, exchange, told),
+        "Halt" => filtered(alloc, Box::new(alloc, Halt::new())?, config, exchange, told),
         "Mark" => filtered(
             alloc,
             Box::new(alloc, Mark::new(alloc))?,
             config,
             exchange,
-            answer,
+            told,
         ),
-        _ => filtered(
-            alloc,
-            Box::new(alloc, Bad::new())?,
-            config,
-            exchange,
-            answer,
-        ),
+        _ => filtered(alloc, Box::new(alloc, Bad::new())?, config, exchange, told),
     }
 }
 
@@ -96,12 +102,13 @@ fn served(
     mut servlet: Box<dyn Servlet>,
     config: &Config,
     exchange: &mut Exchange,
-    answer: &mut Vec<u8>,
+    told: &mut Draft,
 ) -> Result<(), NoMemory> {
     let ready = servlet.init(alloc, config);
     let step = servlet.service(alloc, exchange, 0);
     servlet.destroy();
-    write_both(alloc, ready, &step_answer(alloc, &step)?, answer)
+    add_both(told, ready, &step_answer(alloc, &step)?);
+    Ok(())
 }
 
 /// Makes the calls of a filter.
@@ -110,35 +117,21 @@ fn filtered(
     mut filter: Box<dyn Filter>,
     config: &Config,
     exchange: &mut Exchange,
-    answer: &mut Vec<u8>,
+    told: &mut Draft,
 ) -> Result<(), NoMemory> {
     let ready = filter.init(alloc, config);
     let gate = filter.before(alloc, exchange);
     let left = filter.after(alloc, exchange);
     filter.destroy();
-    left?;
-    write_both(alloc, ready, &gate_answer(alloc, &gate)?, answer)
+    add_both(told, ready, &gate_answer(alloc, &gate)?);
+    left
 }
 
-fn write_both(
-    alloc: Global,
-    ready: Init,
-    called: &Answer,
-    answer: &mut Vec<u8>,
-) -> Result<(), NoMemory> {
-    let ready = init_answer(ready);
-    let both = format!(in alloc; "{ready} | {called} | ")?;
-    answer.extend_from_slice(both.as_bytes())?;
-    Ok(())
-}
-
-/// Writes the fields and the body of a response.
-fn write_response(exchange: Exchange, answer: &mut Vec<u8>) -> Result<(), NoMemory> {
-    let (response, _sessions) = exchange.finish();
-    write_fields(response.fields.as_slice(), answer)?;
-    answer.extend_from_slice(b" | ")?;
-    answer.extend_from_slice(response.body.as_slice())?;
-    Ok(())
+fn add_both(told: &mut Draft, ready: Init, called: &Answer) {
+    told.add_shown(&init_answer(ready));
+    told.add(" | ");
+    told.add_shown(called);
+    told.add(" | ");
 }
 
 /// The configuration of a component of that name: two parameters of one name, and one without a value.

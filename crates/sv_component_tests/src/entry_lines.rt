@@ -2,7 +2,7 @@
 
 use crate::entries::{cause, entry};
 use std::alloc::Global;
-use sv_rows::{Asks, Strays, cell, hold};
+use sv_rows::{Asks, Draft, Strays, cell, hold};
 use sv_text::NoMemory;
 
 /// What happened, the context path, what the entry is made of, its line with a full stop behind it.
@@ -64,10 +64,13 @@ impl Asks for Lines {
     const QUESTION: usize = 4;
 
     fn answer(&self, alloc: Global, row: &str, answer: &mut Vec<u8>) -> Result<(), NoMemory> {
-        let entry = entry(alloc, row)?;
-        let line = format!(in alloc; "{entry}.")?;
-        answer.extend_from_slice(line.as_bytes())?;
-        Ok(())
+        let mut line = Draft::new(alloc);
+        match entry(alloc, row) {
+            Ok(entry) => line.add_shown(&entry),
+            Err(_) => line.fail(),
+        }
+        line.add(".");
+        line.add_to(answer)
     }
 }
 
@@ -99,8 +102,11 @@ impl Asks for Numbers {
     const QUESTION: usize = 1;
 
     fn answer(&self, alloc: Global, row: &str, answer: &mut Vec<u8>) -> Result<(), NoMemory> {
-        let number = cause(alloc, cell(row, 0))?.number();
-        answer.extend_from_slice(format!(in alloc; "{number}")?.as_bytes())?;
-        Ok(())
+        let mut number = Draft::new(alloc);
+        match cause(alloc, cell(row, 0)) {
+            Ok(cause) => number.add_shown(&cause.number()),
+            Err(_) => number.fail(),
+        }
+        number.add_to(answer)
     }
 }

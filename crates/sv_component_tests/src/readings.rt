@@ -4,7 +4,7 @@ use crate::calls::made;
 use std::alloc::Global;
 use sv_exchange::Exchange;
 use sv_mapping::Kind;
-use sv_rows::{Asks, Strays, cell, hold};
+use sv_rows::{Asks, Draft, Strays, cell, hold};
 use sv_text::NoMemory;
 
 /// Calls, what is read behind them, and what it tells: `-` for nothing.
@@ -121,16 +121,22 @@ impl Asks for Readings {
     const QUESTION: usize = 2;
 
     fn answer(&self, alloc: Global, row: &str, answer: &mut Vec<u8>) -> Result<(), NoMemory> {
-        let (exchange, said) = made(alloc, cell(row, 0))?;
-        let (call, name) = cell(row, 1).split_once(' ').unwrap_or((cell(row, 1), ""));
-        let told = match call {
-            "answer" => said.as_bytes(),
-            "header" => exchange.header(name).unwrap_or(b"-"),
-            "attribute" => exchange.attribute(name).unwrap_or("-").as_bytes(),
-            _ => told(&exchange, call).as_bytes(),
-        };
-        answer.extend_from_slice(told)?;
-        Ok(())
+        let mut reading = Draft::new(alloc);
+        match made(alloc, cell(row, 0)) {
+            Ok((exchange, said)) => add_reading(&mut reading, &exchange, said, cell(row, 1)),
+            Err(_) => reading.fail(),
+        }
+        reading.add_to(answer)
+    }
+}
+
+fn add_reading(reading: &mut Draft, exchange: &Exchange, said: &str, asked: &str) {
+    let (call, name) = asked.split_once(' ').unwrap_or((asked, ""));
+    match call {
+        "answer" => reading.add(said),
+        "header" => reading.add_bytes(exchange.header(name).unwrap_or(b"-")),
+        "attribute" => reading.add(exchange.attribute(name).unwrap_or("-")),
+        _ => reading.add(told(exchange, call)),
     }
 }
 
