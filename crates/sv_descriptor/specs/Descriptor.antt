@@ -16,5 +16,5 @@ descriptor table = do
   Ok elements
 
 -- the elements that a text is
-abbrev pub descriptor_of : List ℕ → Reads WebApp
+unfoldable pub descriptor_of : List ℕ → Reads WebApp
 descriptor_of = document descriptor

@@ -53,6 +53,7 @@ impl Descriptor {
 ///
 /// # Errors
 /// The first fault in the format's order, or [`ReadFault::NoMemory`].
+#[tactic(auto, unfolding(crate::specs::Descriptor::descriptor_of))]
 pub fn read_descriptor(alloc: Global, text: &str) -> Result<Descriptor, ReadFault>
     ensures gives { Gives fault result (descriptor_of text.now) }
     ensures well_formed { IfOk result IsWellFormed }

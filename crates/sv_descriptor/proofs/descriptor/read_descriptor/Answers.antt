@@ -5,6 +5,7 @@ use Rattle.sv_descriptor.proofs.Agreeing.{IsWellFormed-descriptor}
 use Rattle.sv_descriptor.proofs.descriptor.read_descriptor.Goals as goal
 
 pub returns-clause-well_formed : goal.returns-clause-well_formed
+unfolding descriptor_of
 returns-clause-well_formed c =
     IfOk-Gives IsWellFormed c.read_document.result (descriptor_of c.args.text.now)
     (document-Ok IsWellFormed descriptor IsWellFormed-descriptor c.args.text.now) c.read_document.ensures
