@@ -125,3 +125,53 @@ const ALL_ROWS: &str = r#"
 fn a_star_names_every_servlet(rt: HostRuntime) -> Result<(), Strays> {
     hold_of(&rt, ALL, ALL_ROWS)
 }
+
+/// Filters 0 to 2, each mapped by patterns and by names, before and behind one another, for all kinds.
+const ORDERS: &str = r#"
+servlet = [
+    { servlet-name = "s", servlet-class = "S" },
+    { servlet-name = "t", servlet-class = "T" },
+]
+filter = [
+    { filter-name = "a", filter-class = "A" },
+    { filter-name = "b", filter-class = "B" },
+    { filter-name = "c", filter-class = "C" },
+]
+filter-mapping = [
+    { filter-name = "b", servlet-name = ["s"] },
+    { filter-name = "a", url-pattern = ["/*"] },
+    { filter-name = "b", url-pattern = ["/b/*"], dispatcher = ["FORWARD", "ERROR"] },
+    { filter-name = "c", url-pattern = ["*.x"], servlet-name = ["s"], dispatcher = ["REQUEST", "INCLUDE"] },
+    { filter-name = "a", servlet-name = ["*"], dispatcher = ["INCLUDE", "ERROR"] },
+    { filter-name = "c", url-pattern = [""] },
+]
+"#;
+
+/// Path, servlet, kind, chain.
+const ORDERS_ROWS: &str = r#"
+-- Servlet, section 6.2.4: names stand behind patterns, also where their mappings stand in front
+/q        | s       | REQUEST | 012
+/b/q      | s       | REQUEST | 012
+/q        | t       | REQUEST | 0
+-- a filter of one mapping by pattern and by name stands once, among the patterns
+/q.x      | s       | REQUEST | 021
+/q.x      | default | REQUEST | 02
+/q.x/y    | default | REQUEST | 0
+-- section 12.2: the empty pattern is for the context root alone
+/         | default | REQUEST | 02
+-- section 6.2.5: each kind has the mappings that name it
+/q        | s       | INCLUDE | 20
+/q.x      | s       | INCLUDE | 20
+/q.x      | t       | INCLUDE | 20
+/q        | default | INCLUDE | 0
+/b/q      | s       | FORWARD | 1
+/b        | default | FORWARD | 1
+/bb       | s       | FORWARD | ""
+/b/q      | s       | ERROR   | 10
+/q        | default | ERROR   | 0
+"#;
+
+#[test]
+fn each_kind_has_its_chain_in_the_order_of_the_mappings(rt: HostRuntime) -> Result<(), Strays> {
+    hold_of(&rt, ORDERS, ORDERS_ROWS)
+}

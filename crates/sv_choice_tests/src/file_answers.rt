@@ -128,6 +128,22 @@ const ROWS: &str = r#"
 /a/b/c/d                 | i          | -    | /a/b/d         | GET  | REQUEST | Missing
 /ab                      | i          | -    | /a             | GET  | REQUEST | Missing
 /a/b                     | i          | -    | ""             | GET  | REQUEST | Slash
+
+-- section 10.10: the welcome files of its example
+/foo/index.html /foo/default.jsp /catalog/default.jsp /catalog/products/shop.jsp | index.html default.jsp | - | /foo               | GET  | REQUEST | Slash
+/foo/index.html /foo/default.jsp /catalog/default.jsp /catalog/products/shop.jsp | index.html default.jsp | - | /foo/              | GET  | REQUEST | Welcome /foo/index.html
+/foo/index.html /foo/default.jsp /catalog/default.jsp /catalog/products/shop.jsp | index.html default.jsp | - | /catalog           | GET  | REQUEST | Slash
+/foo/index.html /foo/default.jsp /catalog/default.jsp /catalog/products/shop.jsp | index.html default.jsp | - | /catalog/          | GET  | REQUEST | Welcome /catalog/default.jsp
+/foo/index.html /foo/default.jsp /catalog/default.jsp /catalog/products/shop.jsp | index.html default.jsp | - | /catalog/index.html | GET | REQUEST | Missing
+/foo/index.html /foo/default.jsp /catalog/default.jsp /catalog/products/shop.jsp | index.html default.jsp | - | /catalog/products  | HEAD | REQUEST | Slash
+/foo/index.html /foo/default.jsp /catalog/default.jsp /catalog/products/shop.jsp | index.html default.jsp | - | /catalog/products/ | GET  | REQUEST | Missing
+-- a welcome name may be a path of an exact pattern or of a prefix; a file of a later name goes before it
+/a/x                     | go         | /a/go | /a/           | HEAD | REQUEST | Welcome /a/go
+/a/x                     | go         | /go  | /a/            | GET  | REQUEST | Missing
+/a/x                     | go s/x     | /a/* | /a/            | GET  | REQUEST | Welcome /a/go
+/a/x /a/s/x              | go s/x     | /a/* | /a/            | GET  | REQUEST | Welcome /a/s/x
+/a/x                     | go         | /a/* | /a/            | PUT  | REQUEST | Method
+/a/x                     | go         | /a/* | /a/            | GET  | ERROR   | Missing
 "#;
 
 #[test]

@@ -67,17 +67,26 @@ fn a_page_is_for_a_kind_before_a_status_before_all(rt: HostRuntime) -> Result<()
     hold_of(&rt, SEVERAL, SEVERAL_ROWS)
 }
 
-const ONE: &str = "error-page = [{ error-code = 404, location = \"/missing\" }]";
+const TWO: &str = r#"
+error-page = [
+    { error-code = 404, location = "/missing" },
+    { exception-type = "K", location = "/k" },
+]
+"#;
 
 /// Status, kind, page.
-const ONE_ROWS: &str = r#"
+const TWO_ROWS: &str = r#"
 404 | -     | /missing
-404 | K     | /missing
+404 | L     | /missing
 500 | -     | -
-500 | K     | -
+500 | L     | -
+503 | -     | -
+-- the kind goes before the status, wherever the page stands, and an error that is no fault has none
+404 | K     | /k
+503 | K     | /k
 "#;
 
 #[test]
 fn an_error_may_have_no_page(rt: HostRuntime) -> Result<(), Strays> {
-    hold_of(&rt, ONE, ONE_ROWS)
+    hold_of(&rt, TWO, TWO_ROWS)
 }
