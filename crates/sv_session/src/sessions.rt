@@ -80,7 +80,10 @@ impl Sessions {
     pub fn find(&self, id: &[u8]) -> Option<u64>
         ensures { result ≡ number_of id.now self.now }
     {
-        let session = self.sessions.iter().find(|session| session.id().as_bytes() == id)?;
+        let session = self
+            .sessions
+            .iter()
+            .find(|session| session.id().as_bytes() == id)?;
         Some(session.number())
     }
 
