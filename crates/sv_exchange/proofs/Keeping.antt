@@ -67,11 +67,14 @@ left_request (Ok true) change x = changed_request change x
 left_request (Ok false) change x = request_same x
 left_request (Err fault) change x = request_same x
 
+pub made_request : (change : Change) (x : State) → SameRequest x (left_by (answer change x) change x)
+made_request change x = left_request (answer change x) change x
+
 all_request : (changes : List Change) (x : State) → SameRequest x (after_all changes x)
 all_request [] x = request_same x
 all_request (change ∷ changes) x =
     let y = left_by (answer change x) change x in
-    request_then x y (after_all changes y) (left_request (answer change x) change x) (all_request changes y)
+    request_then x y (after_all changes y) (made_request change x) (all_request changes y)
 
 pub changes_keep : (x y : State) → Changes x y → SameRequest x y
 changes_keep x y changing = let reached = reaches_to x y changing in subst (SameRequest x) (sym reached.1) (all_request reached.0 x)

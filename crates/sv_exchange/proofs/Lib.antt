@@ -1,3 +1,4 @@
+pub mod Including
 pub mod Keeping
 pub mod Naming
 pub mod Reaching

@@ -23,3 +23,7 @@ pub record SameRequest (before after : State) : Type 0 where
   pub calls : after.calls ≡ before.calls
   pub kept : after.kept ≡ before.kept
   pub words : after.words ≡ before.words
+
+-- status and fields are the same
+abbrev pub SameHead : State → State → Type 0
+SameHead before after = (after.status ≡ before.status) × (after.fields ≡ before.fields)

@@ -1,7 +1,8 @@
 -- Laws over the definitions.
-use Rattle.std.specs.Prelude.{◌≡◌, ◌↔◌, List}
+use Rattle.std.specs.Prelude.{◌≡◌, ◌↔◌, true, List}
 use Rattle.sv_exchange.specs.Changing.{Change, Changes, after_all}
-use Rattle.sv_exchange.specs.Keeping.{SameRequest}
+use Rattle.sv_exchange.specs.Dispatches.{is_within_include}
+use Rattle.sv_exchange.specs.Keeping.{SameHead, SameRequest}
 use Rattle.sv_exchange.specs.State.{State}
 
 -- what changes is reached by a list of calls, and the other way round
@@ -11,3 +12,7 @@ ChangesAreCalls = (before after : State) → (Changes before after ↔ ((changes
 -- changing calls leave the request as it is
 abbrev pub ChangesKeepTheRequest : Type 0
 ChangesKeepTheRequest = (before after : State) → Changes before after → SameRequest before after
+
+-- within an include changing calls leave the status and the fields as they are (section 9.3)
+abbrev pub IncludesKeepTheHead : Type 0
+IncludesKeepTheHead = (before after : State) → Changes before after → is_within_include before ≡ true → SameHead before after

@@ -1,5 +1,5 @@
 -- The session of a request (Jakarta Servlet 6.0, chapters 7, 11 and 13).
-use Rattle.std.specs.Prelude.{ℕ, ◌+◌, Bool, true, false, ◌||◌, ◌&&◌, not, List, [], ◌∷◌, ◌++◌, length, map, nat_eq, Option, None, Some, is_some, Result, Ok, Err, if◌then◌else◌, bytes_eq, codes, slice_get}
+use Rattle.std.specs.Prelude.{ℕ, ◌+◌, Bool, true, false, ◌||◌, ◌&&◌, not, List, [], ◌∷◌, ◌++◌, map, Option, None, Some, is_some, Result, Ok, Err, if◌then◌else◌, bytes_eq, codes}
 use Rattle.std.specs.List.{list_any}
 use Rattle.std.specs.Option.{option_and_then, option_map, option_map_or}
 use Rattle.sv_journal.specs.declared.event.Event.{Event}
@@ -7,11 +7,11 @@ use Rattle.sv_journal.specs.declared.event.Event.TheVariants.{SessionCreated, Se
 use Rattle.sv_realm.specs.declared.caller.Caller.{Caller}
 use Rattle.sv_session.specs.Calls as calls
 use Rattle.sv_session.specs.Id.{id_text}
-use Rattle.sv_session.specs.Store.{Store, attributes_of}
+use Rattle.sv_session.specs.Store.{attributes_of}
 use Rattle.sv_session.specs.declared.attribute.Attribute.{Attribute}
 use Rattle.sv_session.specs.declared.session_fault.SessionFault.{SessionFault}
 use Rattle.sv_session.specs.declared.session_fault.SessionFault.TheVariants as session_faults
-use Rattle.sv_text.specs.Faults.{when, first_or}
+use Rattle.sv_text.specs.Faults.{when}
 use Rattle.sv_uri.specs.LocationField.{location}
 use Rattle.sv_wire.specs.declared.response.Cookie.{Cookie}
 use Rattle.sv_exchange.specs.declared.exchange_fault.ExchangeFault.{ExchangeFault}

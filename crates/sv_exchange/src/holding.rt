@@ -50,7 +50,8 @@ impl Exchange {
         ensures { result ≡ is_in_role role.now self.now.caller }
     {
         match &self.caller {
-            Some(caller) => role == "**" || (role != "*" && names_role(caller.roles.as_slice(), role)),
+            Some(caller) => role == "**"
+                || (role != "*" && names_role(caller.roles.as_slice(), role)),
             None => false,
         }
     }

@@ -1,6 +1,6 @@
 //! Laws over the definitions.
 
-ghost use Rattle.sv_exchange.specs.Laws.{ChangesAreCalls, ChangesKeepTheRequest};
+ghost use Rattle.sv_exchange.specs.Laws.{ChangesAreCalls, ChangesKeepTheRequest, IncludesKeepTheHead};
 
 /// The law that `Changes` says that a list of changing calls leads from the one exchange to the other.
 pub fn changes_are_calls()
@@ -11,4 +11,9 @@ pub fn changes_are_calls()
 /// of calls.
 pub fn changes_keep_the_request()
     ensures { ChangesKeepTheRequest }
+{}
+
+/// The law that within an include changing calls leave the status and the fields as they are.
+pub fn includes_keep_the_head()
+    ensures { IncludesKeepTheHead }
 {}

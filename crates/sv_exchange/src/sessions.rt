@@ -111,7 +111,8 @@ impl Exchange {
             return Ok(true);
         }
         let told = Text::copy_of(self.alloc, name)?;
-        self.events.push_back(Event::AttributeRemoved(number, told))?;
+        self.events
+            .push_back(Event::AttributeRemoved(number, told))?;
         let _removed = self.sessions.remove(number, name);
         Ok(true)
     }
