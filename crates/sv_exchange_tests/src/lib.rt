@@ -7,3 +7,5 @@ mod errors;
 mod parameters;
 #[cfg(test)]
 mod requests;
+#[cfg(test)]
+mod sessions;

@@ -3,8 +3,9 @@
 use http::Method;
 use http_header::{HeaderName, HeaderValue};
 use std::alloc::Global;
-use sv_exchange::Exchange;
+use sv_exchange::{Exchange, HeldSession};
 use sv_head::Field;
+use sv_session::Sessions;
 use sv_text::{Bytes, Listed, NoMemory, Text};
 use sv_uri::path::Canon;
 use sv_wire::{Message, Target};
@@ -18,14 +19,27 @@ pub struct Request<'a> {
     pub body: &'a str,
 }
 
-/// Its exchange in the context `/app`, at the moment 7.
+/// Its exchange in the context `/app` without sessions, at the moment 7.
 pub fn exchange(alloc: Global, request: Request<'_>) -> Result<Exchange, NoMemory> {
+    exchange_with(alloc, request, None, Sessions::new(alloc, 0, 0))
+}
+
+/// The same with these sessions, one of which may be the request's.
+pub fn exchange_with(
+    alloc: Global,
+    request: Request<'_>,
+    held: Option<HeldSession>,
+    sessions: Sessions,
+) -> Result<Exchange, NoMemory> {
     let message = message(alloc, request)?;
     let canon = Canon {
         path: Text::copy_of(alloc, "/a")?,
         query: Some(Text::copy_of(alloc, request.query)?),
     };
-    Exchange::begin(alloc, &message, &canon, "/app", 7)
+    match Exchange::begin(alloc, &message, &canon, "/app", 7, (0, 1), held, sessions) {
+        Ok(exchange) => Ok(exchange),
+        Err(_) => Err(NoMemory),
+    }
 }
 
 fn message(alloc: Global, request: Request<'_>) -> Result<Message, NoMemory> {
