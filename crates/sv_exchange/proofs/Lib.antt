@@ -1,3 +1,4 @@
+pub mod Keeping
 pub mod Reaching
 pub mod Replacing
 pub mod Telling

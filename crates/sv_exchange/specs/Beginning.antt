@@ -21,6 +21,8 @@ begun message canon context_path moment = record {
   fields = [];
   buffer = [];
   committed = false;
+  calls = 0;
+  kept = None;
 }
 
 abbrev pub finished : State → Response

@@ -7,6 +7,7 @@ ghost use Rattle.sv_text.specs.Gives.{GivesAnswer};
 use crate::attribute::Attribute;
 use crate::dispatch::{Dispatch, Paths, shown};
 use crate::fields::copies;
+use crate::kept_error::KeptError;
 use crate::limits::OK;
 use http::Method;
 use std::alloc::Global;
@@ -31,6 +32,8 @@ pub struct Exchange {
     pub(crate) fields: Vec<Field>,
     pub(crate) buffer: Vec<u8>,
     pub(crate) committed: bool,
+    pub(crate) calls: u32,
+    pub(crate) kept: Option<KeptError>,
 }
 
 impl Model for Exchange {
@@ -50,6 +53,8 @@ impl Model for Exchange {
       fields = e.fields.items;
       buffer = e.buffer.items;
       committed = e.committed;
+      calls = e.calls;
+      kept = e.kept;
     } };
 }
 
@@ -81,6 +86,8 @@ impl Exchange {
             fields: Vec::new(alloc),
             buffer: Vec::new(alloc),
             committed: false,
+            calls: 0,
+            kept: None,
         })
     }
 

@@ -9,13 +9,17 @@ mod dispatching;
 mod exchange;
 mod exchange_fault;
 mod fields;
+mod kept_error;
 mod laws;
 mod limits;
 mod reading;
+mod told_error;
 
 pub use attribute::Attribute;
 pub use dispatch::{Dispatch, Paths};
 pub use exchange::Exchange;
 pub use exchange_fault::ExchangeFault;
-pub use laws::changes_are_calls;
+pub use kept_error::{KeptError, KeptField};
+pub use laws::{changes_are_calls, changes_keep_the_request};
 pub use limits::{LEAST_STATUS, MAX_BODY_LEN, MAX_STATUS, NOT_MODIFIED, OK, RESET_CONTENT};
+pub use told_error::ToldError;
