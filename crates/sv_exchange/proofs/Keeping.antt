@@ -8,13 +8,14 @@ use Rattle.sv_exchange.specs.State.{State}
 use Rattle.sv_exchange.proofs.Reaching.{reaches_to}
 
 pub request_same : (x : State) → SameRequest x x
-request_same x = record { method = refl; context_path = refl; request_fields = refl; moment = refl; client = refl; dispatches = refl; calls = refl; kept = refl }
+request_same x = record { method = refl; context_path = refl; request_fields = refl; body = refl; moment = refl; client = refl; dispatches = refl; calls = refl; kept = refl }
 
 pub request_then : (x y z : State) → SameRequest x y → SameRequest y z → SameRequest x z
 request_then x y z one two = record {
   method = two.method ∙ one.method;
   context_path = two.context_path ∙ one.context_path;
   request_fields = two.request_fields ∙ one.request_fields;
+  body = two.body ∙ one.body;
   moment = two.moment ∙ one.moment;
   client = two.client ∙ one.client;
   dispatches = two.dispatches ∙ one.dispatches;
@@ -23,12 +24,12 @@ request_then x y z one two = record {
 }
 
 changed_request : (change : Change) (x : State) → SameRequest x (changed change x)
-changed_request (SetStatus status) x = record { method = refl; context_path = refl; request_fields = refl; moment = refl; client = refl; dispatches = refl; calls = refl; kept = refl }
-changed_request (SetHeader name value) x = record { method = refl; context_path = refl; request_fields = refl; moment = refl; client = refl; dispatches = refl; calls = refl; kept = refl }
-changed_request (AddHeader name value) x = record { method = refl; context_path = refl; request_fields = refl; moment = refl; client = refl; dispatches = refl; calls = refl; kept = refl }
-changed_request (Write bytes) x = record { method = refl; context_path = refl; request_fields = refl; moment = refl; client = refl; dispatches = refl; calls = refl; kept = refl }
-changed_request (SetAttribute name value) x = record { method = refl; context_path = refl; request_fields = refl; moment = refl; client = refl; dispatches = refl; calls = refl; kept = refl }
-changed_request Flush x = record { method = refl; context_path = refl; request_fields = refl; moment = refl; client = refl; dispatches = refl; calls = refl; kept = refl }
+changed_request (SetStatus status) x = record { method = refl; context_path = refl; request_fields = refl; body = refl; moment = refl; client = refl; dispatches = refl; calls = refl; kept = refl }
+changed_request (SetHeader name value) x = record { method = refl; context_path = refl; request_fields = refl; body = refl; moment = refl; client = refl; dispatches = refl; calls = refl; kept = refl }
+changed_request (AddHeader name value) x = record { method = refl; context_path = refl; request_fields = refl; body = refl; moment = refl; client = refl; dispatches = refl; calls = refl; kept = refl }
+changed_request (Write bytes) x = record { method = refl; context_path = refl; request_fields = refl; body = refl; moment = refl; client = refl; dispatches = refl; calls = refl; kept = refl }
+changed_request (SetAttribute name value) x = record { method = refl; context_path = refl; request_fields = refl; body = refl; moment = refl; client = refl; dispatches = refl; calls = refl; kept = refl }
+changed_request Flush x = record { method = refl; context_path = refl; request_fields = refl; body = refl; moment = refl; client = refl; dispatches = refl; calls = refl; kept = refl }
 
 left_request : (said : Result Bool ExchangeFault) (change : Change) (x : State) → SameRequest x (left_by said change x)
 left_request (Ok true) change x = changed_request change x

@@ -16,6 +16,7 @@ pub record SameRequest (before after : State) : Type 0 where
   pub method : after.method ≡ before.method
   pub context_path : after.context_path ≡ before.context_path
   pub request_fields : after.request_fields ≡ before.request_fields
+  pub body : after.body ≡ before.body
   pub moment : after.moment ≡ before.moment
   pub client : after.client ≡ before.client
   pub dispatches : after.dispatches ≡ before.dispatches

@@ -6,4 +6,5 @@ pub mod Fault
 pub mod Fields
 pub mod Keeping
 pub mod Laws
+pub mod Parameters
 pub mod State

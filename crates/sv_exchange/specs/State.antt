@@ -11,6 +11,7 @@ pub record State : Type 0 where
   pub method : List ℕ
   pub context_path : List ℕ
   pub request_fields : List Field
+  pub body : List ℕ
   pub moment : ℕ
   pub client : Paths
   pub dispatches : List Dispatch

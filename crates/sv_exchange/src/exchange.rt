@@ -24,6 +24,7 @@ pub struct Exchange {
     pub(crate) method: Method,
     pub(crate) context_path: Text,
     pub(crate) request_fields: Vec<Field>,
+    pub(crate) body: Bytes,
     pub(crate) moment: u64,
     pub(crate) client: Paths,
     pub(crate) dispatches: Vec<Dispatch>,
@@ -45,6 +46,7 @@ impl Model for Exchange {
       method = e.method;
       context_path = e.context_path;
       request_fields = e.request_fields.items;
+      body = e.body;
       moment = e.moment;
       client = e.client;
       dispatches = e.dispatches.items;
@@ -78,6 +80,7 @@ impl Exchange {
             method: message.method.clone()?,
             context_path: Text::copy_of(alloc, context_path)?,
             request_fields: copies(alloc, message.fields.as_slice())?,
+            body: Bytes::copy_of(alloc, message.body.as_slice())?,
             moment,
             client: Paths::copy_of(alloc, context_path, canon.path.as_str(), None, None, query)?,
             dispatches: Vec::new(alloc),

@@ -12,6 +12,7 @@ mod fields;
 mod kept_error;
 mod laws;
 mod limits;
+mod parameters;
 mod reading;
 mod told_error;
 
