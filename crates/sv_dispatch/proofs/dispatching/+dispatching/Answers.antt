@@ -1,8 +1,11 @@
-use Rattle.std.proofs.Common.{◌≡◌, ◌-◌, suc, None, Some, refl, sym, ap, ◌∙◌, subst, add-one, arith}
+use Rattle.std.proofs.Common.{◌≡◌, ◌-◌, suc, None, Some, refl, sym, ap, ap₂, ◌∙◌, subst, add-one, arith}
 use Rattle.sv_dispatch.specs.Did.{seen}
+use Rattle.sv_dispatch.specs.Seen.{chosen_seen}
+use Rattle.sv_tree.specs.Site.{chosen}
 use Rattle.sv_tree.specs.Tree.{Tree, Turn}
 use Rattle.sv_dispatch.proofs.Deeds.{Makes}
-use Rattle.sv_dispatch.proofs.DispatchDeeds.{asked_lacks, stepped_forward}
+use Rattle.sv_dispatch.proofs.DispatchDeeds.{asked_lacks, dispatch_breaks, dispatch_ends, dispatch_lacks, responds_filed, stepped_forward, within_breaks, within_ends, within_lacks, within_leaves, within_stops}
+use Rattle.sv_dispatch.proofs.LeaveDeeds.{can_leave}
 use Rattle.sv_dispatch.proofs.TurnDeeds.{calls_fall, serve_not, serve_so, turn_counted, turns_break, turns_end, turns_go_on}
 use Rattle.sv_dispatch.proofs.dispatching.+dispatching.Goals as goal
 
@@ -56,3 +59,56 @@ turns-loop-ended-preserved g t c =
     c.args.machine.now c.loop-ended.machine c.turn.new.machine c.loop-ended.number c.loop-ended.invariant
     (subst (λ ended. Makes m.state m.frame m.ran (Turn (g.T.Tables.site c.args.tables.now) c.args.room (Tree (g.T.Tables.site c.args.tables.now) c.args.room) c.args.place c.loop-ended.number)
       c.loop-ended.machine c.turn.new.machine (Some ended)) c.in_default-ended.is c.in-Ok.ensures))
+
+pub dispatch_by-returns-in_default : goal.dispatch_by-returns-in_default
+dispatch_by-returns-in_default g t c =
+    dispatch_lacks g.M.Machine.state g.M.Machine.frame g.M.Machine.ran (g.T.Tables.site c.args.tables.now) c.args.room c.args.kind c.args.canon.now (chosen_seen c.choose-chosen.result)
+    c.args.machine.now c.enter.new.self (c.choose-chosen.ensures.is ∙ ap (chosen (g.T.Tables.site c.args.tables.now)) c.as_str.ensures) c.in_default.ensures
+
+pub dispatch_by-returns-in_default-within : goal.dispatch_by-returns-in_default-within
+dispatch_by-returns-in_default-within g t c =
+    dispatch_breaks g.M.Machine.state g.M.Machine.frame g.M.Machine.ran (g.T.Tables.site c.args.tables.now) c.args.room c.args.kind c.args.canon.now (chosen_seen c.choose-chosen.result)
+    c.args.machine.now c.enter.new.self c.within.new.machine (c.choose-chosen.ensures.is ∙ ap (chosen (g.T.Tables.site c.args.tables.now)) c.as_str.ensures) c.in-Ok.ensures c.in_default-within.ensures
+
+pub dispatch_by-leave-requires : goal.dispatch_by-leave-requires
+dispatch_by-leave-requires g t c =
+    can_leave g.M.Machine.state g.M.Machine.frame g.M.Machine.ran (g.T.Tables.site c.args.tables.now) c.args.room c.args.kind c.args.canon.now (chosen_seen c.choose-chosen.result)
+    c.in-Ok-within.finished c.args.machine.now c.enter.new.self c.within.new.machine (c.choose-chosen.ensures.is ∙ ap (chosen (g.T.Tables.site c.args.tables.now)) c.as_str.ensures) c.in-Ok.ensures c.in-Ok-within.ensures
+
+pub dispatch_by-returns : goal.dispatch_by-returns
+dispatch_by-returns g t c =
+    dispatch_ends g.M.Machine.state g.M.Machine.frame g.M.Machine.ran (g.T.Tables.site c.args.tables.now) c.args.room c.args.kind c.args.canon.now (chosen_seen c.choose-chosen.result)
+    c.in-Ok-within.finished c.args.machine.now c.enter.new.self c.within.new.machine c.leave.new.self (c.choose-chosen.ensures.is ∙ ap (chosen (g.T.Tables.site c.args.tables.now)) c.as_str.ensures) c.in-Ok.ensures c.in-Ok-within.ensures c.leave.ensures
+
+pub respond-returns-in-Files : goal.respond-returns-in-Files
+respond-returns-in-Files g t c =
+    responds_filed g.M.Machine.state g.M.Machine.frame g.M.Machine.ran (g.T.Tables.site c.args.tables.now) c.args.room c.args.resource c.args.kind c.args.canon.now c.args.ended
+    c.args.machine.now c.file.new.machine (seen c.file.result) c.in-Files.is c.in_default.is (c.file.ensures c.args.room)
+
+pub within-returns-in_default : goal.within-returns-in_default
+within-returns-in_default g t c =
+    within_lacks g.M.Machine.state g.M.Machine.frame g.M.Machine.ran (g.T.Tables.site c.args.tables.now) c.args.room c.args.resource c.args.kind c.args.canon.now c.args.machine.now
+
+pub within-returns-in_default-befores : goal.within-returns-in_default-befores
+within-returns-in_default-befores g t c =
+    within_stops g.M.Machine.state g.M.Machine.frame g.M.Machine.ran (g.T.Tables.site c.args.tables.now) c.args.room c.args.resource c.args.kind c.args.canon.now c.as_slice-chain.result.now
+    (c.as_slice-chain.ensures.value ∙ c.in-Ok.ensures.is ∙ ap₂ (λ path name. (g.T.Tables.site c.args.tables.now).chain path name c.args.kind) c.as_str.ensures c.name.ensures)
+    c.args.machine.now c.befores.new.machine c.in_default-befores.ensures.does
+
+pub within-returns-in_default-respond : goal.within-returns-in_default-respond
+within-returns-in_default-respond g t c =
+    within_breaks g.M.Machine.state g.M.Machine.frame g.M.Machine.ran (g.T.Tables.site c.args.tables.now) c.args.room c.args.resource c.args.kind c.args.canon.now c.as_slice-chain.result.now
+    (c.as_slice-chain.ensures.value ∙ c.in-Ok.ensures.is ∙ ap₂ (λ path name. (g.T.Tables.site c.args.tables.now).chain path name c.args.kind) c.as_str.ensures c.name.ensures)
+    c.in-Ok-befores.passed.count c.in-Ok-befores.passed.ended c.args.machine.now c.befores.new.machine c.respond.new.machine c.in-Ok-befores.ensures.does c.in_default-respond.ensures
+
+pub within-returns-in_default-afters : goal.within-returns-in_default-afters
+within-returns-in_default-afters g t c =
+    within_leaves g.M.Machine.state g.M.Machine.frame g.M.Machine.ran (g.T.Tables.site c.args.tables.now) c.args.room c.args.resource c.args.kind c.args.canon.now c.as_slice-chain.result.now
+    (c.as_slice-chain.ensures.value ∙ c.in-Ok.ensures.is ∙ ap₂ (λ path name. (g.T.Tables.site c.args.tables.now).chain path name c.args.kind) c.as_str.ensures c.name.ensures)
+    c.in-Ok-befores.passed.count c.in-Ok-befores.passed.ended c.args.machine.now c.befores.new.machine c.respond.new.machine c.in-Ok-befores.ensures.does c.in-Ok-respond.finished c.afters.new.machine c.in-Ok-respond.ensures c.in_default-afters.ensures
+
+pub within-returns : goal.within-returns
+within-returns g t c =
+    within_ends g.M.Machine.state g.M.Machine.frame g.M.Machine.ran (g.T.Tables.site c.args.tables.now) c.args.room c.args.resource c.args.kind c.args.canon.now c.as_slice-chain.result.now
+    (c.as_slice-chain.ensures.value ∙ c.in-Ok.ensures.is ∙ ap₂ (λ path name. (g.T.Tables.site c.args.tables.now).chain path name c.args.kind) c.as_str.ensures c.name.ensures)
+    c.in-Ok-befores.passed.count c.in-Ok-befores.passed.ended c.args.machine.now c.befores.new.machine c.respond.new.machine c.in-Ok-befores.ensures.does c.in-Ok-respond.finished c.afters.new.machine c.in-Ok-respond.ensures c.in-Ok-afters.ensures

@@ -10,4 +10,4 @@ pub returns-in-Redirect : goal.returns-in-Redirect
 returns-in-Redirect g c =
     did_by g.M.Machine.state g.M.Machine.frame g.M.Machine.ran (λ found. Filed (g.T.Tables.site c.args.tables.now) c.args.kind found)
     (Redirect c.as_str.result.now) (found_seen c.args.found) c.args.machine.now c.send_to.new.machine (seen c.send_to.result)
-    (ap Redirect (c.as_str.ensures ∙ c.location.view_is) ∙ sym (ap found_seen c.in-Redirect.is)) c.send_to.ensures
+    (ap Redirect c.as_str.ensures ∙ sym (ap found_seen c.in-Redirect.is)) c.send_to.ensures

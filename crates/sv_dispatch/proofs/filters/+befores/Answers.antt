@@ -1,5 +1,7 @@
-use Rattle.std.proofs.Common.{◌<◌, suc, None, Some, length, sym, ◌∙◌, arith, add-one}
+use Rattle.std.proofs.Common.{◌≡◌, ◌<◌, ◌+◌, suc, None, Some, drop, length, reverse, take, subst, sym, ◌∙◌, arith}
 use Rattle.sv_dispatch.specs.Did.{reached_by}
+use Rattle.sv_tree.specs.Filters.{Befores}
+use Rattle.sv_dispatch.proofs.Deeds.{Makes}
 use Rattle.sv_dispatch.proofs.FilterDeeds.{befores_broken, befores_failed, befores_full, befores_passed, befores_refused, befores_stop}
 use Rattle.sv_dispatch.proofs.filters.+befores.Goals as goal
 
@@ -26,9 +28,13 @@ returns-in_default-fail-clause-does g t c =
 
 pub returns-in-Pass-clause-does : goal.returns-in-Pass-clause-does
 returns-in-Pass-clause-does g t c =
+    let chain = c.args.chain.now in
+    let one : c.args.place + 1 ≡ suc c.args.place = omega arith in
     befores_passed g.M.Machine.state g.M.Machine.frame g.M.Machine.ran (g.T.Tables.site c.args.tables.now) c.args.resource c.args.chain.now c.args.place (omega arith)
     c.args.machine.now c.count.new.self (sym c.is_full.ensures ∙ c.if-is_full.false) c.count.ensures c.before-2.new.self c.in-Ok-before.gate c.in-Ok-before.ensures
-    c.befores.new.machine (reached_by c.args.chain.now c.befores.result) c.in-Pass.is (rw add-one c.befores.ensures.does)
+    c.befores.new.machine (reached_by c.args.chain.now c.befores.result) c.in-Pass.is
+    (subst (λ n. Makes g.M.Machine.state g.M.Machine.frame g.M.Machine.ran (Befores (g.T.Tables.site c.args.tables.now) c.args.resource (reverse (take n chain)) (drop n chain))
+      c.before-2.new.self c.befores.new.machine (reached_by chain c.befores.result)) one c.befores.ensures.does)
 
 pub returns-in-Stop-clause-does : goal.returns-in-Stop-clause-does
 returns-in-Stop-clause-does g t c =
