@@ -1,5 +1,5 @@
 -- What a machine did in parts, it did.
-use Rattle.std.proofs.Common.{◌≡◌, inl, inr, Bool, true, false, List, [], ◌∷◌, ◌++◌, Option, None, Some, Result, Ok, Err, refl, sym, ap, ◌∙◌, subst, append_assoc, append-nil}
+use Rattle.std.proofs.Common.{◌≡◌, inl, inr, Bool, true, false, List, [], ◌++◌, Option, None, Some, Result, Ok, Err, refl, sym, ◌∙◌, subst, append_assoc, append-nil}
 use Rattle.sv_component.specs.Runs.{Record}
 use Rattle.sv_dispatch.specs.Did.{Did, Frame, lasting, seen}
 use Rattle.sv_tree.specs.Does.{Does, ◌>>=◌, choose, gives, refuses, sees, wants_memory}

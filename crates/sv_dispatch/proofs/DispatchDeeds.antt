@@ -1,32 +1,29 @@
 -- Dispatches, made in parts.
-use Rattle.std.proofs.Common.{◌≡◌, inl, inr, ℕ, zero, suc, ◌-◌, Bool, true, false, List, [], ◌∷◌, ◌++◌, take, reverse, Option, None, Some, Result, Ok, Err, refl, sym, ap, ◌∙◌, subst, if◌then◌else◌}
+use Rattle.std.proofs.Common.{◌≡◌, ℕ, suc, Bool, true, false, List, [], take, reverse, Option, None, Some, Result, Ok, Err, refl, sym, ap, ◌∙◌, subst, if◌then◌else◌}
 use Rattle.sv_component.specs.Runs.{Record}
 use Rattle.sv_component.specs.declared.answers.Step.{Step}
 use Rattle.sv_component.specs.declared.answers.Step.TheVariants as steps
-use Rattle.sv_dispatch.specs.Did.{Did, Frame, lasting, seen}
-use Rattle.sv_exchange.specs.Dispatches.{Leaves}
+use Rattle.sv_dispatch.specs.Did.{Frame, lasting, seen}
 use Rattle.sv_mapping.specs.declared.kind.Kind.{Kind}
 use Rattle.sv_mapping.specs.declared.kind.Kind.TheVariants as kinds
-use Rattle.sv_tree.specs.Does.{Does, ◌>>=◌, ◌>>◌, asks, becomes, choose, gives, leaves, refuses, sees, tries, wants_memory}
+use Rattle.sv_tree.specs.Does.{Does, ◌>>=◌, ◌>>◌, becomes, gives, leaves, sees, tries}
 use Rattle.sv_tree.specs.Endings.{errs, error_status, fails, faults, is_away_for, is_missing}
 use Rattle.sv_tree.specs.Filters.{Afters, Befores, Reached}
-use Rattle.sv_tree.specs.Site.{Chosen, FileAnswer, Site, begun, begun_by, chosen, name_of}
+use Rattle.sv_tree.specs.Site.{Chosen, FileAnswer, Site, begun_by, chosen, name_of}
 use Rattle.sv_tree.specs.declared.resource.Resource.TheVariants.{Files, Servlet}
 use Rattle.sv_tree.specs.declared.resource.Resource.{Resource}
-use Rattle.sv_tree.specs.State.{State, away_for, counted, is_full, on_exchange, standing_at}
-use Rattle.sv_component.specs.declared.standing.Standing.{Standing}
-use Rattle.sv_component.specs.declared.standing.Standing.TheVariants.{Serving, Gone, Away}
+use Rattle.sv_tree.specs.State.{State, away_for, on_exchange}
 use Rattle.sv_tree.specs.Files as files
 use Rattle.sv_tree.specs.Tree as tree
 use Rattle.sv_tree.specs.Tree.{Tree, admitted, asked_for, behind_include, destroys, is_too_late, last, service_of}
 use Rattle.sv_tree.specs.declared.dispatch_fault.DispatchFault.{DispatchFault}
 use Rattle.sv_tree.specs.declared.dispatch_fault.DispatchFault.TheVariants.{BadDispatchPath, Committed, DispatchLimit}
 use Rattle.sv_tree.specs.declared.finished.Finished.{Finished}
-use Rattle.sv_tree.specs.declared.finished.Finished.TheVariants.{Done, Error, Failed}
+use Rattle.sv_tree.specs.declared.finished.Finished.TheVariants.{Done}
 use Rattle.sv_uri.specs.Canonical.{canonical}
 use Rattle.sv_uri.specs.declared.fault.PathFault.{PathFault}
 use Rattle.sv_uri.specs.declared.path.Canon.{Canon}
-use Rattle.sv_dispatch.proofs.Deeds.{Makes, did_by, did_first, did_give, did_lack, did_last, did_not, did_other, did_refuse, did_see, did_so, did_then, did_want}
+use Rattle.sv_dispatch.proofs.Deeds.{Makes, did_by, did_give, did_lack, did_last, did_not, did_refuse, did_see, did_so, did_then, did_want}
 
 module _ {M : Type 0} (state : M → State) (frame : M → Frame) (ran : M → List Record → M → Type 0) (site : Site) (room : ℕ) where
   module _ (kind : Kind) (canon : Canon) where
@@ -161,7 +158,7 @@ module _ {M : Type 0} (state : M → State) (frame : M → Frame) (ran : M → L
       → Makes state frame ran (tree.Responds site room (Tree site room) Files kind canon None) a b result
   file_found kind canon method found a b result same is did =
       let here = did_by state frame ran (λ found. files.Filed site kind found) found (site.file canon (state a).exchange.method kind) a b result
-        (is ∙ ap (λ method. site.file canon method kind) same) did in
+      (is ∙ ap (λ method. site.file canon method kind) same) did in
       let seen_so = did_see state frame ran (λ state. files.Filed site kind (site.file canon state.exchange.method kind)) a b result here in
       let all = did_want state frame ran (File kind canon) a b result seen_so in
       record { made = all.made; does_so = all.does_so; runs = all.runs; stays = all.stays }

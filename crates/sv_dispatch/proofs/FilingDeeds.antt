@@ -1,11 +1,11 @@
 -- Answers of the file servlet, made in parts.
-use Rattle.std.proofs.Common.{◌≡◌, inl, inr, ℕ, Bool, true, false, List, [], ◌++◌, Option, None, Some, refl, sym, ap, ◌∙◌, subst, append_assoc}
+use Rattle.std.proofs.Common.{◌≡◌, inl, inr, ℕ, Bool, true, false, List, [], ◌++◌, Option, None, Some, refl, sym, ◌∙◌, subst, append_assoc}
 use Rattle.std.specs.Prelude.{codes, length}
 use Rattle.sv_component.specs.Runs.{Record}
-use Rattle.sv_dispatch.specs.Did.{Did, Frame}
+use Rattle.sv_dispatch.specs.Did.{Frame}
 use Rattle.sv_dispatch.specs.Seen.{offers}
 use Rattle.sv_exchange.specs.Changing.{SetHeader, SetStatus, Write, has_room}
-use Rattle.sv_tree.specs.Does.{Does, ◌>>=◌, ◌>>◌, becomes, choose, gives, makes, sees}
+use Rattle.sv_tree.specs.Does.{Does, ◌>>◌, becomes, choose, gives, makes, sees}
 use Rattle.sv_tree.specs.Endings.{faults}
 use Rattle.sv_tree.specs.Files.{Sends, SendsTo, emptied}
 use Rattle.sv_tree.specs.Site.{Site}
@@ -24,7 +24,13 @@ module _ {M : Type 0} (state : M → State) (frame : M → Frame) (ran : M → L
 
   written : (bytes : List ℕ) (x y : State) (made : List Record) → (makes (Write bytes) >> gives true) x made y (Some true) → (makes (Write bytes) >> gives Done) x made y (Some Done)
   written bytes x y made (inl t) = inl record {
-    given = t.given; between = t.between; front = t.front; back = t.back; begins = t.begins; goes_on = (t.goes_on.0, t.goes_on.1, refl); is_joined = t.is_joined;
+    given = t.given;
+    between = t.between;
+    front = t.front;
+    back = t.back;
+    begins = t.begins;
+    goes_on = (t.goes_on.0, t.goes_on.1, refl);
+    is_joined = t.is_joined;
   }
   written bytes x y made (inr t) = absurd_some t.1
     where
@@ -96,7 +102,7 @@ module _ {M : Type 0} (state : M → State) (frame : M → Frame) (ran : M → L
         → Makes state frame ran (faults site Files TooLarge) c d result → Makes state frame ran (Sends site content_type bytes) a d result
     sends_too_much sent d result is offer did =
         let none = untaken (has_room (length bytes) (state b).exchange) bytes (state b) (state c) offer.made
-          (subst (λ sent. offers bytes (state b) offer.made (state c) (Some sent)) is offer.does_so) in
+        (subst (λ sent. offers bytes (state b) offer.made (state c) (Some sent)) is offer.does_so) in
         did_then state frame ran (makes (SetHeader (codes "content-type") content_type)) (λ _. Body bytes) a b d tt result typed (record {
           made = offer.made ++ did.made;
           does_so = failed (has_room (length bytes) (state b).exchange) bytes (state b) (state c) (state d) offer.made did.made result none did.does_so;

@@ -1,14 +1,13 @@
 -- Chains of filters, called in parts.
-use Rattle.std.proofs.Common.{◌≡◌, ℕ, suc, ◌<◌, Bool, true, false, List, [], ◌∷◌, ◌++◌, length, drop, take, reverse, get_or, drop-cons, Option, None, Some, refl, sym, ap, ◌∙◌, subst}
+use Rattle.std.proofs.Common.{◌≡◌, ℕ, suc, ◌<◌, Bool, true, false, List, [], ◌∷◌, length, drop, take, reverse, get_or, drop-cons, Option, None, Some, sym, ap, ◌∙◌}
 use Rattle.std.proofs.Math.Seq.{take-suc}
 use Rattle.std.proofs.lemmas.List.{reverse-append}
 use Rattle.sv_component.specs.Runs.{Record}
 use Rattle.sv_component.specs.declared.answers.Gate.{Gate}
 use Rattle.sv_component.specs.declared.answers.Gate.TheVariants as gates
-use Rattle.sv_dispatch.specs.Did.{Did, Frame}
+use Rattle.sv_dispatch.specs.Did.{Frame}
 use Rattle.sv_tree.specs.Does.{Does, ◌>>=◌, ◌>>◌, asks, becomes, choose, gives, refuses}
 use Rattle.sv_tree.specs.Endings.{fails, faults}
-use Rattle.sv_tree.specs.Filters as filters
 use Rattle.sv_tree.specs.Filters.{Afters, Befores, Gated, Reached, after_of, before_of, ends_behind}
 use Rattle.sv_tree.specs.Site.{Site}
 use Rattle.sv_tree.specs.declared.resource.Resource.{Resource}

@@ -1,9 +1,9 @@
 -- A dispatch that began can end.
 use Rattle.std.specs.Prelude.{length}
-use Rattle.std.proofs.Common.{◌≡◌, inl, inr, ℕ, ◌+◌, ◌<◌, List, [], ◌∷◌, ◌++◌, Option, None, Some, refl, sym, ap, ◌∙◌, subst, arith}
+use Rattle.std.proofs.Common.{◌≡◌, inl, inr, ℕ, ◌+◌, ◌<◌, List, [], ◌∷◌, ◌++◌, Some, refl, sym, ap, ◌∙◌, arith}
 use Rattle.std.proofs.lemmas.List.{length-append}
 use Rattle.sv_component.specs.Runs.{Record}
-use Rattle.sv_dispatch.specs.Did.{Did, Frame}
+use Rattle.sv_dispatch.specs.Did.{Frame}
 use Rattle.sv_mapping.specs.declared.kind.Kind.{Kind}
 use Rattle.sv_tree.specs.Does.{tries}
 use Rattle.sv_tree.specs.Site.{Chosen, Site, begun, begun_by, chosen}
@@ -21,7 +21,7 @@ module _ {M : Type 0} (state : M → State) (frame : M → Frame) (ran : M → L
   some_in xs ys y e = let longer : length ys ≡ length xs + 1 = ap length e ∙ length-append xs (y ∷ []) in omega (arith, longer)
 
   begun_state : (x y : State) (r : List Record) → tries (on_exchange (begun site kind canon)) x r y (Some tt) → y ≡ on_exchange (begun site kind canon) x
-  begun_state x y r h = elim h.1 [ | inl done ↦ done.0 | inr not ↦ absurd_result tt (sym not.1) ]
+  begun_state x y r h = elim h.1 [ inl done ↦ done.0 | inr not ↦ absurd_result tt (sym not.1) ]
 
   pub can_leave : (found : Chosen) (finished : Finished) (a b c : M) → found ≡ chosen site canon.path
       → Makes state frame ran (tries (on_exchange (begun_by found kind canon))) a b (Some tt)

@@ -1,5 +1,5 @@
 -- Turns of a servlet, made in parts and one after another.
-use Rattle.std.proofs.Common.{◌≡◌, inl, inr, ℕ, zero, suc, ◌+◌, ◌-◌, ◌<◌, ◌≤◌, Bool, true, false, List, [], ◌∷◌, ◌++◌, Option, None, Some, Result, Ok, Err, refl, sym, ap, ◌∙◌, subst, append_assoc, append-nil, arith}
+use Rattle.std.proofs.Common.{◌≡◌, inl, inr, ℕ, suc, ◌+◌, ◌-◌, ◌<◌, ◌≤◌, true, false, List, [], ◌++◌, Option, None, Some, Result, refl, sym, ap, ◌∙◌, subst, append_assoc, append-nil, arith}
 use Rattle.std.proofs.lemmas.Bool.{leb-false}
 use Rattle.std.specs.Prelude.{slice_index_or}
 use Rattle.sv_component.specs.Runs.{Record}
@@ -7,14 +7,14 @@ use Rattle.sv_component.specs.Standing.{is_gone, standing_now}
 use Rattle.sv_component.specs.declared.answers.Step.{Step}
 use Rattle.sv_component.specs.declared.standing.Standing.{Standing}
 use Rattle.sv_component.specs.declared.standing.Standing.TheVariants.{Serving, Gone, Away}
-use Rattle.sv_dispatch.specs.Did.{Did, Frame, lasting, seen}
+use Rattle.sv_dispatch.specs.Did.{Frame, lasting, seen}
 use Rattle.sv_dispatch.specs.Seen.{IsHere}
-use Rattle.sv_tree.specs.Does.{Does, ◌>>=◌, ◌>>◌, asks, becomes, choose, gives, sees}
+use Rattle.sv_tree.specs.Does.{Does, ◌>>=◌, ◌>>◌, asks, becomes, choose}
 use Rattle.sv_tree.specs.Endings.{faults, is_away_for, is_missing}
 use Rattle.sv_tree.specs.Filters.{within_limit}
 use Rattle.sv_tree.specs.Laws.{count_all}
 use Rattle.sv_tree.specs.Site.{Site}
-use Rattle.sv_tree.specs.State.{Exchange, State, counted, is_full, standing_at, with_exchange}
+use Rattle.sv_tree.specs.State.{Exchange, State, counted, is_full, standing_at}
 use Rattle.sv_tree.specs.Tree as tree
 use Rattle.sv_tree.specs.Tree.{Tree, last, service_of}
 use Rattle.sv_tree.specs.declared.dispatch_fault.DispatchFault.TheVariants.{DispatchLimit}
@@ -184,9 +184,9 @@ module _ {M : Type 0} (state : M → State) (frame : M → Frame) (ran : M → L
         record {
           front = kept.front ++ did.made;
           completes = λ made after result rest.
-            subst (λ calls. ServesFrom 0 (state start) calls after result) (sym (append_assoc kept.front did.made made))
-            (kept.completes (did.made ++ made) after result
-            (suc rest.0, inl record { given = None; between = state next; front = did.made; back = made; begins = did.does_so; goes_on = rest.1; is_joined = refl }));
+              subst (λ calls. ServesFrom 0 (state start) calls after result) (sym (append_assoc kept.front did.made made))
+              (kept.completes (did.made ++ made) after result
+              (suc rest.0, inl record { given = None; between = state next; front = did.made; back = made; begins = did.does_so; goes_on = rest.1; is_joined = refl }));
           runs = λ from done so_far. subst (λ calls. ran from calls next) (append_assoc done kept.front did.made) (did.runs from (done ++ kept.front) (kept.runs from done so_far));
           stays = did.stays ∙ kept.stays;
           counts = omega (arith, so_many, above);
@@ -199,10 +199,10 @@ module _ {M : Type 0} (state : M → State) (frame : M → Frame) (ran : M → L
     turns_end start reached next number result kept did = record {
       made = kept.front ++ (did.made ++ []);
       does_so = kept.completes (did.made ++ []) (state next) (Some result)
-        (1, inl record { given = Some result; between = state next; front = did.made; back = []; begins = did.does_so; goes_on = (refl, refl, refl); is_joined = refl });
+          (1, inl record { given = Some result; between = state next; front = did.made; back = []; begins = did.does_so; goes_on = (refl, refl, refl); is_joined = refl });
       runs = λ from done so_far.
-        subst (λ calls. ran from (done ++ (kept.front ++ calls)) next) (sym (append-nil did.made))
-        (subst (λ calls. ran from calls next) (append_assoc done kept.front did.made) (did.runs from (done ++ kept.front) (kept.runs from done so_far)));
+          subst (λ calls. ran from (done ++ (kept.front ++ calls)) next) (sym (append-nil did.made))
+          (subst (λ calls. ran from calls next) (append_assoc done kept.front did.made) (did.runs from (done ++ kept.front) (kept.runs from done so_far)));
       stays = did.stays ∙ kept.stays;
     }
 

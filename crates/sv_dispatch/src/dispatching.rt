@@ -72,8 +72,16 @@ fn within<M: Machine, T: Tables>(
         return Err(NoMemory);
     };
     let count = passed.count;
-    let Ok(finished) = respond(alloc, machine, tables, room, resource, kind, canon, passed.ended)
-    else {
+    let Ok(finished) = respond(
+        alloc,
+        machine,
+        tables,
+        room,
+        resource,
+        kind,
+        canon,
+        passed.ended,
+    ) else {
         return Err(NoMemory);
     };
     let Ok(()) = afters(machine, chain, count) else {
@@ -289,10 +297,22 @@ fn asked_for<M: Machine, T: Tables>(
     }
     match canon(alloc, text.as_bytes()) {
         Err(CanonFault::NoMemory) => Err(NoMemory),
-        Err(CanonFault::Path(_)) => fault(alloc, machine, tables, servlet, DispatchFault::BadDispatchPath),
+        Err(CanonFault::Path(_)) => fault(
+            alloc,
+            machine,
+            tables,
+            servlet,
+            DispatchFault::BadDispatchPath,
+        ),
         Ok(canon) => {
             if room == 0 {
-                return fault(alloc, machine, tables, servlet, DispatchFault::DispatchLimit);
+                return fault(
+                    alloc,
+                    machine,
+                    tables,
+                    servlet,
+                    DispatchFault::DispatchLimit,
+                );
             }
             dispatch_by(alloc, machine, tables, room - 1, kind, &canon)
         }

@@ -68,7 +68,14 @@ pub(crate) fn missing<M: Machine, T: Tables>(
 ) -> Result<Finished, NoMemory>
     ensures { Did M.state M.frame M.ran (is_missing (T.site tables.now) resource) machine.old machine.new (seen result) }
 {
-    err_with(alloc, machine, tables, resource, NOT_FOUND, ErrorField::Nothing)
+    err_with(
+        alloc,
+        machine,
+        tables,
+        resource,
+        NOT_FOUND,
+        ErrorField::Nothing,
+    )
 }
 
 /// What stands at the path cannot be asked for by this method.
@@ -80,7 +87,14 @@ pub(crate) fn not_allowed<M: Machine, T: Tables>(
 ) -> Result<Finished, NoMemory>
     ensures { Did M.state M.frame M.ran (is_not_allowed (T.site tables.now) resource) machine.old machine.new (seen result) }
 {
-    err_with(alloc, machine, tables, resource, METHOD_NOT_ALLOWED, ErrorField::Allow)
+    err_with(
+        alloc,
+        machine,
+        tables,
+        resource,
+        METHOD_NOT_ALLOWED,
+        ErrorField::Allow,
+    )
 }
 
 /// The servlet is away, for so many seconds more.
@@ -108,8 +122,12 @@ pub(crate) fn fail<M: Machine, T: Tables>(
     ensures { Did M.state M.frame M.ran (fails (T.site tables.now) resource kind text) machine.old machine.new (seen result) }
 {
     let name = tables.name(resource);
-    let Ok(()) = machine.keep_error(INTERNAL_SERVER_ERROR, text.as_str(), name, ErrorField::Nothing)
-    else {
+    let Ok(()) = machine.keep_error(
+        INTERNAL_SERVER_ERROR,
+        text.as_str(),
+        name,
+        ErrorField::Nothing,
+    ) else {
         return Err(NoMemory);
     };
     Ok(Finished::Failed(kind, text))

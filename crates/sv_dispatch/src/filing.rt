@@ -50,7 +50,13 @@ fn send<M: Machine, T: Tables>(
     if sent {
         return Ok(Finished::Done);
     }
-    fault(alloc, machine, tables, Resource::Files, DispatchFault::TooLarge)
+    fault(
+        alloc,
+        machine,
+        tables,
+        Resource::Files,
+        DispatchFault::TooLarge,
+    )
 }
 
 // The client is sent elsewhere.
@@ -81,7 +87,13 @@ fn miss<M: Machine, T: Tables>(
     ensures { Did M.state M.frame M.ran (Misses (T.site tables.now) kind) machine.old machine.new (seen result) }
 {
     match kind {
-        Kind::Include => fault(alloc, machine, tables, Resource::Files, DispatchFault::MissingInclude),
+        Kind::Include => fault(
+            alloc,
+            machine,
+            tables,
+            Resource::Files,
+            DispatchFault::MissingInclude,
+        ),
         Kind::Request => missing(alloc, machine, tables, Resource::Files),
         Kind::Forward => missing(alloc, machine, tables, Resource::Files),
         Kind::Error => missing(alloc, machine, tables, Resource::Files),

@@ -36,13 +36,25 @@ pub(crate) fn befores<M: Machine, T: Tables>(
     ensures count { IfOk result (λ passed. passed.count ≤ length chain.now) }
 {
     if place == chain.len() {
-        return Ok(Passed { count: place, ended: None });
+        return Ok(Passed {
+            count: place,
+            ended: None,
+        });
     }
     if machine.is_full() {
-        let Ok(ended) = fault(alloc, machine, tables, resource, DispatchFault::DispatchLimit) else {
+        let Ok(ended) = fault(
+            alloc,
+            machine,
+            tables,
+            resource,
+            DispatchFault::DispatchLimit,
+        ) else {
             return Err(NoMemory);
         };
-        return Ok(Passed { count: place, ended: Some(ended) });
+        return Ok(Passed {
+            count: place,
+            ended: Some(ended),
+        });
     }
     machine.count();
     let Ok(gate) = machine.before(chain[place]) else {
@@ -50,19 +62,29 @@ pub(crate) fn befores<M: Machine, T: Tables>(
     };
     match gate {
         Gate::Pass => befores(alloc, machine, tables, resource, chain, place + 1),
-        Gate::Stop => Ok(Passed { count: place, ended: Some(Finished::Done) }),
+        Gate::Stop => Ok(Passed {
+            count: place,
+            ended: Some(Finished::Done),
+        }),
         Gate::Failed(kind, text) => {
             let Ok(ended) = fail(machine, tables, resource, kind, text) else {
                 return Err(NoMemory);
             };
-            Ok(Passed { count: place, ended: Some(ended) })
+            Ok(Passed {
+                count: place,
+                ended: Some(ended),
+            })
         }
         Gate::NoMemory => Err(NoMemory),
     }
 }
 
 /// Calls the first filters of a chain once more, the last first.
-pub(crate) fn afters<M: Machine>(machine: &mut M, chain: &[usize], count: usize) -> Result<(), NoMemory>
+pub(crate) fn afters<M: Machine>(
+    machine: &mut M,
+    chain: &[usize],
+    count: usize,
+) -> Result<(), NoMemory>
     requires within { count ≤ length chain.now }
     requires there { All (λ filter. filter < (M.frame machine.old).filters) chain.now }
     ensures { Did M.state M.frame M.ran (Afters (reverse (take count chain.now))) machine.old machine.new (seen result) }

@@ -1,4 +1,4 @@
-use Rattle.std.proofs.Common.{◌≡◌, ◌-◌, suc, None, Some, refl, sym, ap, ap₂, ◌∙◌, subst, add-one, arith}
+use Rattle.std.proofs.Common.{None, Some, sym, ap, ap₂, ◌∙◌, subst, add-one}
 use Rattle.sv_dispatch.specs.Did.{seen}
 use Rattle.sv_dispatch.specs.Seen.{chosen_seen}
 use Rattle.sv_tree.specs.Site.{chosen}
@@ -43,14 +43,14 @@ turns-returns-in-Some g t c =
     turns_end m.state m.frame m.ran (g.T.Tables.site c.args.tables.now) c.args.room c.args.place
     c.args.machine.now c.loop-ended.machine c.turn.new.machine c.loop-ended.number c.in-Some.finished c.loop-ended.invariant
     (subst (λ ended. Makes m.state m.frame m.ran (Turn (g.T.Tables.site c.args.tables.now) c.args.room (Tree (g.T.Tables.site c.args.tables.now) c.args.room) c.args.place c.loop-ended.number)
-      c.loop-ended.machine c.turn.new.machine (Some ended)) c.in-Some.is c.in-Ok.ensures)
+    c.loop-ended.machine c.turn.new.machine (Some ended)) c.in-Some.is c.in-Ok.ensures)
 
 pub turns-loop-ended-smaller : goal.turns-loop-ended-smaller
 turns-loop-ended-smaller g t c =
     let m = g.M.Machine in
     (calls_fall m.state m.frame m.ran (g.T.Tables.site c.args.tables.now) c.args.room c.args.place c.loop-ended.machine c.turn.new.machine c.loop-ended.number
     (subst (λ ended. Makes m.state m.frame m.ran (Turn (g.T.Tables.site c.args.tables.now) c.args.room (Tree (g.T.Tables.site c.args.tables.now) c.args.room) c.args.place c.loop-ended.number)
-      c.loop-ended.machine c.turn.new.machine (Some ended)) c.in_default-ended.is c.in-Ok.ensures)).1
+    c.loop-ended.machine c.turn.new.machine (Some ended)) c.in_default-ended.is c.in-Ok.ensures)).1
 
 pub turns-loop-ended-preserved : goal.turns-loop-ended-preserved
 turns-loop-ended-preserved g t c =
@@ -58,7 +58,7 @@ turns-loop-ended-preserved g t c =
     rw add-one (turns_go_on m.state m.frame m.ran (g.T.Tables.site c.args.tables.now) c.args.room c.args.place
     c.args.machine.now c.loop-ended.machine c.turn.new.machine c.loop-ended.number c.loop-ended.invariant
     (subst (λ ended. Makes m.state m.frame m.ran (Turn (g.T.Tables.site c.args.tables.now) c.args.room (Tree (g.T.Tables.site c.args.tables.now) c.args.room) c.args.place c.loop-ended.number)
-      c.loop-ended.machine c.turn.new.machine (Some ended)) c.in_default-ended.is c.in-Ok.ensures))
+    c.loop-ended.machine c.turn.new.machine (Some ended)) c.in_default-ended.is c.in-Ok.ensures))
 
 pub dispatch_by-returns-in_default : goal.dispatch_by-returns-in_default
 dispatch_by-returns-in_default g t c =

@@ -1,8 +1,8 @@
-use Rattle.std.proofs.Common.{◌≡◌, ◌<◌, ◌+◌, suc, None, Some, drop, length, reverse, take, subst, sym, ◌∙◌, arith}
+use Rattle.std.proofs.Common.{◌≡◌, ◌+◌, suc, None, Some, drop, reverse, take, subst, sym, ◌∙◌, arith}
 use Rattle.sv_dispatch.specs.Did.{reached_by}
 use Rattle.sv_tree.specs.Filters.{Befores}
 use Rattle.sv_dispatch.proofs.Deeds.{Makes}
-use Rattle.sv_dispatch.proofs.FilterDeeds.{befores_broken, befores_failed, befores_full, befores_passed, befores_refused, befores_stop}
+use Rattle.sv_dispatch.proofs.FilterDeeds.{befores_broken, befores_failed, befores_full, befores_passed, befores_stop}
 use Rattle.sv_dispatch.proofs.filters.+befores.Goals as goal
 
 pub returns-in_default-clause-does : goal.returns-in_default-clause-does
@@ -34,7 +34,7 @@ returns-in-Pass-clause-does g t c =
     c.args.machine.now c.count.new.self (sym c.is_full.ensures ∙ c.if-is_full.false) c.count.ensures c.before-2.new.self c.in-Ok-before.gate c.in-Ok-before.ensures
     c.befores.new.machine (reached_by c.args.chain.now c.befores.result) c.in-Pass.is
     (subst (λ n. Makes g.M.Machine.state g.M.Machine.frame g.M.Machine.ran (Befores (g.T.Tables.site c.args.tables.now) c.args.resource (reverse (take n chain)) (drop n chain))
-      c.before-2.new.self c.befores.new.machine (reached_by chain c.befores.result)) one c.befores.ensures.does)
+    c.before-2.new.self c.befores.new.machine (reached_by chain c.befores.result)) one c.befores.ensures.does)
 
 pub returns-in-Stop-clause-does : goal.returns-in-Stop-clause-does
 returns-in-Stop-clause-does g t c =
