@@ -6,6 +6,7 @@ use std::alloc::Global;
 use sv_constraints::{
     Auth, Collection, Constraint, Decision, Methods, Rules, Transport, decide_plain,
 };
+use sv_mapping::Pattern;
 use sv_realm::Caller;
 use sv_text::{Listed, Text};
 
@@ -56,23 +57,22 @@ fn constraints(alloc: Global, count: u32, patterns: u32) -> Option<Vec<Constrain
     let mut constraints = Vec::new(alloc);
     for number in 0..count {
         let from = number.saturating_mul(patterns);
-        constraints
-            .push(constraint(alloc, from, from.saturating_add(patterns))?)
-            .ok()?;
+        let listed = numbered_patterns(alloc, from, from.saturating_add(patterns))?;
+        constraints.push(constraint(alloc, from, listed)?).ok()?;
     }
     Some(constraints)
 }
 
-/// A constraint for the patterns of these numbers.
-fn constraint(alloc: Global, from: u32, until: u32) -> Option<Constraint> {
+/// A constraint on these patterns, for GET and POST and two roles.
+pub fn constraint(alloc: Global, number: u32, patterns: Vec<Pattern>) -> Option<Constraint> {
     let mut collections = Vec::new(alloc);
     let collection = Collection {
-        patterns: Listed::from_vec(numbered_patterns(alloc, from, until)?),
+        patterns: Listed::from_vec(patterns),
         methods: Methods::Only(two_texts(alloc, "GET", "POST")?),
     };
     collections.push(collection).ok()?;
     Some(Constraint {
-        number: u64::from(from),
+        number: u64::from(number),
         collections: Listed::from_vec(collections),
         auth: Auth::Roles(two_texts(alloc, "clerk", "manager")?),
         transport: Transport::Absent,

@@ -12,6 +12,8 @@ mod heads;
 mod measure;
 mod paths;
 mod patterns;
+mod policies;
+mod policy_figures;
 mod report;
 
 use std::env;
@@ -32,6 +34,7 @@ fn run<R: Env + Clock + Print + AllocGlobal>(rt: &R) -> Option<()> {
     figures::patterns(rt, wanted)?;
     figures::constraints(rt, wanted)?;
     figures::many_constraints(rt, wanted)?;
+    policy_figures::policy(rt, wanted)?;
     figures::head(rt, wanted)?;
     figures::body(rt, wanted)?;
     exchange_figures::exchange(rt, wanted)

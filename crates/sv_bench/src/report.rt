@@ -35,6 +35,22 @@ pub fn report<R: Clock + Print, W: Work>(
     Some(time)
 }
 
+/// Measures a piece of work, and prints its time where figures are wanted. It answers the time of the work.
+pub fn report_time<R: Clock + Print, W: Work>(
+    rt: &R,
+    rounds: Rounds,
+    name: &str,
+    work: &W,
+) -> Option<Duration> {
+    let time = time_of_round(rt, work, rounds.count)?;
+    if rounds.figures {
+        println!(rt; "{name}: {} ns", time.as_nanos()).ok()?;
+    } else {
+        println!(rt; "{name} measured").ok()?;
+    }
+    Some(time)
+}
+
 /// Measures a piece of work on a long stream, and prints its time for a byte where figures are wanted. It answers the time
 /// of the work.
 pub fn report_bytes<R: Clock + Print, W: Work>(

@@ -1,10 +1,9 @@
 -- How a chain grows by one place, and that each of its places has a filter.
-use Rattle.std.proofs.Common.{ℕ, ◌≡◌, ◌+◌, ◌<◌, Bool, true, false, not, ◌||◌, cond, eqb, List, [], ◌∷◌, ◌++◌, length, get_or, take, filter, Option, Some, None, IfSome, append-nil, append_assoc, sym, refl, ap, ◌∙◌, ⊎_elim}
-use Rattle.std.specs.List.{All, list_any, flat_map}
+use Rattle.std.proofs.Common.{ℕ, ◌≡◌, ◌+◌, ◌<◌, Bool, true, false, not, ◌||◌, cond, eqb, List, [], ◌∷◌, ◌++◌, length, get_or, take, filter, Option, Some, None, IfSome, append-nil, sym, refl, ap, ◌∙◌, ⊎_elim}
+use Rattle.std.specs.List.{All, flat_map}
 use Rattle.std.specs.Option.{option_to_list}
 use Rattle.std.proofs.lemmas.Bool.{cases_Bool, cond-true, cond-false, cond_both, eq-eqb, eqb-false, eqb-true, ne_eqb, not_from_true, not_from_false}
 use Rattle.std.proofs.lemmas.List.{take_more}
-use Rattle.std.proofs.lemmas.List.Concat.{flat_map-append}
 use Rattle.std.proofs.lemmas.List.Elements.{All-nil, All-cons, All-head, All-tail, All-append, All-filter, filter-append}
 use Rattle.sv_descriptor.specs.declared.filter.FilterEntry.{FilterEntry}
 use Rattle.sv_descriptor.specs.declared.filter.FilterMapping.{FilterMapping}
@@ -12,20 +11,18 @@ use Rattle.sv_descriptor.specs.declared.web_app.WebApp.{WebApp}
 use Rattle.sv_mapping.specs.declared.kind.Kind.{Kind}
 use Rattle.sv_mapping.proofs.FirstBest.{position_within}
 use Rattle.sv_chain.specs.FilterChain.{filter_chain, filter_place, maps_path, maps_servlet, without_doubles}
+use Rattle.sv_chain.specs.Laws.{stands}
 
 -- the filter of a mapping
 abbrev filter_in : List FilterEntry → FilterMapping → List ℕ
 filter_in filters mapping = option_to_list (filter_place filters mapping.filter_name)
 
 -- ---- places that stand once
-abbrev stands : ℕ → List ℕ → Bool
-stands place places = list_any (λ other. eqb other place) places
-
-abbrev others : ℕ → List ℕ → List ℕ
+abbrev pub others : ℕ → List ℕ → List ℕ
 others place places = filter (λ other. not (eqb other place)) places
 
 -- what is not taken out stays
-stands-others : (x y : ℕ) → eqb x y ≡ false → (places : List ℕ) → stands y (others x places) ≡ stands y places
+pub stands-others : (x y : ℕ) → eqb x y ≡ false → (places : List ℕ) → stands y (others x places) ≡ stands y places
 stands-others x y apart [] = refl
 stands-others x y apart (place ∷ places) =
     let rest = stands-others x y apart places in

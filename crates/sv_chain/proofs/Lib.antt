@@ -1,1 +1,4 @@
+mod ChainOrder
 mod Chains
+mod Membership
+mod Named

@@ -1,1 +1,2 @@
 pub mod FilterChain
+pub mod Laws

@@ -3,6 +3,7 @@
 
 mod chain;
 mod doubles;
+pub mod laws;
 mod mapping;
 
 pub use chain::chain_plain;

@@ -1,3 +1,5 @@
+pub mod Keeping
+pub mod Naming
 pub mod Reaching
 pub mod Replacing
 pub mod Telling

@@ -11,11 +11,11 @@ module _ (x : State) (name : List ℕ) (all outer : List Dispatch) (last : Dispa
   reversed : reverse all ≡ last ∷ reverse outer
   reversed = ap reverse split.0 ∙ reverse-append outer (last ∷ [])
 
-  innermost : told_innermost x name (reverse all) ≡ option_map_or (told_by last.kind last.paths x) (rest_of last.kind name) (told_innermost x name (reverse outer))
+  innermost : told_innermost x name (reverse all) ≡ option_map_or (told_by last.kind last x) (rest_of last.kind name) (told_innermost x name (reverse outer))
   innermost = ap (told_innermost x name) reversed
 
-  pub told_here : (rest : List ℕ) → rest_of last.kind name ≡ Some rest → told_innermost x name (reverse all) ≡ told_by last.kind last.paths x rest
-  told_here rest found = innermost ∙ ap (λ found. option_map_or (told_by last.kind last.paths x) found (told_innermost x name (reverse outer))) found
+  pub told_here : (rest : List ℕ) → rest_of last.kind name ≡ Some rest → told_innermost x name (reverse all) ≡ told_by last.kind last x rest
+  told_here rest found = innermost ∙ ap (λ found. option_map_or (told_by last.kind last x) found (told_innermost x name (reverse outer))) found
 
   pub told_outside : rest_of last.kind name ≡ None → told_innermost x name (reverse all) ≡ told_innermost x name (reverse outer)
-  told_outside found = innermost ∙ ap (λ found. option_map_or (told_by last.kind last.paths x) found (told_innermost x name (reverse outer))) found
+  told_outside found = innermost ∙ ap (λ found. option_map_or (told_by last.kind last x) found (told_innermost x name (reverse outer))) found

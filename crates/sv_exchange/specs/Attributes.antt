@@ -2,12 +2,13 @@
 -- 9.4.2 and 10.9.1).
 use Rattle.std.specs.Prelude.{ℕ, Bool, List, [], ◌∷◌, length, drop, reverse, bytes_eq, nat_eq, codes, Option, None, Some, if◌then◌else◌}
 use Rattle.std.specs.List.{starts_with}
-use Rattle.std.specs.Option.{option_map_or}
+use Rattle.std.specs.Option.{option_and_then, option_map_or}
 use Rattle.sv_mapping.specs.declared.kind.Kind.{Kind}
 use Rattle.sv_mapping.specs.declared.kind.Kind.TheVariants as kinds
 use Rattle.sv_exchange.specs.declared.attribute.Attribute.{Attribute}
 use Rattle.sv_exchange.specs.declared.dispatch.Dispatch.{Dispatch}
 use Rattle.sv_exchange.specs.declared.dispatch.Paths.{Paths}
+use Rattle.sv_exchange.specs.declared.told_error.ToldError.{ToldError}
 use Rattle.sv_exchange.specs.State.{State}
 
 -- names that dispatches alone set
@@ -48,19 +49,28 @@ told_of rest context_path paths =
     else if bytes_eq rest (codes "query_string") then paths.query
     else None
 
+-- what an error page tells of its error under the rest of a name
+abbrev pub told_of_error : List ℕ → ToldError → Option (List ℕ)
+told_of_error rest error =
+    if bytes_eq rest (codes "status_code") then Some error.status_code
+    else if bytes_eq rest (codes "message") then Some error.message
+    else if bytes_eq rest (codes "servlet_name") then error.servlet_name
+    else None
+
 -- what a dispatch tells under the rest of a name: a forward tells of what the client asked for, an include of what is included, and an
--- error page of where the error arose
-abbrev pub told_by : Kind → Paths → State → List ℕ → Option (List ℕ)
-told_by kinds.Request paths x rest = None
-told_by kinds.Forward paths x rest = told_of rest x.context_path x.client
-told_by kinds.Include paths x rest = told_of rest x.context_path paths
-told_by kinds.Error paths x rest = if bytes_eq rest (codes "request_uri") then Some x.client.uri else None
+-- error page of where the error arose and of the error itself
+abbrev pub told_by : Kind → Dispatch → State → List ℕ → Option (List ℕ)
+told_by kinds.Request dispatch x rest = None
+told_by kinds.Forward dispatch x rest = told_of rest x.context_path x.client
+told_by kinds.Include dispatch x rest = told_of rest x.context_path dispatch.paths
+told_by kinds.Error dispatch x rest =
+    if bytes_eq rest (codes "request_uri") then Some x.client.uri else option_and_then (told_of_error rest) dispatch.error
 
 -- what the innermost dispatch tells that sets names of that front
 abbrev pub told_innermost : State → List ℕ → List Dispatch → Option (List ℕ)
 told_innermost x name [] = None
 told_innermost x name (dispatch ∷ outer) =
-    option_map_or (told_by dispatch.kind dispatch.paths x) (rest_of dispatch.kind name) (told_innermost x name outer)
+    option_map_or (told_by dispatch.kind dispatch x) (rest_of dispatch.kind name) (told_innermost x name outer)
 
 -- the value of the attribute of that name
 abbrev pub attribute_of : List ℕ → State → Option (List ℕ)

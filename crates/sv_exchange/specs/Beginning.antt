@@ -13,6 +13,7 @@ begun message canon context_path moment = record {
   method = message.method;
   context_path = context_path;
   request_fields = message.fields;
+  body = message.body;
   moment = moment;
   client = paths_at context_path canon.path None None canon.query;
   dispatches = [];
@@ -21,6 +22,8 @@ begun message canon context_path moment = record {
   fields = [];
   buffer = [];
   committed = false;
+  calls = 0;
+  kept = None;
 }
 
 abbrev pub finished : State → Response

@@ -1,10 +1,13 @@
 -- The dispatches of an exchange and the paths that they show (Jakarta Servlet 6.0, sections 3.5, 9.3 and 9.4).
-use Rattle.std.specs.Prelude.{◌≡◌, ℕ, Bool, true, false, List, [], ◌∷◌, ◌++◌, reverse, Option, unwrap_or, if◌then◌else◌}
+use Rattle.std.specs.Prelude.{◌≡◌, ℕ, Bool, true, false, List, [], ◌∷◌, ◌++◌, reverse, Option, None, decimal, unwrap_or, if◌then◌else◌}
 use Rattle.std.specs.List.{list_any}
+use Rattle.std.specs.Option.{option_map}
 use Rattle.sv_mapping.specs.declared.kind.Kind.{Kind}
 use Rattle.sv_mapping.specs.declared.kind.Kind.TheVariants as kinds
 use Rattle.sv_exchange.specs.declared.dispatch.Dispatch.{Dispatch}
 use Rattle.sv_exchange.specs.declared.dispatch.Paths.{Paths}
+use Rattle.sv_exchange.specs.declared.kept_error.KeptError.{KeptError}
+use Rattle.sv_exchange.specs.declared.told_error.ToldError.{ToldError}
 use Rattle.sv_exchange.specs.State.{State}
 
 -- the paths of a path in a context
@@ -63,11 +66,20 @@ abbrev pub client_in : Kind → Paths → Paths → Paths
 client_in kinds.Request paths client = record client { servlet_path = paths.servlet_path; path_info = paths.path_info }
 client_in kind paths client = client
 
+-- what is told of an error (section 10.9.1)
+abbrev pub told_error : KeptError → ToldError
+told_error kept = record { status_code = decimal kept.status; message = kept.text; servlet_name = kept.servlet }
+
+-- an error page is told of the error that is kept when it begins
+abbrev pub error_in : Kind → Option KeptError → Option ToldError
+error_in kinds.Error kept = option_map told_error kept
+error_in kind kept = None
+
 -- a dispatch begins
 abbrev pub entered : Kind → Paths → State → State
 entered kind paths before = record before {
   client = client_in kind paths before.client;
-  dispatches = before.dispatches ++ (record { kind = kind; paths = paths }) ∷ [];
+  dispatches = before.dispatches ++ (record { kind = kind; paths = paths; error = error_in kind before.kept }) ∷ [];
 }
 
 -- the innermost dispatch ends, and what it set is taken back

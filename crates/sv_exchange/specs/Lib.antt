@@ -4,5 +4,7 @@ pub mod Changing
 pub mod Dispatches
 pub mod Fault
 pub mod Fields
+pub mod Keeping
 pub mod Laws
+pub mod Parameters
 pub mod State

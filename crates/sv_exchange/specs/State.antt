@@ -1,15 +1,17 @@
--- An exchange as contracts see it: what was asked, the dispatches that are under way, and what is answered so far
--- (Jakarta Servlet 6.0, chapters 3, 5 and 9).
-use Rattle.std.specs.Prelude.{ℕ, Bool, List}
+-- An exchange as contracts see it: what was asked, the dispatches that are under way, what is answered so far, how many
+-- calls of `before` and of `service` were made, and the error of which the answer will speak (Jakarta Servlet 6.0, chapters 3, 5, 9 and 10).
+use Rattle.std.specs.Prelude.{ℕ, Bool, List, Option}
 use Rattle.sv_head.specs.declared.field.Field.{Field}
 use Rattle.sv_exchange.specs.declared.attribute.Attribute.{Attribute}
 use Rattle.sv_exchange.specs.declared.dispatch.Dispatch.{Dispatch}
 use Rattle.sv_exchange.specs.declared.dispatch.Paths.{Paths}
+use Rattle.sv_exchange.specs.declared.kept_error.KeptError.{KeptError}
 
 pub record State : Type 0 where
   pub method : List ℕ
   pub context_path : List ℕ
   pub request_fields : List Field
+  pub body : List ℕ
   pub moment : ℕ
   pub client : Paths
   pub dispatches : List Dispatch
@@ -18,3 +20,5 @@ pub record State : Type 0 where
   pub fields : List Field
   pub buffer : List ℕ
   pub committed : Bool
+  pub calls : ℕ
+  pub kept : Option KeptError

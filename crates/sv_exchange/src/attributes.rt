@@ -2,11 +2,12 @@
 
 ghost use Rattle.std.specs.Prelude.{◌≡◌, ◌<◌, length, position, reverse, bytes_eq, IfSome, OnOk, OnErr};
 ghost use Rattle.std.specs.Option.{option_copied};
-ghost use Rattle.sv_exchange.specs.Attributes.{attribute_of, behind, is_reserved_attribute, rest_of, set_value, told_by, told_innermost, told_of, value_named};
+ghost use Rattle.sv_exchange.specs.Attributes.{attribute_of, behind, is_reserved_attribute, rest_of, set_value, told_by, told_innermost, told_of, told_of_error, value_named};
 
 use crate::attribute::Attribute;
 use crate::dispatch::{Dispatch, Paths, shown};
 use crate::exchange::Exchange;
+use crate::told_error::ToldError;
 use std::alloc::Global;
 use sv_mapping::Kind;
 use sv_text::{NoMemory, Text};
@@ -20,6 +21,12 @@ const SERVLET_PATH: &[u8] = b"servlet_path";
 const PATH_INFO: &[u8] = b"path_info";
 
 const QUERY_STRING: &[u8] = b"query_string";
+
+const STATUS_CODE: &[u8] = b"status_code";
+
+const MESSAGE: &[u8] = b"message";
+
+const SERVLET_NAME: &[u8] = b"servlet_name";
 
 /// Whether dispatches alone set attributes of that name.
 pub(crate) fn is_reserved_attribute(name: &str) -> bool
@@ -80,7 +87,7 @@ pub(crate) fn told_innermost<'a>(
 {
     match dispatches.split_last() {
         Some((dispatch, outer)) => match rest_of(dispatch.kind, name) {
-            Some(rest) => told_by(dispatch.kind, &dispatch.paths, exchange, rest),
+            Some(rest) => told_by(dispatch, exchange, rest),
             None => told_innermost(exchange, name, outer),
         },
         None => None,
@@ -109,20 +116,35 @@ fn behind<'a>(front: &[u8], name: &'a [u8]) -> Option<&'a [u8]>
     }
 }
 
-fn told_by<'a>(kind: Kind, paths: &'a Paths, exchange: &'a Exchange, rest: &[u8]) -> Option<&'a str>
-    ensures { option_copied result ≡ told_by kind paths.now exchange.now rest.now }
+fn told_by<'a>(dispatch: &'a Dispatch, exchange: &'a Exchange, rest: &[u8]) -> Option<&'a str>
+    ensures { option_copied result ≡ told_by dispatch.now.kind dispatch.now exchange.now rest.now }
 {
-    match kind {
+    match dispatch.kind {
         Kind::Request => None,
         Kind::Forward => told_of(rest, &exchange.context_path, &exchange.client),
-        Kind::Include => told_of(rest, &exchange.context_path, paths),
+        Kind::Include => told_of(rest, &exchange.context_path, &dispatch.paths),
         Kind::Error => {
             if rest == REQUEST_URI {
                 Some(exchange.client.uri.as_str())
             } else {
-                None
+                let error = dispatch.error.as_ref()?;
+                told_of_error(rest, error)
             }
         }
+    }
+}
+
+fn told_of_error<'a>(rest: &[u8], error: &'a ToldError) -> Option<&'a str>
+    ensures { option_copied result ≡ told_of_error rest.now error.now }
+{
+    if rest == STATUS_CODE {
+        Some(error.status_code.as_str())
+    } else if rest == MESSAGE {
+        Some(error.message.as_str())
+    } else if rest == SERVLET_NAME {
+        shown(&error.servlet_name)
+    } else {
+        None
     }
 }
 

@@ -5,6 +5,7 @@ ghost use Rattle.std.specs.Option.{option_copied};
 ghost use Rattle.sv_text.specs.Gives.{GivesAnswer};
 ghost use Rattle.sv_exchange.specs.Dispatches.{is_include, paths_at};
 
+use crate::told_error::ToldError;
 use std::alloc::Global;
 use sv_mapping::Kind;
 use sv_text::{NoMemory, Text};
@@ -14,6 +15,8 @@ use sv_text::{NoMemory, Text};
 pub struct Dispatch {
     pub kind: Kind,
     pub paths: Paths,
+    /// The error that was kept when an error page began; `None` for other kinds.
+    pub error: Option<ToldError>,
 }
 
 /// The paths of a request or of a dispatch (Jakarta Servlet 6.0, section 3.5).

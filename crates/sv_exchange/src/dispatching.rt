@@ -2,18 +2,23 @@
 
 ghost use Rattle.std.specs.Prelude.{◌≡◌, ◌<◌, [], length, OnOk, OnErr, Some};
 ghost use Rattle.std.specs.Option.{option_copied};
+ghost use Rattle.sv_text.specs.Gives.{GivesAnswer};
 
 use crate::dispatch::{Dispatch, Paths, copied};
 use crate::exchange::Exchange;
+use crate::kept_error::{KeptError, KeptField};
+use crate::told_error::ToldError;
 use sv_mapping::Kind;
-use sv_text::NoMemory;
+use sv_text::{NoMemory, Text};
 
 impl Exchange {
-    ghost use Rattle.sv_exchange.specs.Dispatches.{Leaves, entered, paths_at};
+    ghost use Rattle.sv_exchange.specs.Dispatches.{Leaves, entered, error_in, paths_at};
+    ghost use Rattle.sv_exchange.specs.Keeping.{counted, with_kept};
 
     /// Begins a dispatch of that kind to that path in the context: its kind, its paths and its attributes are the ones shown until
-    /// [`leave`](Exchange::leave) ends it (Jakarta Servlet 6.0, sections 9.3.1 and 9.4.2). In an include the paths of the includer go
-    /// on to be shown, and changes of status and fields are ignored. After [`NoMemory`] nothing has changed.
+    /// [`leave`](Exchange::leave) ends it (Jakarta Servlet 6.0, sections 9.3.1, 9.4.2 and 10.9.1). In an include the paths of the includer
+    /// go on to be shown, and changes of status and fields are ignored. An error page is told of the error that is kept at its beginning.
+    /// After [`NoMemory`] nothing has changed.
     pub fn enter(
         &mut self,
         kind: Kind,
@@ -35,17 +40,17 @@ impl Exchange {
             path_info,
             query,
         )?;
+        let error = self.error_in(kind)?;
+        let dispatch = Dispatch { kind, paths, error };
         match kind {
             Kind::Request => {
                 let servlet_path = copied(self.alloc, Some(servlet_path))?;
                 let path_info = copied(self.alloc, path_info)?;
-                self.dispatches.push(Dispatch { kind, paths })?;
+                self.dispatches.push(dispatch)?;
                 self.client.servlet_path = servlet_path;
                 self.client.path_info = path_info;
             }
-            Kind::Forward | Kind::Include | Kind::Error => {
-                self.dispatches.push(Dispatch { kind, paths })?;
-            }
+            Kind::Forward | Kind::Include | Kind::Error => self.dispatches.push(dispatch)?,
         }
         Ok(())
     }
@@ -71,5 +76,61 @@ impl Exchange {
     {
         self.clear();
         self.fields.clear();
+    }
+
+    /// Keeps an error until its answer: the status that is answered, its text, the servlet in which it arose where one was chosen, and
+    /// the field that goes with the answer (Jakarta Servlet 6.0, section 10.9). It takes the place of an earlier one. What an error page
+    /// that is under way tells stays as it is. After [`NoMemory`] nothing has changed.
+    pub fn keep_error(
+        &mut self,
+        status: u16,
+        text: &str,
+        servlet: Option<&str>,
+        field: Option<KeptField>,
+    ) -> Result<(), NoMemory>
+        ensures kept { OnOk result (self.new ≡ with_kept
+            (record { status = status; text = text.now; servlet = option_copied servlet.entry; field = field }) self.old) }
+        ensures refused { OnErr result (self.new ≡ self.old) }
+    {
+        let kept = KeptError {
+            status,
+            text: Text::copy_of(self.alloc, text)?,
+            servlet: copied(self.alloc, servlet)?,
+            field,
+        };
+        self.kept = Some(kept);
+        Ok(())
+    }
+
+    /// The error that was kept last, `None` where none was.
+    pub fn kept(&self) -> Option<&KeptError>
+        ensures { option_copied result ≡ self.now.kept }
+    {
+        self.kept.as_ref()
+    }
+
+    /// How many calls of `before` and `service` the request has had.
+    pub fn calls(&self) -> u32
+        ensures { result ≡ self.now.calls }
+    {
+        self.calls
+    }
+
+    /// Counts one call more. A request has fewer than 4,294,967,295 of them.
+    pub fn count_call(&mut self)
+        requires { self.old.calls < 4294967295 }
+        ensures { self.new ≡ counted self.old }
+    {
+        self.calls += 1;
+    }
+
+    // What an error page of this moment is told; nothing for other kinds.
+    fn error_in(&self, kind: Kind) -> Result<Option<ToldError>, NoMemory>
+        ensures { GivesAnswer result (error_in kind self.now.kept) }
+    {
+        match (kind, &self.kept) {
+            (Kind::Error, Some(kept)) => Ok(Some(ToldError::of(self.alloc, kept)?)),
+            _ => Ok(None),
+        }
     }
 }

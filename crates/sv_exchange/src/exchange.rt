@@ -7,6 +7,7 @@ ghost use Rattle.sv_text.specs.Gives.{GivesAnswer};
 use crate::attribute::Attribute;
 use crate::dispatch::{Dispatch, Paths, shown};
 use crate::fields::copies;
+use crate::kept_error::KeptError;
 use crate::limits::OK;
 use http::Method;
 use std::alloc::Global;
@@ -23,6 +24,7 @@ pub struct Exchange {
     pub(crate) method: Method,
     pub(crate) context_path: Text,
     pub(crate) request_fields: Vec<Field>,
+    pub(crate) body: Bytes,
     pub(crate) moment: u64,
     pub(crate) client: Paths,
     pub(crate) dispatches: Vec<Dispatch>,
@@ -31,6 +33,8 @@ pub struct Exchange {
     pub(crate) fields: Vec<Field>,
     pub(crate) buffer: Vec<u8>,
     pub(crate) committed: bool,
+    pub(crate) calls: u32,
+    pub(crate) kept: Option<KeptError>,
 }
 
 impl Model for Exchange {
@@ -42,6 +46,7 @@ impl Model for Exchange {
       method = e.method;
       context_path = e.context_path;
       request_fields = e.request_fields.items;
+      body = e.body;
       moment = e.moment;
       client = e.client;
       dispatches = e.dispatches.items;
@@ -50,6 +55,8 @@ impl Model for Exchange {
       fields = e.fields.items;
       buffer = e.buffer.items;
       committed = e.committed;
+      calls = e.calls;
+      kept = e.kept;
     } };
 }
 
@@ -73,6 +80,7 @@ impl Exchange {
             method: message.method.clone()?,
             context_path: Text::copy_of(alloc, context_path)?,
             request_fields: copies(alloc, message.fields.as_slice())?,
+            body: Bytes::copy_of(alloc, message.body.as_slice())?,
             moment,
             client: Paths::copy_of(alloc, context_path, canon.path.as_str(), None, None, query)?,
             dispatches: Vec::new(alloc),
@@ -81,6 +89,8 @@ impl Exchange {
             fields: Vec::new(alloc),
             buffer: Vec::new(alloc),
             committed: false,
+            calls: 0,
+            kept: None,
         })
     }
 

@@ -1,6 +1,6 @@
 -- The text of an explanation.
-use Rattle.std.specs.Prelude.{ℕ, List, [], ◌++◌, codes, if◌then◌else◌}
-use Rattle.std.specs.Str.{bytes_eq}
+use Rattle.std.specs.Prelude.{ℕ, List, ◌++◌, codes}
+use Rattle.sv_uri.specs.ContextPath.{shown_context}
 use Rattle.sv_uri.specs.Fault.{fault_name}
 use Rattle.sv_constraints.specs.Decision.{why_of, why_text, word}
 use Rattle.sv_explain.specs.declared.explanation.Explanation.{Explanation}
@@ -11,10 +11,6 @@ use Rattle.sv_explain.specs.declared.explanation.HiddenCause.TheVariants.{NoCont
 abbrev pub hidden_name : HiddenCause → List ℕ
 hidden_name NoContext = codes "NoContext"
 hidden_name Protected = codes "Protected"
-
--- a context path is shown as it is, that of the root context as `/`
-abbrev pub shown_context : List ℕ → List ℕ
-shown_context path = if bytes_eq path [] then codes "/" else path
 
 abbrev pub explanation_text : Explanation → List ℕ
 explanation_text (Refused fault) = codes "refused cause=" ++ fault_name fault

@@ -1,12 +1,13 @@
 //! What would become of a request, and its text.
 
-ghost use Rattle.std.specs.Prelude.{◌≡◌, Some};
+ghost use Rattle.std.specs.Prelude.{Some};
 ghost use Rattle.sv_explain.specs.Text as spec;
 
 use std::fmt;
 use sv_constraints::OwnedDecision;
 use sv_text::Text;
 use sv_uri::fault::PathFault;
+use sv_uri::shown_context;
 
 /// What would become of a request.
 #[derive(Drop)]
@@ -65,11 +66,4 @@ impl fmt::Display for Explanation {
             }
         }
     }
-}
-
-/// The context path as it is shown: `/` for the root context.
-pub fn shown_context(path: &str) -> &str
-    ensures { result.now ≡ spec.shown_context path.now }
-{
-    if path.is_empty() { "/" } else { path }
 }

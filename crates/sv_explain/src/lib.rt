@@ -12,6 +12,6 @@ mod protected;
 
 pub use context::ContextPolicy;
 pub use explain::explain_parts;
-pub use explanation::{Explanation, HiddenCause, shown_context};
+pub use explanation::{Explanation, HiddenCause};
 pub use fault::ExplainFault;
 pub use laws::{a_context_is_found_where_one_serves, the_chosen_context_path_is_unique};

@@ -31,7 +31,7 @@ use Rattle.sv_lifecycle.specs.declared.order.Place.{Place}
 use Rattle.sv_lifecycle.specs.declared.order.Place.TheVariants as places
 use Rattle.sv_lifecycle.specs.declared.parts.Parts.{Parts}
 use Rattle.sv_lifecycle.specs.declared.plan.Plan.{Plan}
-use Rattle.sv_lifecycle.specs.declared.standing.Standing.TheVariants.{Serving}
+use Rattle.sv_component.specs.declared.standing.Standing.TheVariants.{Serving}
 use Rattle.sv_lifecycle.specs.declared.start_fault.StartCode.{StartCode}
 use Rattle.sv_lifecycle.proofs.Beginning.{initialised_push}
 use Rattle.sv_lifecycle.proofs.Fitting.{same_length}
@@ -189,7 +189,7 @@ module _ {S F L : Type 0} (ss : S → Call → S → Type 0) (fs : F → Call �
       → (kept : List Place) (ended : Parts S F L) (noted_ended : JournalState) (why : StartCode) → Fits app parts → IsPlan plan.context app plan
       → Grows ss fs ls (world plan.context parts noted) (then_all (told ContextInitialized (length parts.listeners.items))) (world plan.context told_parts told_noted)
       → Begins ss fs ls app told_parts plan told_noted how_far after plan_after noted_after
-      → Grows ss fs ls (world plan.context after noted_after) (then_all (stop_calls (length after.listeners.items) kept)) (world plan.context ended noted_ended)
+      → Grows ss fs ls (world plan.context after noted_after) (then_all (stop_calls (length after.listeners.items) kept [])) (world plan.context ended noted_ended)
       → length after.listeners.items ≡ length parts.listeners.items → kept ≡ take how_far.initialised plan_after.order.items
       → (how_far.stopper ≡ None → noted_after.whole ≡ false) → why ≡ code_of how_far.stopper noted_ended.whole
       → Starts ss fs ls plan.context app parts noted (Err (record { code = why; parts = ended })) noted_ended
@@ -203,25 +203,18 @@ module _ {S F L : Type 0} (ss : S → Call → S → Type 0) (fs : F → Call �
       } in
       let stays : begins.stopper ≡ None → noted_ended.whole ≡ false = λ none.
       stays_broken noted_after.whole noted_ended.whole (broken (begins.answer ∙ ap (option_map (λ answered. answered.answer)) none))
-      (was_whole (world plan.context after noted_after) (world plan.context ended noted_ended) (stop_calls (length after.listeners.items) kept) ends) in
+      (was_whole (world plan.context after noted_after) (world plan.context ended noted_ended) (stop_calls (length after.listeners.items) kept []) ends) in
       let code : why ≡ code_of (option_map (λ answered. answered.answer) begins.stopper) noted_ended.whole = is_why ∙ ap (λ stopper. code_of stopper noted_ended.whole) begins.answer in
       record {
         attempt = its_attempt;
         made = grows_join ss fs ls (world plan.context parts noted) (world plan.context after noted_after) (world plan.context ended noted_ended)
-            (start_calls app all) (stop_calls (length app.listeners) (initialised all))
+            (start_calls app all) (stop_calls (length app.listeners) (initialised all) [])
             (begin_calls ss fs ls app parts told_parts plan noted told_noted how_far after plan_after noted_after fits tells begins)
-            (subst (λ n. Grows ss fs ls (world plan.context after noted_after) (then_all (stop_calls n (initialised all))) (world plan.context ended noted_ended)) (count ∙ fits.listeners)
-            (subst (λ xs. Grows ss fs ls (world plan.context after noted_after) (then_all (stop_calls (length after.listeners.items) xs)) (world plan.context ended noted_ended)) places ends));
+            (subst (λ n. Grows ss fs ls (world plan.context after noted_after) (then_all (stop_calls n (initialised all) [])) (world plan.context ended noted_ended)) (count ∙ fits.listeners)
+            (subst (λ xs. Grows ss fs ls (world plan.context after noted_after) (then_all (stop_calls (length after.listeners.items) xs [])) (world plan.context ended noted_ended)) places ends));
         means = subst (λ c. Refuses app parts its_attempt c noted_ended) (sym code)
             (refused app parts its_attempt noted_ended fits is_undone begins.stopper refl noted_ended.whole refl stays);
       }
-
-pub counts_join : {S F L : Type 0} (before middle after : Parts S F L) → HasSameCounts before middle → HasSameCounts middle after → HasSameCounts before after
-counts_join before middle after first second = record {
-  servlets = second.servlets ∙ first.servlets;
-  filters = second.filters ∙ first.filters;
-  listeners = second.listeners ∙ first.listeners;
-}
 
 pub none_from : {A : Type 0} (found : Option A) (none : Bool) → is_some found ≡ not none → none ≡ true → found ≡ None
 none_from None none is is_none = refl

@@ -6,27 +6,27 @@ use Rattle.sv_component.proofs.Running.{grows_by}
 use Rattle.sv_journal.specs.Journal.{JournalState}
 use Rattle.sv_lifecycle.specs.Calling.{CallsOnce, Retires}
 use Rattle.sv_lifecycle.specs.Standing.{LiveState}
-use Rattle.sv_lifecycle.specs.World.{world}
+use Rattle.sv_lifecycle.specs.World.{HasSameCounts, world}
 use Rattle.sv_lifecycle.specs.declared.parts.Parts.{Parts}
-use Rattle.sv_lifecycle.specs.declared.standing.Standing.TheVariants.{Gone}
+use Rattle.sv_component.specs.declared.standing.Standing.TheVariants.{Gone}
 
 module _ {S F L : Type 0} (ss : S → Call → S → Type 0) (fs : F → Call → F → Type 0) (ls : L → Call → L → Type 0) where
   pub calls_once : (before opened : LiveState S F L) (text : List ℕ) (noted : JournalState) (call : Record) (parts_after : Parts S F L) (noted_after : JournalState)
-      → opened ≡ before → text ≡ opened.context → Moves ss fs ls (world text opened.parts noted) call (world text parts_after noted_after)
+      → opened ≡ before → text ≡ opened.context → Moves ss fs ls (world text opened.parts noted) call (world text parts_after noted_after) → HasSameCounts opened.parts parts_after
       → CallsOnce ss fs ls before noted call (record opened { parts = parts_after }) noted_after
-  calls_once before opened text noted call parts_after noted_after is named moves =
+  calls_once before opened text noted call parts_after noted_after is named moves same =
       subst (λ live. CallsOnce ss fs ls live noted call (record opened { parts = parts_after }) noted_after) is
       (record {
         made = grows_by ss fs ls _ call _ (subst (λ context. Moves ss fs ls (world context opened.parts noted) call (world context parts_after noted_after)) named moves);
-        stands = record { context = refl; initialised = refl; standings = refl };
+        stands = record { context = refl; initialised = refl; standings = refl; counts = same };
       })
 
   pub retires : (before opened : LiveState S F L) (text : List ℕ) (noted : JournalState) (place : ℕ) (parts_after : Parts S F L) (noted_after : JournalState)
-      → opened ≡ before → text ≡ opened.context → Moves ss fs ls (world text opened.parts noted) (OfServlet place Destroyed) (world text parts_after noted_after)
+      → opened ≡ before → text ≡ opened.context → Moves ss fs ls (world text opened.parts noted) (OfServlet place Destroyed) (world text parts_after noted_after) → HasSameCounts opened.parts parts_after
       → Retires ss fs ls before noted place (record opened { parts = parts_after; standings = set opened.standings place Gone }) noted_after
-  retires before opened text noted place parts_after noted_after is named moves =
+  retires before opened text noted place parts_after noted_after is named moves same =
       subst (λ live. Retires ss fs ls live noted place (record opened { parts = parts_after; standings = set opened.standings place Gone }) noted_after) is
       (record {
         made = grows_by ss fs ls _ (OfServlet place Destroyed) _ (subst (λ context. Moves ss fs ls (world context opened.parts noted) (OfServlet place Destroyed) (world context parts_after noted_after)) named moves);
-        stands = record { context = refl; initialised = refl; standings = refl };
+        stands = record { context = refl; initialised = refl; standings = refl; counts = same };
       })

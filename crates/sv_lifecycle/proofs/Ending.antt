@@ -4,6 +4,7 @@ use Rattle.sv_component.specs.Call.{Call}
 use Rattle.sv_component.specs.Runs.{Grows}
 use Rattle.sv_journal.specs.Journal.{JournalState}
 use Rattle.sv_listeners.specs.Telling.{then_all}
+use Rattle.sv_session.specs.Store.{Session}
 use Rattle.sv_lifecycle.specs.Calls.{stop_calls}
 use Rattle.sv_lifecycle.specs.Standing.{LiveState, in_service, live_world}
 use Rattle.sv_lifecycle.specs.World.{world}
@@ -11,11 +12,11 @@ use Rattle.sv_lifecycle.specs.declared.order.Place.{Place}
 use Rattle.sv_lifecycle.specs.declared.parts.Parts.{Parts}
 
 module _ {S F L : Type 0} (ss : S → Call → S → Type 0) (fs : F → Call → F → Type 0) (ls : L → Call → L → Type 0) where
-  pub stops : (before opened : LiveState S F L) (text : List ℕ) (places : List Place) (noted : JournalState) (after : Parts S F L) (noted_after : JournalState)
+  pub stops : (before opened : LiveState S F L) (text : List ℕ) (places : List Place) (sessions : List Session) (noted : JournalState) (after : Parts S F L) (noted_after : JournalState)
       → opened ≡ before → text ≡ opened.context → places ≡ in_service opened
-      → Grows ss fs ls (world text opened.parts noted) (then_all (stop_calls (length opened.parts.listeners.items) places)) (world text after noted_after)
-      → Grows ss fs ls (live_world before noted) (then_all (stop_calls (length before.parts.listeners.items) (in_service before))) (world before.context after noted_after)
-  stops before opened text places noted after noted_after is named are grows =
-      subst (λ live. Grows ss fs ls (live_world live noted) (then_all (stop_calls (length live.parts.listeners.items) (in_service live))) (world live.context after noted_after)) is
-      (subst (λ context. Grows ss fs ls (world context opened.parts noted) (then_all (stop_calls (length opened.parts.listeners.items) (in_service opened))) (world context after noted_after)) named
-      (subst (λ all. Grows ss fs ls (world text opened.parts noted) (then_all (stop_calls (length opened.parts.listeners.items) all)) (world text after noted_after)) are grows))
+      → Grows ss fs ls (world text opened.parts noted) (then_all (stop_calls (length opened.parts.listeners.items) places sessions)) (world text after noted_after)
+      → Grows ss fs ls (live_world before noted) (then_all (stop_calls (length before.parts.listeners.items) (in_service before) sessions)) (world before.context after noted_after)
+  stops before opened text places sessions noted after noted_after is named are grows =
+      subst (λ live. Grows ss fs ls (live_world live noted) (then_all (stop_calls (length live.parts.listeners.items) (in_service live) sessions)) (world live.context after noted_after)) is
+      (subst (λ context. Grows ss fs ls (world context opened.parts noted) (then_all (stop_calls (length opened.parts.listeners.items) (in_service opened) sessions)) (world context after noted_after)) named
+      (subst (λ all. Grows ss fs ls (world text opened.parts noted) (then_all (stop_calls (length opened.parts.listeners.items) all sessions)) (world text after noted_after)) are grows))

@@ -6,3 +6,4 @@ pub mod Fitting
 pub mod Moving
 pub mod Ordering
 pub mod Places
+pub mod SessionEnds

@@ -13,8 +13,8 @@ use Rattle.sv_lifecycle.specs.World.{HasSameCounts, IsPlaceIn}
 use Rattle.sv_lifecycle.specs.declared.order.Place.{Place}
 use Rattle.sv_lifecycle.specs.declared.order.Place.TheVariants.{Filter, Servlet}
 use Rattle.sv_lifecycle.specs.declared.parts.Parts.{Parts}
-use Rattle.sv_lifecycle.specs.declared.standing.Standing.{Standing}
-use Rattle.sv_lifecycle.specs.declared.standing.Standing.TheVariants.{Serving, Gone}
+use Rattle.sv_component.specs.declared.standing.Standing.{Standing}
+use Rattle.sv_component.specs.declared.standing.Standing.TheVariants.{Serving, Gone}
 
 pub not_both : {P : Type 0} (b : Bool) → b ≡ true → b ≡ false → P
 not_both b is_true is_false = absurd (cc)
@@ -26,6 +26,13 @@ place_kept before after counts (Servlet place) there = omega (arith, counts.serv
 
 pub all_kept : {S F L : Type 0} (before after : Parts S F L) → HasSameCounts before after → (places : List Place) → All (IsPlaceIn before) places → All (IsPlaceIn after) places
 all_kept before after counts places there k d within = place_kept before after counts (get_or places k d) (there k d within)
+
+pub counts_join : {S F L : Type 0} (before middle after : Parts S F L) → HasSameCounts before middle → HasSameCounts middle after → HasSameCounts before after
+counts_join before middle after first second = record {
+  servlets = second.servlets ∙ first.servlets;
+  filters = second.filters ∙ first.filters;
+  listeners = second.listeners ∙ first.listeners;
+}
 
 -- each of so many servlets serves
 pub all_serve : (count : ℕ) (standings : List Standing) → standings ≡ replicate count Serving → (place : ℕ) → place < length standings → standing_at standings place ≡ Serving

@@ -9,21 +9,24 @@ use Rattle.sv_component.specs.declared.answers.Step.TheVariants as steps
 use Rattle.sv_exchange.specs.State.{State}
 use Rattle.sv_journal.specs.Journal.{JournalState}
 use Rattle.sv_lifecycle.specs.Standing.{LiveState, live_world}
-use Rattle.sv_lifecycle.specs.declared.standing.Standing.{Standing}
-use Rattle.sv_lifecycle.specs.declared.standing.Standing.TheVariants.{Gone}
+use Rattle.sv_lifecycle.specs.World.{HasSameCounts}
+use Rattle.sv_component.specs.declared.standing.Standing.{Standing}
+use Rattle.sv_component.specs.declared.standing.Standing.TheVariants.{Gone}
 use Rattle.sv_text.specs.declared.no_memory.NoMemory.{NoMemory}
 
--- the context, what was initialised and the standings stay
+-- the context, what was initialised and the standings stay, and no component comes or goes
 pub record StandsAsBefore {S F L : Type 0} (before after : LiveState S F L) : Type 0 where
   pub context : after.context ≡ before.context
   pub initialised : after.initialised ≡ before.initialised
   pub standings : after.standings ≡ before.standings
+  pub counts : HasSameCounts before.parts after.parts
 
 -- the same but for the standing of one servlet
 pub record StandsBut {S F L : Type 0} (place : ℕ) (standing : Standing) (before after : LiveState S F L) : Type 0 where
   pub context : after.context ≡ before.context
   pub initialised : after.initialised ≡ before.initialised
   pub standings : after.standings ≡ slice_set before.standings place standing
+  pub counts : HasSameCounts before.parts after.parts
 
 -- a component's answer, and want of memory in its place where the journal is broken
 abbrev pub unless_broken : {A : Type 0} → JournalState → A → A → A

@@ -13,6 +13,8 @@ use Rattle.sv_descriptor.specs.declared.servlet.ServletEntry.{ServletEntry}
 use Rattle.sv_descriptor.specs.declared.web_app.WebApp.{WebApp}
 use Rattle.sv_journal.specs.declared.event.Event.TheVariants.{ContextDestroyed, ContextInitialized}
 use Rattle.sv_listeners.specs.Telling.{told}
+use Rattle.sv_session.specs.Store.{Session}
+use Rattle.sv_lifecycle.specs.SessionEnds.{ends_told}
 use Rattle.sv_lifecycle.specs.declared.order.Place.{Place}
 use Rattle.sv_lifecycle.specs.declared.order.Place.TheVariants.{Filter, Servlet}
 
@@ -63,9 +65,10 @@ inited app answered = init_record answered.place (config_at app answered.place) 
 abbrev pub start_calls : WebApp → List Answered → List Record
 start_calls app begun = told ContextInitialized (length app.listeners) ++ map (inited app) begun
 
--- the calls of a stop: the components are destroyed in the reverse of the order in which they were begun, then each listener hears it
-abbrev pub stop_calls : ℕ → List Place → List Record
-stop_calls listeners places = map destroyed (reverse places) ++ told ContextDestroyed listeners
+-- the calls of a stop: the components are destroyed in the reverse of the order in which they were begun, then the sessions end, then each
+-- listener hears that the context stops
+abbrev pub stop_calls : ℕ → List Place → List Session → List Record
+stop_calls listeners places sessions = map destroyed (reverse places) ++ (ends_told sessions listeners ++ told ContextDestroyed listeners)
 
 abbrev pub is_ready : Init → Bool
 is_ready Ready = true
@@ -77,9 +80,9 @@ is_ready NoMemory = false
 abbrev pub initialised : List Answered → List Place
 initialised begun = places_of (filter (λ answered. is_ready answered.answer) begun)
 
--- the calls of a start that is undone: what was initialised is stopped
+-- the calls of a start that is undone: what was initialised is stopped, and there is no session yet
 abbrev pub undone_calls : WebApp → List Answered → List Record
-undone_calls app begun = start_calls app begun ++ stop_calls (length app.listeners) (initialised begun)
+undone_calls app begun = start_calls app begun ++ stop_calls (length app.listeners) (initialised begun) []
 
 -- whether the start goes on behind an answer: a servlet may be unavailable, a filter may not
 abbrev pub lets_go_on : Place → Init → Bool

@@ -4,6 +4,7 @@ pub mod Calls
 pub mod Fit
 pub mod Order
 pub mod Plan
+pub mod SessionEnds
 pub mod Standing
 pub mod StartCode
 pub mod Starting

@@ -4,7 +4,7 @@ use Rattle.sv_descriptor.specs.declared.web_app.WebApp.{WebApp}
 use Rattle.sv_lifecycle.specs.Calls.{config_at}
 use Rattle.sv_lifecycle.specs.Order.{IsLoadOrder, init_order}
 use Rattle.sv_lifecycle.specs.declared.plan.Plan.{Plan}
-use Rattle.sv_lifecycle.specs.declared.standing.Standing.TheVariants.{Serving}
+use Rattle.sv_component.specs.declared.standing.Standing.TheVariants.{Serving}
 
 pub record IsPlan (its_context : List ℕ) (app : WebApp) (plan : Plan) : Type 0 where
   pub loaded : List ℕ

@@ -1,6 +1,7 @@
 -- How the servlets of a started context stand (Jakarta Servlet 6.0, section 2.3.3.2).
 use Rattle.std.specs.Prelude.{◌≡◌, ℕ, ◌==◌, Bool, true, false, not, List, length, slice_get, unwrap_or, if◌then◌else◌}
 use Rattle.std.specs.List.{All, filter, list_any}
+use Rattle.sv_component.specs.Standing.{is_gone}
 use Rattle.sv_component.specs.World.{World}
 use Rattle.sv_component.specs.declared.answers.Init.{Init}
 use Rattle.sv_component.specs.declared.answers.Init.TheVariants.{Ready, Unavailable, Failed, NoMemory}
@@ -10,8 +11,8 @@ use Rattle.sv_lifecycle.specs.World.{IsPlaceIn, world}
 use Rattle.sv_lifecycle.specs.declared.order.Place.{Place}
 use Rattle.sv_lifecycle.specs.declared.order.Place.TheVariants.{Filter, Servlet}
 use Rattle.sv_lifecycle.specs.declared.parts.Parts.{Parts}
-use Rattle.sv_lifecycle.specs.declared.standing.Standing.{Standing}
-use Rattle.sv_lifecycle.specs.declared.standing.Standing.TheVariants.{Serving, Gone, Away}
+use Rattle.sv_component.specs.declared.standing.Standing.{Standing}
+use Rattle.sv_component.specs.declared.standing.Standing.TheVariants.{Serving, Gone}
 
 -- a started context: its path, its components, those that were initialised, in order, and how its servlets stand
 pub record LiveState (S F L : Type 0) : Type 0 where
@@ -31,11 +32,6 @@ live_world live journal = world live.context live.parts journal
 -- how the servlet at a place stands
 abbrev pub standing_at : List Standing → ℕ → Standing
 standing_at standings place = unwrap_or (slice_get standings place) Gone
-
-abbrev pub is_gone : Standing → Bool
-is_gone Serving = false
-is_gone Gone = true
-is_gone (Away until) = false
 
 -- whether an answer puts the servlet at a place out of service
 abbrev pub is_out : ℕ → Place → Init → Bool

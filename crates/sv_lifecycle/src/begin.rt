@@ -6,14 +6,13 @@ ghost use Rattle.sv_descriptor.specs.declared.web_app.WebApp.{WebApp};
 ghost use Rattle.sv_lifecycle.specs.Begins.{Begins, HasStanding, with_answer};
 ghost use Rattle.sv_lifecycle.specs.Calls.{config_at, is_ready, lets_go_on};
 ghost use Rattle.sv_lifecycle.specs.World.{HasSameCounts, IsPlaceIn};
-ghost use Rattle.sv_lifecycle.specs.declared.standing.Standing.TheVariants as standings;
+ghost use Rattle.sv_component.specs.declared.standing.Standing.TheVariants as standings;
 
 use crate::order::Place;
 use crate::parts::Parts;
 use crate::plan::Plan;
-use crate::standing::Standing;
 use std::alloc::Global;
-use sv_component::{Filter, Init, Listener, Servlet};
+use sv_component::{Filter, Init, Listener, Servlet, Standing};
 use sv_journal::Journal;
 
 /// How far a start went.

@@ -7,13 +7,13 @@ ghost use Rattle.sv_listeners.specs.Telling.{then_all, told};
 ghost use Rattle.sv_lifecycle.specs.Calling.{Enters, Leaves, Retires, Serves, StandsAsBefore, StandsBut, unless_broken};
 ghost use Rattle.sv_component.specs.declared.answers.Gate.TheVariants as gates;
 ghost use Rattle.sv_component.specs.declared.answers.Step.TheVariants as steps;
-ghost use Rattle.sv_lifecycle.specs.Standing.{is_gone, live_world, standing_at};
-ghost use Rattle.sv_lifecycle.specs.declared.standing.Standing.TheVariants as standings;
+ghost use Rattle.sv_component.specs.Standing.{is_gone};
+ghost use Rattle.sv_lifecycle.specs.Standing.{live_world, standing_at};
+ghost use Rattle.sv_component.specs.declared.standing.Standing.TheVariants as standings;
 
 use crate::live::Live;
-use crate::standing::Standing;
 use std::alloc::Global;
-use sv_component::{Event, Exchange, Filter, Gate, Listener, Servlet, Step};
+use sv_component::{Event, Exchange, Filter, Gate, Listener, Servlet, Standing, Step};
 use sv_journal::Journal;
 use sv_text::NoMemory;
 

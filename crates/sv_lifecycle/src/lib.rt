@@ -10,12 +10,11 @@ mod live;
 mod order;
 mod parts;
 mod plan;
-mod standing;
+mod session_ends;
 mod start;
 mod start_fault;
 
 pub use live::Live;
 pub use parts::Parts;
-pub use standing::Standing;
 pub use start_fault::{StartCode, StartFault};
-pub use sv_component::Named;
+pub use sv_component::{Named, Standing};

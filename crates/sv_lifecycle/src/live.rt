@@ -2,8 +2,8 @@
 
 use crate::order::Place;
 use crate::parts::Parts;
-use crate::standing::Standing;
 use std::marker::Model;
+use sv_component::Standing;
 use sv_text::Text;
 
 /// A started context: its components, which are called by their places in the descriptor, from 0, and how its servlets stand.

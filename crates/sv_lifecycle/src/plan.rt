@@ -2,13 +2,12 @@
 
 ghost use Rattle.std.specs.Prelude.{◌≡◌, IfOk, replicate};
 ghost use Rattle.sv_lifecycle.specs.Plan.{IsPlan};
-ghost use Rattle.sv_lifecycle.specs.declared.standing.Standing.TheVariants as standings;
+ghost use Rattle.sv_component.specs.declared.standing.Standing.TheVariants as standings;
 
 use crate::configs::configs;
 use crate::order::{Place, in_init_order, load_order};
-use crate::standing::Standing;
 use std::alloc::Global;
-use sv_component::Config;
+use sv_component::{Config, Standing};
 use sv_descriptor::WebApp;
 use sv_text::{NoMemory, Text};
 

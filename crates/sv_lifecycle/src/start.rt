@@ -1,6 +1,6 @@
 //! Start and stop of a context.
 
-ghost use Rattle.std.specs.Prelude.{◌≡◌, length, map, reverse};
+ghost use Rattle.std.specs.Prelude.{◌≡◌, [], length, map, reverse};
 ghost use Rattle.std.specs.List.{All};
 ghost use Rattle.sv_component.specs.Runs.{Grows};
 ghost use Rattle.sv_descriptor.specs.declared.web_app.WebApp.{WebApp as AppData};
@@ -18,12 +18,13 @@ use crate::live::Live;
 use crate::order::Place;
 use crate::parts::Parts;
 use crate::plan::Plan;
-use crate::standing::Standing;
+use crate::session_ends::end_sessions;
 use crate::start_fault::{StartCode, StartFault};
 use std::alloc::Global;
-use sv_component::{Event, Filter, Init, Listener, Servlet};
+use sv_component::{Event, Filter, Init, Listener, Servlet, Standing};
 use sv_descriptor::Descriptor;
 use sv_journal::Journal;
+use sv_session::Sessions;
 
 impl<S: Servlet, F: Filter, L: Listener> Live<S, F, L> {
     /// Starts a context: the listeners hear that it starts, then the filters are initialised in the order of the descriptor, then the
@@ -63,10 +64,17 @@ impl<S: Servlet, F: Filter, L: Listener> Live<S, F, L> {
     }
 
     /// Stops a context: the servlets in service are destroyed in the reverse of the order in which they were initialised, then the filters,
-    /// then the listeners hear that it stops (Jakarta Servlet 6.0, sections 2.3.4, 6.2.1 and 11.3.4).
-    pub fn stop(self, alloc: Global, journal: &mut Journal) -> Parts<S, F, L>
-        ensures { Grows S.servlet_step F.filter_step L.listener_step
-            (live_world self journal.old) (then_all (stop_calls (length self.parts.listeners.items) (in_service self))) (world self.context result journal.new) }
+    /// then the sessions end in the order of their numbers, then the listeners hear that it stops (Jakarta Servlet 6.0, sections 2.3.4, 6.2.1
+    /// and 11.3.4). A journal that breaks holds nothing up.
+    pub fn stop(
+        self,
+        alloc: Global,
+        sessions: &mut Sessions,
+        journal: &mut Journal,
+    ) -> Parts<S, F, L>
+        ensures made { Grows S.servlet_step F.filter_step L.listener_step
+            (live_world self journal.old) (then_all (stop_calls (length self.parts.listeners.items) (in_service self) sessions.old.sessions)) (world self.context result journal.new) }
+        ensures left { sessions.new ≡ record sessions.old { sessions = [] } }
     {
         let Live {
             context,
@@ -80,6 +88,7 @@ impl<S: Servlet, F: Filter, L: Listener> Live<S, F, L> {
             context.as_str(),
             &mut parts,
             initialised.as_slice(),
+            sessions,
             journal,
         );
         parts
@@ -121,31 +130,36 @@ fn run<S: Servlet, F: Filter, L: Listener>(
             standings,
         });
     }
+    let mut no_sessions = Sessions::new(alloc, 0, 0);
     end_all(
         alloc,
         context.as_str(),
         &mut parts,
         order.as_slice(),
+        &mut no_sessions,
         journal,
     );
     let code = code_of(begun.stopper, journal.whole());
     Err(StartFault { code, parts })
 }
 
-// Destroys the components at the places, the last first, and has the listeners hear that the context stops.
+// Destroys the components at the places, the last first, ends the sessions, and has the listeners hear that the context stops.
 fn end_all<S: Servlet, F: Filter, L: Listener>(
     alloc: Global,
     context: &str,
     parts: &mut Parts<S, F, L>,
     places: &[Place],
+    sessions: &mut Sessions,
     journal: &mut Journal,
 )
     requires { All (IsPlaceIn parts.old) places.now }
     ensures made { Grows S.servlet_step F.filter_step L.listener_step
-        (world context.now parts.old journal.old) (then_all (stop_calls (length parts.old.listeners.items) places.now)) (world context.now parts.new journal.new) }
+        (world context.now parts.old journal.old) (then_all (stop_calls (length parts.old.listeners.items) places.now sessions.old.sessions)) (world context.now parts.new journal.new) }
+    ensures left { sessions.new ≡ record sessions.old { sessions = [] } }
     ensures counts { HasSameCounts parts.old parts.new }
 {
     destroy_back(alloc, context, parts, places, journal);
+    end_sessions(alloc, context, parts, sessions, journal);
     parts.tell(alloc, context, &Event::ContextDestroyed, journal);
 }
 

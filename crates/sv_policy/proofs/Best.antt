@@ -1,15 +1,16 @@
 -- The best match depends on which patterns are listed, and not on their order.
-use Rattle.std.proofs.lemmas.Bool.{and_parts, false≢true}
-use Rattle.std.proofs.Common.{◌≡◌, ℕ, Bool, true, false, not, ◌||◌, ◌&&◌, List, [], ◌∷◌, refl, ap, sym, ◌∙◌, Option, Some, None, cond, is_some}
-use Rattle.std.specs.Prelude.{find}
+use Rattle.std.proofs.lemmas.Bool.{false≢true}
+use Rattle.std.proofs.Common.{◌≡◌, ℕ, Bool, true, false, not, ◌||◌, ◌&&◌, List, [], ◌∷◌, refl, ap, sym, ◌∙◌, Option, Some, None, cond, is_some, arith}
+use Rattle.std.specs.Prelude.{Contains, find}
 use Rattle.std.specs.Cmp.{both_ways}
 use Rattle.std.specs.List.{list_any}
 use Rattle.std.specs.Str.{bytes_eq}
+use Rattle.std.proofs.lemmas.List.Elements.{Contains-append_right}
 use Rattle.std.proofs.lemmas.Slice.Eq.{bytes_eq-Decides}
-use Rattle.sv_mapping.proofs.Uniqueness.{same_text}
-use Rattle.sv_mapping.specs.BestMatch.{best_pattern, is_best, outranks}
+use Rattle.sv_mapping.specs.BestMatch.{BestIsUnique, is_best, outranks}
 use Rattle.sv_mapping.specs.Pattern.{matches}
 use Rattle.sv_constraints.specs.Covering.{lists}
+use Rattle.sv_policy.specs.Patterns.{BestIsOfTexts}
 
 or_right : (a b : Bool) → b ≡ true → (a || b) ≡ true
 or_right true b h = refl
@@ -24,13 +25,6 @@ module _ (test : List ℕ → Bool) where
   any_in : (xs : List (List ℕ)) (x : List ℕ) → lists xs x ≡ true → test x ≡ true → list_any test xs ≡ true
   any_in [] x there passes = absurd (false≢true there)
   any_in (y ∷ xs) x there passes = any_at y x xs (bytes_eq y x) refl there passes (λ below. any_in xs x below passes)
-
-  none_at : (xs : List (List ℕ)) (x : List ℕ) (passes : Bool) → test x ≡ passes → list_any test xs ≡ false → lists xs x ≡ true → passes ≡ false
-  none_at xs x true is none there = absurd (false≢true (sym none ∙ any_in xs x there is))
-  none_at xs x false is none there = refl
-
-  none_in : (xs : List (List ℕ)) (x : List ℕ) → list_any test xs ≡ false → lists xs x ≡ true → test x ≡ false
-  none_in xs x none there = none_at xs x (test x) refl none there
 
   any_within_at : (y : List ℕ) (xs others : List (List ℕ)) (passes : Bool) → test y ≡ passes → ((text : List ℕ) → lists (y ∷ xs) text ≡ true → lists others text ≡ true) → (passes || list_any test xs) ≡ true → (list_any test xs ≡ true → list_any test others ≡ true) → list_any test others ≡ true
   any_within_at y xs others true is within some below = any_in others y (within y (ap (λ b. b || lists xs y) ((bytes_eq-Decides y y).1 refl))) is
@@ -78,24 +72,18 @@ find_same : {X : Type 0} (p q : X → Bool) → ((x : X) → p x ≡ q x) → (x
 find_same p q same [] = refl
 find_same p q same (x ∷ xs) = ap (λ b. cond b (Some x) (find p xs)) (same x) ∙ ap (λ rest. cond (q x) (Some x) rest) (find_same p q same xs)
 
-and_false : (a b : Bool) → a ≡ true → (a && b) ≡ false → b ≡ false
-and_false true b is h = h
-and_false false b is h = absurd (false≢true is)
+module _ (x : List ℕ) where
+  contains_at : (y : List ℕ) (xs : List (List ℕ)) (same : Bool) → bytes_eq y x ≡ same → (same || lists xs x) ≡ true → (lists xs x ≡ true → Contains xs x) → Contains (y ∷ xs) x
+  contains_at y xs true at there below = (0, omega arith, (bytes_eq-Decides y x).0 at)
+  contains_at y xs false at there below = Contains-append_right (y ∷ []) xs x (below there)
 
-is_not : (a : Bool) → not a ≡ true → a ≡ false
-is_not true h = absurd (false≢true h)
-is_not false h = refl
+  listed_contains : (xs : List (List ℕ)) → lists xs x ≡ true → Contains xs x
+  listed_contains [] there = absurd (false≢true there)
+  listed_contains (y ∷ xs) there = contains_at y xs (bytes_eq y x) refl there (listed_contains xs)
 
-just_one : (patterns : List (List ℕ)) (path x y : List ℕ) → lists patterns x ≡ true → lists patterns y ≡ true → is_best patterns path x ≡ true → is_best patterns path y ≡ true → x ≡ y
-just_one patterns path x y x_in y_in x_best y_best =
-    same_text x y path (and_parts _ _ x_best).0 (and_parts _ _ y_best).0
-    (and_false (matches x path) (outranks x y) (and_parts _ _ x_best).0
-    (none_in (λ other. matches other path && outranks other y) patterns x (is_not (list_any (λ other. matches other path && outranks other y) patterns) (and_parts _ _ y_best).1) x_in))
-    (and_false (matches y path) (outranks y x) (and_parts _ _ y_best).0
-    (none_in (λ other. matches other path && outranks other x) patterns y (is_not (list_any (λ other. matches other path && outranks other x) patterns) (and_parts _ _ x_best).1) y_in))
-
--- patterns with the same texts have the same best match
-pub best_same : (patterns others : List (List ℕ)) (path : List ℕ) → ((text : List ℕ) → lists patterns text ≡ lists others text) → best_pattern patterns path ≡ best_pattern others path
-best_same patterns others path same =
-    find_at (is_best patterns path) patterns others (find (is_best patterns path) patterns) (find (is_best patterns path) others) refl refl same (just_one patterns path)
+-- patterns with the same texts have the same best match, since no two texts match best
+pub best_same : BestIsUnique → BestIsOfTexts
+best_same unique patterns others path same =
+    find_at (is_best patterns path) patterns others (find (is_best patterns path) patterns) (find (is_best patterns path) others) refl refl same
+    (λ x y x_in y_in. unique patterns path x y (listed_contains x patterns x_in) (listed_contains y patterns y_in))
     ∙ find_same (is_best patterns path) (is_best others path) (λ x. ap (λ b. matches x path && not b) (any_listed (λ other. matches other path && outranks other x) patterns others same)) others

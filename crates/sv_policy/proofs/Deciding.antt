@@ -11,20 +11,20 @@ use Rattle.sv_constraints.specs.declared.rules.Rules.{Rules}
 use Rattle.sv_constraints.specs.Verdict.{verdict, verdict_at}
 use Rattle.sv_merged.specs.Table.{IsTable}
 use Rattle.sv_merged.specs.declared.table.Table.{Table}
-use Rattle.sv_policy.proofs.Best.{best_same}
 use Rattle.sv_policy.specs.Compiled.{AreCompiled}
+use Rattle.sv_policy.specs.Patterns.{BestIsOfTexts}
 
 at_place : (tables : List Table) (place : Option ℕ) → option_and_then (λ at. slice_get (map (λ t. t.pattern) tables) at) place ≡ option_map (λ (t : Table). t.pattern) (option_and_then (λ at. slice_get tables at) place)
 at_place tables None = refl
 at_place tables (Some k) = slice_get-map (λ t. t.pattern) tables k
 
 -- the pattern of the table at the place that a look-up gives is the best one
-pub best_of_tables : (rules : Rules) (constraints : List Constraint) (tables : List Table) (path : List ℕ) (place : Option ℕ) (found : Option Table) → AreCompiled rules constraints tables
+pub best_of_tables : BestIsOfTexts → (rules : Rules) (constraints : List Constraint) (tables : List Table) (path : List ℕ) (place : Option ℕ) (found : Option Table) → AreCompiled rules constraints tables
     → option_and_then (λ at. slice_get (map (λ t. t.pattern) tables) at) place ≡ best_pattern (map (λ t. t.pattern) tables) path → found ≡ option_and_then (λ at. slice_get tables at) place
     → option_map (λ (t : Table). t.pattern) found ≡ best_pattern (all_patterns constraints) path
-best_of_tables rules constraints tables path place found are looked is =
+best_of_tables of_texts rules constraints tables path place found are looked is =
     ap (option_map (λ (t : Table). t.pattern)) is ∙ sym (at_place tables place) ∙ looked
-    ∙ best_same (map (λ t. t.pattern) tables) (all_patterns constraints) path are.texts
+    ∙ of_texts (map (λ t. t.pattern) tables) (all_patterns constraints) path are.texts
 
 all_at : (P : Table → Type 0) (tables : List Table) (k : ℕ) (table : Table) → All P tables → Some table ≡ slice_get tables k → P table
 all_at P tables k table all at = subst P (get_or_from_slice_get tables k table table (sym at)) (all k table (slice_get_within tables k table (sym at)))
@@ -39,12 +39,12 @@ seen_twice f g [] = refl
 seen_twice f g (x ∷ xs) = ap (λ rest. g (f x) ∷ rest) (seen_twice f g xs)
 
 -- what a look-up in the index of shared tables finds
-pub looked_up : {A : Type 0} (value : A → Table) (rules : Rules) (constraints : List Constraint) (shared slice : List A) (index : List (List ℕ)) (path : List ℕ) (place : Option ℕ) (found : Option Table)
+pub looked_up : {A : Type 0} → BestIsOfTexts → (value : A → Table) (rules : Rules) (constraints : List Constraint) (shared slice : List A) (index : List (List ℕ)) (path : List ℕ) (place : Option ℕ) (found : Option Table)
     → AreCompiled rules constraints (map value shared) → index ≡ map (λ x. (value x).pattern) shared → slice ≡ shared
     → option_and_then (λ at. slice_get index at) place ≡ best_pattern index path → found ≡ option_and_then (λ at. slice_get (map value slice) at) place
     → option_map (λ (t : Table). t.pattern) found ≡ best_pattern (all_patterns constraints) path
-looked_up value rules constraints shared slice index path place found are indexed sliced looked is =
-    best_of_tables rules constraints (map value shared) path place found are
+looked_up of_texts value rules constraints shared slice index path place found are indexed sliced looked is =
+    best_of_tables of_texts rules constraints (map value shared) path place found are
     (subst (λ texts. option_and_then (λ at. slice_get texts at) place ≡ best_pattern texts path) (indexed ∙ sym (seen_twice value (λ t. t.pattern) shared)) looked)
     (is ∙ ap (λ xs. option_and_then (λ at. slice_get (map value xs) at) place) sliced)
 

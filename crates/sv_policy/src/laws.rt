@@ -1,8 +1,18 @@
-//! What holds of gaps: each law is the contract of a function that does nothing.
+//! What holds of best matches and of gaps: each law is the contract of a function that does nothing.
 
 ghost use Rattle.std.specs.Prelude.{◌≡◌};
 ghost use Rattle.sv_policy.specs.Gaps.{GapsAreExact, GapsRise};
+ghost use Rattle.sv_policy.specs.Patterns.{BestIsOfTexts};
 ghost use Rattle.sv_policy.specs.declared.limits.TheConstants.{MAX_CONSTRAINTS, MAX_PATTERNS_OF_CONSTRAINT};
+
+use sv_mapping::laws::best_is_unique;
+
+/// Patterns with the same texts have the same best match for each path, in whichever order and however often they are listed.
+pub fn best_is_of_texts()
+    ensures { BestIsOfTexts }
+{
+    best_is_unique();
+}
 
 /// A gap holds a method just where a constraint lists its pattern and none covers the method there.
 pub fn gaps_are_exact()

@@ -18,6 +18,6 @@ mod uncovered;
 pub use edit::{Edit, NewConstraint};
 pub use edit_fault::EditFault;
 pub use gap::Gap;
-pub use laws::{gaps_are_exact, gaps_rise, limits_are_as_stated};
+pub use laws::{best_is_of_texts, gaps_are_exact, gaps_rise, limits_are_as_stated};
 pub use limits::{MAX_CONSTRAINTS, MAX_PATTERNS_OF_CONSTRAINT};
 pub use policy::{Decided, Policy};

@@ -12,6 +12,7 @@ ghost use Rattle.sv_policy.specs.Gaps.{gaps};
 ghost use Rattle.sv_text.specs.Gives.{GivesAnswer};
 
 use crate::gap::Gap;
+use crate::laws::best_is_of_texts;
 use crate::tables::{index_of, tables_of};
 use crate::uncovered::gaps_of;
 use std::alloc::Global;
@@ -107,6 +108,7 @@ impl Policy {
         ensures probes { result.probes ≤ segments path.now + 2 }
         ensures counted { is_some (best_pattern (all_patterns self.now.constraints) path.now) ≡ true → 0 < result.probes }
     {
+        best_is_of_texts();
         let looked = self.index.lookup(path);
         match table_at(self.tables.as_slice(), looked.best) {
             None => Decided {

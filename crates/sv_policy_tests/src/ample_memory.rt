@@ -2,27 +2,8 @@
 
 use crate::policies::texts_of;
 use std::test::Fail;
-use sv_constraints::{Cause, Decision, OwnedDecision, Why};
-use sv_mapping::Pattern;
 use sv_realm::Caller;
 use sv_text::{Bytes, Text, copied_texts};
-
-#[test]
-fn a_decision_is_copied(rt: HostRuntime) -> Result<(), Fail> {
-    let pattern = Pattern::parse(rt.alloc(), "/a/*")?;
-    let why = Why {
-        pattern: Some(&pattern),
-        number: Some(2),
-        cause: Cause::NeedsCaller,
-    };
-    let copy = OwnedDecision::copy_of(rt.alloc(), Decision::Login(why))?;
-    let text = format!(in rt.alloc(); "{} {}", copy.word(), copy.why())?;
-    assert_eq!(rt;
-        text.as_str(),
-        "login pattern=/a/* constraint=2 cause=NeedsCaller"
-    );
-    Ok(())
-}
 
 #[test]
 fn a_caller_is_copied(rt: HostRuntime) -> Result<(), Fail> {

@@ -2,7 +2,7 @@
 
 use std::alloc::Global;
 use sv_realm::{Caller, MAX_USERS, Realm, User};
-use sv_rows::{Asks, Strays, cell, hold, unescaped};
+use sv_rows::{Asks, Draft, Strays, cell, hold, unescaped};
 use sv_text::{Bytes, Listed, NoMemory, Text};
 
 /// Users in their order: name, salt, digest, role. The digest is SHA-256 of `abc` (FIPS 180-4, the one-block example), but for that
@@ -60,21 +60,24 @@ impl Asks for Callers {
             "find" => self.0.find(key),
             _ => self.0.caller(key.parse::<u32>().unwrap_or(0)),
         };
-        answer.extend_from_slice(told(alloc, caller)?.as_bytes())?;
-        Ok(())
+        told(alloc, caller).add_to(answer)
     }
 }
 
-fn told(alloc: Global, caller: Option<&Caller>) -> Result<String, NoMemory> {
+fn told(alloc: Global, caller: Option<&Caller>) -> Draft {
+    let mut text = Draft::new(alloc);
     let Some(caller) = caller else {
-        return Ok(String::from_str(alloc, "-")?);
+        text.add("-");
+        return text;
     };
-    let mut text = format!(in alloc; "{} {}", caller.number, caller.name)?;
+    text.add_shown(&caller.number);
+    text.add(" ");
+    text.add(caller.name.as_str());
     for role in caller.roles.as_slice() {
-        text.push_str(" ")?;
-        text.push_str(role.as_str())?;
+        text.add(" ");
+        text.add(role.as_str());
     }
-    Ok(text)
+    text
 }
 
 /// The realm of the users.

@@ -1,11 +1,13 @@
 //! What an edit costs beside constraints that it does not touch.
 
+use crate::numbered::{add_numbered, finished};
 use crate::policies::policy_of;
 use std::alloc::Global;
 use std::rt::Clock;
 use std::test::Fail;
 use std::time::{Duration, Instant};
 use sv_policy::Policy;
+use sv_rows::Draft;
 use sv_text::NoMemory;
 
 /// Constraints on the same patterns.
@@ -30,27 +32,21 @@ fn an_edit_elsewhere_costs_at_most_a_quarter(rt: HostRuntime) -> Result<(), Fail
 
 /// Constraints on the same patterns with the same roles, and behind them as many as there are edits, each on a pattern of its own.
 fn constraints(alloc: Global) -> Result<String, NoMemory> {
-    let roles = numbered(alloc, "r", ROLES)?;
-    let patterns = numbered(alloc, "/p", PATTERNS)?;
-    let beside = format!(in alloc; "{roles} on {patterns}")?;
-    let mut text = String::from_str(alloc, beside.as_str())?;
-    for _ in 1..BESIDE {
-        text.push_str("; ")?;
-        text.push_str(beside.as_str())?;
+    let mut text = Draft::new(alloc);
+    for number in 0..BESIDE + EDITS {
+        if number > 0 {
+            text.add("; ");
+        }
+        add_numbered(&mut text, "r", ROLES, "");
+        text.add(" on ");
+        if number < BESIDE {
+            add_numbered(&mut text, "/p", PATTERNS, "");
+        } else {
+            text.add("/own/");
+            text.add_shown(&number);
+        }
     }
-    for number in 0..EDITS {
-        text.push_str(format!(in alloc; "; {roles} on /own/{number}")?.as_str())?;
-    }
-    Ok(text)
-}
-
-/// Numbered names between commas.
-fn numbered(alloc: Global, front: &str, count: u32) -> Result<String, NoMemory> {
-    let mut names = format!(in alloc; "{front}0")?;
-    for number in 1..count {
-        names.push_str(format!(in alloc; ",{front}{number}")?.as_str())?;
-    }
-    Ok(names)
+    finished(alloc, text)
 }
 
 /// The least time of withdrawing one of the constraints behind so many.

@@ -4,7 +4,7 @@ use crate::policies::{caller_of, constraint_of, policy_of};
 use std::alloc::Global;
 use sv_constraints::Constraint;
 use sv_policy::{EditFault, NewConstraint, Policy};
-use sv_rows::{Asks, Strays, cell, hold};
+use sv_rows::{Asks, Draft, Strays, cell, hold};
 use sv_text::NoMemory;
 
 /// Constraints, rules, steps, and what each step answers. A step is `append` and a constraint, which may be appended so many
@@ -54,78 +54,94 @@ impl Asks for Edits {
 
     fn answer(&self, alloc: Global, row: &str, answer: &mut Vec<u8>) -> Result<(), NoMemory> {
         let mut policy = policy_of(alloc, cell(row, 0), cell(row, 1))?;
+        let mut told = Draft::new(alloc);
         for (place, step) in cell(row, 2).split(" > ").enumerate() {
             if place > 0 {
-                answer.extend_from_slice(b" > ")?;
+                told.add(" > ");
             }
-            answer.extend_from_slice(told(alloc, &mut policy, step)?.as_bytes())?;
+            if tell(alloc, &mut policy, step, &mut told).is_err() {
+                told.fail();
+            }
         }
-        Ok(())
+        told.add_to(answer)
     }
 }
 
-fn told(alloc: Global, policy: &mut Policy, step: &str) -> Result<String, NoMemory> {
+fn tell(alloc: Global, policy: &mut Policy, step: &str, told: &mut Draft) -> Result<(), NoMemory> {
     if let Some((count, constraint)) = step.split_once(" times append ") {
-        return appended(alloc, policy, count.parse::<u32>().unwrap_or(0), constraint);
+        let count = count.parse::<u32>().unwrap_or(0);
+        return tell_appended(alloc, policy, count, constraint, told);
     }
     if let Some(constraint) = step.strip_prefix("append ") {
-        return appended(alloc, policy, 1, constraint);
+        return tell_appended(alloc, policy, 1, constraint, told);
     }
     match step.strip_prefix("withdraw ") {
-        Some(number) => withdrawn(alloc, policy, number.parse::<u64>().unwrap_or(0)),
-        None => decided(alloc, policy, step),
+        Some(number) => {
+            tell_withdrawn(alloc, policy, number.parse::<u64>().unwrap_or(0), told);
+            Ok(())
+        }
+        None => tell_decided(alloc, policy, step, told),
     }
 }
 
 /// What the last of so many appendings answers.
-fn appended(
+fn tell_appended(
     alloc: Global,
     policy: &mut Policy,
     count: u32,
     text: &str,
-) -> Result<String, NoMemory> {
+    told: &mut Draft,
+) -> Result<(), NoMemory> {
     let mut outcome = Err(EditFault::NoSuch);
     for _ in 0..count {
-        let constraint = constraint_of(alloc, 0, text)?;
-        let Constraint {
-            collections,
-            auth,
-            transport,
-            ..
-        } = constraint;
-        let addition = NewConstraint {
-            collections,
-            auth,
-            transport,
-        };
+        let addition = addition_of(constraint_of(alloc, 0, text)?);
         outcome = policy.append(alloc, addition);
     }
-    answer_of(alloc, outcome, policy.rebuilt())
+    tell_outcome(outcome, policy.rebuilt(), told);
+    Ok(())
 }
 
-fn withdrawn(alloc: Global, policy: &mut Policy, number: u64) -> Result<String, NoMemory> {
+/// A constraint without its number.
+fn addition_of(constraint: Constraint) -> NewConstraint {
+    let Constraint {
+        collections,
+        auth,
+        transport,
+        ..
+    } = constraint;
+    NewConstraint {
+        collections,
+        auth,
+        transport,
+    }
+}
+
+fn tell_withdrawn(alloc: Global, policy: &mut Policy, number: u64, told: &mut Draft) {
     let outcome = match policy.withdraw(alloc, number) {
         Ok(constraint) => Ok(constraint.number),
         Err(fault) => Err(fault),
     };
-    answer_of(alloc, outcome, policy.rebuilt())
+    tell_outcome(outcome, policy.rebuilt(), told);
 }
 
-fn answer_of(
-    alloc: Global,
-    outcome: Result<u64, EditFault>,
-    rebuilt: u64,
-) -> Result<String, NoMemory> {
+fn tell_outcome(outcome: Result<u64, EditFault>, rebuilt: u64, told: &mut Draft) {
     match outcome {
-        Ok(number) => Ok(format!(in alloc; "{number} rebuilt {rebuilt}")?),
-        Err(fault) => Ok(format!(in alloc; "{fault} rebuilt {rebuilt}")?),
+        Ok(number) => told.add_shown(&number),
+        Err(fault) => told.add_shown(&fault),
     }
+    told.add(" rebuilt ");
+    told.add_shown(&rebuilt);
 }
 
-fn decided(alloc: Global, policy: &Policy, step: &str) -> Result<String, NoMemory> {
+fn tell_decided(
+    alloc: Global,
+    policy: &Policy,
+    step: &str,
+    told: &mut Draft,
+) -> Result<(), NoMemory> {
     let (request, caller) = step.split_once(" by ").unwrap_or((step, "-"));
     let caller = caller_of(alloc, caller)?;
     let (method, path) = request.split_once(' ').unwrap_or((request, ""));
-    let decision = policy.decide(method, path, caller.as_ref()).decision;
-    Ok(format!(in alloc; "{decision}")?)
+    told.add_shown(&policy.decide(method, path, caller.as_ref()).decision);
+    Ok(())
 }

@@ -16,6 +16,8 @@ mod generated;
 #[cfg(test)]
 mod load;
 #[cfg(test)]
+mod numbered;
+#[cfg(test)]
 mod pattern_texts;
 #[cfg(test)]
 mod policies;

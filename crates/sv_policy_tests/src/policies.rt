@@ -1,11 +1,13 @@
 //! How constraints, rules and callers are written, and what is decided by them.
 
 use std::alloc::Global;
-use sv_constraints::{Auth, Collection, Constraint, Methods, Rules, Transport, decide_plain};
+use sv_constraints::{
+    Auth, Collection, Constraint, Methods, OwnedDecision, Rules, Transport, decide_plain,
+};
 use sv_mapping::Pattern;
 use sv_policy::Policy;
 use sv_realm::Caller;
-use sv_rows::{Asks, cell};
+use sv_rows::{Asks, Draft, cell};
 use sv_text::{Listed, NoMemory, Text};
 
 /// The constraints of the deployment descriptor of Servlet, section 13.8.2.
@@ -27,11 +29,40 @@ impl Asks for Verdicts {
     }
 }
 
+/// Constraints and the rules for all of them.
+#[derive(Drop)]
+struct Listing {
+    constraints: Vec<Constraint>,
+    rules: Rules,
+}
+
+impl Listing {
+    /// The constraints and the rules that these cells list.
+    fn of(alloc: Global, constraints: &str, rules: &str) -> Result<Listing, NoMemory> {
+        Ok(Listing {
+            constraints: constraints_of(alloc, constraints)?,
+            rules: rules_of(alloc, rules)?,
+        })
+    }
+
+    /// A copy of the decision on a request, which is a method and a path.
+    fn decide(
+        &self,
+        alloc: Global,
+        request: &str,
+        caller: Option<&Caller>,
+    ) -> Result<OwnedDecision, NoMemory> {
+        let (method, path) = request.split_once(' ').unwrap_or((request, ""));
+        let constraints = self.constraints.as_slice();
+        let decision = decide_plain(constraints, &self.rules, method, path, caller);
+        OwnedDecision::copy_of(alloc, decision)
+    }
+}
+
 /// Constraints as they stand, and the policy compiled of them.
 #[derive(Drop)]
 pub struct Forms {
-    constraints: Vec<Constraint>,
-    rules: Rules,
+    plain: Listing,
     policy: Policy,
 }
 
@@ -39,8 +70,7 @@ impl Forms {
     /// Both forms of the constraints and the rules that these cells list.
     pub fn of(alloc: Global, constraints: &str, rules: &str) -> Result<Forms, NoMemory> {
         Ok(Forms {
-            constraints: constraints_of(alloc, constraints)?,
-            rules: rules_of(alloc, rules)?,
+            plain: Listing::of(alloc, constraints, rules)?,
             policy: policy_of(alloc, constraints, rules)?,
         })
     }
@@ -53,7 +83,7 @@ impl Forms {
         caller: Option<&Caller>,
         answer: &mut Vec<u8>,
     ) -> Result<(), NoMemory> {
-        answer.extend_from_slice(self.plain(alloc, request, caller)?.as_bytes())?;
+        answer.extend_from_slice(self.plain(alloc, request, caller)?.as_slice())?;
         self.tell_stray(alloc, request, caller, answer)
     }
 
@@ -65,34 +95,52 @@ impl Forms {
         caller: Option<&Caller>,
         answer: &mut Vec<u8>,
     ) -> Result<(), NoMemory> {
-        let (method, path) = request.split_once(' ').unwrap_or((request, ""));
-        let compiled = self.policy.decide(method, path, caller).decision;
-        let compiled = format!(in alloc; "{compiled}")?;
-        if compiled != self.plain(alloc, request, caller)? {
-            let told = format!(in alloc; ", and compiled {request} is {compiled}")?;
-            answer.extend_from_slice(told.as_bytes())?;
+        let plain = self.plain(alloc, request, caller)?;
+        let compiled = self.compiled(alloc, request, caller)?;
+        if compiled.as_slice() == plain.as_slice() {
+            return Ok(());
         }
-        Ok(())
+        let mut stray = Draft::new(alloc);
+        stray.add(", and compiled ");
+        stray.add(request);
+        stray.add(" is ");
+        stray.add_bytes(compiled.as_slice());
+        stray.add_to(answer)
     }
 
-    /// The decision of the constraints on a request, which is a method and a path.
+    /// The decision of the constraints.
     fn plain(
         &self,
         alloc: Global,
         request: &str,
         caller: Option<&Caller>,
-    ) -> Result<String, NoMemory> {
+    ) -> Result<Vec<u8>, NoMemory> {
+        let decision = self.plain.decide(alloc, request, caller)?;
+        let mut text = Draft::new(alloc);
+        text.add(decision.word());
+        text.add(" ");
+        text.add_shown(&decision.why());
+        text.finish()
+    }
+
+    /// The decision of the policy.
+    fn compiled(
+        &self,
+        alloc: Global,
+        request: &str,
+        caller: Option<&Caller>,
+    ) -> Result<Vec<u8>, NoMemory> {
         let (method, path) = request.split_once(' ').unwrap_or((request, ""));
-        let constraints = self.constraints.as_slice();
-        let decision = decide_plain(constraints, &self.rules, method, path, caller);
-        Ok(format!(in alloc; "{decision}")?)
+        let mut text = Draft::new(alloc);
+        text.add_shown(&self.policy.decide(method, path, caller).decision);
+        text.finish()
     }
 }
 
 /// The policy compiled of the constraints and the rules that these cells list.
 pub fn policy_of(alloc: Global, constraints: &str, rules: &str) -> Result<Policy, NoMemory> {
-    let constraints = constraints_of(alloc, constraints)?;
-    Policy::compile(alloc, constraints, rules_of(alloc, rules)?)
+    let Listing { constraints, rules } = Listing::of(alloc, constraints, rules)?;
+    Policy::compile(alloc, constraints, rules)
 }
 
 /// The constraints that a cell lists, numbered from 1 where they have no number. `acme` stands for those of the

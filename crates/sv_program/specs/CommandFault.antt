@@ -4,7 +4,7 @@ use Rattle.std.specs.Fmt.{decimal}
 use Rattle.std.specs.Str.{bytes_eq}
 use Rattle.sv_schema.specs.Fault.{number}
 use Rattle.sv_schema.specs.declared.fault.DescriptorFault.{DescriptorFault}
-use Rattle.sv_explain.specs.Text.{shown_context}
+use Rattle.sv_uri.specs.ContextPath.{shown_context}
 use Rattle.sv_program.specs.declared.command_fault.CommandFault.{CommandFault}
 use Rattle.sv_program.specs.declared.command_fault.CommandFault.TheVariants.{Input, Output, File, Server, Descriptor, Users, User, Method, NoMemory}
 

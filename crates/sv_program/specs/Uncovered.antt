@@ -3,7 +3,7 @@ use Rattle.std.specs.Prelude.{◌≡◌, ℕ, List, [], ◌∷◌, ◌++◌, cod
 use Rattle.sv_text.specs.Steps.{◌>>=◌}
 use Rattle.sv_constraints.specs.declared.constraint.Methods.{Methods}
 use Rattle.sv_constraints.specs.declared.constraint.Methods.TheVariants.{All, Only, Except}
-use Rattle.sv_explain.specs.Text.{shown_context}
+use Rattle.sv_uri.specs.ContextPath.{shown_context}
 use Rattle.sv_policy.specs.Gaps.{gaps}
 use Rattle.sv_policy.specs.declared.gap.Gap.{Gap}
 use Rattle.sv_settings.specs.declared.server.ContextEntry.{ContextEntry}

@@ -7,9 +7,9 @@ ghost use Rattle.sv_program.specs.FaultLine.{line_text, shown_text};
 use std::alloc::{AllocError, AllocFailed};
 use std::error::Error;
 use std::fmt;
-use sv_explain::shown_context;
 use sv_schema::DescriptorFault;
 use sv_text::{NoMemory, Text};
+use sv_uri::shown_context;
 
 /// Why a command ended early. Its text is the line that the program writes on standard error. Every fault but `Output`
 /// leaves standard output unwritten.

@@ -17,10 +17,10 @@ use std::alloc::Global;
 use std::io::Write;
 use sv_constraints::Methods;
 use sv_descriptor::Descriptor;
-use sv_explain::shown_context;
 use sv_policy::{Gap, Policy};
 use sv_settings::ContextEntry;
 use sv_text::{Listed, NoMemory, Text};
+use sv_uri::shown_context;
 
 /// Reads the server file of this name and then the descriptor of each of its contexts, and writes what `uncovered_lines` gives
 /// for them. The names in the server file are taken from its folder; no other file is read.

@@ -7,5 +7,5 @@ abbrev pub fault_name : SessionFault → List ℕ
 fault_name TooMany = codes "TooMany"
 fault_name SerialSpent = codes "SerialSpent"
 fault_name NoSuch = codes "NoSuch"
-fault_name NoMemory = codes "NoMemory"
+fault_name NoMemory = codes "no memory"
 fault_name TooLarge = codes "TooLarge"

@@ -9,7 +9,7 @@ use std::fmt;
 use sv_text::NoMemory as OutOfMemory;
 
 /// Why a call on the sessions of a context is refused. Nothing has changed then. Where several faults stand, the first in the order `NoSuch`,
-/// `TooLarge`, `TooMany`, `SerialSpent`, `NoMemory` is told. It is printed as its name.
+/// `TooLarge`, `TooMany`, `SerialSpent`, `NoMemory` is told. It is printed as its name, want of memory as `no memory`.
 #[derive(Clone, Copy, Debug, PartialEq, Eq)]
 pub enum SessionFault {
     /// As many sessions live as there may be.
@@ -32,7 +32,7 @@ impl fmt::Display for SessionFault {
             SessionFault::TooMany => "TooMany",
             SessionFault::SerialSpent => "SerialSpent",
             SessionFault::NoSuch => "NoSuch",
-            SessionFault::NoMemory => "NoMemory",
+            SessionFault::NoMemory => "no memory",
             SessionFault::TooLarge => "TooLarge",
         })
     }

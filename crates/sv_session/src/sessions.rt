@@ -1,8 +1,9 @@
 //! The sessions of a context.
 
-ghost use Rattle.std.specs.Prelude.{◌≡◌, ◌<◌, ◌+◌, [], IfSome, IsTrue, MatchResult, None, Some, is_some, length, position};
+ghost use Rattle.std.specs.Prelude.{◌≡◌, ◌<◌, ◌+◌, [], IfSome, IsTrue, MatchResult, None, Some, is_some, length, position, slice_get};
 ghost use Rattle.std.specs.Option.{option_copied};
 
+use crate::attribute::Attribute;
 use crate::ended_session::EndedSession;
 use crate::expiry::first_expired;
 use crate::id::id_of;
@@ -34,8 +35,9 @@ impl Model for Sessions {
 
 impl Sessions {
     ghost use Rattle.sv_session.specs.Calls as calls;
+    ghost use Rattle.sv_session.specs.Id.{id_text};
     ghost use Rattle.sv_session.specs.Calls.{Refuses};
-    ghost use Rattle.sv_session.specs.Store.{empty_store, is_numbered, number_of, numbered};
+    ghost use Rattle.sv_session.specs.Store.{attributes_of, empty_store, is_numbered, number_of, numbered};
 
     /// No sessions yet, at most `limit` of them at a time. A session ends `interval` seconds after its last access, or never where that is 0. It takes no
     /// memory.
@@ -77,11 +79,11 @@ impl Sessions {
         Ok(serial)
     }
 
-    /// The number of the session of an id, if one lives.
-    pub fn find(&self, id: &str) -> Option<u64>
+    /// The number of the session of an id, if one lives. The bytes are what a client sent, and may be no text.
+    pub fn find(&self, id: &[u8]) -> Option<u64>
         ensures { result ≡ number_of id.now self.now }
     {
-        let session = self.sessions.iter().find(|session| session.id() == id)?;
+        let session = self.sessions.iter().find(|session| session.id().as_bytes() == id)?;
         Some(session.number())
     }
 
@@ -91,6 +93,27 @@ impl Sessions {
     {
         let session = self.session(number)?;
         Some(session.id())
+    }
+
+    /// The id of the session that [`open`](Sessions::open) would open with these random words.
+    ///
+    /// # Errors
+    /// Those of [`open`](Sessions::open), in the same order.
+    pub fn next_id(&self, words: (u64, u64)) -> Result<Text, SessionFault>
+        ensures { MatchResult result
+            (λ id. (calls.opening_faults self.now ≡ []) × (id ≡ id_text words (self.now.serial + 1)))
+            (λ fault. Refuses (calls.opening_faults self.now) fault self.now self.now) }
+    {
+        if self.sessions.len() >= self.limit {
+            return Err(SessionFault::TooMany);
+        }
+        if self.serial == GREATEST_SERIAL {
+            return Err(SessionFault::SerialSpent);
+        }
+        let Ok(id) = id_of(self.alloc, words, self.serial + 1) else {
+            return Err(SessionFault::NoMemory);
+        };
+        Ok(id)
     }
 
     /// The least number of a session.
@@ -228,6 +251,27 @@ impl Sessions {
             return Err(SessionFault::NoMemory);
         };
         Ok(old)
+    }
+
+    /// Why [`set`](Sessions::set) would be refused before it wants memory, if it would be.
+    pub fn setting_fault(&self, number: u64, name: &str, value: &str) -> Option<SessionFault>
+        ensures { result ≡ slice_get (calls.setting_faults number name.now value.now self.now) 0 }
+    {
+        match self.session(number) {
+            None => Some(SessionFault::NoSuch),
+            Some(session) if session.is_too_large(name, value) => Some(SessionFault::TooLarge),
+            Some(_) => None,
+        }
+    }
+
+    /// The attributes of a session, in the order in which they were first set; none where no such session lives.
+    pub fn attributes(&self, number: u64) -> &[Attribute]
+        ensures { result.now ≡ attributes_of number self.now }
+    {
+        match self.session(number) {
+            Some(session) => session.attributes.as_slice(),
+            None => &[],
+        }
     }
 
     /// Takes an attribute of a session out, and gives its value.

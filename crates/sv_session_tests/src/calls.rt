@@ -65,7 +65,7 @@ fn named(alloc: Global, sessions: &mut Sessions, call: &str) -> Result<String, N
     match word(call, 0) {
         "get" => told_text(alloc, sessions.get(number(call, 1), key.as_str())),
         "remove" => told_value(alloc, sessions.remove(number(call, 1), key.as_str())),
-        _ => told_some(alloc, sessions.find(key.as_str())),
+        _ => told_some(alloc, sessions.find(key.as_bytes())),
     }
 }
 

@@ -4,7 +4,10 @@ use Rattle.std.proofs.Common.{◌≡◌, ◌||◌, Bool, true, false, List, [], 
 use Rattle.std.specs.List.{list_any}
 use Rattle.std.proofs.lemmas.List.Folds.{list_any-append}
 use Rattle.sv_exchange.specs.Changing.{Change, SetStatus, SetHeader, AddHeader, Write, SetAttribute, Flush, Changes, Reaches, after_all, answer, changed, is_free, is_open, is_settable, left_by}
-use Rattle.sv_exchange.specs.Dispatches.{Leaves, entered, is_include, is_include_kind, is_within_include}
+use Rattle.sv_exchange.specs.Dispatches.{Leaves, entered, error_in, is_include, is_include_kind, is_within_include}
+use Rattle.sv_exchange.specs.Keeping.{counted}
+use Rattle.sv_exchange.proofs.Keeping.{changes_keep}
+use Rattle.sv_exchange.proofs.Reaching.{reached_on}
 use Rattle.sv_exchange.specs.Fields.{is_field, is_reserved_field}
 use Rattle.sv_exchange.specs.declared.exchange_fault.ExchangeFault.{ExchangeFault}
 use Rattle.sv_exchange.specs.declared.exchange_fault.ExchangeFault.TheVariants as faults
@@ -117,6 +120,47 @@ reaches_to x y changing = changing x ([], refl)
 pub unchanged : (x y : Exchange) → Changes x y → Unchanged x y
 unchanged x y changing = let reached = reaches_to x y changing in subst (Unchanged x) (sym reached.1) (all_unchanged reached.0 x)
 
+-- the same where the call of a component was counted
+pub called_unchanged : (x y : Exchange) → Changes (counted x) y → Unchanged x y
+called_unchanged x y changing =
+    let same = unchanged (counted x) y changing in (
+      record {
+        method = same.0.method;
+        context_path = same.0.context_path;
+        request_fields = same.0.request_fields;
+        moment = same.0.moment;
+        client = same.0.client;
+        dispatches = same.0.dispatches;
+      },
+      same.1,
+    )
+
+-- the count of calls and the error that is kept are the same
+abbrev pub SameAccount : Exchange → Exchange → Type 0
+SameAccount x y = (y.calls ≡ x.calls) × (y.kept ≡ x.kept)
+
+pub changes_account : (x y : Exchange) → Changes x y → SameAccount x y
+changes_account x y changing = let same = changes_keep x y changing in (same.calls, same.kept)
+
+pub made_account : (change : Change) (x : Exchange) → SameAccount x (left_by (answer change x) change x)
+made_account change x = changes_account x (left_by (answer change x) change x) (reached_on change x (left_by (answer change x) change x) refl)
+
+unless_account : (committed : Bool) (x : Exchange) → SameAccount x (if committed then x else record x { buffer = [] })
+unless_account true x = (refl, refl)
+unless_account false x = (refl, refl)
+
+pub emptied_account : (x : Exchange) → SameAccount x (emptied x)
+emptied_account x = unless_account x.committed x
+
+pub begun_account : (site : Site) (kind : Kind) (canon : Canon) (x : Exchange) → SameAccount x (begun site kind canon x)
+begun_account site kinds.Request canon x = (refl, refl)
+begun_account site kinds.Forward canon x = (refl, refl)
+begun_account site kinds.Include canon x = (refl, refl)
+begun_account site kinds.Error canon x = (refl, refl)
+
+pub left_account : (y z : Exchange) → Leaves y z → SameAccount y z
+left_account y z left = (sym (ap (λ e. e.calls) left.1), sym (ap (λ e. e.kept) left.1))
+
 -- what the beginning and the end of a dispatch leave as it is
 pub emptied_request : (kind : Kind) (x : Exchange) → SameRequest x (emptied_for kind x)
 emptied_request kinds.Request x = same_request x x refl
@@ -140,7 +184,7 @@ emptied_unchanged x = unless x.committed x
 
 -- the dispatches within a dispatch of that kind
 pub begun_dispatches : (site : Site) (kind : Kind) (canon : Canon) (x : Exchange)
-    → (begun site kind canon x).dispatches ≡ x.dispatches ++ (record { kind = kind; paths = paths_in site canon x }) ∷ []
+    → (begun site kind canon x).dispatches ≡ x.dispatches ++ (record { kind = kind; paths = paths_in site canon x; error = error_in kind x.kept }) ∷ []
 begun_dispatches site kind canon x = (emptied_request kind (entered kind (paths_in site canon x) x)).dispatches
 
 pub left_dispatches : (y z : Exchange) (left : Leaves y z) → y.dispatches ≡ z.dispatches ++ left.0 ∷ []
@@ -164,7 +208,7 @@ same_front xs ys a b h = sym (without_added xs a) ∙ ap without_last h ∙ with
 pub same_dispatches : (site : Site) (kind : Kind) (canon : Canon) (x y z : Exchange) → y.dispatches ≡ (begun site kind canon x).dispatches → Leaves y z
     → z.dispatches ≡ x.dispatches
 same_dispatches site kind canon x y z same left =
-    same_front z.dispatches x.dispatches left.0 (record { kind = kind; paths = paths_in site canon x })
+    same_front z.dispatches x.dispatches left.0 (record { kind = kind; paths = paths_in site canon x; error = error_in kind x.kept })
     (sym (left_dispatches y z left) ∙ same ∙ begun_dispatches site kind canon x)
 
 -- an include is under way within an include, and within what stands within one
@@ -184,7 +228,7 @@ either_within false false h = cc
 pub within_begun : (site : Site) (kind : Kind) (canon : Canon) (x : Exchange) → is_included kind x ≡ true → is_within_include (begun site kind canon x) ≡ true
 within_begun site kind canon x h =
     ap (list_any is_include) (begun_dispatches site kind canon x)
-    ∙ list_any-append is_include x.dispatches ((record { kind = kind; paths = paths_in site canon x }) ∷ [])
+    ∙ list_any-append is_include x.dispatches ((record { kind = kind; paths = paths_in site canon x; error = error_in kind x.kept }) ∷ [])
     ∙ either_within (is_within_include x) (is_include_kind kind) h
 
 pub within_inner : (kind : Kind) (x : Exchange) → is_within_include x ≡ true → is_included kind x ≡ true

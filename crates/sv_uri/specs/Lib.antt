@@ -1,4 +1,5 @@
 pub mod Canonical
+pub mod ContextPath
 pub mod DotSegments
 pub mod Fault
 pub mod Laws

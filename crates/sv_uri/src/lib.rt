@@ -1,7 +1,9 @@
-//! Canonical paths of request targets, the faults for which a target has none, and paths in Location fields.
+//! Canonical paths of request targets, the faults for which a target has none, paths in Location fields, and context
+//! paths as they are shown.
 #![tactic(auto)]
 
 mod canonical;
+mod context_path;
 pub mod fault;
 pub mod laws;
 mod location_field;
@@ -12,4 +14,5 @@ mod separator;
 mod walk;
 
 pub use canonical::canon;
+pub use context_path::shown_context;
 pub use location_field::location;

@@ -5,7 +5,7 @@ use Rattle.sv_lifecycle.specs.Calls.{config_at, init_record, is_ready, lets_go_o
 use Rattle.sv_lifecycle.specs.World.{IsPlaceIn, world}
 use Rattle.sv_lifecycle.proofs.Beginning.{SoFar, begins_to_end, begins_to_stop, so_far_more, so_far_none}
 use Rattle.sv_lifecycle.proofs.Places.{all_serve, few_kept, length_answered, length_kept, not_both, place_kept, rest_kept, same_in_rest, standing_there}
-use Rattle.sv_lifecycle.specs.declared.standing.Standing.TheVariants as standings
+use Rattle.sv_component.specs.declared.standing.Standing.TheVariants as standings
 use Rattle.sv_lifecycle.proofs.begin.begin_all.Goals as goal
 
 pub loop-step-init : goal.loop-step-init

@@ -1,13 +1,14 @@
-use Rattle.std.proofs.Common.{length, replicate, sym, ◌∙◌, ap, subst}
+use Rattle.std.proofs.Common.{[], length, replicate, sym, ◌∙◌, ap, subst}
 use Rattle.sv_component.specs.Runs.{Grows}
 use Rattle.sv_journal.specs.declared.event.Event.TheVariants.{ContextInitialized}
 use Rattle.sv_listeners.specs.Telling.{then_all, told}
+use Rattle.sv_session.specs.Store.{Store}
 use Rattle.sv_lifecycle.specs.Calls.{stop_calls}
 use Rattle.sv_lifecycle.specs.Starting.{code_of}
 use Rattle.sv_lifecycle.specs.World.{world}
-use Rattle.sv_lifecycle.specs.declared.standing.Standing.TheVariants as standings
-use Rattle.sv_lifecycle.proofs.Attempts.{counts_join, kept_there, none_from, not_none_from, plan_places, plan_standings, started, undone}
-use Rattle.sv_lifecycle.proofs.Places.{all_kept}
+use Rattle.sv_component.specs.declared.standing.Standing.TheVariants as standings
+use Rattle.sv_lifecycle.proofs.Attempts.{kept_there, none_from, not_none_from, plan_places, plan_standings, started, undone}
+use Rattle.sv_lifecycle.proofs.Places.{all_kept, counts_join}
 use Rattle.sv_lifecycle.proofs.start.run.Goals.{else-is_none-via-then-is_none+else-whole, else-is_none-via-else-is_none}
 use Rattle.sv_lifecycle.proofs.start.run.Goals as goal
 
@@ -50,8 +51,11 @@ returns g c = λ app fits is_plan.
     (then_all (told ContextInitialized (length c.args.parts.listeners.items))) (world context c.tell.new.self c.tell.new.journal)) c.as_str.ensures c.tell.ensures.made in
     let begins = c.begin_all-begun.ensures.begins app is_plan.configs in
     let ends = subst (λ context. Grows g.S.Servlet.servlet_step g.F.Filter.filter_step g.L.Listener.listener_step (world context c.begin_all-begun.new.parts c.begin_all-begun.new.journal)
-    (then_all (stop_calls (length c.begin_all-begun.new.parts.listeners.items) c.as_slice.result.now)) (world context c.end_all.new.parts c.end_all.new.journal))
-    (c.as_str-2.ensures ∙ begins.context) c.end_all.ensures.made in
+    (then_all (stop_calls (length c.begin_all-begun.new.parts.listeners.items) c.as_slice.result.now [])) (world context c.end_all.new.parts c.end_all.new.journal))
+    (c.as_str-2.ensures ∙ begins.context)
+    (subst (λ (store : Store). Grows g.S.Servlet.servlet_step g.F.Filter.filter_step g.L.Listener.listener_step (world c.as_str-2.result.now c.begin_all-begun.new.parts c.begin_all-begun.new.journal)
+    (then_all (stop_calls (length c.begin_all-begun.new.parts.listeners.items) c.as_slice.result.now store.sessions)) (world c.as_str-2.result.now c.end_all.new.parts c.end_all.new.journal))
+    c.new-no_sessions.ensures c.end_all.ensures.made) in
     undone g.S.Servlet.servlet_step g.F.Filter.filter_step g.L.Listener.listener_step app c.args.parts c.tell.new.self c.args.plan c.args.journal.now c.tell.new.journal c.begin_all-begun.result
     c.begin_all-begun.new.parts c.begin_all-begun.new.plan c.begin_all-begun.new.journal c.as_slice.result.now c.end_all.new.parts c.end_all.new.journal c.code_of-code.result fits is_plan tells begins ends
     (c.begin_all-begun.ensures.counts.listeners ∙ c.tell.ensures.counts.listeners) (c.as_slice.ensures.value ∙ c.truncate.ensures.items)

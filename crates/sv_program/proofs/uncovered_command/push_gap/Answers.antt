@@ -1,6 +1,6 @@
 use Rattle.std.proofs.Common.{ap, codes, ◌∙◌, ◌++◌}
 use Rattle.std.specs.String.{string_bytes}
-use Rattle.sv_explain.specs.Text.{shown_context}
+use Rattle.sv_uri.specs.ContextPath.{shown_context}
 use Rattle.sv_program.specs.Uncovered.{methods_text}
 use Rattle.sv_program.proofs.Lines.{seven}
 use Rattle.sv_program.proofs.uncovered_command.push_gap.Goals as goal

@@ -14,10 +14,10 @@ end_all-requires g c =
     c.as_slice.ensures.value ∙ filter_same _ test _ (λ x b f' k. search rules) _ _ c.retain.ensures.filtered in
     subst (All (IsPlaceIn c.self.inside.parts)) (sym kept) (All-filter test (IsPlaceIn c.self.inside.parts) c.self.inside.initialised.items c.self.invariant.initialised)
 
-pub returns : goal.returns
-returns g c =
+pub returns-clause-made : goal.returns-clause-made
+returns-clause-made g c =
     let test = is_in_service c.self.inside.standings.items in
     let kept : c.as_slice.result.now ≡ filter test c.self.inside.initialised.items =
     c.as_slice.ensures.value ∙ filter_same _ test _ (λ x b f' k. search rules) _ _ c.retain.ensures.filtered in
-    stops g.S.Servlet.servlet_step g.F.Filter.filter_step g.L.Listener.listener_step c.args.self _ c.as_str.result.now c.as_slice.result.now c.args.journal.now c.end_all.new.parts c.end_all.new.journal
+    stops g.S.Servlet.servlet_step g.F.Filter.filter_step g.L.Listener.listener_step c.args.self _ c.as_str.result.now c.as_slice.result.now c.args.sessions.now.sessions c.args.journal.now c.end_all.new.parts c.end_all.new.journal
     c.self.view_is c.as_str.ensures kept c.end_all.ensures.made

@@ -1,0 +1,91 @@
+//! Decisions by compiled policies, and what finds the same paths whole.
+
+use crate::constraints::constraint;
+use crate::measure::Work;
+use std::alloc::Global;
+use std::collections::HashMap;
+use sv_constraints::{Constraint, Decision, Rules};
+use sv_mapping::Pattern;
+use sv_policy::Policy;
+use sv_text::Listed;
+
+/// Deciding requests, each for another path, by a policy.
+#[derive(Drop)]
+pub struct Compiled {
+    policy: Policy,
+    paths: Vec<String>,
+}
+
+impl Compiled {
+    /// A policy of so many constraints, each on the pattern `/pN/*`, and a path `/pN/x` for each.
+    pub fn new(alloc: Global, count: u32) -> Option<Compiled> {
+        let mut constraints = Vec::new(alloc);
+        for number in 0..count {
+            constraints.push(numbered(alloc, number)?).ok()?;
+        }
+        let rules = Rules {
+            declared: Listed::from_vec(Vec::new(alloc)),
+            deny_uncovered: true,
+        };
+        Some(Compiled {
+            policy: Policy::compile(alloc, constraints, rules).ok()?,
+            paths: paths(alloc, count)?,
+        })
+    }
+}
+
+impl Work for Compiled {
+    fn round(&self, place: usize) -> Option<usize> {
+        let path = self.paths.get(place % self.paths.len().max(1))?;
+        match self.policy.decide("GET", path.as_str(), None).decision {
+            Decision::Login(why) => Some(why.number? as usize),
+            _ => None,
+        }
+    }
+}
+
+/// Looking the same paths up, each as a whole.
+#[derive(Drop)]
+pub struct Known {
+    places: HashMap<String, usize>,
+    paths: Vec<String>,
+}
+
+impl Known {
+    /// So many paths and their places.
+    pub fn new(alloc: Global, count: u32) -> Option<Known> {
+        let paths = paths(alloc, count)?;
+        let mut places = HashMap::new(alloc);
+        for (place, path) in paths.iter().enumerate() {
+            places
+                .insert(String::from_str(alloc, path.as_str()).ok()?, place)
+                .ok()?;
+        }
+        Some(Known { places, paths })
+    }
+}
+
+impl Work for Known {
+    fn round(&self, place: usize) -> Option<usize> {
+        let path = self.paths.get(place % self.paths.len().max(1))?;
+        self.places.get(path.as_str()).copied()
+    }
+}
+
+/// The constraint on the pattern `/pN/*`.
+fn numbered(alloc: Global, number: u32) -> Option<Constraint> {
+    let text = format!(in alloc; "/p{number}/*").ok()?;
+    let mut patterns = Vec::new(alloc);
+    patterns
+        .push(Pattern::parse(alloc, text.as_str()).ok()?)
+        .ok()?;
+    constraint(alloc, number, patterns)
+}
+
+fn paths(alloc: Global, count: u32) -> Option<Vec<String>> {
+    let mut paths = Vec::new(alloc);
+    for number in 0..count {
+        paths.push(format!(in alloc; "/p{number}/x").ok()?).ok()?;
+    }
+    Some(paths)
+}

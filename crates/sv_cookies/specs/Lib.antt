@@ -1,0 +1,2 @@
+pub mod Cookies
+pub mod Held

@@ -1,0 +1,24 @@
+-- What is kept of a request from its beginning to its answer, whatever components do (Jakarta Servlet 6.0, chapters 6, 9 and 10).
+use Rattle.std.specs.Prelude.{◌≡◌, suc, Some}
+use Rattle.sv_exchange.specs.declared.kept_error.KeptError.{KeptError}
+use Rattle.sv_exchange.specs.State.{State}
+
+-- that is the error of which the answer will speak
+abbrev pub with_kept : KeptError → State → State
+with_kept kept before = record before { kept = Some kept }
+
+-- one call more
+abbrev pub counted : State → State
+counted before = record before { calls = suc before.calls }
+
+-- what was asked, the dispatches that are under way, the error that is kept and the count of calls are the same
+pub record SameRequest (before after : State) : Type 0 where
+  pub method : after.method ≡ before.method
+  pub context_path : after.context_path ≡ before.context_path
+  pub request_fields : after.request_fields ≡ before.request_fields
+  pub body : after.body ≡ before.body
+  pub moment : after.moment ≡ before.moment
+  pub client : after.client ≡ before.client
+  pub dispatches : after.dispatches ≡ before.dispatches
+  pub calls : after.calls ≡ before.calls
+  pub kept : after.kept ≡ before.kept

@@ -1,0 +1,33 @@
+//! What an error page is told of its error.
+
+ghost use Rattle.sv_text.specs.Gives.{GivesAnswer};
+ghost use Rattle.sv_exchange.specs.Dispatches.{told_error};
+
+use crate::dispatch::{copied, shown};
+use crate::kept_error::KeptError;
+use std::alloc::Global;
+use sv_text::{NoMemory, Text};
+
+/// What an error page is told of its error (Jakarta Servlet 6.0, section 10.9.1).
+#[derive(Debug, Drop)]
+pub struct ToldError {
+    /// The status in decimal digits.
+    pub status_code: Text,
+    pub message: Text,
+    /// The name of the servlet in which the error arose, `None` where none was chosen.
+    pub servlet_name: Option<Text>,
+}
+
+impl ToldError {
+    /// Copies what is told of an error.
+    pub(crate) fn of(alloc: Global, kept: &KeptError) -> Result<ToldError, NoMemory>
+        ensures { GivesAnswer result (told_error kept.now) }
+    {
+        let status_code = format!(in alloc; "{}", kept.status)?;
+        Ok(ToldError {
+            status_code: Text::from_string(status_code),
+            message: Text::copy_of(alloc, kept.text.as_str())?,
+            servlet_name: copied(alloc, shown(&kept.servlet))?,
+        })
+    }
+}

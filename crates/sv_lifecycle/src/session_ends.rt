@@ -1,0 +1,70 @@
+//! The ends of the sessions of a context.
+
+ghost use Rattle.std.specs.Prelude.{◌≡◌, [], drop, length, slice_get};
+ghost use Rattle.std.specs.Option.{option_map};
+ghost use Rattle.sv_component.specs.Runs.{Grows};
+ghost use Rattle.sv_listeners.specs.Telling.{then_all};
+ghost use Rattle.sv_session.specs.Calls.{ended};
+ghost use Rattle.sv_lifecycle.specs.SessionEnds.{all_told, by_number, end_events, ends_told};
+ghost use Rattle.sv_lifecycle.specs.World.{HasSameCounts, world};
+
+use crate::parts::Parts;
+use std::alloc::Global;
+use sv_component::{Event, Filter, Listener, Servlet};
+use sv_journal::Journal;
+use sv_session::{Attribute, EndedSession, Sessions};
+
+/// Ends all sessions in the order of their numbers, and has the listeners hear of each.
+pub(crate) fn end_sessions<S: Servlet, F: Filter, L: Listener>(
+    alloc: Global,
+    context: &str,
+    parts: &mut Parts<S, F, L>,
+    sessions: &mut Sessions,
+    journal: &mut Journal,
+)
+    ensures made { Grows S.servlet_step F.filter_step L.listener_step
+        (world context.now parts.old journal.old) (then_all (ends_told sessions.old.sessions (length parts.old.listeners.items))) (world context.now parts.new journal.new) }
+    ensures left { sessions.new ≡ record sessions.old { sessions = [] } }
+    ensures counts { HasSameCounts parts.old parts.new }
+{
+    while let Some(session) = end_least(sessions) {
+        tell_end(alloc, context, parts, session, journal);
+    }
+}
+
+// Ends the session of the least number.
+fn end_least(sessions: &mut Sessions) -> Option<EndedSession>
+    ensures ended { result ≡ option_map ended (slice_get (by_number sessions.old.sessions) 0) }
+    ensures left { by_number sessions.new.sessions ≡ drop 1 (by_number sessions.old.sessions) }
+    ensures rest { sessions.new ≡ record sessions.old { sessions = sessions.new.sessions } }
+{
+    match sessions.least() {
+        Some(number) => sessions.end(number),
+        None => None,
+    }
+}
+
+// Has the listeners hear that a session has ended, and that its attributes have gone.
+fn tell_end<S: Servlet, F: Filter, L: Listener>(
+    alloc: Global,
+    context: &str,
+    parts: &mut Parts<S, F, L>,
+    session: EndedSession,
+    journal: &mut Journal,
+)
+    ensures made { Grows S.servlet_step F.filter_step L.listener_step
+        (world context.now parts.old journal.old) (then_all (all_told (end_events session) (length parts.old.listeners.items))) (world context.now parts.new journal.new) }
+    ensures counts { HasSameCounts parts.old parts.new }
+{
+    let EndedSession { number, attributes } = session;
+    parts.tell(alloc, context, &Event::SessionDestroyed(number), journal);
+    for attribute in attributes.into_vec() {
+        let Attribute { name, .. } = attribute;
+        parts.tell(
+            alloc,
+            context,
+            &Event::AttributeRemoved(number, name),
+            journal,
+        );
+    }
+}

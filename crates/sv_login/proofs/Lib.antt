@@ -1,0 +1,4 @@
+mod FormLemmas
+mod IdLemmas
+mod PassLemmas
+mod SessionLemmas

@@ -1,0 +1,13 @@
+-- Jakarta Servlet 6.0, section 13.6.3.1: the name and the password that a form sends.
+use Rattle.std.specs.Prelude.{ℕ, List, Option, codes}
+use Rattle.std.specs.Option.{option_or}
+use Rattle.sv_login.specs.declared.credentials.Credentials.{Credentials}
+use Rattle.sv_login.specs.Form.{first_value}
+
+-- the first field of each name
+abbrev pub credentials_in : List (List ℕ × List ℕ) → Credentials
+credentials_in fields = record { name = first_value (codes "j_username") fields; password = first_value (codes "j_password") fields }
+
+-- what was seen, or else what the fields have
+abbrev pub value_or : Option (List ℕ) → List ℕ → List (List ℕ × List ℕ) → Option (List ℕ)
+value_or seen name fields = option_or seen (first_value name fields)

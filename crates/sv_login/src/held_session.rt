@@ -1,0 +1,39 @@
+//! The session of a login.
+
+ghost use Rattle.std.specs.Prelude.{◌≡◌, [], MatchResult};
+ghost use Rattle.sv_session.specs.Calls.{Refuses};
+ghost use Rattle.sv_login.specs.Session.{living, session_faults, session_number, with_session};
+
+use sv_session::{SessionFault, Sessions};
+
+/// Gives the held session another id, where it lives, or opens a session, and gives its number (Jakarta Servlet 6.0, section 7.1).
+///
+/// # Errors
+/// The fault of the rename or of the opening; nothing has changed.
+pub fn renewed(
+    sessions: &mut Sessions,
+    held: Option<u64>,
+    words: (u64, u64),
+    now: u64,
+) -> Result<u64, SessionFault>
+    ensures { MatchResult result
+        (λ number. (session_faults held sessions.old ≡ []) × (number ≡ session_number held sessions.old) × (sessions.new ≡ with_session held words now sessions.old))
+        (λ fault. Refuses (session_faults held sessions.old) fault sessions.old sessions.new) }
+{
+    let Some(number) = living(sessions, held) else {
+        return sessions.open(words, now);
+    };
+    match sessions.rename(number, words) {
+        Ok(()) => Ok(number),
+        Err(fault) => Err(fault),
+    }
+}
+
+/// The held session, where it lives.
+fn living(sessions: &Sessions, held: Option<u64>) -> Option<u64>
+    ensures { result ≡ living held sessions.now }
+{
+    let number = held?;
+    sessions.id(number)?;
+    Some(number)
+}

@@ -1,0 +1,27 @@
+-- The parameters of a form that a request's body is (Jakarta Servlet 6.0, section 3.1.1).
+use Rattle.std.specs.Prelude.{ℕ, Bool, ◌&&◌, ◌==◌, List, [], take, bytes_eq, codes, Option, None, Some, if◌then◌else◌}
+use Rattle.std.specs.List.{position_or_len}
+use Rattle.http_header.specs.Token.{lowercase}
+use Rattle.httparse.specs.Grammar.{trim_ows}
+use Rattle.sv_parameters.specs.Parameters.{parameters_of}
+
+abbrev pub semicolon : ℕ
+semicolon = 59
+
+-- what stands before the parameters of a Content-Type (RFC 9110, section 8.3.1)
+abbrev pub before_parameters : List ℕ → List ℕ
+before_parameters value = take (position_or_len (λ b. b == semicolon) value) value
+
+-- the same without the blanks around it
+abbrev pub media_type : List ℕ → List ℕ
+media_type value = trim_ows (before_parameters value)
+
+-- whether it is that of a form, in any case
+abbrev pub is_form_type : List ℕ → Bool
+is_form_type value = bytes_eq (lowercase (media_type value)) (codes "application/x-www-form-urlencoded")
+
+-- the parameters of the body of a request with that method and that Content-Type
+abbrev pub form_parameters : List ℕ → Option (List ℕ) → List ℕ → List (List ℕ × List ℕ)
+form_parameters method None body = []
+form_parameters method (Some value) body =
+    if bytes_eq method (codes "POST") && is_form_type value then parameters_of body else []

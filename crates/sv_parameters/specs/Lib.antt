@@ -1,0 +1,2 @@
+pub mod Form
+pub mod Parameters

@@ -1,0 +1,12 @@
+//! Context paths as they are shown.
+
+ghost use Rattle.std.specs.Prelude.{◌≡◌};
+ghost use Rattle.sv_uri.specs.ContextPath.{shown_context};
+
+/// The context path as it is shown: `/` for the root context, whose path is empty (Jakarta Servlet 6.0, section 3.5), and
+/// else the path itself.
+pub fn shown_context(path: &str) -> &str
+    ensures { result.now ≡ shown_context path.now }
+{
+    if path.is_empty() { "/" } else { path }
+}
