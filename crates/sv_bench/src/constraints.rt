@@ -58,17 +58,25 @@ fn constraints(alloc: Global, count: u32, patterns: u32) -> Option<Vec<Constrain
     for number in 0..count {
         let from = number.saturating_mul(patterns);
         let listed = numbered_patterns(alloc, from, from.saturating_add(patterns))?;
-        constraints.push(constraint(alloc, from, listed)?).ok()?;
+        let methods = Methods::Only(two_texts(alloc, "GET", "POST")?);
+        constraints
+            .push(constraint(alloc, from, listed, methods)?)
+            .ok()?;
     }
     Some(constraints)
 }
 
-/// A constraint on these patterns, for GET and POST and two roles.
-pub fn constraint(alloc: Global, number: u32, patterns: Vec<Pattern>) -> Option<Constraint> {
+/// A constraint for two roles.
+pub fn constraint(
+    alloc: Global,
+    number: u32,
+    patterns: Vec<Pattern>,
+    methods: Methods,
+) -> Option<Constraint> {
     let mut collections = Vec::new(alloc);
     let collection = Collection {
         patterns: Listed::from_vec(patterns),
-        methods: Methods::Only(two_texts(alloc, "GET", "POST")?),
+        methods,
     };
     collections.push(collection).ok()?;
     Some(Constraint {

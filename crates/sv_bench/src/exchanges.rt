@@ -5,6 +5,7 @@ use crate::measure::Work;
 use crate::paths::TARGETS;
 use std::alloc::Global;
 use sv_exchange::Exchange;
+use sv_session::Sessions;
 use sv_uri::canon;
 use sv_uri::path::Canon;
 use sv_wire::{Inbox, Item, Message};
@@ -29,7 +30,18 @@ impl Request {
 
     /// An exchange of it.
     pub fn exchange(&self, alloc: Global) -> Option<Exchange> {
-        Exchange::begin(alloc, &self.message, &self.canon, "", 0).ok()
+        let sessions = Sessions::new(alloc, 0, 0);
+        Exchange::begin(
+            alloc,
+            &self.message,
+            &self.canon,
+            "",
+            0,
+            (0, 0),
+            None,
+            sessions,
+        )
+        .ok()
     }
 }
 
@@ -60,7 +72,7 @@ impl Work for Answering<'_> {
     fn round(&self, place: usize) -> Option<usize> {
         let mut exchange = self.request.exchange(self.alloc)?;
         answer(&mut exchange, self.fields, self.writes)?;
-        Some(place.wrapping_add(exchange.finish().body.as_slice().len()))
+        Some(place.wrapping_add(exchange.finish().0.body.as_slice().len()))
     }
 }
 

@@ -63,21 +63,25 @@ pub fn patterns<R: Clock + Print + AllocGlobal>(rt: &R, figures: bool) -> Option
     Some(())
 }
 
-/// The decision by a hundred constraints, beside a loop over the texts of their patterns.
+/// The decision by a hundred constraints, and by as many as there may be, each with as many patterns.
 pub fn constraints<R: Clock + Print + AllocGlobal>(rt: &R, figures: bool) -> Option<()> {
-    let deciding = Deciding::new(rt.alloc(), 100, 1)?;
-    let texts = numbered_texts(rt.alloc(), 100)?;
     let name = "decide_plain of 100 constraints";
-    report(rt, quick(figures), name, &deciding, texts.as_bytes())?;
-    Some(())
+    deciding(rt, quick(figures), name, 100, 1)?;
+    let name = "decide_plain of 1000 constraints of 64 patterns";
+    deciding(rt, slow(figures), name, 1000, 64)
 }
 
-/// The same by as many constraints as there may be, each with as many patterns.
-pub fn many_constraints<R: Clock + Print + AllocGlobal>(rt: &R, figures: bool) -> Option<()> {
-    let deciding = Deciding::new(rt.alloc(), 1000, 64)?;
-    let texts = numbered_texts(rt.alloc(), 64_000)?;
-    let name = "decide_plain of 1000 constraints of 64 patterns";
-    report(rt, slow(figures), name, &deciding, texts.as_bytes())?;
+/// The decision by so many constraints of so many patterns, beside a loop over the texts of their patterns.
+fn deciding<R: Clock + Print + AllocGlobal>(
+    rt: &R,
+    rounds: Rounds,
+    name: &str,
+    count: u32,
+    patterns: u32,
+) -> Option<()> {
+    let deciding = Deciding::new(rt.alloc(), count, patterns)?;
+    let texts = numbered_texts(rt.alloc(), count.saturating_mul(patterns))?;
+    report(rt, rounds, name, &deciding, texts.as_bytes())?;
     Some(())
 }
 

@@ -8,6 +8,7 @@ mod exchange_figures;
 mod exchanges;
 mod feeding;
 mod figures;
+mod files;
 mod heads;
 mod measure;
 mod paths;
@@ -15,6 +16,7 @@ mod patterns;
 mod policies;
 mod policy_figures;
 mod report;
+mod sessions;
 
 use std::env;
 use std::process::ExitCode;
@@ -33,11 +35,12 @@ fn run<R: Env + Clock + Print + AllocGlobal>(rt: &R) -> Option<()> {
     figures::path(rt, wanted)?;
     figures::patterns(rt, wanted)?;
     figures::constraints(rt, wanted)?;
-    figures::many_constraints(rt, wanted)?;
     policy_figures::policy(rt, wanted)?;
     figures::head(rt, wanted)?;
     figures::body(rt, wanted)?;
-    exchange_figures::exchange(rt, wanted)
+    exchange_figures::exchange(rt, wanted)?;
+    sessions::sessions(rt, wanted)?;
+    files::files(rt, wanted)
 }
 
 fn wants_figures<R: Env + AllocGlobal>(rt: &R) -> Option<bool> {

@@ -29,18 +29,26 @@ impl Work for Matching {
 pub fn numbered_patterns(alloc: Global, from: u32, until: u32) -> Option<Vec<Pattern>> {
     let mut patterns = Vec::new(alloc);
     for number in from..until {
-        patterns.push(numbered_pattern(alloc, number)?).ok()?;
+        let (front, back) = match number % 100 {
+            0..=59 => ("/area/", "/*"),
+            60..=89 => ("*.e", ""),
+            _ => ("/exact/page/", ""),
+        };
+        let pattern = numbered_pattern(alloc, front, number, back)?;
+        patterns.push(pattern).ok()?;
     }
     Some(patterns)
 }
 
-fn numbered_pattern(alloc: Global, number: u32) -> Option<Pattern> {
-    let text = match number % 100 {
-        0..=59 => format!(in alloc; "/area/{number}/*").ok()?,
-        60..=89 => format!(in alloc; "*.e{number}").ok()?,
-        _ => format!(in alloc; "/exact/page/{number}").ok()?,
-    };
+/// The pattern of a number between a front and a back.
+pub fn numbered_pattern(alloc: Global, front: &str, number: u32, back: &str) -> Option<Pattern> {
+    let text = numbered_text(alloc, front, number, back)?;
     Pattern::parse(alloc, text.as_str()).ok()
+}
+
+/// The text of a number between a front and a back.
+pub fn numbered_text(alloc: Global, front: &str, number: u32, back: &str) -> Option<String> {
+    format!(in alloc; "{front}{number}{back}").ok()
 }
 
 /// The texts of as many patterns, one behind another.

@@ -2,10 +2,10 @@
 
 use crate::constraints::constraint;
 use crate::measure::Work;
+use crate::patterns::{numbered_pattern, numbered_text};
 use std::alloc::Global;
 use std::collections::HashMap;
-use sv_constraints::{Constraint, Decision, Rules};
-use sv_mapping::Pattern;
+use sv_constraints::{Constraint, Decision, Methods, Rules};
 use sv_policy::Policy;
 use sv_text::Listed;
 
@@ -74,18 +74,16 @@ impl Work for Known {
 
 /// The constraint on the pattern `/pN/*`.
 fn numbered(alloc: Global, number: u32) -> Option<Constraint> {
-    let text = format!(in alloc; "/p{number}/*").ok()?;
     let mut patterns = Vec::new(alloc);
-    patterns
-        .push(Pattern::parse(alloc, text.as_str()).ok()?)
-        .ok()?;
-    constraint(alloc, number, patterns)
+    let pattern = numbered_pattern(alloc, "/p", number, "/*")?;
+    patterns.push(pattern).ok()?;
+    constraint(alloc, number, patterns, Methods::All)
 }
 
 fn paths(alloc: Global, count: u32) -> Option<Vec<String>> {
     let mut paths = Vec::new(alloc);
     for number in 0..count {
-        paths.push(format!(in alloc; "/p{number}/x").ok()?).ok()?;
+        paths.push(numbered_text(alloc, "/p", number, "/x")?).ok()?;
     }
     Some(paths)
 }

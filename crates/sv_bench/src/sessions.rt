@@ -36,7 +36,10 @@ impl Work for Opening {
         let mut sessions = self.opened(place as u64)?;
         let mut found = place;
         for moment in 0..self.expiries {
-            if sessions.expire((place as u64).wrapping_add(moment)).is_some() {
+            if sessions
+                .expire((place as u64).wrapping_add(moment))
+                .is_some()
+            {
                 found = found.rotate_left(1);
             }
         }

@@ -17,6 +17,6 @@ pub(crate) fn write_plain(exchange: &mut Exchange, text: &[u8]) -> Result<(), No
 pub(crate) fn unless_refused(done: Result<bool, ExchangeFault>) -> Result<(), NoMemory> {
     match done {
         Err(ExchangeFault::NoMemory) => Err(NoMemory),
-        Err(ExchangeFault::BadHeader) | Err(ExchangeFault::TooLarge) | Ok(_) => Ok(()),
+        Err(_) | Ok(_) => Ok(()),
     }
 }

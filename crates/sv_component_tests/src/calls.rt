@@ -88,6 +88,7 @@ fn answered(done: Result<bool, ExchangeFault>) -> &'static str {
         Err(ExchangeFault::NoMemory) => "NoMemory",
         Err(ExchangeFault::BadHeader) => "BadHeader",
         Err(ExchangeFault::TooLarge) => "TooLarge",
+        Err(_) => "?",
     }
 }
 

@@ -135,7 +135,8 @@ impl Asks for Changes {
 }
 
 fn finished(exchange: Exchange) -> Response {
-    exchange.finish()
+    let (response, _sessions) = exchange.finish();
+    response
 }
 
 fn write_outcome(

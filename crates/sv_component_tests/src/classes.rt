@@ -134,7 +134,7 @@ fn write_both(
 
 /// Writes the fields and the body of a response.
 fn write_response(exchange: Exchange, answer: &mut Vec<u8>) -> Result<(), NoMemory> {
-    let response = exchange.finish();
+    let (response, _sessions) = exchange.finish();
     write_fields(response.fields.as_slice(), answer)?;
     answer.extend_from_slice(b" | ")?;
     answer.extend_from_slice(response.body.as_slice())?;

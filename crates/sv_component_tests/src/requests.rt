@@ -5,6 +5,7 @@ use http_header::{HeaderName, HeaderValue};
 use std::alloc::Global;
 use sv_exchange::Exchange;
 use sv_head::Field;
+use sv_session::Sessions;
 use sv_text::{Bytes, Listed, NoMemory, Text};
 use sv_uri::path::Canon;
 use sv_wire::{Message, Target};
@@ -16,7 +17,11 @@ const FIELDS: &str = "host:h,x-two:1,x-two:2,x-none:";
 pub fn exchange(alloc: Global) -> Result<Exchange, NoMemory> {
     let message = message(alloc)?;
     let canon = canon(alloc)?;
-    Exchange::begin(alloc, &message, &canon, "/app", 7)
+    let sessions = Sessions::new(alloc, 0, 0);
+    match Exchange::begin(alloc, &message, &canon, "/app", 7, (0, 0), None, sessions) {
+        Ok(exchange) => Ok(exchange),
+        Err(_) => Err(NoMemory),
+    }
 }
 
 fn message(alloc: Global) -> Result<Message, NoMemory> {

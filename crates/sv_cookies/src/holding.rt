@@ -7,9 +7,8 @@ ghost use Rattle.sv_cookies.specs.Cookies.{value_of, values_in};
 ghost use Rattle.sv_cookies.specs.Held.{first_given, held};
 ghost use Rattle.sv_session.specs.Store.{number_of};
 
-use crate::blanks::trim_blanks;
 use crate::cookie::value_of;
-use sv_head::Field;
+use sv_head::{Field, trim_blanks};
 use sv_session::Sessions;
 
 /// The number of the session that a request holds: of the values of its cookies of that name, the first that is the id of a session that lives

@@ -1,7 +1,6 @@
 //! The session that a request's cookies name (Jakarta Servlet 6.0, section 7.1.1; RFC 6265, section 4.2).
 #![tactic(auto)]
 
-mod blanks;
 mod cookie;
 mod holding;
 

@@ -28,6 +28,10 @@ pub reached_by : (change : Change) (result : Result Bool ExchangeFault) (before 
 reached_by change (Ok done) before after does =
     reached_on change before after (does.1 ∙ ap (λ said. left_by said change before) (sym does.0))
 reached_by change (Err faults.NoMemory) before after does = reached_same before after does.1
+reached_by change (Err faults.Committed) before after does = reached_same before after does.1
+reached_by change (Err faults.TooManySessions) before after does = reached_same before after does.1
+reached_by change (Err faults.SerialSpent) before after does = reached_same before after does.1
+reached_by change (Err faults.NoSession) before after does = reached_same before after does.1
 reached_by change (Err faults.BadHeader) before after does = reached_same before after does.1
 reached_by change (Err faults.TooLarge) before after does = reached_same before after does.1
 

@@ -1,12 +1,14 @@
--- What the changing calls of an exchange do (Jakarta Servlet 6.0, chapters 3, 5 and 9).
-use Rattle.std.specs.Prelude.{◌≡◌, ℕ, ◌+◌, Bool, true, false, not, ◌&&◌, List, [], ◌∷◌, ◌++◌, length, ◌==◌, nat_le, Result, Ok, Err, if◌then◌else◌}
+-- What the changing calls of an exchange do (Jakarta Servlet 6.0, chapters 3, 5, 7 and 9).
+use Rattle.std.specs.Prelude.{◌≡◌, ℕ, ◌+◌, Bool, true, false, not, ◌&&◌, List, [], ◌∷◌, ◌++◌, length, ◌==◌, nat_le, is_some, Result, Ok, Err, if◌then◌else◌}
 use Rattle.sv_exchange.specs.declared.exchange_fault.ExchangeFault.{ExchangeFault}
 use Rattle.sv_exchange.specs.declared.exchange_fault.ExchangeFault.TheVariants as faults
 use Rattle.sv_exchange.specs.declared.limits.TheConstants.{MAX_BODY_LEN, LEAST_STATUS, MAX_STATUS, RESET_CONTENT, NOT_MODIFIED}
 use Rattle.sv_exchange.specs.Attributes.{is_reserved_attribute, set_value}
 use Rattle.sv_exchange.specs.Dispatches.{is_within_include}
 use Rattle.sv_exchange.specs.Fields.{add_field, is_field, is_reserved_field, set_field}
+use Rattle.sv_exchange.specs.Sessions.{ended, has_session, logged_out, on_session, opened, opening_faults, session_value, setting_faults, wants_session, with_attribute, without_attribute}
 use Rattle.sv_exchange.specs.State.{State}
+use Rattle.sv_text.specs.Faults.{first_or}
 
 -- a changing call with its arguments
 pub data Change : Type 0 where
@@ -16,6 +18,11 @@ pub data Change : Type 0 where
   Write : List ℕ → Change
   SetAttribute : List ℕ → List ℕ → Change
   Flush : Change
+  SessionOpen : Change
+  SessionSet : List ℕ → List ℕ → Change
+  SessionRemove : List ℕ → Change
+  SessionEnd : Change
+  Logout : Change
 
 -- whether status and fields can be changed: neither once the response is committed, nor within an include
 abbrev pub is_open : State → Bool
@@ -47,6 +54,11 @@ answer (AddHeader name value) before = field_answer name value before
 answer (Write bytes) before = if has_room (length bytes) before then Ok true else Err faults.TooLarge
 answer (SetAttribute name value) before = Ok (not (is_reserved_attribute name))
 answer Flush before = Ok true
+answer SessionOpen before = if has_session before then Ok true else first_or (opening_faults before) true
+answer (SessionSet name value) before = first_or (setting_faults name value before) true
+answer (SessionRemove name) before = wants_session before
+answer SessionEnd before = wants_session before
+answer Logout before = Ok true
 
 -- what the call changes where it is not ignored
 abbrev pub changed : Change → State → State
@@ -56,6 +68,11 @@ changed (AddHeader name value) before = record before { fields = add_field name 
 changed (Write bytes) before = record before { buffer = before.buffer ++ bytes }
 changed (SetAttribute name value) before = record before { attributes = set_value name value before.attributes }
 changed Flush before = record before { committed = true }
+changed SessionOpen before = if has_session before then before else opened before
+changed (SessionSet name value) before = on_session (with_attribute name value) before
+changed (SessionRemove name) before = if is_some (session_value name before) then on_session (without_attribute name) before else before
+changed SessionEnd before = on_session ended before
+changed Logout before = if is_some before.caller then logged_out before else before
 
 -- what a call that answered leaves: the change, or all as it was
 abbrev pub left_by : Result Bool ExchangeFault → Change → State → State

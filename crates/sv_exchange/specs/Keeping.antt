@@ -22,3 +22,4 @@ pub record SameRequest (before after : State) : Type 0 where
   pub dispatches : after.dispatches ≡ before.dispatches
   pub calls : after.calls ≡ before.calls
   pub kept : after.kept ≡ before.kept
+  pub words : after.words ≡ before.words

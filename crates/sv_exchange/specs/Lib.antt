@@ -7,4 +7,5 @@ pub mod Fields
 pub mod Keeping
 pub mod Laws
 pub mod Parameters
+pub mod Sessions
 pub mod State

@@ -1,7 +1,12 @@
 -- An exchange as contracts see it: what was asked, the dispatches that are under way, what is answered so far, how many
--- calls of `before` and of `service` were made, and the error of which the answer will speak (Jakarta Servlet 6.0, chapters 3, 5, 9 and 10).
+-- calls of `before` and of `service` were made, the error of which the answer will speak, and the session with the events that are still to
+-- be told (Jakarta Servlet 6.0, chapters 3, 5, 7, 9, 10 and 11).
 use Rattle.std.specs.Prelude.{ℕ, Bool, List, Option}
 use Rattle.sv_head.specs.declared.field.Field.{Field}
+use Rattle.sv_journal.specs.declared.event.Event.{Event}
+use Rattle.sv_realm.specs.declared.caller.Caller.{Caller}
+use Rattle.sv_session.specs.Store.{Store}
+use Rattle.sv_wire.specs.declared.response.Cookie.{Cookie}
 use Rattle.sv_exchange.specs.declared.attribute.Attribute.{Attribute}
 use Rattle.sv_exchange.specs.declared.dispatch.Dispatch.{Dispatch}
 use Rattle.sv_exchange.specs.declared.dispatch.Paths.{Paths}
@@ -22,3 +27,9 @@ pub record State : Type 0 where
   pub committed : Bool
   pub calls : ℕ
   pub kept : Option KeptError
+  pub words : ℕ × ℕ
+  pub store : Store
+  pub session : Option ℕ
+  pub caller : Option Caller
+  pub cookie : Option Cookie
+  pub events : List Event

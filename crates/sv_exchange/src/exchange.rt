@@ -1,21 +1,26 @@
 //! An exchange: how it begins and ends.
 
-ghost use Rattle.std.specs.Prelude.{◌≡◌};
-ghost use Rattle.std.specs.Option.{option_copied};
-ghost use Rattle.sv_text.specs.Gives.{GivesAnswer};
+ghost use Rattle.std.specs.Prelude.{◌≡◌, MatchResult};
 
+use crate::asked::Asked;
 use crate::attribute::Attribute;
-use crate::dispatch::{Dispatch, Paths, shown};
-use crate::fields::copies;
+use crate::begin_fault::BeginFault;
+use crate::dispatch::{Dispatch, Paths};
+use crate::held_session::HeldSession;
+use crate::holding::{held_cookie, parts_of};
 use crate::kept_error::KeptError;
 use crate::limits::OK;
 use http::Method;
 use std::alloc::Global;
+use std::collections::VecDeque;
 use std::marker::Model;
 use sv_head::Field;
-use sv_text::{Bytes, Listed, NoMemory, Text};
+use sv_journal::Event;
+use sv_realm::Caller;
+use sv_session::Sessions;
+use sv_text::{Bytes, Listed, Text};
 use sv_uri::path::Canon;
-use sv_wire::{Message, Response};
+use sv_wire::{Cookie, Message, Response};
 
 /// A request with the answer that components make of it (Jakarta Servlet 6.0, chapters 3 and 5). Contracts see it as a `State`.
 #[derive(Drop)]
@@ -35,6 +40,12 @@ pub struct Exchange {
     pub(crate) committed: bool,
     pub(crate) calls: u32,
     pub(crate) kept: Option<KeptError>,
+    pub(crate) words: (u64, u64),
+    pub(crate) sessions: Sessions,
+    pub(crate) session: Option<u64>,
+    pub(crate) caller: Option<Caller>,
+    pub(crate) cookie: Option<Cookie>,
+    pub(crate) events: VecDeque<Event>,
 }
 
 impl Model for Exchange {
@@ -57,6 +68,12 @@ impl Model for Exchange {
       committed = e.committed;
       calls = e.calls;
       kept = e.kept;
+      words = e.words;
+      store = e.sessions;
+      session = e.session;
+      caller = e.caller;
+      cookie = e.cookie;
+      events = e.events.items;
     } };
 }
 
@@ -64,25 +81,40 @@ impl Exchange {
     ghost use Rattle.sv_exchange.specs.Beginning.{begun, finished};
 
     /// Begins an exchange of a request to the context with that path, of which nothing was said yet. The path of the `Canon` is the
-    /// one in the context, and the moment is in seconds since 1970.
+    /// one in the context, the moment is in seconds since 1970, and the words are the two random ones of the message. The context's
+    /// sessions are lent to the exchange until [`finish`](Exchange::finish), and the session that the request holds is one of them.
+    ///
+    /// # Errors
+    /// [`BeginFault`]: a growth was refused; it gives the sessions back.
     pub fn begin(
         alloc: Global,
         message: &Message,
         canon: &Canon,
         context_path: &str,
         moment: u64,
-    ) -> Result<Exchange, NoMemory>
-        ensures { GivesAnswer result (begun message.now canon.now context_path.now moment) }
+        words: (u64, u64),
+        held: Option<HeldSession>,
+        sessions: Sessions,
+    ) -> Result<Exchange, BeginFault>
+        ensures { MatchResult result
+            (λ exchange. exchange ≡ begun message.now canon.now context_path.now moment words held sessions)
+            (λ fault. fault.sessions ≡ sessions) }
     {
-        let query = shown(&canon.query);
+        let Ok(cookie) = held_cookie(alloc, context_path, &sessions, &held) else {
+            return Err(BeginFault { sessions });
+        };
+        let Ok(asked) = Asked::copy_of(alloc, message, canon, context_path) else {
+            return Err(BeginFault { sessions });
+        };
+        let (session, caller) = parts_of(held);
         Ok(Exchange {
             alloc,
-            method: message.method.clone()?,
-            context_path: Text::copy_of(alloc, context_path)?,
-            request_fields: copies(alloc, message.fields.as_slice())?,
-            body: Bytes::copy_of(alloc, message.body.as_slice())?,
+            method: asked.method,
+            context_path: asked.context_path,
+            request_fields: asked.fields,
+            body: asked.body,
             moment,
-            client: Paths::copy_of(alloc, context_path, canon.path.as_str(), None, None, query)?,
+            client: asked.client,
             dispatches: Vec::new(alloc),
             attributes: Vec::new(alloc),
             status: OK,
@@ -91,18 +123,27 @@ impl Exchange {
             committed: false,
             calls: 0,
             kept: None,
+            words,
+            sessions,
+            session,
+            caller,
+            cookie,
+            events: VecDeque::new(alloc),
         })
     }
 
-    /// Ends the exchange with its response, without taking memory.
-    pub fn finish(self) -> Response
-        ensures { result ≡ finished self }
+    /// Ends the exchange with its response and gives the context's sessions back, without taking memory. The response sets the cookie
+    /// of the session that the message opened or renamed last, where that still lives.
+    pub fn finish(self) -> (Response, Sessions)
+        ensures response { result.0 ≡ finished self }
+        ensures sessions { result.1 ≡ self.store }
     {
-        Response {
+        let response = Response {
             status: self.status,
             fields: Listed::from_vec(self.fields),
-            cookie: None,
+            cookie: self.cookie,
             body: Bytes::from_vec(self.buffer),
-        }
+        };
+        (response, self.sessions)
     }
 }

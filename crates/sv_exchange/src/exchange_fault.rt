@@ -3,21 +3,33 @@
 ghost use Rattle.std.specs.Prelude.{◌≡◌, Some};
 ghost use Rattle.sv_exchange.specs.declared.exchange_fault.ExchangeFault.TheVariants as faults;
 ghost use Rattle.sv_exchange.specs.Fault.{fault_name};
+ghost use Rattle.sv_exchange.specs.Sessions.{fault_of};
 
 use std::alloc::{AllocError, AllocFailed};
 use std::error::Error;
 use std::fmt;
+use sv_session::SessionFault;
 use sv_text::NoMemory;
 
-/// Why a changing call was refused. Nothing changes after it. Of several faults the one answered is the first of `BadHeader`,
-/// `TooLarge` and `NoMemory`, and each comes only where the call would not be ignored. It is printed as its name.
+/// Why a changing call was refused. Nothing changes after it. Of several faults the one answered is the first of `Committed`,
+/// `BadHeader`, `NoSession`, `TooLarge`, `TooManySessions`, `SerialSpent` and `NoMemory`, and each comes only where the call would not be
+/// ignored. It is printed as its name.
 #[derive(Clone, Copy, Debug, PartialEq, Eq)]
 pub enum ExchangeFault {
+    /// A session is to be opened, and the response is committed, so that its cookie could not be set.
+    Committed = 1,
+    /// As many sessions live in the context as there may be.
+    TooManySessions = 2,
+    /// The greatest serial of the context's sessions was given.
+    SerialSpent = 3,
+    /// The request has no session that lives.
+    NoSession = 4,
     /// A growth was refused; the same call may succeed later.
     NoMemory = 5,
     /// The name or the value is none of a field (RFC 9110, sections 5.1 and 5.5).
     BadHeader = 6,
-    /// The body would be longer than [`MAX_BODY_LEN`](crate::MAX_BODY_LEN).
+    /// The body would be longer than [`MAX_BODY_LEN`](crate::MAX_BODY_LEN); or the name or the value of a session's attribute is too long,
+    /// or the session has as many others as it may have.
     TooLarge = 7,
 }
 
@@ -26,6 +38,10 @@ impl fmt::Display for ExchangeFault {
 
     fn fmt<W: fmt::Write>(&self, f: &mut fmt::Formatter<W>) -> fmt::Result {
         f.write_str(match self {
+            ExchangeFault::Committed => "Committed",
+            ExchangeFault::TooManySessions => "TooManySessions",
+            ExchangeFault::SerialSpent => "SerialSpent",
+            ExchangeFault::NoSession => "NoSession",
             ExchangeFault::NoMemory => "NoMemory",
             ExchangeFault::BadHeader => "BadHeader",
             ExchangeFault::TooLarge => "TooLarge",
@@ -34,6 +50,20 @@ impl fmt::Display for ExchangeFault {
 }
 
 impl Error for ExchangeFault {}
+
+impl From<SessionFault> for ExchangeFault {
+    ghost from_gives = { λ refused fault. fault ≡ fault_of refused };
+
+    fn from(refused: SessionFault) -> ExchangeFault {
+        match refused {
+            SessionFault::TooMany => ExchangeFault::TooManySessions,
+            SessionFault::SerialSpent => ExchangeFault::SerialSpent,
+            SessionFault::NoSuch => ExchangeFault::NoSession,
+            SessionFault::NoMemory => ExchangeFault::NoMemory,
+            SessionFault::TooLarge => ExchangeFault::TooLarge,
+        }
+    }
+}
 
 impl From<NoMemory> for ExchangeFault {
     ghost from_gives = { λ _ fault. fault ≡ faults.NoMemory };

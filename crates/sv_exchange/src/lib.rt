@@ -1,25 +1,33 @@
 //! The exchange: a request with the answer that components make of it.
 #![tactic(auto)]
 
+mod asked;
 mod attribute;
 mod attributes;
+mod begin_fault;
 mod changing;
 mod dispatch;
 mod dispatching;
+mod events;
 mod exchange;
 mod exchange_fault;
 mod fields;
+mod held_session;
+mod holding;
 mod kept_error;
 mod laws;
 mod limits;
 mod parameters;
 mod reading;
+mod sessions;
 mod told_error;
 
 pub use attribute::Attribute;
+pub use begin_fault::BeginFault;
 pub use dispatch::{Dispatch, Paths};
 pub use exchange::Exchange;
 pub use exchange_fault::ExchangeFault;
+pub use held_session::HeldSession;
 pub use kept_error::{KeptError, KeptField};
 pub use laws::{changes_are_calls, changes_keep_the_request};
 pub use limits::{LEAST_STATUS, MAX_BODY_LEN, MAX_STATUS, NOT_MODIFIED, OK, RESET_CONTENT};

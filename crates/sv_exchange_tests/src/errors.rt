@@ -37,7 +37,11 @@ impl Asks for Errors {
     fn answer(&self, alloc: Global, row: &str, answer: &mut Vec<u8>) -> Result<(), NoMemory> {
         let mut exchange = asked(alloc)?;
         keep(&mut exchange, cell(row, 1), cell(row, 2), cell(row, 3))?;
-        let kind = if cell(row, 0) == "ERROR" { Kind::Error } else { Kind::Forward };
+        let kind = if cell(row, 0) == "ERROR" {
+            Kind::Error
+        } else {
+            Kind::Forward
+        };
         exchange.enter(kind, "/e", "/e", None, None)?;
         keep(&mut exchange, "500", "later", "other")?;
         let told = exchange.attribute(cell(row, 4)).unwrap_or("-");
@@ -49,7 +53,12 @@ impl Asks for Errors {
 /// Keeps an error of that status, if it is one.
 fn keep(exchange: &mut Exchange, status: &str, text: &str, servlet: &str) -> Result<(), NoMemory> {
     match status.parse::<u16>() {
-        Ok(status) => exchange.keep_error(status, text, Some(servlet).filter(|name| *name != "-"), None),
+        Ok(status) => exchange.keep_error(
+            status,
+            text,
+            Some(servlet).filter(|name| *name != "-"),
+            None,
+        ),
         Err(_) => Ok(()),
     }
 }
@@ -68,23 +77,23 @@ fn asked(alloc: Global) -> Result<Exchange, NoMemory> {
 fn the_error_that_was_kept_last_is_the_one_that_is_kept(rt: HostRuntime) -> Result<(), NoMemory> {
     let alloc = rt.alloc();
     let mut exchange = asked(alloc)?;
-    assert!(exchange.kept().is_none());
+    assert!(rt; exchange.kept().is_none());
     exchange.keep_error(404, "gone", None, None)?;
     let field = KeptField {
         name: Text::copy_of(alloc, "retry-after")?,
         value: Text::copy_of(alloc, "6")?,
     };
     exchange.keep_error(503, "away", Some("who"), Some(field))?;
-    assert_eq!(exchange.kept().map(|kept| kept.status), Some(503));
+    assert_eq!(rt; exchange.kept().map(|kept| kept.status), Some(503));
     Ok(())
 }
 
 #[test]
 fn calls_are_counted(rt: HostRuntime) -> Result<(), NoMemory> {
     let mut exchange = asked(rt.alloc())?;
-    assert_eq!(exchange.calls(), 0);
+    assert_eq!(rt; exchange.calls(), 0);
     exchange.count_call();
     exchange.count_call();
-    assert_eq!(exchange.calls(), 2);
+    assert_eq!(rt; exchange.calls(), 2);
     Ok(())
 }

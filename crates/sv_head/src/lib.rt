@@ -19,5 +19,6 @@ pub use host::{accepts_hosts, replace_hosts};
 pub use laws::limits_are_as_stated;
 pub use length::content_length;
 pub use limits::{MAX_HOST_LEN, MAX_LENGTH_DIGITS};
+pub use members::trim_blanks;
 pub use persistence::keeps;
 pub use target::{SCHEME_LEN, TargetForm, target_form};

@@ -38,8 +38,8 @@ pub(crate) fn is_in_lower_case(bytes: &[u8], word: &[u8]) -> bool
     true
 }
 
-/// The bytes without the spaces and tabs around them.
-pub(crate) fn trim_blanks(bytes: &[u8]) -> &[u8]
+/// The bytes without the spaces and tabs around them (RFC 9110, section 5.6.3).
+pub fn trim_blanks(bytes: &[u8]) -> &[u8]
     ensures { result.now ≡ trim_ows bytes.now }
 {
     trim_end(trim_start(bytes))

@@ -1,7 +1,8 @@
 -- The texts of entries.
-use Rattle.std.specs.Prelude.{ℕ, ◌+◌, List, [], ◌∷◌, ◌++◌, codes, Option, Some, None}
+use Rattle.std.specs.Prelude.{ℕ, ◌+◌, List, ◌++◌, codes, Option, Some, None}
 use Rattle.std.specs.Fmt.{decimal}
 use Rattle.sv_constraints.specs.Decision.{why_text}
+use Rattle.sv_uri.specs.ContextPath.{shown_context}
 use Rattle.sv_journal.specs.declared.answer.Answer.{Answer}
 use Rattle.sv_journal.specs.declared.called.CallName.{CallName}
 use Rattle.sv_journal.specs.declared.called.Component.TheVariants.{Servlet, Filter}
@@ -11,11 +12,6 @@ use Rattle.sv_journal.specs.declared.event.Event.{Event}
 use Rattle.sv_journal.specs.Called.{answer_text, call_text, component_text}
 use Rattle.sv_journal.specs.Event.{event_text}
 use Rattle.sv_journal.specs.RefusalCause.{cause_text}
-
--- a context path as it is shown: `/` for the root context
-abbrev pub shown_context : List ℕ → List ℕ
-shown_context [] = codes "/"
-shown_context (first ∷ rest) = first ∷ rest
 
 -- the listener at a place, from 0, heard an event
 abbrev pub heard : List ℕ → ℕ → Event → Entry

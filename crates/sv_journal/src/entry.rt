@@ -6,13 +6,13 @@ ghost use Rattle.sv_journal.specs.Entry.{called_filter, called_servlet, entry_te
 
 use crate::answer::Answer;
 use crate::called::{CallName, Component};
-use crate::context::shown_context;
 use crate::event::Event;
 use crate::refusal_cause::RefusalCause;
 use std::alloc::Global;
 use std::fmt;
 use sv_constraints::OwnedWhy;
 use sv_text::{NoMemory, Text};
+use sv_uri::shown_context;
 
 /// An entry of the journal. The first text of most is the context path, empty for the root context. An entry is printed as one line
 /// without its end.

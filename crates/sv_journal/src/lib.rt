@@ -3,7 +3,6 @@
 
 mod answer;
 mod called;
-mod context;
 mod entry;
 mod event;
 mod journal;
@@ -11,7 +10,6 @@ mod refusal_cause;
 
 pub use answer::Answer;
 pub use called::{CallName, Component};
-pub use context::shown_context;
 pub use entry::Entry;
 pub use event::Event;
 pub use journal::Journal;

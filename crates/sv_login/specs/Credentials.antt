@@ -2,12 +2,12 @@
 use Rattle.std.specs.Prelude.{ℕ, List, Option, codes}
 use Rattle.std.specs.Option.{option_or}
 use Rattle.sv_login.specs.declared.credentials.Credentials.{Credentials}
-use Rattle.sv_login.specs.Form.{first_value}
+use Rattle.sv_parameters.specs.Parameters.{first_named}
 
 -- the first field of each name
 abbrev pub credentials_in : List (List ℕ × List ℕ) → Credentials
-credentials_in fields = record { name = first_value (codes "j_username") fields; password = first_value (codes "j_password") fields }
+credentials_in fields = record { name = first_named (codes "j_username") fields; password = first_named (codes "j_password") fields }
 
 -- what was seen, or else what the fields have
 abbrev pub value_or : Option (List ℕ) → List ℕ → List (List ℕ × List ℕ) → Option (List ℕ)
-value_or seen name fields = option_or seen (first_value name fields)
+value_or seen name fields = option_or seen (first_named name fields)

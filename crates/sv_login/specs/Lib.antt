@@ -1,5 +1,4 @@
 pub mod Credentials
-pub mod Form
 pub mod Laws
 pub mod Login
 pub mod Post

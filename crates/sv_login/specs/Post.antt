@@ -5,7 +5,8 @@ use Rattle.std.specs.Option.{option_map}
 use Rattle.std.specs.Str.{bytes_eq}
 use Rattle.sv_realm.specs.declared.user.User.{User}
 use Rattle.sv_realm.specs.Realm.{caller_checked}
-use Rattle.sv_login.specs.Form.{fields_of, first_value}
+use Rattle.sv_parameters.specs.Form.{form_parameters}
+use Rattle.sv_parameters.specs.Parameters.{first_named}
 
 -- the parts of a request that decide a login; the path is that in its context
 pub record Post : Type 0 where
@@ -23,7 +24,7 @@ is_login post = bytes_eq post.method (codes "POST") && ends_with (λ a b. a == b
 
 -- the value of the first field of that name
 abbrev pub sent : List ℕ → Post → Option (List ℕ)
-sent name post = first_value name (fields_of post.content_type post.body)
+sent name post = first_named name (form_parameters post.method post.content_type post.body)
 
 -- the number of the user of the name whom the password fits; where one of the two is missing there is none
 abbrev pub user_of : List User → Option (List ℕ) → Option (List ℕ) → Option ℕ

@@ -4,11 +4,12 @@ ghost use Rattle.std.specs.Prelude.{◌≡◌, [], ◌∷◌};
 ghost use Rattle.std.specs.Option.{option_copied};
 ghost use Rattle.sv_text.specs.Gives.{GivesAnswer};
 ghost use Rattle.sv_login.specs.Credentials.{credentials_in, value_or};
-ghost use Rattle.sv_login.specs.Form.{fields_of, form_fields};
 ghost use Rattle.sv_login.specs.Post.{user_of};
+ghost use Rattle.sv_parameters.specs.Form.{form_parameters};
+ghost use Rattle.sv_parameters.specs.Parameters.{parameters_of};
 
-use crate::form::has_form;
 use std::alloc::Global;
+use sv_parameters::is_form;
 use sv_realm::Realm;
 use sv_text::{NoMemory, Text};
 
@@ -23,12 +24,13 @@ impl Credentials {
     /// The first `j_username` and the first `j_password` of a body, which has none where it is no form.
     pub fn of_body(
         alloc: Global,
+        method: &str,
         content_type: Option<&[u8]>,
         body: &[u8],
     ) -> Result<Credentials, NoMemory>
-        ensures { GivesAnswer result (credentials_in (fields_of (option_copied content_type.entry) body.now)) }
+        ensures { GivesAnswer result (credentials_in (form_parameters method.now (option_copied content_type.entry) body.now)) }
     {
-        if !has_form(content_type) {
+        if !is_form(method, content_type) {
             return Ok(Credentials {
                 name: None,
                 password: None,
@@ -39,7 +41,7 @@ impl Credentials {
 
     /// The same of a form, which is read once.
     fn of_form(alloc: Global, form: &[u8]) -> Result<Credentials, NoMemory>
-        ensures { GivesAnswer result (credentials_in (form_fields form.now)) }
+        ensures { GivesAnswer result (credentials_in (parameters_of form.now)) }
     {
         let mut name = None;
         let mut password = None;

@@ -1,9 +1,7 @@
 //! The login step of form login (Jakarta Servlet 6.0, section 13.6.3).
 #![tactic(auto)]
 
-mod blanks;
 mod credentials;
-mod form;
 mod held_session;
 mod laws;
 mod outcome;

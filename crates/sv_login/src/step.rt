@@ -50,7 +50,7 @@ pub fn login_step(
     if !is_login(method, canon.path.as_bytes()) {
         return Ok(LoginOutcome::NotLogin);
     }
-    let credentials = Credentials::of_body(alloc, content_type, body)?;
+    let credentials = Credentials::of_body(alloc, method, content_type, body)?;
     let Some(user) = credentials.user(realm) else {
         return Ok(LoginOutcome::WrongUser);
     };

@@ -1,5 +1,5 @@
 -- The parameters of a form that a request's body is (Jakarta Servlet 6.0, section 3.1.1).
-use Rattle.std.specs.Prelude.{ℕ, Bool, ◌&&◌, ◌==◌, List, [], take, bytes_eq, codes, Option, None, Some, if◌then◌else◌}
+use Rattle.std.specs.Prelude.{ℕ, Bool, false, ◌&&◌, ◌==◌, List, [], take, bytes_eq, codes, Option, None, Some, if◌then◌else◌}
 use Rattle.std.specs.List.{position_or_len}
 use Rattle.http_header.specs.Token.{lowercase}
 use Rattle.httparse.specs.Grammar.{trim_ows}
@@ -20,8 +20,11 @@ media_type value = trim_ows (before_parameters value)
 abbrev pub is_form_type : List ℕ → Bool
 is_form_type value = bytes_eq (lowercase (media_type value)) (codes "application/x-www-form-urlencoded")
 
--- the parameters of the body of a request with that method and that Content-Type
+-- whether the body of a request with that method and that Content-Type is a form
+abbrev pub is_form : List ℕ → Option (List ℕ) → Bool
+is_form method None = false
+is_form method (Some value) = bytes_eq method (codes "POST") && is_form_type value
+
+-- the parameters of that body
 abbrev pub form_parameters : List ℕ → Option (List ℕ) → List ℕ → List (List ℕ × List ℕ)
-form_parameters method None body = []
-form_parameters method (Some value) body =
-    if bytes_eq method (codes "POST") && is_form_type value then parameters_of body else []
+form_parameters method content_type body = if is_form method content_type then parameters_of body else []

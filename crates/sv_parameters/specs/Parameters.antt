@@ -8,9 +8,13 @@ use Rattle.form_urlencoded.specs.Form.{decode, raw_pairs}
 abbrev pub text_of : List ℕ → List ℕ
 text_of written = utf8_lossy (decode written)
 
--- names with their values, in order
+-- names with their values as texts
+abbrev pub texts_of : List (List ℕ × List ℕ) → List (List ℕ × List ℕ)
+texts_of pairs = map (λ (name, value). (text_of name, text_of value)) pairs
+
+-- those of a query or a form, in order
 abbrev pub parameters_of : List ℕ → List (List ℕ × List ℕ)
-parameters_of written = map (λ (name, value). (text_of name, text_of value)) (raw_pairs written)
+parameters_of written = texts_of (raw_pairs written)
 
 -- the value of the first parameter of that name
 abbrev pub first_named : List ℕ → List (List ℕ × List ℕ) → Option (List ℕ)

@@ -1,8 +1,9 @@
 //! Parameters of a form.
 
+ghost use Rattle.std.specs.Prelude.{◌≡◌};
 ghost use Rattle.std.specs.Option.{option_copied};
 ghost use Rattle.sv_text.specs.Gives.{GivesAnswer};
-ghost use Rattle.sv_parameters.specs.Form.{form_parameters};
+ghost use Rattle.sv_parameters.specs.Form.{form_parameters, is_form};
 ghost use Rattle.sv_parameters.specs.Parameters.{first_named};
 
 use crate::media_type::is_form_type;
@@ -10,8 +11,19 @@ use crate::query::first_of_query;
 use std::alloc::Global;
 use sv_text::{NoMemory, Text};
 
+/// Whether the body of a request with that method and that value of a Content-Type is a form (Jakarta Servlet 6.0, section 3.1.1): that of a
+/// POST, of the media type of forms in any case and with any parameters.
+pub fn is_form(method: &str, content_type: Option<&[u8]>) -> bool
+    ensures { result ≡ is_form method.now (option_copied content_type.entry) }
+{
+    match content_type {
+        Some(value) => method == "POST" && is_form_type(value),
+        None => false,
+    }
+}
+
 /// The value of the first parameter of that name, with case, in the form that a body is; `None` where there is none (Jakarta Servlet 6.0,
-/// section 3.1.1). The body of a POST is a form where the value of its Content-Type says so; others have no parameters.
+/// section 3.1.1). A body that is no form has no parameters.
 ///
 /// # Errors
 /// [`NoMemory`]: a growth was refused.
@@ -24,10 +36,7 @@ pub fn first_of_form(
 ) -> Result<Option<Text>, NoMemory>
     ensures { GivesAnswer result (first_named name.now (form_parameters method.now (option_copied content_type.entry) body.now)) }
 {
-    let Some(content_type) = content_type else {
-        return Ok(None);
-    };
-    if method == "POST" && is_form_type(content_type) {
+    if is_form(method, content_type) {
         first_of_query(alloc, body, name)
     } else {
         Ok(None)

@@ -5,5 +5,5 @@ mod form;
 mod media_type;
 mod query;
 
-pub use form::first_of_form;
+pub use form::{first_of_form, is_form};
 pub use query::first_of_query;

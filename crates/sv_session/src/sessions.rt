@@ -62,11 +62,8 @@ impl Sessions {
             (λ number. (calls.opening_faults self.old ≡ []) × (number ≡ self.old.serial + 1) × (self.new ≡ calls.opened words now self.old))
             (λ fault. Refuses (calls.opening_faults self.old) fault self.old self.new) }
     {
-        if self.sessions.len() >= self.limit {
-            return Err(SessionFault::TooMany);
-        }
-        if self.serial == GREATEST_SERIAL {
-            return Err(SessionFault::SerialSpent);
+        if let Some(fault) = self.opening_fault() {
+            return Err(fault);
         }
         let serial = self.serial + 1;
         let Ok(session) = Kept::open(self.alloc, words, serial, now) else {
@@ -104,11 +101,8 @@ impl Sessions {
             (λ id. (calls.opening_faults self.now ≡ []) × (id ≡ id_text words (self.now.serial + 1)))
             (λ fault. Refuses (calls.opening_faults self.now) fault self.now self.now) }
     {
-        if self.sessions.len() >= self.limit {
-            return Err(SessionFault::TooMany);
-        }
-        if self.serial == GREATEST_SERIAL {
-            return Err(SessionFault::SerialSpent);
+        if let Some(fault) = self.opening_fault() {
+            return Err(fault);
         }
         let Ok(id) = id_of(self.alloc, words, self.serial + 1) else {
             return Err(SessionFault::NoMemory);
@@ -281,6 +275,19 @@ impl Sessions {
     {
         let place = self.place(number)?;
         self.sessions[place].remove_value(name)
+    }
+
+    /// Why no session can be opened, if none can.
+    fn opening_fault(&self) -> Option<SessionFault>
+        ensures { result ≡ slice_get (calls.opening_faults self.now) 0 }
+    {
+        if self.sessions.len() >= self.limit {
+            return Some(SessionFault::TooMany);
+        }
+        if self.serial == GREATEST_SERIAL {
+            return Some(SessionFault::SerialSpent);
+        }
+        None
     }
 
     /// The session of a number.

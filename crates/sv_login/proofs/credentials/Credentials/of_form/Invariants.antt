@@ -1,12 +1,12 @@
 use Rattle.std.proofs.Common.{◌≡◌, codes}
 use Rattle.form_urlencoded.specs.Parse.{pairs_left}
 use Rattle.sv_login.specs.Credentials.{value_or}
-use Rattle.sv_login.specs.Form.{first_value, form_fields, texts_of}
+use Rattle.sv_parameters.specs.Parameters.{first_named, parameters_of, texts_of}
 use Rattle.sv_login.proofs.credentials.Credentials.of_form.Given as goal
 
 -- what was seen, or else what is left has, is what all fields have
 abbrev pub invariant-loop-field : goal.invariant-loop-field
 invariant-loop-field l = record {
-  name_kept : value_or l.name (codes "j_username") (texts_of (pairs_left l.field-iterator)) ≡ first_value (codes "j_username") (form_fields l.form);
-  password_kept : value_or l.password (codes "j_password") (texts_of (pairs_left l.field-iterator)) ≡ first_value (codes "j_password") (form_fields l.form);
+  name_kept : value_or l.name (codes "j_username") (texts_of (pairs_left l.field-iterator)) ≡ first_named (codes "j_username") (parameters_of l.form);
+  password_kept : value_or l.password (codes "j_password") (texts_of (pairs_left l.field-iterator)) ≡ first_named (codes "j_password") (parameters_of l.form);
 }

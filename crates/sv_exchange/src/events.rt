@@ -1,0 +1,47 @@
+//! Events that are still to be told.
+
+ghost use Rattle.std.specs.Prelude.{◌≡◌, ◌++◌, ◌∷◌, ◌<◌, [], IfOk, option_to_list};
+ghost use Rattle.std.specs.VecDeque.{deque_capacity, deque_len};
+ghost use Rattle.sv_exchange.specs.Sessions.{ending_events};
+
+use crate::exchange::Exchange;
+use std::alloc::Global;
+use std::collections::VecDeque;
+use sv_journal::Event;
+use sv_session::Attribute;
+use sv_text::{NoMemory, Text};
+
+impl Exchange {
+    /// Takes the oldest event of the request's session that was not taken yet, without taking memory (Jakarta Servlet 6.0, section 11.3).
+    pub fn take_event(&mut self) -> Option<Event>
+        ensures { self.old ≡ record self.new { events = option_to_list result ++ self.new.events } }
+    {
+        self.events.pop_front()
+    }
+}
+
+/// Adds an event behind the others, for which there is room.
+pub(crate) fn push(events: &mut VecDeque<Event>, event: Event)
+    requires { deque_len events.old < deque_capacity events.old }
+    ensures { events.new.items ≡ events.old.items ++ event ∷ [] }
+{
+    // There is room.
+    let _room = events.push_back(event);
+}
+
+/// What is told of a session that ends.
+pub(crate) fn ending_events(
+    alloc: Global,
+    number: u64,
+    attributes: &[Attribute],
+) -> Result<VecDeque<Event>, NoMemory>
+    ensures { IfOk result (λ events. events.items ≡ ending_events number attributes.now) }
+{
+    let mut events = VecDeque::new(alloc);
+    events.push_back(Event::SessionDestroyed(number))?;
+    for attribute in attributes {
+        let name = Text::copy_of(alloc, attribute.name.as_str())?;
+        events.push_back(Event::AttributeRemoved(number, name))?;
+    }
+    Ok(events)
+}

@@ -1,0 +1,13 @@
+//! The session with which a request comes.
+
+use sv_realm::Caller;
+
+/// The session that a request holds when its exchange begins (Jakarta Servlet 6.0, section 7.1).
+#[derive(Drop)]
+pub struct HeldSession {
+    pub number: u64,
+    /// Whether the request's own message opened or renamed it, so that the response sets its cookie.
+    pub is_renewed: bool,
+    /// The caller whom the session holds.
+    pub caller: Option<Caller>,
+}

@@ -1,0 +1,127 @@
+//! The session of a request: what is told of it.
+
+ghost use Rattle.std.specs.Prelude.{◌≡◌, bytes_eq};
+ghost use Rattle.std.specs.List.{list_any};
+ghost use Rattle.std.specs.Option.{option_and_then, option_copied, option_map};
+ghost use Rattle.sv_text.specs.Gives.{GivesAnswer};
+ghost use Rattle.sv_exchange.specs.Beginning.{renewed_cookie};
+ghost use Rattle.sv_exchange.specs.Sessions.{cookie_path, is_in_role};
+
+use crate::exchange::Exchange;
+use crate::held_session::HeldSession;
+use std::alloc::Global;
+use sv_realm::Caller;
+use sv_session::Sessions;
+use sv_text::{NoMemory, Text};
+use sv_uri::location;
+use sv_wire::Cookie;
+
+impl Exchange {
+    ghost use Rattle.sv_exchange.specs.Sessions.{has_session, session_of, session_value};
+
+    /// The number of the request's session, while it lives (Jakarta Servlet 6.0, section 7.1).
+    pub fn session(&self) -> Option<u64>
+        ensures { result ≡ session_of self.now }
+    {
+        let number = self.session?;
+        let _id = self.sessions.id(number)?;
+        Some(number)
+    }
+
+    /// The value of the attribute of that name, with case, of the request's session; `None` where there is none, or no session (Jakarta
+    /// Servlet 6.0, section 7.4).
+    pub fn session_get(&self, name: &str) -> Option<&str>
+        ensures { option_copied result ≡ session_value name.now self.now }
+    {
+        let number = self.session()?;
+        self.sessions.get(number, name)
+    }
+
+    /// The authenticated caller, until `logout` or the session's end (Jakarta Servlet 6.0, section 13.3).
+    pub fn caller(&self) -> Option<&Caller>
+        ensures { option_copied result ≡ self.now.caller }
+    {
+        self.caller.as_ref()
+    }
+
+    /// Whether the caller has the role, with case (Jakarta Servlet 6.0, section 13.3). Every authenticated caller is in the role `**`, and
+    /// none in `*`.
+    pub fn is_user_in_role(&self, role: &str) -> bool
+        ensures { result ≡ is_in_role role.now self.now.caller }
+    {
+        match &self.caller {
+            Some(caller) => role == "**" || (role != "*" && names_role(caller.roles.as_slice(), role)),
+            None => false,
+        }
+    }
+
+    // Whether the request's session lives.
+    pub(crate) fn has_session(&self) -> bool
+        ensures { result ≡ has_session self.now }
+    {
+        self.session().is_some()
+    }
+}
+
+fn names_role(roles: &[Text], role: &str) -> bool
+    ensures { result ≡ list_any (λ own. bytes_eq own role.now) roles.now }
+{
+    roles.iter().any(|own| own.as_str() == role)
+}
+
+/// The number and the caller of the session that a request holds.
+pub(crate) fn parts_of(held: Option<HeldSession>) -> (Option<u64>, Option<Caller>)
+    ensures number { result.0 ≡ option_map (λ session. session.number) held }
+    ensures caller { result.1 ≡ option_and_then (λ session. session.caller) held }
+{
+    match held {
+        Some(held) => (Some(held.number), held.caller),
+        None => (None, None),
+    }
+}
+
+/// The cookie of a session that a request holds, where its own message opened or renamed it.
+pub(crate) fn held_cookie(
+    alloc: Global,
+    context_path: &str,
+    sessions: &Sessions,
+    held: &Option<HeldSession>,
+) -> Result<Option<Cookie>, NoMemory>
+    ensures { GivesAnswer result (option_and_then (renewed_cookie context_path.now sessions.now) held.now) }
+{
+    match held {
+        Some(held) => renewed_cookie(alloc, context_path, sessions, held),
+        None => Ok(None),
+    }
+}
+
+fn renewed_cookie(
+    alloc: Global,
+    context_path: &str,
+    sessions: &Sessions,
+    held: &HeldSession,
+) -> Result<Option<Cookie>, NoMemory>
+    ensures { GivesAnswer result (renewed_cookie context_path.now sessions.now held.now) }
+{
+    if !held.is_renewed {
+        return Ok(None);
+    }
+    match sessions.id(held.number) {
+        Some(id) => Ok(Some(Cookie {
+            id: Text::copy_of(alloc, id)?,
+            path: cookie_path(alloc, context_path)?,
+        })),
+        None => Ok(None),
+    }
+}
+
+/// The path below which a context's cookie is sent back.
+pub(crate) fn cookie_path(alloc: Global, context_path: &str) -> Result<Text, NoMemory>
+    ensures { GivesAnswer result (cookie_path context_path.now) }
+{
+    if context_path.is_empty() {
+        Text::copy_of(alloc, "/")
+    } else {
+        Ok(Text::from_string(location(alloc, context_path)?))
+    }
+}

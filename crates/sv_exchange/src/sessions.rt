@@ -1,0 +1,146 @@
+//! The calls by which components change the session of a request.
+
+ghost use Rattle.std.specs.Prelude.{◌≡◌, ◌++◌, ◌∷◌, ◌<◌, [], map};
+ghost use Rattle.sv_text.specs.Gives.{GivesAnswer};
+ghost use Rattle.sv_exchange.specs.Sessions.{ending_events};
+
+use crate::events::{ending_events, push};
+use crate::exchange::Exchange;
+use crate::exchange_fault::ExchangeFault;
+use crate::holding::cookie_path;
+use sv_journal::Event;
+use sv_text::Text;
+use sv_wire::Cookie;
+
+impl Exchange {
+    ghost use Rattle.sv_exchange.specs.Changing.{Changes, Does, Logout, SessionEnd, SessionOpen, SessionRemove, SessionSet};
+
+    /// Opens a session, whose cookie the response sets, and tells `SessionCreated`; nothing changes where the request has a session that
+    /// lives (Jakarta Servlet 6.0, section 7.2). It is never ignored. The faults are `Committed`, `TooManySessions`, `SerialSpent` and
+    /// `NoMemory`, in that order; nothing changes then.
+    pub fn session_open(&mut self) -> Result<bool, ExchangeFault>
+        ensures does { Does SessionOpen result self.old self.new }
+        ensures reached { Changes self.old self.new }
+    {
+        self.do_session_open()
+    }
+
+    /// Gives the session's attribute of the name, with case, the value, or adds one, and tells `AttributeReplaced` or `AttributeAdded`
+    /// (Jakarta Servlet 6.0, section 7.4). It is never ignored. The faults are `NoSession`, `TooLarge` where a limit of sv_session would be
+    /// passed, and `NoMemory`, in that order; nothing changes then.
+    pub fn session_set(&mut self, name: &str, value: &str) -> Result<bool, ExchangeFault>
+        ensures does { Does (SessionSet name.now value.now) result self.old self.new }
+        ensures reached { Changes self.old self.new }
+    {
+        self.do_session_set(name, value)
+    }
+
+    /// Removes the session's attribute of the name, with case, and tells `AttributeRemoved`; nothing changes where there is none (Jakarta
+    /// Servlet 6.0, section 7.4). It is never ignored. The faults are `NoSession`, then `NoMemory`; nothing changes then.
+    pub fn session_remove(&mut self, name: &str) -> Result<bool, ExchangeFault>
+        ensures does { Does (SessionRemove name.now) result self.old self.new }
+        ensures reached { Changes self.old self.new }
+    {
+        self.do_session_remove(name)
+    }
+
+    /// Ends the session, its caller and its cookie with it, and tells `SessionDestroyed`, then `AttributeRemoved` for each attribute in the
+    /// order in which they were first set (Jakarta Servlet 6.0, sections 7.5 and 11.3). It is never ignored. The faults are `NoSession`, then
+    /// `NoMemory`; nothing changes then.
+    pub fn session_end(&mut self) -> Result<bool, ExchangeFault>
+        ensures does { Does SessionEnd result self.old self.new }
+        ensures reached { Changes self.old self.new }
+    {
+        self.do_session_end()
+    }
+
+    /// The caller leaves the request and its session, which stays; nothing changes where there is no caller (Jakarta Servlet 6.0,
+    /// section 13.3). It is never ignored, and no fault comes.
+    pub fn logout(&mut self) -> Result<bool, ExchangeFault>
+        ensures does { Does Logout result self.old self.new }
+        ensures reached { Changes self.old self.new }
+    {
+        self.do_logout()
+    }
+
+    fn do_session_open(&mut self) -> Result<bool, ExchangeFault>
+        ensures { Does SessionOpen result self.old self.new }
+    {
+        if self.has_session() {
+            return Ok(true);
+        }
+        if self.committed {
+            return Err(ExchangeFault::Committed);
+        }
+        let id = self.sessions.next_id(self.words)?;
+        let path = cookie_path(self.alloc, self.context_path.as_str())?;
+        self.events.reserve(1)?;
+        let number = self.sessions.open(self.words, self.moment)?;
+        self.session = Some(number);
+        self.cookie = Some(Cookie { id, path });
+        push(&mut self.events, Event::SessionCreated(number));
+        Ok(true)
+    }
+
+    fn do_session_set(&mut self, name: &str, value: &str) -> Result<bool, ExchangeFault>
+        ensures { Does (SessionSet name.now value.now) result self.old self.new }
+    {
+        let Some(number) = self.session() else {
+            return Err(ExchangeFault::NoSession);
+        };
+        if let Some(fault) = self.sessions.setting_fault(number, name, value) {
+            return Err(ExchangeFault::from(fault));
+        }
+        let told = Text::copy_of(self.alloc, name)?;
+        self.events.reserve(1)?;
+        let event = match self.sessions.set(number, name, value)? {
+            Some(_) => Event::AttributeReplaced(number, told),
+            None => Event::AttributeAdded(number, told),
+        };
+        push(&mut self.events, event);
+        Ok(true)
+    }
+
+    fn do_session_remove(&mut self, name: &str) -> Result<bool, ExchangeFault>
+        ensures { Does (SessionRemove name.now) result self.old self.new }
+    {
+        let Some(number) = self.session() else {
+            return Err(ExchangeFault::NoSession);
+        };
+        if self.sessions.get(number, name).is_none() {
+            return Ok(true);
+        }
+        let told = Text::copy_of(self.alloc, name)?;
+        self.events.push_back(Event::AttributeRemoved(number, told))?;
+        let _removed = self.sessions.remove(number, name);
+        Ok(true)
+    }
+
+    fn do_session_end(&mut self) -> Result<bool, ExchangeFault>
+        ensures { Does SessionEnd result self.old self.new }
+    {
+        let Some(number) = self.session() else {
+            return Err(ExchangeFault::NoSession);
+        };
+        let mut events = ending_events(self.alloc, number, self.sessions.attributes(number))?;
+        self.events.append(&mut events)?;
+        let _ended = self.sessions.end(number);
+        self.session = None;
+        self.caller = None;
+        self.cookie = None;
+        Ok(true)
+    }
+
+    fn do_logout(&mut self) -> Result<bool, ExchangeFault>
+        ensures { Does Logout result self.old self.new }
+    {
+        if self.caller.is_none() {
+            return Ok(true);
+        }
+        if let Some(number) = self.session() {
+            let _was_there = self.sessions.enter_caller(number, None);
+        }
+        self.caller = None;
+        Ok(true)
+    }
+}

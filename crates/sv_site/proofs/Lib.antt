@@ -1,0 +1,3 @@
+mod Beside
+mod Declared
+mod Filing

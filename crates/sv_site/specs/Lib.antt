@@ -1,0 +1,4 @@
+pub mod FileServlet
+pub mod Seen
+pub mod ServletMappings
+pub mod Site

@@ -1,0 +1,31 @@
+-- The answers of the code in the words of dispatches.
+use Rattle.std.specs.Prelude.{◌<◌, length}
+use Rattle.std.specs.Option.{option_copied}
+use Rattle.sv_site.specs.declared.chosen.Chosen as code
+use Rattle.sv_site.specs.declared.file_found.FileFound as found
+use Rattle.sv_site.specs.declared.file_found.FileFound.TheVariants as founds
+use Rattle.sv_site.specs.declared.resource.Resource as resource
+use Rattle.sv_site.specs.declared.resource.Resource.TheVariants as resources
+use Rattle.sv_tree.specs.Site.{Chosen, FileAnswer, File, Redirect, Missing, NotAllowed, Resource, Servlet, Files, Site}
+
+abbrev pub resource_seen : resource.Resource → Resource
+resource_seen (resources.Servlet place) = Servlet place
+resource_seen resources.Files = Files
+
+abbrev pub chosen_seen : code.Chosen → Chosen
+chosen_seen chosen = record {
+  resource = resource_seen chosen.resource;
+  servlet_path = chosen.servlet_path.now;
+  path_info = option_copied chosen.path_info;
+}
+
+abbrev pub found_seen : found.FileFound → FileAnswer
+found_seen (founds.File content_type bytes) = File content_type.now bytes.now
+found_seen (founds.Redirect location) = Redirect location
+found_seen founds.Missing = Missing
+found_seen founds.NotAllowed = NotAllowed
+
+-- the file servlet, or one of the servlets
+abbrev pub IsThere : Site → Resource → Type 0
+IsThere site (Servlet place) = place < length site.names
+IsThere site Files = Unit {0}

@@ -1,0 +1,17 @@
+//! What a dispatch asks of its context, in the words of dispatches: who answers a path, behind which filters, what the file servlet
+//! has, and which page an error has (Jakarta Servlet 6.0, sections 6.2.4, 10.9.2, 10.10 and 12.1).
+#![tactic(auto)]
+
+mod chosen;
+mod file_found;
+mod patterns;
+mod redirect;
+mod resource;
+mod servlet_patterns;
+mod site;
+
+pub use chosen::Chosen;
+pub use file_found::FileFound;
+pub use resource::Resource;
+pub use servlet_patterns::ServletPatterns;
+pub use site::Site;

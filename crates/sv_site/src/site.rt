@@ -1,0 +1,195 @@
+//! A context's site.
+
+ghost use Rattle.std.specs.Prelude.{◌≡◌, ◌<◌, [], IfOk, IsTrue, Ok, length, slice_index_or};
+ghost use Rattle.std.specs.List.{All};
+ghost use Rattle.std.specs.Option.{option_copied};
+ghost use Rattle.sv_text.specs.Gives.{GivesAnswer};
+ghost use Rattle.sv_uri.specs.Canonical.{canonical};
+ghost use Rattle.sv_descriptor.specs.Agreement.{servlet_names};
+ghost use Rattle.sv_descriptor.specs.Location.{is_location};
+ghost use Rattle.sv_descriptor.specs.WellFormed.{IsWellFormed};
+ghost use Rattle.sv_site.specs.Seen.{IsThere, chosen_seen, found_seen, resource_seen};
+ghost use Rattle.sv_site.specs.ServletMappings.{mappings_of};
+ghost use Rattle.sv_site.specs.Site.{site_of};
+ghost use Rattle.sv_tree.specs.Site as tree;
+
+use crate::chosen::Chosen;
+use crate::file_found::{FileFound, answered};
+use crate::resource::Resource;
+use crate::servlet_patterns::ServletPatterns;
+use std::alloc::Global;
+use std::marker::Model;
+use sv_chain::chain_plain;
+use sv_descriptor::{Descriptor, Kind};
+use sv_error_pages::page_for;
+use sv_files::Files;
+use sv_text::{NoMemory, Text};
+use sv_uri::canon;
+use sv_uri::fault::CanonFault;
+use sv_uri::path::Canon;
+
+/// What a dispatch asks of its context. Contracts see the context's path, its descriptor and its files; `site_of` says what they are in
+/// the words of dispatches.
+#[derive(Drop)]
+pub struct Site {
+    context_path: Text,
+    descriptor: Descriptor,
+    files: Files,
+    patterns: ServletPatterns,
+}
+
+impl Model for Site {
+    ghost use Rattle.std.specs.Prelude.{◌≡◌};
+    ghost use Rattle.sv_descriptor.specs.WellFormed.{IsWellFormed};
+    ghost use Rattle.sv_site.specs.ServletMappings.{mappings_of};
+    ghost use Rattle.sv_site.specs.Site.{Content};
+
+    ghost Value = { Content };
+
+    ghost view = { λ site. record { context_path = site.context_path; app = site.descriptor; files = site.files } };
+
+    ghost invariant = { λ site. (site.patterns ≡ mappings_of site.descriptor) × IsWellFormed site.descriptor };
+}
+
+impl Site {
+    /// A site of its parts, without taking memory. The context's path is empty for the root context, and the patterns are those of the
+    /// descriptor, which `ServletPatterns::of` gives.
+    pub fn new(
+        context_path: Text,
+        descriptor: Descriptor,
+        files: Files,
+        patterns: ServletPatterns,
+    ) -> Site
+        requires patterns { patterns ≡ mappings_of descriptor }
+        requires well_formed { IsWellFormed descriptor }
+        ensures { result ≡ record { context_path = context_path; app = descriptor; files = files } }
+    {
+        Site {
+            context_path,
+            descriptor,
+            files,
+            patterns,
+        }
+    }
+
+    /// The context's path, its descriptor and its files back, without taking memory.
+    pub fn into_parts(self) -> (Text, Descriptor, Files)
+        ensures { record { context_path = result.0; app = result.1; files = result.2 } ≡ self }
+    {
+        let Site {
+            context_path,
+            descriptor,
+            files,
+            ..
+        } = self;
+        (context_path, descriptor, files)
+    }
+
+    /// The descriptor.
+    pub fn descriptor(&self) -> &Descriptor
+        ensures value { result.now ≡ self.now.app }
+        ensures well_formed { IsWellFormed self.now.app }
+    {
+        &self.descriptor
+    }
+
+    /// Who answers a path within the context: the servlet whose pattern matches it best, else the file servlet (Jakarta Servlet 6.0,
+    /// section 12.1). It takes no memory, and its price does not grow with the number of patterns.
+    pub fn chosen<'a>(&self, path: &'a str) -> Chosen<'a>
+        ensures chosen { chosen_seen result ≡ tree.chosen (site_of self.now) path.now }
+        ensures declared { IsThere (site_of self.now) (resource_seen result.resource) }
+    {
+        self.patterns.chosen(path)
+    }
+
+    /// The name of who answers: that of the servlet, or `default`.
+    pub fn name_of(&self, resource: Resource) -> &str
+        ensures { result.now ≡ tree.name_of (site_of self.now) (resource_seen resource) }
+    {
+        match resource {
+            Resource::Servlet(place) => self.servlet_name(place),
+            Resource::Files => "default",
+        }
+    }
+
+    /// The filters that a dispatch of the kind to the path passes, by their places (section 6.2.4).
+    ///
+    /// # Errors
+    /// `NoMemory` where a growth was refused.
+    pub fn chain(
+        &self,
+        alloc: Global,
+        path: &str,
+        resource: Resource,
+        kind: Kind,
+    ) -> Result<Vec<usize>, NoMemory>
+        ensures chain { IfOk result (λ chain. chain.items ≡ (site_of self.now).chain path.now (tree.name_of (site_of self.now) (resource_seen resource)) kind) }
+        ensures places { IfOk result (λ chain. All (λ place. place < length self.now.app.filters) chain.items) }
+    {
+        chain_plain(alloc, &self.descriptor, path, self.name_of(resource), kind)
+    }
+
+    /// What the file servlet has for a path with its query in a dispatch of the kind (sections 10.10 and 12.2). The price does not grow
+    /// with the number of files, and the bytes of a file are not copied.
+    ///
+    /// # Errors
+    /// `NoMemory` where a growth was refused.
+    pub fn file<'a>(
+        &'a self,
+        alloc: Global,
+        canon: &Canon,
+        method: &str,
+        kind: Kind,
+    ) -> Result<FileFound<'a>, NoMemory>
+        ensures { IfOk result (λ found. found_seen found ≡ (site_of self.now).file canon.now method.now kind) }
+    {
+        let path = canon.path.as_str();
+        let welcome = self.descriptor.web_app().welcome_files.as_slice();
+        let patterns = self.patterns.patterns();
+        let answer = self
+            .files
+            .answer(alloc, path, method, kind, welcome, patterns)?;
+        answered(alloc, self.context_path.as_str(), canon, &answer)
+    }
+
+    /// The page for an error of the status, of this kind where it is a failure, as the path and the query of its location
+    /// (section 10.9.2).
+    ///
+    /// # Errors
+    /// `NoMemory` where a growth was refused.
+    pub fn page(
+        &self,
+        alloc: Global,
+        status: u16,
+        kind: Option<&str>,
+    ) -> Result<Option<Canon>, NoMemory>
+        ensures { GivesAnswer result ((site_of self.now).page status (option_copied kind.entry)) }
+    {
+        match page_for(&self.descriptor, status, kind) {
+            Some(page) => Ok(Some(read_page(alloc, page)?)),
+            None => Ok(None),
+        }
+    }
+
+    fn servlet_name(&self, place: usize) -> &str
+        ensures { result.now ≡ slice_index_or (servlet_names self.now.app) place [] }
+    {
+        match self.descriptor.web_app().servlets.as_slice().get(place) {
+            Some(servlet) => servlet.servlet_name.as_str(),
+            None => "",
+        }
+    }
+}
+
+/// The path and the query of a page's location.
+#[tactic(auto, unfolding(sv_descriptor::specs::Location::is_location))]
+fn read_page(alloc: Global, page: &str) -> Result<Canon, NoMemory>
+    requires { IsTrue (is_location page.now) }
+    ensures { IfOk result (λ read. canonical page.now ≡ Ok read) }
+{
+    match canon(alloc, page.as_bytes()) {
+        Ok(read) => Ok(read),
+        Err(CanonFault::Path(_)) => unreachable!(),
+        Err(CanonFault::NoMemory) => Err(NoMemory),
+    }
+}
