@@ -125,22 +125,22 @@ module _ {M : Type 0} (state : M → State) (frame : M → Frame) (ran : M → L
     stands_on moment Gone next x y r h done = last_goes_on (is_missing site (Servlet place)) x y r done
     stands_on moment (Away until) next x y r h done = last_goes_on (is_away_for site (Servlet place) (until - moment)) x y r done
 
-    raised : (number : ℕ) (x y : State) (r : List Record) → y.calls ≡ count_all r + x.calls → Serve number (counted x) r y (Some None) → x.calls < y.calls
+    raised : (number : ℕ) (x y : State) (r : List Record) → y.exchange.calls ≡ count_all r + x.exchange.calls → Serve number (counted x) r y (Some None) → x.exchange.calls < y.exchange.calls
     raised number x y r sum (inr t) = absurd_result None (sym t.1)
     raised number x y r sum (inl t) =
         let one : count_all r ≡ 1 + count_all t.back = ap count_all (t.is_joined ∙ ap (λ front. front ++ t.back) t.begins.is_made) in
-        let all : y.calls ≡ count_all r + x.calls = sum in
+        let all : y.exchange.calls ≡ count_all r + x.exchange.calls = sum in
         omega arith
 
     -- a turn after which the servlet goes on had a call that counts
     goes_on : (number : ℕ) (x y : State) (r : List Record) → tree.Turn site room (Tree site room) place number x r y (Some None)
-        → (x.calls < MAX_CALLS) × (x.calls < y.calls)
+        → (x.exchange.calls < MAX_CALLS) × (x.exchange.calls < y.exchange.calls)
     goes_on number x y r h =
         let kept = turn_counts site room place number x y r (Some None) h in
         stands_on x.exchange.moment (standing_at x.exchange.moment place x.standings) (within_limit Limit (Serve number)) x y r
         (λ done. chosen_then (is_full x) Limit (becomes counted >> Serve number) x y r (Some None)
         (λ _ full. last_goes_on (faults site (Servlet place) DispatchLimit) x y r full)
-        (λ free made. (leb-false MAX_CALLS x.calls free, raised number x y r kept.0 (becomes_then counted (λ _. Serve number) x y r (Some None) made))) done) h
+        (λ free made. (leb-false MAX_CALLS x.exchange.calls free, raised number x y r kept.0 (becomes_then counted (λ _. Serve number) x y r (Some None) made))) done) h
 
     abbrev pub ServesFrom : ℕ → State → List Record → State → Option Finished → Type 0
     ServesFrom number before calls after result = (left : ℕ) × tree.Turns site room (Tree site room) place left number before calls after result
@@ -152,7 +152,7 @@ module _ {M : Type 0} (state : M → State) (frame : M → Frame) (ran : M → L
           → ServesFrom 0 (state start) (front ++ made) after result
       pub runs : (from : M) (done : List Record) → ran from done start → ran from (done ++ front) reached
       pub stays : frame reached ≡ frame start
-      pub counts : number ≤ (state reached).calls
+      pub counts : number ≤ (state reached).exchange.calls
       pub few : number ≤ MAX_CALLS
 
     pub turns_begin : (start : M) → TurnsOn start start 0
@@ -167,20 +167,20 @@ module _ {M : Type 0} (state : M → State) (frame : M → Frame) (ran : M → L
 
     -- what is left of the calls falls with each turn
     pub calls_fall : (reached next : M) (number : ℕ) → Makes state frame ran (tree.Turn site room (Tree site room) place number) reached next (Some None)
-        → ((state reached).calls < MAX_CALLS) × (MAX_CALLS - (state next).calls < MAX_CALLS - (state reached).calls)
+        → ((state reached).exchange.calls < MAX_CALLS) × (MAX_CALLS - (state next).exchange.calls < MAX_CALLS - (state reached).exchange.calls)
     calls_fall reached next number did =
         let on = goes_on number (state reached) (state next) did.made did.does_so in
-        let below : (state reached).calls < MAX_CALLS = on.0 in
-        let above : (state reached).calls < (state next).calls = on.1 in
+        let below : (state reached).exchange.calls < MAX_CALLS = on.0 in
+        let above : (state reached).exchange.calls < (state next).exchange.calls = on.1 in
         (below, omega (arith, below, above))
 
     pub turns_go_on : (start reached next : M) (number : ℕ) → TurnsOn start reached number
         → Makes state frame ran (tree.Turn site room (Tree site room) place number) reached next (Some None) → TurnsOn start next (suc number)
     turns_go_on start reached next number kept did =
         let on = goes_on number (state reached) (state next) did.made did.does_so in
-        let below : (state reached).calls < MAX_CALLS = on.0 in
-        let above : (state reached).calls < (state next).calls = on.1 in
-        let so_many : number ≤ (state reached).calls = kept.counts in
+        let below : (state reached).exchange.calls < MAX_CALLS = on.0 in
+        let above : (state reached).exchange.calls < (state next).exchange.calls = on.1 in
+        let so_many : number ≤ (state reached).exchange.calls = kept.counts in
         record {
           front = kept.front ++ did.made;
           completes = λ made after result rest.

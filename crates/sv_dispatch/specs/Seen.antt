@@ -1,18 +1,18 @@
 -- What code hands from one step of a dispatch to the next, as the definitions have it.
-use Rattle.std.specs.Prelude.{ℕ, ◌≡◌, false, List, codes, decimal, length, Option, Some, None, slice_index_or}
+use Rattle.std.specs.Prelude.{◌≡◌, ℕ, Bool, true, false, List, codes, decimal, length, Option, Some, None, slice_index_or}
 use Rattle.std.specs.Option.{option_copied}
 use Rattle.sv_component.specs.Standing.{is_gone}
+use Rattle.sv_component.specs.declared.standing.Standing.TheVariants.{Gone}
 use Rattle.sv_dispatch.specs.declared.error_field.ErrorField.{ErrorField}
 use Rattle.sv_dispatch.specs.declared.error_field.ErrorField.TheVariants as fields
 use Rattle.sv_dispatch.specs.declared.tables.Chosen.{Chosen}
 use Rattle.sv_dispatch.specs.declared.tables.Found.{Found}
 use Rattle.sv_dispatch.specs.declared.tables.Found.TheVariants as found
 use Rattle.sv_exchange.specs.Changing.{Write, has_room}
+use Rattle.sv_exchange.specs.declared.kept_error.KeptField.{KeptField}
 use Rattle.sv_tree.specs.Does.{Does, ◌>>◌, choose, gives, makes, sees}
 use Rattle.sv_tree.specs.Site as site
 use Rattle.sv_tree.specs.State.{State}
-use Rattle.sv_component.specs.declared.standing.Standing.TheVariants.{Gone}
-use Rattle.std.specs.Prelude.{Bool, true}
 
 -- who answers, with the path split
 abbrev pub chosen_seen : Chosen → site.Chosen
@@ -26,10 +26,10 @@ found_seen found.Missing = site.Missing
 found_seen found.NotAllowed = site.NotAllowed
 
 -- the field that goes with an error (RFC 9110, sections 10.2.1 and 10.2.3)
-abbrev pub field_of : ErrorField → Option (List ℕ × List ℕ)
+abbrev pub field_of : ErrorField → Option KeptField
 field_of fields.Nothing = None
-field_of fields.Allow = Some (codes "allow", codes "GET, HEAD")
-field_of (fields.RetryAfter seconds) = Some (codes "retry-after", decimal seconds)
+field_of fields.Allow = Some record { name = codes "allow"; value = codes "GET, HEAD" }
+field_of (fields.RetryAfter seconds) = Some record { name = codes "retry-after"; value = decimal seconds }
 
 -- bytes are written where the body can take them, and whether it could
 abbrev pub offers : List ℕ → Does Bool

@@ -10,7 +10,7 @@ use Rattle.sv_tree.specs.Laws.{AreWithin, RequestsAreBounded, count_all}
 use Rattle.sv_tree.specs.Served as served
 use Rattle.sv_tree.specs.Served.{Served, kept_field, plain_text, reset}
 use Rattle.sv_tree.specs.Site.{Site}
-use Rattle.sv_tree.specs.State.{State, on_exchange}
+use Rattle.sv_tree.specs.State.{KeptField, State, on_exchange}
 use Rattle.sv_tree.specs.Tree.{Tree}
 use Rattle.sv_tree.specs.declared.finished.Finished.{Finished}
 use Rattle.sv_tree.specs.declared.finished.Finished.TheVariants.{Done, Error, Failed}
@@ -25,17 +25,17 @@ use Rattle.sv_uri.specs.declared.path.Canon.{Canon}
 module _ (site : Site) (Q : ℕ → State → List Record → State → Bool → Type 0) (law : Steps site Q) (room : ℕ)
     (resets : (x : State) → Q room x [] (on_exchange reset x) true)
     (trees : (kind : Kind) (canon : Canon) → Keeps site Q room (Tree site MAX_NESTING kind canon)) where
-  sets_keeps : (field : Option (List ℕ × List ℕ)) → Keeps site Q room (served.sets field)
+  sets_keeps : (field : Option KeptField) → Keeps site Q room (served.sets field)
   sets_keeps None = gives_keeps site Q law room tt
-  sets_keeps (Some field) = makes_keeps site Q law room (SetHeader field.0 field.1)
+  sets_keeps (Some field) = makes_keeps site Q law room (SetHeader field.name field.value)
 
-  resets_keeps : (status : ℕ) (field : Option (List ℕ × List ℕ)) → Keeps site Q room (served.Resets status field)
+  resets_keeps : (status : ℕ) (field : Option KeptField) → Keeps site Q room (served.Resets status field)
   resets_keeps status field =
       then_keeps site Q law room (becomes (on_exchange reset)) (λ _. makes (SetStatus status) >> served.sets field)
       (becomes_keeps site Q law room (on_exchange reset) resets)
       (λ _. then_keeps site Q law room (makes (SetStatus status)) (λ _. served.sets field) (makes_keeps site Q law room (SetStatus status)) (λ _. sets_keeps field))
 
-  plain_keeps : (status : ℕ) (field : Option (List ℕ × List ℕ)) → Keeps site Q room (served.Plain status field)
+  plain_keeps : (status : ℕ) (field : Option KeptField) → Keeps site Q room (served.Plain status field)
   plain_keeps status field =
       let typed = SetHeader (codes "content-type") (codes "text/plain") in
       let written = Write (plain_text status) in
@@ -46,12 +46,12 @@ module _ (site : Site) (Q : ℕ → State → List Record → State → Bool →
   unless_keeps next h x y r result done =
       chosen_then x.exchange.committed (gives tt) next x y r result (λ _ none. gives_keeps site Q law room tt x y r result none) (λ _ made. h x y r result made) done
 
-  shown_keeps : (status : ℕ) (field : Option (List ℕ × List ℕ)) (finished : Finished) → Keeps site Q room (served.Shown status field finished)
+  shown_keeps : (status : ℕ) (field : Option KeptField) (finished : Finished) → Keeps site Q room (served.Shown status field finished)
   shown_keeps status field Done = gives_keeps site Q law room tt
   shown_keeps status field (Error other text) = unless_keeps (served.Plain status field) (plain_keeps status field)
   shown_keeps status field (Failed kind text) = unless_keeps (served.Plain status field) (plain_keeps status field)
 
-  pages_keep : (status : ℕ) (field : Option (List ℕ × List ℕ)) (page : Option Canon) → Keeps site Q room (served.Pages site status field page)
+  pages_keep : (status : ℕ) (field : Option KeptField) (page : Option Canon) → Keeps site Q room (served.Pages site status field page)
   pages_keep status field None = plain_keeps status field
   pages_keep status field (Some page) =
       then_keeps site Q law room (served.Resets status field) (λ _. Tree site MAX_NESTING kinds.Error page >>= served.Shown status field) (resets_keeps status field)
@@ -59,8 +59,8 @@ module _ (site : Site) (Q : ℕ → State → List Record → State → Bool →
 
   shows_keep : (status : ℕ) (kind : Option (List ℕ)) → Keeps site Q room (served.Shows site status kind)
   shows_keep status kind =
-      unless_keeps (λ state. served.Pages site status (kept_field state.kept) (site.page status kind) state)
-      (λ x y r result h. pages_keep status (kept_field x.kept) (site.page status kind) x y r result h)
+      unless_keeps (λ state. served.Pages site status (kept_field state.exchange.kept) (site.page status kind) state)
+      (λ x y r result h. pages_keep status (kept_field x.exchange.kept) (site.page status kind) x y r result h)
 
   settled_keeps : (finished : Finished) → Keeps site Q room (served.Settled site finished)
   settled_keeps Done = gives_keeps site Q law room tt
@@ -73,11 +73,11 @@ module _ (site : Site) (Q : ℕ → State → List Record → State → Bool →
 
 pub requests_are_bounded : (site : Site) → RequestsAreBounded site
 requests_are_bounded site kind canon x y r result fresh outermost h =
-    let counted = served_keeps site Counts (counting.law site) MAX_NESTING (λ x. (sym (zero-add x.calls), λ below. below))
+    let counted = served_keeps site Counts (counting.law site) MAX_NESTING (λ x. (sym (zero-add x.exchange.calls), λ below. below))
     (λ kind canon. calls_are_counted site MAX_NESTING kind canon) kind canon x y r result h in
     let nested = served_keeps site Nests (nests site) MAX_NESTING (λ x. (λ _. refl, tt)) (λ kind canon. nests_tree site MAX_NESTING kind canon) kind canon x y r result h in
-    let sum : y.calls ≡ count_all r + x.calls = counted.0 in
-    let below : y.calls ≤ MAX_CALLS = counted.1 (subst (λ n. n ≤ MAX_CALLS) (sym fresh) (lit≤ tt)) in (
+    let sum : y.exchange.calls ≡ count_all r + x.exchange.calls = counted.0 in
+    let below : y.exchange.calls ≤ MAX_CALLS = counted.1 (subst (λ n. n ≤ MAX_CALLS) (sym fresh) (lit≤ tt)) in (
       omega (arith, sum, below, fresh),
       subst (λ dispatches. AreWithin (length dispatches + MAX_NESTING) r) outermost nested.1,
     )

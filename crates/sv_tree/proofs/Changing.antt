@@ -1,10 +1,16 @@
 -- What changing calls leave as it is.
-use Rattle.std.specs.Prelude.{not, ◌&&◌}
+use Rattle.std.specs.Prelude.{not, ◌&&◌, ℕ, Option, None, Some, is_some}
+use Rattle.std.specs.Option.{option_map_or}
 use Rattle.std.proofs.Common.{◌≡◌, ◌||◌, Bool, true, false, List, [], ◌∷◌, ◌++◌, Result, Ok, Err, refl, sym, ap, ◌∙◌, subst, if◌then◌else◌}
 use Rattle.std.specs.List.{list_any}
 use Rattle.std.proofs.lemmas.List.Folds.{list_any-append}
-use Rattle.sv_exchange.specs.Changing.{Change, SetStatus, SetHeader, AddHeader, Write, SetAttribute, Flush, Changes, Reaches, after_all, answer, changed, is_free, is_open, is_settable, left_by}
-use Rattle.sv_exchange.specs.Dispatches.{Leaves, entered, is_include, is_include_kind, is_within_include}
+use Rattle.sv_exchange.specs.Changing.{Change, SetStatus, SetHeader, AddHeader, Write, SetAttribute, Flush, SessionOpen, SessionSet, SessionRemove, SessionEnd, Logout, Changes, Reaches, after_all, answer, changed, is_free, is_open, is_settable, left_by}
+use Rattle.sv_exchange.specs.Dispatches.{Leaves, entered, error_in, is_include, is_include_kind, is_within_include}
+use Rattle.sv_exchange.specs.Keeping as keeping
+use Rattle.sv_exchange.specs.Keeping.{counted}
+use Rattle.sv_exchange.specs.Sessions.{ended, has_session, logged_out, on_session, opened, session_of, session_value, with_attribute, without_attribute, without_caller}
+use Rattle.sv_exchange.proofs.Keeping.{changes_keep}
+use Rattle.sv_exchange.proofs.Reaching.{reached_on}
 use Rattle.sv_exchange.specs.Fields.{is_field, is_reserved_field}
 use Rattle.sv_exchange.specs.declared.exchange_fault.ExchangeFault.{ExchangeFault}
 use Rattle.sv_exchange.specs.declared.exchange_fault.ExchangeFault.TheVariants as faults
@@ -77,13 +83,28 @@ not_answered false test h e = cc
 ok_true : (said : Result Bool ExchangeFault) (test : Bool) → said ≡ Ok test → said ≡ Ok true → test ≡ true
 ok_true said test is e = cc
 
-changed_request : (change : Change) (x : Exchange) → SameRequest x (changed change x)
-changed_request (SetStatus status) x = record { method = refl; context_path = refl; request_fields = refl; moment = refl; client = refl; dispatches = refl }
-changed_request (SetHeader name value) x = record { method = refl; context_path = refl; request_fields = refl; moment = refl; client = refl; dispatches = refl }
-changed_request (AddHeader name value) x = record { method = refl; context_path = refl; request_fields = refl; moment = refl; client = refl; dispatches = refl }
-changed_request (Write bytes) x = record { method = refl; context_path = refl; request_fields = refl; moment = refl; client = refl; dispatches = refl }
-changed_request (SetAttribute name value) x = record { method = refl; context_path = refl; request_fields = refl; moment = refl; client = refl; dispatches = refl }
-changed_request Flush x = record { method = refl; context_path = refl; request_fields = refl; moment = refl; client = refl; dispatches = refl }
+-- what the exchange says of its request says this
+request_by : (x y : Exchange) → keeping.SameRequest x y → SameRequest x y
+request_by x y same = record {
+  method = same.method;
+  context_path = same.context_path;
+  request_fields = same.request_fields;
+  moment = same.moment;
+  client = same.client;
+  dispatches = same.dispatches;
+}
+
+-- where a session lives, or a test holds, the exchange is another one
+on_session_head : (change : ℕ → Exchange → Exchange) (x : Exchange) → ((number : ℕ) → SameHead x (change number x)) → SameHead x (on_session change x)
+on_session_head change x same = found_head (session_of x)
+  where
+    found_head : (found : Option ℕ) → SameHead x (option_map_or (λ number. change number x) found x)
+    found_head None = (refl, refl)
+    found_head (Some number) = same number
+
+chosen_head : (test : Bool) (x y z : Exchange) → SameHead z x → SameHead z y → SameHead z (if test then x else y)
+chosen_head true x y z one two = one
+chosen_head false x y z one two = two
 
 changed_head : (change : Change) (x : Exchange) → is_within_include x ≡ true → answer change x ≡ Ok true → SameHead x (changed change x)
 changed_head (SetStatus status) x h e =
@@ -95,14 +116,24 @@ changed_head (AddHeader name value) x h e =
 changed_head (Write bytes) x h e = (refl, refl)
 changed_head (SetAttribute name value) x h e = (refl, refl)
 changed_head Flush x h e = (refl, refl)
+changed_head SessionOpen x h e = chosen_head (has_session x) x (opened x) x (refl, refl) (refl, refl)
+changed_head (SessionSet name value) x h e = on_session_head (with_attribute name value) x (λ number. (refl, refl))
+changed_head (SessionRemove name) x h e =
+    chosen_head (is_some (session_value name x)) (on_session (without_attribute name) x) x x (on_session_head (without_attribute name) x (λ number. (refl, refl))) (refl, refl)
+changed_head SessionEnd x h e = on_session_head ended x (λ number. (refl, refl))
+changed_head Logout x h e =
+    let left = on_session_head without_caller x (λ number. (refl, refl)) in
+    chosen_head (is_some x.caller) (logged_out x) x x (left.0, left.1) (refl, refl)
 
-left_unchanged : (said : Result Bool ExchangeFault) (change : Change) (x : Exchange) → answer change x ≡ said → Unchanged x (left_by said change x)
-left_unchanged (Ok true) change x e = (changed_request change x, λ h. changed_head change x h e)
-left_unchanged (Ok false) change x e = unchanged_same x
-left_unchanged (Err fault) change x e = unchanged_same x
+left_head : (said : Result Bool ExchangeFault) (change : Change) (x : Exchange) → answer change x ≡ said → is_within_include x ≡ true → SameHead x (left_by said change x)
+left_head (Ok true) change x e h = changed_head change x h e
+left_head (Ok false) change x e h = (refl, refl)
+left_head (Err fault) change x e h = (refl, refl)
 
 pub made_unchanged : (change : Change) (x : Exchange) → Unchanged x (left_by (answer change x) change x)
-made_unchanged change x = left_unchanged (answer change x) change x refl
+made_unchanged change x =
+    let y = left_by (answer change x) change x in
+    (request_by x y (changes_keep x y (reached_on change x y refl)), λ h. left_head (answer change x) change x refl h)
 
 all_unchanged : (changes : List Change) (x : Exchange) → Unchanged x (after_all changes x)
 all_unchanged [] x = unchanged_same x
@@ -116,6 +147,47 @@ reaches_to x y changing = changing x ([], refl)
 
 pub unchanged : (x y : Exchange) → Changes x y → Unchanged x y
 unchanged x y changing = let reached = reaches_to x y changing in subst (Unchanged x) (sym reached.1) (all_unchanged reached.0 x)
+
+-- the same where the call of a component was counted
+pub called_unchanged : (x y : Exchange) → Changes (counted x) y → Unchanged x y
+called_unchanged x y changing =
+    let same = unchanged (counted x) y changing in (
+      record {
+        method = same.0.method;
+        context_path = same.0.context_path;
+        request_fields = same.0.request_fields;
+        moment = same.0.moment;
+        client = same.0.client;
+        dispatches = same.0.dispatches;
+      },
+      same.1,
+    )
+
+-- the count of calls and the error that is kept are the same
+abbrev pub SameAccount : Exchange → Exchange → Type 0
+SameAccount x y = (y.calls ≡ x.calls) × (y.kept ≡ x.kept)
+
+pub changes_account : (x y : Exchange) → Changes x y → SameAccount x y
+changes_account x y changing = let same = changes_keep x y changing in (same.calls, same.kept)
+
+pub made_account : (change : Change) (x : Exchange) → SameAccount x (left_by (answer change x) change x)
+made_account change x = changes_account x (left_by (answer change x) change x) (reached_on change x (left_by (answer change x) change x) refl)
+
+unless_account : (committed : Bool) (x : Exchange) → SameAccount x (if committed then x else record x { buffer = [] })
+unless_account true x = (refl, refl)
+unless_account false x = (refl, refl)
+
+pub emptied_account : (x : Exchange) → SameAccount x (emptied x)
+emptied_account x = unless_account x.committed x
+
+pub begun_account : (site : Site) (kind : Kind) (canon : Canon) (x : Exchange) → SameAccount x (begun site kind canon x)
+begun_account site kinds.Request canon x = (refl, refl)
+begun_account site kinds.Forward canon x = (refl, refl)
+begun_account site kinds.Include canon x = (refl, refl)
+begun_account site kinds.Error canon x = (refl, refl)
+
+pub left_account : (y z : Exchange) → Leaves y z → SameAccount y z
+left_account y z left = (sym (ap (λ e. e.calls) left.1), sym (ap (λ e. e.kept) left.1))
 
 -- what the beginning and the end of a dispatch leave as it is
 pub emptied_request : (kind : Kind) (x : Exchange) → SameRequest x (emptied_for kind x)
@@ -140,7 +212,7 @@ emptied_unchanged x = unless x.committed x
 
 -- the dispatches within a dispatch of that kind
 pub begun_dispatches : (site : Site) (kind : Kind) (canon : Canon) (x : Exchange)
-    → (begun site kind canon x).dispatches ≡ x.dispatches ++ (record { kind = kind; paths = paths_in site canon x }) ∷ []
+    → (begun site kind canon x).dispatches ≡ x.dispatches ++ (record { kind = kind; paths = paths_in site canon x; error = error_in kind x.kept }) ∷ []
 begun_dispatches site kind canon x = (emptied_request kind (entered kind (paths_in site canon x) x)).dispatches
 
 pub left_dispatches : (y z : Exchange) (left : Leaves y z) → y.dispatches ≡ z.dispatches ++ left.0 ∷ []
@@ -164,7 +236,7 @@ same_front xs ys a b h = sym (without_added xs a) ∙ ap without_last h ∙ with
 pub same_dispatches : (site : Site) (kind : Kind) (canon : Canon) (x y z : Exchange) → y.dispatches ≡ (begun site kind canon x).dispatches → Leaves y z
     → z.dispatches ≡ x.dispatches
 same_dispatches site kind canon x y z same left =
-    same_front z.dispatches x.dispatches left.0 (record { kind = kind; paths = paths_in site canon x })
+    same_front z.dispatches x.dispatches left.0 (record { kind = kind; paths = paths_in site canon x; error = error_in kind x.kept })
     (sym (left_dispatches y z left) ∙ same ∙ begun_dispatches site kind canon x)
 
 -- an include is under way within an include, and within what stands within one
@@ -184,7 +256,7 @@ either_within false false h = cc
 pub within_begun : (site : Site) (kind : Kind) (canon : Canon) (x : Exchange) → is_included kind x ≡ true → is_within_include (begun site kind canon x) ≡ true
 within_begun site kind canon x h =
     ap (list_any is_include) (begun_dispatches site kind canon x)
-    ∙ list_any-append is_include x.dispatches ((record { kind = kind; paths = paths_in site canon x }) ∷ [])
+    ∙ list_any-append is_include x.dispatches ((record { kind = kind; paths = paths_in site canon x; error = error_in kind x.kept }) ∷ [])
     ∙ either_within (is_within_include x) (is_include_kind kind) h
 
 pub within_inner : (kind : Kind) (x : Exchange) → is_within_include x ≡ true → is_included kind x ≡ true

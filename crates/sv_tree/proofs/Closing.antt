@@ -57,7 +57,7 @@ module _ (site : Site) where
     makes = λ room x change came owed. refl;
     empties = λ room x came owed. refl;
     breaks = λ room x place turn step e left serving changes b. not_true b;
-    serves = λ room x place turn step e left serving changes came owed. served place turn x.exchange e step owed;
+    serves = λ room x place turn step e left serving changes came owed. served place turn (counted x).exchange e step owed;
     destroys = λ room x place b serving came owed. refl;
     forwards = opens kinds.Forward;
     includes = opens kinds.Include;
@@ -117,7 +117,7 @@ module _ (site : Site) (resource : Resource) where
           let asked = t.begins in
           elim asked.ends [
             | inl same ↦ ap (λ s. owed_then s (Some (passed ++ owed))) (t.is_joined ∙ ap (λ front. front ++ t.back) asked.is_made)
-                ∙ gated_owes passed filter asked.answer (filters.Befores site resource (filter ∷ passed) chain) x.exchange asked.exchange rest t.between y t.back reached owed
+                ∙ gated_owes passed filter asked.answer (filters.Befores site resource (filter ∷ passed) chain) (counted x).exchange asked.exchange rest t.between y t.back reached owed
                 (subst (λ gate. filters.Gated site resource passed gate (filters.Befores site resource (filter ∷ passed) chain) t.between t.back y (Some reached))
                 (same_result t.given asked.answer same) t.goes_on)
             | inr none ↦ absurd_result t.given (sym none)

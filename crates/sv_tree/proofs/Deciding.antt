@@ -20,7 +20,7 @@ use Rattle.sv_tree.specs.Filters as filters
 use Rattle.sv_tree.specs.Filters.{Reached, after_of, before_of}
 use Rattle.sv_tree.specs.Laws.{CallsDecide}
 use Rattle.sv_tree.specs.Site.{Resource, Servlet, Files, FileAnswer, File, Redirect, Missing, NotAllowed, Site, begun, chosen, name_of}
-use Rattle.sv_tree.specs.State.{Exchange, Kept, State, Standing, Serving, Gone, Away, away_for, counted, is_full, on_exchange, standing_at, with_exchange, with_kept}
+use Rattle.sv_tree.specs.State.{Exchange, KeptError, KeptField, State, Standing, Serving, Gone, Away, away_for, counted, is_full, on_exchange, standing_at, with_exchange, with_kept}
 use Rattle.sv_tree.specs.Tree as tree
 use Rattle.sv_tree.specs.Tree.{Tree, asked_for, destroys, last, service_of}
 use Rattle.sv_tree.specs.declared.dispatch_fault.DispatchFault.{DispatchFault}
@@ -164,15 +164,15 @@ afters_decide (filter ∷ chain) =
 module _ (site : Site) where
   fails_decides : (resource : Resource) (kind text : List ℕ) → Decides (endings.fails site resource kind text)
   fails_decides resource kind text =
-      let kept : Kept = record { status = INTERNAL_SERVER_ERROR; text = text; servlet = Some (name_of site resource); field = None } in
+      let kept : KeptError = record { status = INTERNAL_SERVER_ERROR; text = text; servlet = Some (name_of site resource); field = None } in
       then_decides (endings.keeps kept) (λ _. gives (Failed kind text)) (tries_decides (with_kept kept)) (λ _. gives_decides (Failed kind text))
 
   faults_decides : (resource : Resource) (fault : DispatchFault) → Decides (endings.faults site resource fault)
   faults_decides resource fault = fails_decides resource (fault_name fault) (fault_name fault)
 
-  errs_decides : (resource : Resource) (status : ℕ) (text : List ℕ) (field : Option (List ℕ × List ℕ)) → Decides (endings.errs site resource status text field)
+  errs_decides : (resource : Resource) (status : ℕ) (text : List ℕ) (field : Option KeptField) → Decides (endings.errs site resource status text field)
   errs_decides resource status text field x =
-      let kept : Kept = record { status = status; text = text; servlet = Some (name_of site resource); field = field } in
+      let kept : KeptError = record { status = status; text = text; servlet = Some (name_of site resource); field = field } in
       choose_decides (is_within_include x.exchange) (gives Done) (endings.keeps kept >> gives (Error status text)) (gives_decides Done)
       (then_decides (endings.keeps kept) (λ _. gives (Error status text)) (tries_decides (with_kept kept)) (λ _. gives_decides (Error status text))) x
 
@@ -180,7 +180,7 @@ module _ (site : Site) where
   missing_decides resource = errs_decides resource NOT_FOUND (phrase_of NOT_FOUND) None
 
   away_decides : (resource : Resource) (seconds : ℕ) → Decides (endings.is_away_for site resource seconds)
-  away_decides resource seconds = errs_decides resource SERVICE_UNAVAILABLE (phrase_of SERVICE_UNAVAILABLE) (Some (codes "retry-after", decimal seconds))
+  away_decides resource seconds = errs_decides resource SERVICE_UNAVAILABLE (phrase_of SERVICE_UNAVAILABLE) (Some record { name = codes "retry-after"; value = decimal seconds })
 
   sends_decides : (content_type bytes : List ℕ) → Decides (files.Sends site content_type bytes)
   sends_decides content_type bytes =
@@ -207,7 +207,7 @@ module _ (site : Site) where
   filed_decides kind (File content_type bytes) = sends_decides content_type bytes
   filed_decides kind (Redirect location) = sends_to_decides location
   filed_decides kind Missing = misses_decides kind
-  filed_decides kind NotAllowed = errs_decides Files METHOD_NOT_ALLOWED (phrase_of METHOD_NOT_ALLOWED) (Some (codes "allow", codes "GET, HEAD"))
+  filed_decides kind NotAllowed = errs_decides Files METHOD_NOT_ALLOWED (phrase_of METHOD_NOT_ALLOWED) (Some record { name = codes "allow"; value = codes "GET, HEAD" })
 
   gated_decides : (resource : Resource) (passed : List ℕ) (gate : Gate) (next : Does Reached) → Decides next → Decides (filters.Gated site resource passed gate next)
   gated_decides resource passed gates.Pass next h = h

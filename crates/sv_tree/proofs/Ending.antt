@@ -19,7 +19,7 @@ use Rattle.sv_tree.specs.Filters as filters
 use Rattle.sv_tree.specs.Filters.{Reached, after_of, before_of}
 use Rattle.sv_tree.specs.Laws.{EndingsAreKept, IncludesEndInNoError, KeepsEnding, SameRequest, is_error}
 use Rattle.sv_tree.specs.Site.{Resource, Servlet, Files, FileAnswer, File, Redirect, Missing, NotAllowed, Site, begun, chosen, name_of}
-use Rattle.sv_tree.specs.State.{Exchange, Kept, State, Standing, Serving, Gone, Away, away_for, counted, is_full, on_exchange, standing_at, with_exchange, with_kept}
+use Rattle.sv_tree.specs.State.{Exchange, KeptError, KeptField, State, Standing, Serving, Gone, Away, away_for, counted, is_full, on_exchange, standing_at, with_exchange, with_kept}
 use Rattle.sv_tree.specs.Tree as tree
 use Rattle.sv_tree.specs.Tree.{Tree, asked_for, destroys, last, service_of}
 use Rattle.sv_tree.specs.declared.dispatch_fault.DispatchFault.{DispatchFault}
@@ -27,7 +27,7 @@ use Rattle.sv_tree.specs.declared.dispatch_fault.DispatchFault.TheVariants.{Disp
 use Rattle.sv_tree.specs.declared.finished.Finished.{Finished}
 use Rattle.sv_tree.specs.declared.finished.Finished.TheVariants.{Done, Error, Failed}
 use Rattle.sv_tree.specs.declared.limits.TheConstants.{FOUND, INTERNAL_SERVER_ERROR, METHOD_NOT_ALLOWED, NOT_FOUND, SERVICE_UNAVAILABLE}
-use Rattle.sv_tree.proofs.Changing.{still_within, unchanged, within_begun, within_left}
+use Rattle.sv_tree.proofs.Changing.{changes_account, left_account, still_within, unchanged, within_begun, within_left}
 use Rattle.sv_tree.proofs.Doing.{absurd_result, chosen_then, same_result, tries_then}
 use Rattle.sv_tree.proofs.Keeping.{inside_keeps, within_keeps}
 use Rattle.sv_tree.proofs.Nesting.{Shows, filters_show, shows}
@@ -35,7 +35,7 @@ use Rattle.sv_uri.specs.declared.path.Canon.{Canon}
 use Rattle.sv_wire.specs.ResponseText.{phrase_of}
 
 -- the error that is kept where one arises
-abbrev kept_as : Site → Resource → ℕ → List ℕ → Option (List ℕ × List ℕ) → Kept
+abbrev kept_as : Site → Resource → ℕ → List ℕ → Option KeptField → KeptError
 kept_as site resource status text field = record { status = status; text = text; servlet = Some (name_of site resource); field = field }
 
 module _ (site : Site) (P : State → Finished → Type 0) where
@@ -43,9 +43,9 @@ module _ (site : Site) (P : State → Finished → Type 0) where
   pub record Settles : Type 0 where
     pub done : (x : State) → P x Done
     pub fails : (x : State) (resource : Resource) (kind text : List ℕ) → P (with_kept (kept_as site resource INTERNAL_SERVER_ERROR text None) x) (Failed kind text)
-    pub errs : (x : State) (resource : Resource) (status : ℕ) (text : List ℕ) (field : Option (List ℕ × List ℕ)) → is_within_include x.exchange ≡ false
+    pub errs : (x : State) (resource : Resource) (status : ℕ) (text : List ℕ) (field : Option KeptField) → is_within_include x.exchange ≡ false
         → P (with_kept (kept_as site resource status text field) x) (Error status text)
-    pub stays : (x y : State) (finished : Finished) → y.kept ≡ x.kept → y.exchange.dispatches ≡ x.exchange.dispatches → P x finished → P y finished
+    pub stays : (x y : State) (finished : Finished) → y.exchange.kept ≡ x.exchange.kept → y.exchange.dispatches ≡ x.exchange.dispatches → P x finished → P y finished
     pub leaves : (x : State) (z : Exchange) (finished : Finished) → Leaves x.exchange z → P x finished → P (with_exchange z x) finished
 
   abbrev Ends : Does Finished → Type 0
@@ -76,7 +76,7 @@ module _ (site : Site) (P : State → Finished → Type 0) where
   then_turn first next h x y r ended (inl t) = h t.given t.between y t.back ended t.goes_on
   then_turn first next h x y r ended (inr t) = absurd_result ended (sym t.1)
 
-  kept_ends : (kept : Kept) (value : Finished) (x y : State) (r : List Record) (finished : Finished) → P (with_kept kept x) value
+  kept_ends : (kept : KeptError) (value : Finished) (x y : State) (r : List Record) (finished : Finished) → P (with_kept kept x) value
       → (endings.keeps kept >> gives value) x r y (Some finished) → P y finished
   kept_ends kept value x y r finished h does =
       elim (tries_then (with_kept kept) (λ _. gives value) x y r (Some finished) does) [
@@ -111,7 +111,7 @@ module _ (site : Site) (P : State → Finished → Type 0) where
     faults_ends : (resource : Resource) (fault : DispatchFault) → Ends (endings.faults site resource fault)
     faults_ends resource fault = fails_ends resource (fault_name fault) (fault_name fault)
 
-    errs_ends : (resource : Resource) (status : ℕ) (text : List ℕ) (field : Option (List ℕ × List ℕ)) → Ends (endings.errs site resource status text field)
+    errs_ends : (resource : Resource) (status : ℕ) (text : List ℕ) (field : Option KeptField) → Ends (endings.errs site resource status text field)
     errs_ends resource status text field x y r finished h =
         let kept = kept_as site resource status text field in
         chosen_then (is_within_include x.exchange) (gives Done) (endings.keeps kept >> gives (Error status text)) x y r (Some finished)
@@ -122,7 +122,7 @@ module _ (site : Site) (P : State → Finished → Type 0) where
     missing_ends resource = errs_ends resource NOT_FOUND (phrase_of NOT_FOUND) None
 
     away_ends : (resource : Resource) (seconds : ℕ) → Ends (endings.is_away_for site resource seconds)
-    away_ends resource seconds = errs_ends resource SERVICE_UNAVAILABLE (phrase_of SERVICE_UNAVAILABLE) (Some (codes "retry-after", decimal seconds))
+    away_ends resource seconds = errs_ends resource SERVICE_UNAVAILABLE (phrase_of SERVICE_UNAVAILABLE) (Some record { name = codes "retry-after"; value = decimal seconds })
 
     sends_ends : (content_type bytes : List ℕ) → Ends (files.Sends site content_type bytes)
     sends_ends content_type bytes =
@@ -149,7 +149,7 @@ module _ (site : Site) (P : State → Finished → Type 0) where
     filed_ends kind (File content_type bytes) = sends_ends content_type bytes
     filed_ends kind (Redirect location) = sends_to_ends location
     filed_ends kind Missing = misses_ends kind
-    filed_ends kind NotAllowed = errs_ends Files METHOD_NOT_ALLOWED (phrase_of METHOD_NOT_ALLOWED) (Some (codes "allow", codes "GET, HEAD"))
+    filed_ends kind NotAllowed = errs_ends Files METHOD_NOT_ALLOWED (phrase_of METHOD_NOT_ALLOWED) (Some record { name = codes "allow"; value = codes "GET, HEAD" })
 
     gated_ends : (resource : Resource) (passed : List ℕ) (gate : Gate) (next : Does Reached) → FiltersEnd next → FiltersEnd (filters.Gated site resource passed gate next)
     gated_ends resource passed gates.Pass next h = h
@@ -241,13 +241,13 @@ module _ (site : Site) (P : State → Finished → Type 0) where
           (λ _ x y r finished h. filed_ends kind (site.file canon x.exchange.method kind) x y r finished h) x y r finished h
 
       afters_same : (chain : List ℕ) (x y : State) (r : List Record) (given : Unit {0}) → filters.Afters chain x r y (Some given)
-          → (y.kept ≡ x.kept) × (y.exchange.dispatches ≡ x.exchange.dispatches)
-      afters_same [] x y r given h = (ap (λ s. s.kept) h.1, ap (λ s. s.exchange.dispatches) h.1)
+          → (y.exchange.kept ≡ x.exchange.kept) × (y.exchange.dispatches ≡ x.exchange.dispatches)
+      afters_same [] x y r given h = (ap (λ s. s.exchange.kept) h.1, ap (λ s. s.exchange.dispatches) h.1)
       afters_same (filter ∷ chain) x y r given (inr t) = absurd_result given (sym t.1)
       afters_same (filter ∷ chain) x y r given (inl t) =
           let rest = chosen_then t.given (filters.Afters chain) refuses t.between y t.back (Some given)
           (λ _ on. afters_same chain t.between y t.back given on) (λ _ ended. absurd_result given (sym ended.2)) t.goes_on in (
-            rest.0 ∙ ap (λ s. s.kept) t.begins.is,
+            rest.0 ∙ (ap (λ s. s.exchange.kept) t.begins.is ∙ (changes_account x.exchange t.begins.exchange t.begins.changes).1),
             rest.1 ∙ (ap (λ s. s.exchange.dispatches) t.begins.is ∙ (unchanged x.exchange t.begins.exchange t.begins.changes).0.dispatches),
           )
 
@@ -350,7 +350,7 @@ includes_end_in_no_error site room kind canon x y r finished included h =
 
 -- the error that is kept is that of the end
 abbrev IsEndKept : State → Finished → Type 0
-IsEndKept x finished = KeepsEnding finished x.kept
+IsEndKept x finished = KeepsEnding finished x.exchange.kept
 
 end_kept : (site : Site) → Settles site IsEndKept
 end_kept site = record {
@@ -358,7 +358,7 @@ end_kept site = record {
   fails = λ x resource kind text. (refl, refl);
   errs = λ x resource status text field outside. (refl, refl);
   stays = λ x y finished kept same h. subst (KeepsEnding finished) (sym kept) h;
-  leaves = λ x z finished left h. h;
+  leaves = λ x z finished left h. subst (KeepsEnding finished) (sym (left_account x.exchange z left).1) h;
 }
 
 pub endings_are_kept : (site : Site) → EndingsAreKept site

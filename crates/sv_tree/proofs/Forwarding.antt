@@ -72,12 +72,12 @@ module _ (site : Site) (resource : Resource) where
     where
       called : (asks (before_of filter) >>= λ gate. filters.Gated site resource [] gate (filters.Befores site resource (filter ∷ []) chain)) (counted x) r y result → Begun r
       called (inl t) = (
-        before_of filter x.exchange t.begins.answer t.begins.exchange,
+        before_of filter (counted x).exchange t.begins.answer t.begins.exchange,
         t.back,
         t.is_joined ∙ ap (λ front. front ++ t.back) t.begins.is_made,
         empty,
       )
-      called (inr t) = (before_of filter x.exchange t.0.answer t.0.exchange, [], t.0.is_made, empty)
+      called (inr t) = (before_of filter (counted x).exchange t.0.answer t.0.exchange, [], t.0.is_made, empty)
 
 module _ (site : Site) (room : ℕ) (inner : Kind → Canon → Does Finished) where
   stands_begins : (place moment : ℕ) (standing : Standing) (next : Does (Option Finished)) (x y : State) (r : List Record) (result : Option (Option Finished))
@@ -87,7 +87,7 @@ module _ (site : Site) (room : ℕ) (inner : Kind → Canon → Does Finished) w
       inr (last_ended (endings.is_missing site (Servlet place)) (errs_silent site (Servlet place) NOT_FOUND (phrase_of NOT_FOUND) None) x y r result done)
   stands_begins place moment (Away until) next x y r result h done =
       inr (last_ended (endings.is_away_for site (Servlet place) (until - moment))
-      (errs_silent site (Servlet place) SERVICE_UNAVAILABLE (phrase_of SERVICE_UNAVAILABLE) (Some (codes "retry-after", decimal (until - moment)))) x y r result done)
+      (errs_silent site (Servlet place) SERVICE_UNAVAILABLE (phrase_of SERVICE_UNAVAILABLE) (Some record { name = codes "retry-after"; value = decimal (until - moment) })) x y r result done)
 
   turn_begins : (place turn : ℕ) (x y : State) (r : List Record) (result : Option (Option Finished)) → x.exchange.buffer ≡ []
       → tree.Turn site room inner place turn x r y result → Begun r ⊎ Ended r result
@@ -101,12 +101,12 @@ module _ (site : Site) (room : ℕ) (inner : Kind → Canon → Does Finished) w
     where
       called : (asks (service_of place turn) >>= tree.Stepped site room inner place) (counted x) r y result → Begun r
       called (inl t) = (
-        service_of place turn x.exchange t.begins.answer t.begins.exchange,
+        service_of place turn (counted x).exchange t.begins.answer t.begins.exchange,
         t.back,
         t.is_joined ∙ ap (λ front. front ++ t.back) t.begins.is_made,
         empty,
       )
-      called (inr t) = (service_of place turn x.exchange t.0.answer t.0.exchange, [], t.0.is_made, empty)
+      called (inr t) = (service_of place turn (counted x).exchange t.0.answer t.0.exchange, [], t.0.is_made, empty)
 
   continued_none : (ended : Option Finished) (finished : Finished) (next : Does Finished) (x y : State) (r : List Record) (result : Option Finished) → ended ≡ Some finished
       → tree.Continues site room inner ended next x r y result → r ≡ []

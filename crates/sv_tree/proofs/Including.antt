@@ -7,7 +7,7 @@ use Rattle.sv_mapping.specs.declared.kind.Kind.TheVariants as kinds
 use Rattle.sv_tree.specs.Laws.{IncludesKeep, is_included}
 use Rattle.sv_tree.specs.Site.{Site, begun, paths_in}
 use Rattle.sv_tree.specs.State.{Exchange, State, on_exchange}
-use Rattle.sv_tree.proofs.Changing.{SameHead, emptied_head, emptied_unchanged, made_unchanged, same_dispatches, still_within, unchanged, within_begun, within_inner}
+use Rattle.sv_tree.proofs.Changing.{SameHead, emptied_head, emptied_unchanged, made_unchanged, same_dispatches, still_within, called_unchanged, unchanged, within_begun, within_inner}
 use Rattle.sv_tree.proofs.Doing.{not_true}
 use Rattle.sv_tree.proofs.Keeping.{FilterSteps, Opens, Steps, away_unchanged, tree_gives, within_keeps}
 use Rattle.sv_uri.specs.declared.path.Canon.{Canon}
@@ -55,7 +55,7 @@ module _ (site : Site) where
     keeps = λ room x kept. (λ _. refl, λ _. (refl, refl));
     makes = λ room x change. let same = made_unchanged change x.exchange in (λ _. same.0.dispatches, same.1);
     empties = λ room x. let same = emptied_unchanged x.exchange in (λ _. same.0.dispatches, same.1);
-    breaks = λ room x place turn step e left serving changes. let same = unchanged x.exchange e changes in (λ _. same.0.dispatches, same.1);
+    breaks = λ room x place turn step e left serving changes. let same = called_unchanged x.exchange e changes in (λ _. same.0.dispatches, same.1);
     serves = λ room x place turn step e left serving changes. let same = away_unchanged x place step e changes in (λ _. same.0.dispatches, same.1);
     destroys = λ room x place b serving. (λ _. refl, λ _. (refl, refl));
     forwards = opens kinds.Forward;
@@ -64,7 +64,7 @@ module _ (site : Site) where
 
   filters : FilterSteps site Includes
   filters = record {
-    before = λ room place x gate e b left changes. let same = unchanged x.exchange e changes in (λ _. same.0.dispatches, same.1);
+    before = λ room place x gate e b left changes. let same = called_unchanged x.exchange e changes in (λ _. same.0.dispatches, same.1);
     after = λ room place x done e b changes. let same = unchanged x.exchange e changes in (λ _. same.0.dispatches, same.1);
   }
 

@@ -20,7 +20,7 @@ use Rattle.sv_tree.specs.Files as files
 use Rattle.sv_tree.specs.Filters as filters
 use Rattle.sv_tree.specs.Filters.{Reached, after_of, before_of}
 use Rattle.sv_tree.specs.Site.{Resource, Servlet, Files, FileAnswer, File, Redirect, Missing, NotAllowed, Site, begun, chosen, name_of}
-use Rattle.sv_tree.specs.State.{Exchange, Kept, State, Standing, Serving, Gone, Away, away_for, counted, is_full, on_exchange, standing_at, with_exchange, with_kept, with_standing}
+use Rattle.sv_tree.specs.State.{Exchange, KeptError, KeptField, State, Standing, Serving, Gone, Away, away_for, counted, is_full, on_exchange, standing_at, with_exchange, with_kept, with_standing}
 use Rattle.sv_tree.specs.Tree as tree
 use Rattle.sv_tree.specs.Tree.{Tree, asked_for, destroys, last, service_of}
 use Rattle.sv_tree.specs.declared.dispatch_fault.DispatchFault.{DispatchFault}
@@ -28,7 +28,7 @@ use Rattle.sv_tree.specs.declared.dispatch_fault.DispatchFault.TheVariants.{Disp
 use Rattle.sv_tree.specs.declared.finished.Finished.{Finished}
 use Rattle.sv_tree.specs.declared.finished.Finished.TheVariants.{Done, Error, Failed}
 use Rattle.sv_tree.specs.declared.limits.TheConstants.{FOUND, METHOD_NOT_ALLOWED, NOT_FOUND, SERVICE_UNAVAILABLE, INTERNAL_SERVER_ERROR}
-use Rattle.sv_tree.proofs.Changing.{Unchanged, unchanged}
+use Rattle.sv_tree.proofs.Changing.{Unchanged, called_unchanged, changes_account}
 use Rattle.sv_tree.proofs.Doing.{absurd_result, becomes_then, chosen_then, tries_then}
 use Rattle.sv_uri.specs.declared.path.Canon.{Canon}
 use Rattle.sv_wire.specs.ResponseText.{phrase_of}
@@ -44,26 +44,27 @@ away_by place (steps.Unavailable (Some seconds)) state = away_for place seconds 
 away_by place step state = state
 
 away_same : (place : ℕ) (step : Step) (state : State)
-    → ((away_by place step state).exchange ≡ state.exchange) × ((away_by place step state).calls ≡ state.calls)
-away_same place (steps.Unavailable (Some seconds)) state = (refl, refl)
-away_same place (steps.Unavailable None) state = (refl, refl)
-away_same place steps.Done state = (refl, refl)
-away_same place (steps.Forward text) state = (refl, refl)
-away_same place (steps.Include text) state = (refl, refl)
-away_same place (steps.Error code text) state = (refl, refl)
-away_same place (steps.Failed kind text) state = (refl, refl)
-away_same place steps.NoMemory state = (refl, refl)
+    → (away_by place step state).exchange ≡ state.exchange
+away_same place (steps.Unavailable (Some seconds)) state = refl
+away_same place (steps.Unavailable None) state = refl
+away_same place steps.Done state = refl
+away_same place (steps.Forward text) state = refl
+away_same place (steps.Include text) state = refl
+away_same place (steps.Error code text) state = refl
+away_same place (steps.Failed kind text) state = refl
+away_same place steps.NoMemory state = refl
 
 -- the state behind a call that counts
 abbrev pub called : Exchange → State → State
-called exchange state = with_exchange exchange (counted state)
+called exchange state = with_exchange exchange state
 
-pub away_unchanged : (x : State) (place : ℕ) (step : Step) (e : Exchange) → Changes x.exchange e
+pub away_unchanged : (x : State) (place : ℕ) (step : Step) (e : Exchange) → Changes (counted x).exchange e
     → Unchanged x.exchange (away_by place step (called e x)).exchange
-away_unchanged x place step e changes = subst (Unchanged x.exchange) (sym (away_same place step (called e x)).0) (unchanged x.exchange e changes)
+away_unchanged x place step e changes = subst (Unchanged x.exchange) (sym (away_same place step (called e x))) (called_unchanged x.exchange e changes)
 
-pub away_calls : (x : State) (place : ℕ) (step : Step) (e : Exchange) → (away_by place step (called e x)).calls ≡ suc x.calls
-away_calls x place step e = (away_same place step (called e x)).1
+pub away_calls : (x : State) (place : ℕ) (step : Step) (e : Exchange) → Changes (counted x).exchange e
+    → (away_by place step (called e x)).exchange.calls ≡ suc x.exchange.calls
+away_calls x place step e changes = ap (λ e. e.calls) (away_same place step (called e x)) ∙ (changes_account (counted x).exchange e changes).0
 
 abbrev pub stands : ℕ → State → Standing
 stands place state = standing_at state.exchange.moment place state.standings
@@ -84,13 +85,13 @@ module _ (site : Site) (Q : ℕ → State → List Record → State → Bool →
   pub record Steps : Type 0 where
     pub stays : (room : ℕ) (x : State) (b : Bool) → Q room x [] x b
     pub joins : (room : ℕ) (x y z : State) (r s : List Record) (b : Bool) → Q room x r y true → Q room y s z b → Q room x (r ++ s) z b
-    pub keeps : (room : ℕ) (x : State) (kept : Kept) → Q room x [] (with_kept kept x) true
+    pub keeps : (room : ℕ) (x : State) (kept : KeptError) → Q room x [] (with_kept kept x) true
     pub makes : (room : ℕ) (x : State) (change : Change) → Q room x [] (on_exchange (λ e. left_by (answer change e) change e) x) true
     pub empties : (room : ℕ) (x : State) → Q room x [] (on_exchange files.emptied x) true
-    pub breaks : (room : ℕ) (x : State) (place turn : ℕ) (step : Step) (e : Exchange) → is_full x ≡ false → stands place x ≡ Serving → Changes x.exchange e
-        → Q room x (service_of place turn x.exchange step e ∷ []) (called e x) false
-    pub serves : (room : ℕ) (x : State) (place turn : ℕ) (step : Step) (e : Exchange) → is_full x ≡ false → stands place x ≡ Serving → Changes x.exchange e
-        → Q room x (service_of place turn x.exchange step e ∷ []) (away_by place step (called e x)) true
+    pub breaks : (room : ℕ) (x : State) (place turn : ℕ) (step : Step) (e : Exchange) → is_full x ≡ false → stands place x ≡ Serving → Changes (counted x).exchange e
+        → Q room x (service_of place turn (counted x).exchange step e ∷ []) (called e x) false
+    pub serves : (room : ℕ) (x : State) (place turn : ℕ) (step : Step) (e : Exchange) → is_full x ≡ false → stands place x ≡ Serving → Changes (counted x).exchange e
+        → Q room x (service_of place turn (counted x).exchange step e ∷ []) (away_by place step (called e x)) true
     pub destroys : (room : ℕ) (x : State) (place : ℕ) (b : Bool) → stands place x ≡ Serving
         → Q room x (OfServlet place Destroyed ∷ []) (with_standing place Gone x) b
     pub forwards : Opens kinds.Forward
@@ -141,20 +142,20 @@ module _ (site : Site) (Q : ℕ → State → List Record → State → Bool →
     pub makes_keeps : (change : Change) → Keeps room (makes change)
     makes_keeps change = tries_keeps (on_exchange (λ e. left_by (answer change e) change e)) (λ x. law.makes room x change)
 
-    pub keeps_keeps : (kept : Kept) → Keeps room (endings.keeps kept)
+    pub keeps_keeps : (kept : KeptError) → Keeps room (endings.keeps kept)
     keeps_keeps kept = tries_keeps (with_kept kept) (λ x. law.keeps room x kept)
 
     pub fails_keeps : (resource : Resource) (kind text : List ℕ) → Keeps room (endings.fails site resource kind text)
     fails_keeps resource kind text =
-        let kept : Kept = record { status = INTERNAL_SERVER_ERROR; text = text; servlet = Some (name_of site resource); field = None } in
+        let kept : KeptError = record { status = INTERNAL_SERVER_ERROR; text = text; servlet = Some (name_of site resource); field = None } in
         then_keeps (endings.keeps kept) (λ _. gives (Failed kind text)) (keeps_keeps kept) (λ _. gives_keeps (Failed kind text))
 
     pub faults_keeps : (resource : Resource) (fault : DispatchFault) → Keeps room (endings.faults site resource fault)
     faults_keeps resource fault = fails_keeps resource (fault_name fault) (fault_name fault)
 
-    pub errs_keeps : (resource : Resource) (status : ℕ) (text : List ℕ) (field : Option (List ℕ × List ℕ)) → Keeps room (endings.errs site resource status text field)
+    pub errs_keeps : (resource : Resource) (status : ℕ) (text : List ℕ) (field : Option KeptField) → Keeps room (endings.errs site resource status text field)
     errs_keeps resource status text field x y r result h =
-        let kept : Kept = record { status = status; text = text; servlet = Some (name_of site resource); field = field } in
+        let kept : KeptError = record { status = status; text = text; servlet = Some (name_of site resource); field = field } in
         let shown = (endings.keeps kept >> gives (Error status text)) in
         chosen_then (is_within_include x.exchange) (gives Done) shown x y r result
         (λ _ done. gives_keeps Done x y r result done)
@@ -165,7 +166,7 @@ module _ (site : Site) (Q : ℕ → State → List Record → State → Bool →
     missing_keeps resource = errs_keeps resource NOT_FOUND (phrase_of NOT_FOUND) None
 
     pub away_keeps : (resource : Resource) (seconds : ℕ) → Keeps room (endings.is_away_for site resource seconds)
-    away_keeps resource seconds = errs_keeps resource SERVICE_UNAVAILABLE (phrase_of SERVICE_UNAVAILABLE) (Some (codes "retry-after", decimal seconds))
+    away_keeps resource seconds = errs_keeps resource SERVICE_UNAVAILABLE (phrase_of SERVICE_UNAVAILABLE) (Some record { name = codes "retry-after"; value = decimal seconds })
 
     pub behind_keeps : (passed : List ℕ) (ending : Does Finished) → Keeps room ending → Keeps room (filters.ends_behind passed ending)
     behind_keeps passed ending h =
@@ -205,7 +206,7 @@ module _ (site : Site) (Q : ℕ → State → List Record → State → Bool →
     filed_keeps kind (File content_type bytes) = sends_keeps content_type bytes
     filed_keeps kind (Redirect location) = sends_to_keeps location
     filed_keeps kind Missing = misses_keeps kind
-    filed_keeps kind NotAllowed = errs_keeps Files METHOD_NOT_ALLOWED (phrase_of METHOD_NOT_ALLOWED) (Some (codes "allow", codes "GET, HEAD"))
+    filed_keeps kind NotAllowed = errs_keeps Files METHOD_NOT_ALLOWED (phrase_of METHOD_NOT_ALLOWED) (Some record { name = codes "allow"; value = codes "GET, HEAD" })
 
     module _ (inner : Kind → Canon → Does Finished)
         (forwards : (canon : Canon) → Keeps room (inner kinds.Forward canon)) (includes : (canon : Canon) → Keeps room (inner kinds.Include canon)) where
@@ -230,26 +231,26 @@ module _ (site : Site) (Q : ℕ → State → List Record → State → Bool →
 
       -- what stands behind the call of a servlet
       behind_call : (place turn : ℕ) (x : State) (e : Exchange) (step : Step) (does : Does (Option Finished)) → Keeps room does
-          → is_full x ≡ false → stands place x ≡ Serving → Changes x.exchange e
+          → is_full x ≡ false → stands place x ≡ Serving → Changes (counted x).exchange e
           → (y : State) (r : List Record) (result : Option (Option Finished)) → does (away_by place step (called e x)) r y result
-          → Q room x (service_of place turn x.exchange step e ∷ r) y (came result)
+          → Q room x (service_of place turn (counted x).exchange step e ∷ r) y (came result)
       behind_call place turn x e step does h left serving changes y r result done =
-          law.joins room x (away_by place step (called e x)) y (service_of place turn x.exchange step e ∷ []) r (came result)
+          law.joins room x (away_by place step (called e x)) y (service_of place turn (counted x).exchange step e ∷ []) r (came result)
           (law.serves room x place turn step e left serving changes) (h (away_by place step (called e x)) y r result done)
 
       -- the changing calls of a component leave the standings as they are
-      still_serving : (place : ℕ) (x : State) (e : Exchange) → stands place x ≡ Serving → Changes x.exchange e → stands place (called e x) ≡ Serving
+      still_serving : (place : ℕ) (x : State) (e : Exchange) → stands place x ≡ Serving → Changes (counted x).exchange e → stands place (called e x) ≡ Serving
       still_serving place x e serving changes =
-          ap (λ moment. standing_at moment place x.standings) (unchanged x.exchange e changes).0.moment ∙ serving
+          ap (λ moment. standing_at moment place x.standings) (called_unchanged x.exchange e changes).0.moment ∙ serving
 
       -- a servlet that is destroyed behind its call
       destroyed : (place turn : ℕ) (x : State) (e : Exchange)
-          → is_full x ≡ false → stands place x ≡ Serving → Changes x.exchange e
+          → is_full x ≡ false → stands place x ≡ Serving → Changes (counted x).exchange e
           → (y : State) (r : List Record) (result : Option (Option Finished))
           → (destroys place >> last (endings.is_missing site (Servlet place))) (called e x) r y result
-          → Q room x (service_of place turn x.exchange (steps.Unavailable None) e ∷ r) y (came result)
+          → Q room x (service_of place turn (counted x).exchange (steps.Unavailable None) e ∷ r) y (came result)
       destroyed place turn x e left serving changes y r result (inr t) =
-          law.joins room x (called e x) y (service_of place turn x.exchange (steps.Unavailable None) e ∷ []) r (came result)
+          law.joins room x (called e x) y (service_of place turn (counted x).exchange (steps.Unavailable None) e ∷ []) r (came result)
           (law.serves room x place turn (steps.Unavailable None) e left serving changes)
           (subst (λ o. Q room (called e x) r y (came o)) (sym t.1) (subst (λ s. Q room (called e x) r s false) (sym t.0.1)
           (subst (λ s. Q room (called e x) s (with_standing place Gone (called e x)) false) (sym t.0.0)
@@ -257,18 +258,18 @@ module _ (site : Site) (Q : ℕ → State → List Record → State → Bool →
       destroyed place turn x e left serving changes y r result (inl t) =
           let gone = with_standing place Gone (called e x) in
           let end = last_keeps (endings.is_missing site (Servlet place)) (missing_keeps (Servlet place)) t.between y t.back result t.goes_on in
-          subst (λ s. Q room x (service_of place turn x.exchange (steps.Unavailable None) e ∷ s) y (came result)) (sym (t.is_joined ∙ ap (λ front. front ++ t.back) t.begins.0))
-          (law.joins room x (called e x) y (service_of place turn x.exchange (steps.Unavailable None) e ∷ []) (OfServlet place Destroyed ∷ t.back) (came result)
+          subst (λ s. Q room x (service_of place turn (counted x).exchange (steps.Unavailable None) e ∷ s) y (came result)) (sym (t.is_joined ∙ ap (λ front. front ++ t.back) t.begins.0))
+          (law.joins room x (called e x) y (service_of place turn (counted x).exchange (steps.Unavailable None) e ∷ []) (OfServlet place Destroyed ∷ t.back) (came result)
           (law.serves room x place turn (steps.Unavailable None) e left serving changes)
           (law.joins room (called e x) gone y (OfServlet place Destroyed ∷ []) t.back (came result)
           (law.destroys room (called e x) place true (still_serving place x e serving changes))
           (subst (λ s. Q room s t.back y (came result)) t.begins.1 end)))
 
       stepped_keeps : (place turn : ℕ) (x : State) (e : Exchange)
-          → is_full x ≡ false → stands place x ≡ Serving → Changes x.exchange e
+          → is_full x ≡ false → stands place x ≡ Serving → Changes (counted x).exchange e
           → (step : Step) (y : State) (r : List Record) (result : Option (Option Finished))
           → tree.Stepped site room inner place step (called e x) r y result
-          → Q room x (service_of place turn x.exchange step e ∷ r) y (came result)
+          → Q room x (service_of place turn (counted x).exchange step e ∷ r) y (came result)
       stepped_keeps place turn x e left serving changes steps.Done y r result done =
           behind_call place turn x e steps.Done (last (gives Done)) (last_keeps (gives Done) (gives_keeps Done)) left serving changes y r result done
       stepped_keeps place turn x e left serving changes (steps.Forward text) y r result done =
@@ -361,16 +362,16 @@ module _ (site : Site) (Q : ℕ → State → List Record → State → Bool →
 
   -- what the calls of filters keep
   pub record FilterSteps : Type 0 where
-    pub before : (room place : ℕ) (x : State) (gate : Gate) (e : Exchange) (b : Bool) → is_full x ≡ false → Changes x.exchange e
-        → Q room x (before_of place x.exchange gate e ∷ []) (called e x) b
+    pub before : (room place : ℕ) (x : State) (gate : Gate) (e : Exchange) (b : Bool) → is_full x ≡ false → Changes (counted x).exchange e
+        → Q room x (before_of place (counted x).exchange gate e ∷ []) (called e x) b
     pub after : (room place : ℕ) (x : State) (done : Bool) (e : Exchange) (b : Bool) → Changes x.exchange e
         → Q room x (after_of place x.exchange done e ∷ []) (with_exchange e x) b
 
   module _ (law : Steps) (calls : FilterSteps) where
     -- the call of a component, where it keeps it however it is answered
     asked_keeps : {A : Type 0} (room : ℕ) (call : Exchange → A → Exchange → Record) (change : State → State) (x : State)
-        → ((answer : A) (e : Exchange) (b : Bool) → Changes x.exchange e → Q room x (call x.exchange answer e ∷ []) (with_exchange e (change x)) b)
-        → (x' y : State) (r : List Record) (result : Option A) → x' ≡ change x → x'.exchange ≡ x.exchange → Asks call x' r y result → Q room x r y (came result)
+        → ((answer : A) (e : Exchange) (b : Bool) → Changes (change x).exchange e → Q room x (call (change x).exchange answer e ∷ []) (with_exchange e (change x)) b)
+        → (x' y : State) (r : List Record) (result : Option A) → x' ≡ change x → x'.exchange ≡ (change x).exchange → Asks call x' r y result → Q room x r y (came result)
     asked_keeps room call change x kept x' y r result same exchange asked =
         subst (λ s. Q room x r s (came result)) (sym (asked.is ∙ ap (with_exchange asked.exchange) same))
         (subst (λ s. Q room x s (with_exchange asked.exchange (change x)) (came result)) (sym (asked.is_made ∙ ap (λ before. call before asked.answer asked.exchange ∷ []) exchange))

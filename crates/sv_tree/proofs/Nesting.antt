@@ -5,15 +5,16 @@ use Rattle.std.proofs.lemmas.List.{length-append}
 use Rattle.sv_component.specs.Runs.{Record}
 use Rattle.sv_component.specs.declared.answers.Step.{Step}
 use Rattle.sv_exchange.specs.Changing.{Changes}
-use Rattle.sv_exchange.specs.Dispatches.{Leaves, client_in, entered}
+use Rattle.sv_exchange.specs.Dispatches.{Leaves, client_in, entered, error_in}
+use Rattle.sv_exchange.specs.Keeping as counting
 use Rattle.sv_mapping.specs.declared.kind.Kind.{Kind}
 use Rattle.sv_mapping.specs.declared.kind.Kind.TheVariants as kinds
 use Rattle.sv_tree.specs.Laws.{AreWithin, DispatchesEnd, DispatchesNest, SameRequest}
 use Rattle.sv_tree.specs.Site.{Site, begun, chosen, paths_in}
-use Rattle.sv_tree.specs.State.{Exchange, State}
+use Rattle.sv_tree.specs.State.{Exchange, State, counted}
 use Rattle.sv_tree.specs.Tree.{Tree, Within, service_of}
 use Rattle.sv_tree.specs.declared.finished.Finished.{Finished}
-use Rattle.sv_tree.proofs.Changing.{begun_dispatches, emptied_request, emptied_unchanged, made_unchanged, request_then, same_dispatches, same_request, unchanged}
+use Rattle.sv_tree.proofs.Changing.{begun_dispatches, emptied_request, emptied_unchanged, made_unchanged, request_then, same_dispatches, same_request, called_unchanged, unchanged}
 use Rattle.sv_tree.proofs.Doing.{not_true}
 use Rattle.sv_tree.proofs.Keeping.{FilterSteps, Keeps, Opens, Steps, away_by, away_unchanged, called, came, inside_keeps, tree_gives, tree_keeps, within_keeps}
 use Rattle.sv_uri.specs.declared.path.Canon.{Canon}
@@ -56,10 +57,11 @@ module _ (site : Site) where
   shows = record {
     stays = λ room x b came. same_request x.exchange x.exchange refl;
     joins = λ room x y z r s b one two came. request_then x.exchange y.exchange z.exchange (one refl) (two came);
-    keeps = λ room x kept came. same_request x.exchange x.exchange refl;
+    keeps = λ room x kept came.
+        record { method = refl; context_path = refl; request_fields = refl; moment = refl; client = refl; dispatches = refl };
     makes = λ room x change came. (made_unchanged change x.exchange).0;
     empties = λ room x came. (emptied_unchanged x.exchange).0;
-    breaks = λ room x place turn step e left serving changes came. (unchanged x.exchange e changes).0;
+    breaks = λ room x place turn step e left serving changes came. (called_unchanged x.exchange e changes).0;
     serves = λ room x place turn step e left serving changes came. (away_unchanged x place step e changes).0;
     destroys = λ room x place b serving came. same_request x.exchange x.exchange refl;
     forwards = inner_shows kinds.Forward (λ canon x. refl);
@@ -68,7 +70,7 @@ module _ (site : Site) where
 
   pub filters_show : FilterSteps site Shows
   filters_show = record {
-    before = λ room place x gate e b left changes came. (unchanged x.exchange e changes).0;
+    before = λ room place x gate e b left changes came. (called_unchanged x.exchange e changes).0;
     after = λ room place x done e b changes came. (unchanged x.exchange e changes).0;
   }
 
@@ -100,17 +102,20 @@ within-append bound (call ∷ r) s one two = (one.0, within-append bound r s one
 nest_one : (room : ℕ) (x e : Exchange) → Changes x e → (e.dispatches ≡ x.dispatches) × (length x.dispatches ≤ length x.dispatches + room)
 nest_one room x e changes = ((unchanged x e changes).0.dispatches, omega arith)
 
-away_nests : (room : ℕ) (x : State) (place turn : ℕ) (step : Step) (e : Exchange) → Changes x.exchange e
-    → Nests room x (service_of place turn x.exchange step e ∷ []) (away_by place step (called e x)) true
+nest_called : (room : ℕ) (x e : Exchange) → Changes (counting.counted x) e → (e.dispatches ≡ x.dispatches) × (length x.dispatches ≤ length x.dispatches + room)
+nest_called room x e changes = ((called_unchanged x e changes).0.dispatches, omega arith)
+
+away_nests : (room : ℕ) (x : State) (place turn : ℕ) (step : Step) (e : Exchange) → Changes (counted x).exchange e
+    → Nests room x (service_of place turn (counted x).exchange step e ∷ []) (away_by place step (called e x)) true
 away_nests room x place turn step e changes =
-    (λ _. (away_unchanged x place step e changes).0.dispatches, ((nest_one room x.exchange e changes).1, tt))
+    (λ _. (away_unchanged x place step e changes).0.dispatches, ((nest_called room x.exchange e changes).1, tt))
 
 module _ (site : Site) where
   deeper : (room : ℕ) (kind : Kind) (canon : Canon) (x : Exchange)
       → length (begun site kind canon x).dispatches + room ≡ length x.dispatches + suc room
   deeper room kind canon x =
       let longer : length (begun site kind canon x).dispatches ≡ length x.dispatches + 1 =
-      ap length (begun_dispatches site kind canon x) ∙ length-append x.dispatches ((record { kind = kind; paths = paths_in site canon x }) ∷ []) in
+      ap length (begun_dispatches site kind canon x) ∙ length-append x.dispatches ((record { kind = kind; paths = paths_in site canon x; error = error_in kind x.kept }) ∷ []) in
       omega arith
 
   pub nest_opens : (kind : Kind) → Opens site Nests kind
@@ -133,7 +138,7 @@ module _ (site : Site) where
     keeps = λ room x kept. (λ came. refl, tt);
     makes = λ room x change. (λ came. (made_unchanged change x.exchange).0.dispatches, tt);
     empties = λ room x. (λ came. (emptied_unchanged x.exchange).0.dispatches, tt);
-    breaks = λ room x place turn step e left serving changes. let one = nest_one room x.exchange e changes in (λ came. one.0, (one.1, tt));
+    breaks = λ room x place turn step e left serving changes. let one = nest_called room x.exchange e changes in (λ came. one.0, (one.1, tt));
     serves = λ room x place turn step e left serving changes. away_nests room x place turn step e changes;
     destroys = λ room x place b serving. (λ came. refl, (omega arith, tt));
     forwards = nest_opens kinds.Forward;
@@ -142,7 +147,7 @@ module _ (site : Site) where
 
   nest_filters : FilterSteps site Nests
   nest_filters = record {
-    before = λ room place x gate e b left changes. let one = nest_one room x.exchange e changes in (λ came. one.0, (one.1, tt));
+    before = λ room place x gate e b left changes. let one = nest_called room x.exchange e changes in (λ came. one.0, (one.1, tt));
     after = λ room place x done e b changes. let one = nest_one room x.exchange e changes in (λ came. one.0, (one.1, tt));
   }
 

@@ -10,9 +10,9 @@ use Rattle.sv_mapping.specs.declared.kind.Kind.{Kind}
 use Rattle.sv_mapping.specs.declared.kind.Kind.TheVariants as kinds
 use Rattle.sv_tree.specs.Laws.{AreOfServing, OnlyServingAreCalled, stands_after, stands_after_all}
 use Rattle.sv_tree.specs.Site.{Site, begun, paths_in}
-use Rattle.sv_tree.specs.State.{Exchange, State, Standing, Serving, Away, moment_after, on_exchange}
+use Rattle.sv_tree.specs.State.{Exchange, State, Standing, Serving, Away, moment_after, counted, on_exchange}
 use Rattle.sv_tree.specs.Tree.{service_of}
-use Rattle.sv_tree.proofs.Changing.{emptied_request, emptied_unchanged, made_unchanged, unchanged}
+use Rattle.sv_tree.proofs.Changing.{emptied_request, emptied_unchanged, made_unchanged, called_unchanged, unchanged}
 use Rattle.sv_tree.proofs.Doing.{not_true}
 use Rattle.sv_tree.proofs.Keeping.{FilterSteps, Opens, Steps, away_by, called, came, stands, tree_keeps, within_keeps}
 use Rattle.sv_uri.specs.declared.path.Canon.{Canon}
@@ -45,20 +45,20 @@ serve_joins room x y z r s b one two =
       two.2 ∙ one.2,
     )
 
-served : (x : State) (place turn : ℕ) (step : Step) (e : Exchange) → stands place x ≡ Serving → Changes x.exchange e
-    → Serves 0 x (service_of place turn x.exchange step e ∷ []) (away_by place step (called e x)) true
-served x place turn (steps.Unavailable None) e serving changes = ((serving, tt), λ _. refl, (unchanged x.exchange e changes).0.moment)
+served : (x : State) (place turn : ℕ) (step : Step) (e : Exchange) → stands place x ≡ Serving → Changes (counted x).exchange e
+    → Serves 0 x (service_of place turn (counted x).exchange step e ∷ []) (away_by place step (called e x)) true
+served x place turn (steps.Unavailable None) e serving changes = ((serving, tt), λ _. refl, (called_unchanged x.exchange e changes).0.moment)
 served x place turn (steps.Unavailable (Some seconds)) e serving changes = (
   (serving, tt),
-  λ _. ap (λ m. slice_set x.standings place (Away (moment_after m seconds))) (unchanged x.exchange e changes).0.moment,
-  (unchanged x.exchange e changes).0.moment,
+  λ _. ap (λ m. slice_set x.standings place (Away (moment_after m seconds))) (called_unchanged x.exchange e changes).0.moment,
+  (called_unchanged x.exchange e changes).0.moment,
 )
-served x place turn steps.Done e serving changes = ((serving, tt), λ _. refl, (unchanged x.exchange e changes).0.moment)
-served x place turn (steps.Forward text) e serving changes = ((serving, tt), λ _. refl, (unchanged x.exchange e changes).0.moment)
-served x place turn (steps.Include text) e serving changes = ((serving, tt), λ _. refl, (unchanged x.exchange e changes).0.moment)
-served x place turn (steps.Error code text) e serving changes = ((serving, tt), λ _. refl, (unchanged x.exchange e changes).0.moment)
-served x place turn (steps.Failed kind text) e serving changes = ((serving, tt), λ _. refl, (unchanged x.exchange e changes).0.moment)
-served x place turn steps.NoMemory e serving changes = ((serving, tt), λ _. refl, (unchanged x.exchange e changes).0.moment)
+served x place turn steps.Done e serving changes = ((serving, tt), λ _. refl, (called_unchanged x.exchange e changes).0.moment)
+served x place turn (steps.Forward text) e serving changes = ((serving, tt), λ _. refl, (called_unchanged x.exchange e changes).0.moment)
+served x place turn (steps.Include text) e serving changes = ((serving, tt), λ _. refl, (called_unchanged x.exchange e changes).0.moment)
+served x place turn (steps.Error code text) e serving changes = ((serving, tt), λ _. refl, (called_unchanged x.exchange e changes).0.moment)
+served x place turn (steps.Failed kind text) e serving changes = ((serving, tt), λ _. refl, (called_unchanged x.exchange e changes).0.moment)
+served x place turn steps.NoMemory e serving changes = ((serving, tt), λ _. refl, (called_unchanged x.exchange e changes).0.moment)
 
 module _ (site : Site) where
   begun_moment : (kind : Kind) (canon : Canon) (x : Exchange) → (begun site kind canon x).moment ≡ x.moment
@@ -85,7 +85,7 @@ module _ (site : Site) where
     keeps = λ room x kept. (tt, λ _. refl, refl);
     makes = λ room x change. (tt, λ _. refl, (made_unchanged change x.exchange).0.moment);
     empties = λ room x. (tt, λ _. refl, (emptied_unchanged x.exchange).0.moment);
-    breaks = λ room x place turn step e left serving changes. ((serving, tt), not_true, (unchanged x.exchange e changes).0.moment);
+    breaks = λ room x place turn step e left serving changes. ((serving, tt), not_true, (called_unchanged x.exchange e changes).0.moment);
     serves = λ room x place turn step e left serving changes. served x place turn step e serving changes;
     destroys = λ room x place b serving. ((serving, tt), λ _. refl, refl);
     forwards = opens kinds.Forward;
@@ -94,7 +94,7 @@ module _ (site : Site) where
 
   filters : FilterSteps site Serves
   filters = record {
-    before = λ room place x gate e b left changes. ((tt, tt), λ _. refl, (unchanged x.exchange e changes).0.moment);
+    before = λ room place x gate e b left changes. ((tt, tt), λ _. refl, (called_unchanged x.exchange e changes).0.moment);
     after = λ room place x done e b changes. ((tt, tt), λ _. refl, (unchanged x.exchange e changes).0.moment);
   }
 

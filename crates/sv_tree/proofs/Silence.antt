@@ -12,7 +12,7 @@ use Rattle.sv_tree.specs.Faults.{fault_name}
 use Rattle.sv_tree.specs.Files as files
 use Rattle.sv_tree.specs.Filters as filters
 use Rattle.sv_tree.specs.Site.{Resource, Files, FileAnswer, File, Redirect, Missing, NotAllowed, Site, name_of}
-use Rattle.sv_tree.specs.State.{Kept, State, on_exchange, with_kept}
+use Rattle.sv_tree.specs.State.{KeptError, KeptField, State, on_exchange, with_kept}
 use Rattle.sv_tree.specs.Tree.{last}
 use Rattle.sv_tree.specs.declared.dispatch_fault.DispatchFault.{DispatchFault}
 use Rattle.sv_tree.specs.declared.dispatch_fault.DispatchFault.TheVariants.{MissingInclude, TooLarge}
@@ -38,16 +38,16 @@ tries_silent change x y r result h = h.0
 
 pub fails_silent : (site : Site) (resource : Resource) (kind text : List ℕ) → Silent (endings.fails site resource kind text)
 fails_silent site resource kind text =
-    let kept : Kept = record { status = INTERNAL_SERVER_ERROR; text = text; servlet = Some (name_of site resource); field = None } in
+    let kept : KeptError = record { status = INTERNAL_SERVER_ERROR; text = text; servlet = Some (name_of site resource); field = None } in
     then_silent (endings.keeps kept) (λ _. gives (Failed kind text)) (tries_silent (with_kept kept)) (λ _. gives_silent (Failed kind text))
 
 pub faults_silent : (site : Site) (resource : Resource) (fault : DispatchFault) → Silent (endings.faults site resource fault)
 faults_silent site resource fault = fails_silent site resource (fault_name fault) (fault_name fault)
 
-pub errs_silent : (site : Site) (resource : Resource) (status : ℕ) (text : List ℕ) (field : Option (List ℕ × List ℕ))
+pub errs_silent : (site : Site) (resource : Resource) (status : ℕ) (text : List ℕ) (field : Option KeptField)
     → Silent (endings.errs site resource status text field)
 errs_silent site resource status text field x y r result h =
-    let kept : Kept = record { status = status; text = text; servlet = Some (name_of site resource); field = field } in
+    let kept : KeptError = record { status = status; text = text; servlet = Some (name_of site resource); field = field } in
     chosen_then (is_within_include x.exchange) (gives Done) (endings.keeps kept >> gives (Error status text)) x y r result
     (λ _ done. done.0)
     (λ _ done. then_silent (endings.keeps kept) (λ _. gives (Error status text)) (tries_silent (with_kept kept)) (λ _. gives_silent (Error status text)) x y r result done)
@@ -90,4 +90,4 @@ pub filed_silent : (site : Site) (kind : Kind) (answer : FileAnswer) → Silent 
 filed_silent site kind (File content_type bytes) = sends_silent site content_type bytes
 filed_silent site kind (Redirect location) = sends_to_silent site location
 filed_silent site kind Missing = misses_silent site kind
-filed_silent site kind NotAllowed = errs_silent site Files METHOD_NOT_ALLOWED (phrase_of METHOD_NOT_ALLOWED) (Some (codes "allow", codes "GET, HEAD"))
+filed_silent site kind NotAllowed = errs_silent site Files METHOD_NOT_ALLOWED (phrase_of METHOD_NOT_ALLOWED) (Some record { name = codes "allow"; value = codes "GET, HEAD" })

@@ -4,7 +4,7 @@ use Rattle.sv_exchange.specs.Dispatches.{is_within_include}
 use Rattle.sv_tree.specs.Does.{Does, ◌>>◌, choose, gives, sees, tries}
 use Rattle.sv_tree.specs.Faults.{fault_name}
 use Rattle.sv_tree.specs.Site.{Resource, Site, name_of}
-use Rattle.sv_tree.specs.State.{Kept, with_kept}
+use Rattle.sv_tree.specs.State.{KeptError, KeptField, with_kept}
 use Rattle.sv_tree.specs.declared.dispatch_fault.DispatchFault.{DispatchFault}
 use Rattle.sv_tree.specs.declared.finished.Finished.{Finished}
 use Rattle.sv_tree.specs.declared.finished.Finished.TheVariants.{Done, Error, Failed}
@@ -16,28 +16,28 @@ abbrev pub error_status : ℕ → ℕ
 error_status code = if nat_le LEAST_ERROR code && nat_le code MAX_ERROR then code else INTERNAL_SERVER_ERROR
 
 -- the error is kept for the answer
-abbrev pub keeps : Kept → Does (Unit {0})
+abbrev pub keeps : KeptError → Does (Unit {0})
 keeps kept = tries (with_kept kept)
 
 module _ (site : Site) where
   -- an error; within an include, at any depth, it counts as done
-  abbrev pub errs : Resource → ℕ → List ℕ → Option (List ℕ × List ℕ) → Does Finished
+  abbrev pub errs : Resource → ℕ → List ℕ → Option KeptField → Does Finished
   errs resource status text field = sees λ state. choose (is_within_include state.exchange) (gives Done) do
     keeps record { status = status; text = text; servlet = Some (name_of site resource); field = field }
     gives (Error status text)
 
   -- an error of the container's own: its text is the phrase of its status
-  abbrev pub errs_with : Resource → ℕ → Option (List ℕ × List ℕ) → Does Finished
+  abbrev pub errs_with : Resource → ℕ → Option KeptField → Does Finished
   errs_with resource status field = errs resource status (phrase_of status) field
 
   abbrev pub is_missing : Resource → Does Finished
   is_missing resource = errs_with resource NOT_FOUND None
 
   abbrev pub is_not_allowed : Resource → Does Finished
-  is_not_allowed resource = errs_with resource METHOD_NOT_ALLOWED (Some (codes "allow", codes "GET, HEAD"))
+  is_not_allowed resource = errs_with resource METHOD_NOT_ALLOWED (Some record { name = codes "allow"; value = codes "GET, HEAD" })
 
   abbrev pub is_away_for : Resource → ℕ → Does Finished
-  is_away_for resource seconds = errs_with resource SERVICE_UNAVAILABLE (Some (codes "retry-after", decimal seconds))
+  is_away_for resource seconds = errs_with resource SERVICE_UNAVAILABLE (Some record { name = codes "retry-after"; value = decimal seconds })
 
   -- a failure, within an include too
   abbrev pub fails : Resource → List ℕ → List ℕ → Does Finished

@@ -9,7 +9,7 @@ use Rattle.sv_mapping.specs.declared.kind.Kind.{Kind}
 use Rattle.sv_mapping.specs.declared.kind.Kind.TheVariants as kinds
 use Rattle.sv_tree.specs.Served.{Served}
 use Rattle.sv_tree.specs.Site.{Site, paths_in}
-use Rattle.sv_tree.specs.State.{Exchange, Kept, State, Standing, Serving, Gone, Away, moment_after, standing_at}
+use Rattle.sv_tree.specs.State.{Exchange, KeptError, State, Standing, Serving, Gone, Away, moment_after, standing_at}
 use Rattle.sv_tree.specs.Tree.{Tree}
 use Rattle.sv_tree.specs.declared.finished.Finished.{Finished}
 use Rattle.sv_tree.specs.declared.finished.Finished.TheVariants.{Done, Error, Failed}
@@ -93,7 +93,8 @@ abbrev pub CallsAreCounted : Site → Type 0
 CallsAreCounted site =
     (room : ℕ) (kind : Kind) (canon : Canon) (before after : State) (calls : List Record) (result : Option Finished)
     → Tree site room kind canon before calls after result
-    → (after.calls ≡ count_all calls + before.calls) × (before.calls ≤ MAX_CALLS → after.calls ≤ MAX_CALLS)
+    → (after.exchange.calls ≡ count_all calls + before.exchange.calls)
+    × (before.exchange.calls ≤ MAX_CALLS → after.exchange.calls ≤ MAX_CALLS)
 
 -- how many dispatches a call stands in
 abbrev pub depth : Record → ℕ
@@ -117,7 +118,7 @@ DispatchesNest site =
 abbrev pub RequestsAreBounded : Site → Type 0
 RequestsAreBounded site =
     (kind : Kind) (canon : Canon) (before after : State) (calls : List Record) (result : Option (Unit {0}))
-    → before.calls ≡ 0 → before.exchange.dispatches ≡ []
+    → before.exchange.calls ≡ 0 → before.exchange.dispatches ≡ []
     → Served site kind canon before calls after result
     → (count_all calls ≤ MAX_CALLS) × AreWithin MAX_NESTING calls
 
@@ -189,11 +190,11 @@ IncludesEndInNoError site =
     → is_error finished ≡ false
 
 -- that error is kept, with that status and that text
-abbrev pub IsKept : ℕ → List ℕ → Option Kept → Type 0
+abbrev pub IsKept : ℕ → List ℕ → Option KeptError → Type 0
 IsKept status text None = ⊥
 IsKept status text (Some kept) = (kept.status ≡ status) × (kept.text ≡ text)
 
-abbrev pub KeepsEnding : Finished → Option Kept → Type 0
+abbrev pub KeepsEnding : Finished → Option KeptError → Type 0
 KeepsEnding Done kept = Unit {0}
 KeepsEnding (Error status text) kept = IsKept status text kept
 KeepsEnding (Failed kind text) kept = IsKept INTERNAL_SERVER_ERROR text kept
@@ -203,7 +204,7 @@ abbrev pub EndingsAreKept : Site → Type 0
 EndingsAreKept site =
     (room : ℕ) (kind : Kind) (canon : Canon) (before after : State) (calls : List Record) (finished : Finished)
     → Tree site room kind canon before calls after (Some finished)
-    → KeepsEnding finished after.kept
+    → KeepsEnding finished after.exchange.kept
 
 -- a `before` or a `service` that finds so much written
 abbrev pub Finds : List ℕ → Record → Type 0

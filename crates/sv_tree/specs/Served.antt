@@ -6,7 +6,7 @@ use Rattle.sv_mapping.specs.declared.kind.Kind.{Kind}
 use Rattle.sv_mapping.specs.declared.kind.Kind.TheVariants as kinds
 use Rattle.sv_tree.specs.Does.{Does, ◌>>=◌, ◌>>◌, becomes, choose, gives, makes, sees}
 use Rattle.sv_tree.specs.Site.{Site}
-use Rattle.sv_tree.specs.State.{Exchange, Kept, on_exchange}
+use Rattle.sv_tree.specs.State.{Exchange, KeptError, KeptField, on_exchange}
 use Rattle.sv_tree.specs.Tree.{Tree}
 use Rattle.sv_tree.specs.declared.finished.Finished.{Finished}
 use Rattle.sv_tree.specs.declared.finished.Finished.TheVariants.{Done, Error, Failed}
@@ -15,19 +15,19 @@ use Rattle.sv_uri.specs.declared.path.Canon.{Canon}
 use Rattle.sv_wire.specs.ResponseText.{phrase_of}
 
 -- the field that goes with the error that was kept
-abbrev pub kept_field : Option Kept → Option (List ℕ × List ℕ)
+abbrev pub kept_field : Option KeptError → Option KeptField
 kept_field None = None
 kept_field (Some kept) = kept.field
 
-abbrev pub sets : Option (List ℕ × List ℕ) → Does (Unit {0})
+abbrev pub sets : Option KeptField → Does (Unit {0})
 sets None = gives tt
-sets (Some field) = makes (SetHeader field.0 field.1)
+sets (Some field) = makes (SetHeader field.name field.value)
 
 abbrev pub reset : Exchange → Exchange
 reset exchange = record exchange { buffer = []; fields = [] }
 
 -- what was said is taken back; the status is set, and the error's field
-abbrev pub Resets : ℕ → Option (List ℕ × List ℕ) → Does (Unit {0})
+abbrev pub Resets : ℕ → Option KeptField → Does (Unit {0})
 Resets status field = do
   becomes (on_exchange reset)
   makes (SetStatus status)
@@ -36,7 +36,7 @@ Resets status field = do
 abbrev pub plain_text : ℕ → List ℕ
 plain_text status = decimal status ++ codes " " ++ phrase_of status ++ codes "\n"
 
-abbrev pub Plain : ℕ → Option (List ℕ × List ℕ) → Does (Unit {0})
+abbrev pub Plain : ℕ → Option KeptField → Does (Unit {0})
 Plain status field = do
   Resets status field
   makes (SetHeader (codes "content-type") (codes "text/plain"))
@@ -47,14 +47,14 @@ abbrev pub unless_committed : Does (Unit {0}) → Does (Unit {0})
 unless_committed next = sees λ state. choose state.exchange.committed (gives tt) next
 
 -- an error page that ends in an error itself gives way to the plain answer of the first error
-abbrev pub Shown : ℕ → Option (List ℕ × List ℕ) → Finished → Does (Unit {0})
+abbrev pub Shown : ℕ → Option KeptField → Finished → Does (Unit {0})
 Shown status field Done = gives tt
 Shown status field (Error other text) = unless_committed (Plain status field)
 Shown status field (Failed kind text) = unless_committed (Plain status field)
 
 module _ (site : Site) where
   -- the page of an error, where there is one
-  abbrev pub Pages : ℕ → Option (List ℕ × List ℕ) → Option Canon → Does (Unit {0})
+  abbrev pub Pages : ℕ → Option KeptField → Option Canon → Does (Unit {0})
   Pages status field None = Plain status field
   Pages status field (Some page) = do
     Resets status field
@@ -63,7 +63,7 @@ module _ (site : Site) where
 
   -- the answer to an error, of that kind where it is a failure
   abbrev pub Shows : ℕ → Option (List ℕ) → Does (Unit {0})
-  Shows status kind = unless_committed (sees λ state. Pages status (kept_field state.kept) (site.page status kind))
+  Shows status kind = unless_committed (sees λ state. Pages status (kept_field state.exchange.kept) (site.page status kind))
 
   abbrev pub Settled : Finished → Does (Unit {0})
   Settled Done = gives tt

@@ -30,4 +30,4 @@ invariant-turns-loop-ended g l =
     TurnsOn m.state m.frame m.ran (g.T.Tables.site l.tables) l.room l.place l.fn.machine l.machine l.number
 
 abbrev pub decreases-turns-loop-ended : goal.decreases-turns-loop-ended
-decreases-turns-loop-ended g l = MAX_CALLS - (g.M.Machine.state l.machine).calls
+decreases-turns-loop-ended g l = MAX_CALLS - (g.M.Machine.state l.machine).exchange.calls
