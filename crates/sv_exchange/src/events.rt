@@ -1,6 +1,6 @@
 //! Events that are still to be told.
 
-ghost use Rattle.std.specs.Prelude.{◌≡◌, ◌++◌, ◌∷◌, ◌<◌, [], IfOk, option_to_list};
+ghost use Rattle.std.specs.Prelude.{◌≡◌, ◌++◌, ◌∷◌, ◌<◌, [], IfOk, drop, slice_get};
 ghost use Rattle.std.specs.VecDeque.{deque_capacity, deque_len};
 ghost use Rattle.sv_exchange.specs.Sessions.{ending_events};
 
@@ -14,7 +14,8 @@ use sv_text::{NoMemory, Text};
 impl Exchange {
     /// Takes the oldest event of the request's session that was not taken yet, without taking memory (Jakarta Servlet 6.0, section 11.3).
     pub fn take_event(&mut self) -> Option<Event>
-        ensures { self.old ≡ record self.new { events = option_to_list result ++ self.new.events } }
+        ensures oldest { result ≡ slice_get self.old.events 0 }
+        ensures left { self.new ≡ record self.old { events = drop 1 self.old.events } }
     {
         self.events.pop_front()
     }
