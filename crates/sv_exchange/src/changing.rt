@@ -74,8 +74,8 @@ impl Exchange {
         !self.committed && !self.is_within_include()
     }
 
-    // Whether an include is under way.
-    fn is_within_include(&self) -> bool
+    /// Whether an include is under way, at any depth: status and fields stay as they are then (Jakarta Servlet 6.0, section 9.3).
+    pub fn is_within_include(&self) -> bool
         ensures { result ≡ is_within_include self.now }
     {
         self.dispatches.iter().any(|dispatch| dispatch.is_include())
