@@ -158,5 +158,9 @@ fn exchange(alloc: Global) -> Result<Exchange, NoMemory> {
         path: Text::copy_of(alloc, "/")?,
         query: None,
     };
-    Exchange::begin(alloc, &message, &canon, "", 7)
+    let sessions = Sessions::new(alloc, 0, 0);
+    match Exchange::begin(alloc, &message, &canon, "", 7, (0, 0), None, sessions) {
+        Ok(exchange) => Ok(exchange),
+        Err(_) => Err(NoMemory),
+    }
 }
