@@ -52,6 +52,7 @@ fn tell_call(exchange: &mut Exchange, call: &str, told: &mut Draft) {
         ),
         "keep" | "error" | "forward" | "include" => tell_dispatch(exchange, name, rest, told),
         "event" => tell_event(exchange, told),
+        "count" => tell_count(exchange, told),
         _ => tell_read(exchange, name, rest, told),
     }
 }
@@ -94,6 +95,14 @@ fn tell_event(exchange: &mut Exchange, told: &mut Draft) {
     }
 }
 
+/// Counts a call, and tells how many there were.
+fn tell_count(exchange: &mut Exchange, told: &mut Draft) {
+    if exchange.calls() < u32::MAX {
+        exchange.count_call();
+    }
+    tell_number(Some(u64::from(exchange.calls())), told);
+}
+
 fn tell_change(exchange: &mut Exchange, name: &str, rest: &str, told: &mut Draft) {
     match change(exchange, name, rest) {
         Ok(done) => told.add_shown(&done),
@@ -116,10 +125,15 @@ fn change_attribute(
     name: &str,
     rest: &str,
 ) -> Result<bool, ExchangeFault> {
-    match rest.split_once('=') {
-        Some((name, value)) => exchange.session_set(name, value),
-        None => exchange.session_remove(rest),
+    match name {
+        "set" => set(exchange, rest),
+        _ => exchange.session_remove(rest),
     }
+}
+
+fn set(exchange: &mut Exchange, rest: &str) -> Result<bool, ExchangeFault> {
+    let (name, value) = rest.split_once('=').unwrap_or((rest, ""));
+    exchange.session_set(name, value)
 }
 
 /// Keeps an error, or begins a dispatch.

@@ -28,9 +28,10 @@ held    | set n=2; set k=1; event; event; event   | true; true; AttributeReplace
 held    | remove n; end; event; event; event; event | true; true; AttributeRemoved 1 n; SessionDestroyed 1; AttributeRemoved 1 m; -
 held    | set n=2; end; event; event; event; event | true; true; AttributeReplaced 1 n; SessionDestroyed 1; AttributeRemoved 1 n; AttributeRemoved 1 m
 none    | open; event; event                      | true; SessionCreated 2; - | 000000000000000000000000000000010000000000000002 /app
--- limits: two sessions
+-- limits: two sessions, and names of 64 bytes
 none    | open; end; open; session                | true; true; true; 3   | 000000000000000000000000000000010000000000000003 /app
 full    | open                                    | TooManySessions
+held    | set xxxxxxxxxxxxxxxxxxxxxxxxxxxxxxxxxxxxxxxxxxxxxxxxxxxxxxxxxxxxxxxxx=1; set xxxxxxxxxxxxxxxxxxxxxxxxxxxxxxxxxxxxxxxxxxxxxxxxxxxxxxxxxxxxxxxx=1 | TooLarge; true
 "#;
 
 /// The same with errors: an error is kept with its status, its servlet (`-` for none) and its text. Then attributes of the error page.
@@ -47,6 +48,8 @@ none | keep 404 who Not Found; forward; attribute jakarta.servlet.error.status_c
 -- where no error was kept, and where another was
 none | error; attribute jakarta.servlet.error.status_code; attribute jakarta.servlet.error.message       | done; -; -
 none | kept; keep 404 - gone; keep 503 who away; kept                                                    | -; done; done; 503
+-- calls are counted
+none | count; count                                                                                      | 1; 2
 "#;
 
 #[test]
