@@ -2,10 +2,8 @@
 #![tactic(auto)]
 
 #[cfg(test)]
-mod errors;
-#[cfg(test)]
-mod parameters;
+mod calls;
 #[cfg(test)]
 mod requests;
 #[cfg(test)]
-mod sessions;
+mod tables;

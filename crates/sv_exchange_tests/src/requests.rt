@@ -5,6 +5,7 @@ use http_header::{HeaderName, HeaderValue};
 use std::alloc::Global;
 use sv_exchange::{Exchange, HeldSession};
 use sv_head::Field;
+use sv_realm::Caller;
 use sv_session::Sessions;
 use sv_text::{Bytes, Listed, NoMemory, Text};
 use sv_uri::path::Canon;
@@ -17,41 +18,44 @@ pub struct Request<'a> {
     pub content_type: &'a str,
     pub query: &'a str,
     pub body: &'a str,
+    /// The session with which it comes: see [`held`].
+    pub session: &'a str,
 }
 
-/// Its exchange in the context `/app` without sessions, at the moment 7.
+/// Its exchange in the context `/app`, at the moment 7.
 pub fn exchange(alloc: Global, request: Request<'_>) -> Result<Exchange, NoMemory> {
-    exchange_with(alloc, request, None, Sessions::new(alloc, 0, 0))
+    let message = message(alloc, request)?;
+    let canon = canon(alloc, request.query)?;
+    exchange_of(alloc, &message, &canon, request.session)
 }
 
-/// The same with these sessions, one of which may be the request's.
-pub fn exchange_with(
+fn exchange_of(
     alloc: Global,
-    request: Request<'_>,
-    held: Option<HeldSession>,
-    sessions: Sessions,
+    message: &Message,
+    canon: &Canon,
+    session: &str,
 ) -> Result<Exchange, NoMemory> {
-    let message = message(alloc, request)?;
-    let canon = Canon {
-        path: Text::copy_of(alloc, "/a")?,
-        query: Some(Text::copy_of(alloc, request.query)?),
-    };
-    match Exchange::begin(alloc, &message, &canon, "/app", 7, (0, 1), held, sessions) {
+    let held = held(alloc, session)?;
+    let sessions = sessions(alloc, if session == "full" { 1 } else { 2 });
+    match Exchange::begin(alloc, message, canon, "/app", 7, (0, 1), held, sessions) {
         Ok(exchange) => Ok(exchange),
         Err(_) => Err(NoMemory),
     }
 }
 
+fn canon(alloc: Global, query: &str) -> Result<Canon, NoMemory> {
+    Ok(Canon {
+        path: Text::copy_of(alloc, "/a")?,
+        query: Some(Text::copy_of(alloc, query)?),
+    })
+}
+
 fn message(alloc: Global, request: Request<'_>) -> Result<Message, NoMemory> {
-    let mut fields = Vec::new(alloc);
-    if !request.content_type.is_empty() {
-        fields.push(content_type(alloc, request.content_type)?)?;
-    }
     Ok(Message {
         method: method(request.method),
         target: Target::Star,
         minor: 1,
-        fields: Listed::from_vec(fields),
+        fields: Listed::from_vec(fields(alloc, request.content_type)?),
         body: Bytes::copy_of(alloc, request.body.as_bytes())?,
         keep: true,
     })
@@ -65,12 +69,56 @@ fn method(name: &str) -> Method {
     }
 }
 
-fn content_type(alloc: Global, value: &str) -> Result<Field, NoMemory> {
-    let Ok(name) = HeaderName::from_bytes(alloc, b"content-type") else {
+fn fields(alloc: Global, content_type: &str) -> Result<Vec<Field>, NoMemory> {
+    let mut fields = Vec::new(alloc);
+    fields.push(field(alloc, b"content-type", content_type.as_bytes())?)?;
+    Ok(fields)
+}
+
+/// A field of a name and a value that are valid.
+fn field(alloc: Global, name: &[u8], value: &[u8]) -> Result<Field, NoMemory> {
+    let Ok(name) = HeaderName::from_bytes(alloc, name) else {
         return Err(NoMemory);
     };
-    let Ok(value) = HeaderValue::from_bytes(alloc, value.as_bytes()) else {
+    let Ok(value) = HeaderValue::from_bytes(alloc, value) else {
         return Err(NoMemory);
     };
     Ok(Field { name, value })
+}
+
+/// The sessions of a context that has one, with the attributes n and m. Where memory runs out, it has less.
+fn sessions(alloc: Global, limit: usize) -> Sessions {
+    let mut sessions = Sessions::new(alloc, limit, 0);
+    let _opened = sessions.open((0, 0), 0);
+    let _n_set = sessions.set(1, "n", "1");
+    let _m_set = sessions.set(1, "m", "1");
+    sessions
+}
+
+/// The session of a request: `held`, `renewed` where its message opened or renamed it, none for other words.
+fn held(alloc: Global, session: &str) -> Result<Option<HeldSession>, NoMemory> {
+    if session == "held" || session == "renewed" {
+        Ok(Some(HeldSession {
+            number: 1,
+            is_renewed: session == "renewed",
+            caller: Some(ann(alloc)?),
+        }))
+    } else {
+        Ok(None)
+    }
+}
+
+/// The caller ann with the role a.
+fn ann(alloc: Global) -> Result<Caller, NoMemory> {
+    Ok(Caller {
+        number: 0,
+        name: Text::copy_of(alloc, "ann")?,
+        roles: roles(alloc)?,
+    })
+}
+
+fn roles(alloc: Global) -> Result<Listed<Text>, NoMemory> {
+    let mut roles = Vec::new(alloc);
+    roles.push(Text::copy_of(alloc, "a")?)?;
+    Ok(Listed::from_vec(roles))
 }
