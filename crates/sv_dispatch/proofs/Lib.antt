@@ -3,4 +3,5 @@ pub mod DispatchDeeds
 pub mod FilingDeeds
 pub mod FilterDeeds
 pub mod LeaveDeeds
+pub mod RunningDeeds
 pub mod TurnDeeds

@@ -7,6 +7,8 @@ mod error_field;
 mod filing;
 mod filters;
 mod machine;
+mod parts;
+mod running;
 mod tables;
 
 pub use dispatching::dispatch_by;

@@ -6,7 +6,9 @@ use Rattle.sv_site.specs.declared.file_found.FileFound as found
 use Rattle.sv_site.specs.declared.file_found.FileFound.TheVariants as founds
 use Rattle.sv_site.specs.declared.resource.Resource as resource
 use Rattle.sv_site.specs.declared.resource.Resource.TheVariants as resources
-use Rattle.sv_tree.specs.Site.{Chosen, FileAnswer, File, Redirect, Missing, NotAllowed, Resource, Servlet, Files, Site}
+use Rattle.sv_tree.specs.Site.{Chosen, FileAnswer, File, Redirect, Missing, NotAllowed, Site}
+use Rattle.sv_tree.specs.declared.resource.Resource.{Resource}
+use Rattle.sv_tree.specs.declared.resource.Resource.TheVariants.{Servlet, Files}
 
 abbrev pub resource_seen : resource.Resource → Resource
 resource_seen (resources.Servlet place) = Servlet place

@@ -1,0 +1,175 @@
+-- Steps of a started context with its exchange, as a machine makes them.
+use Rattle.std.proofs.Common.{◌≡◌, ◌⊎◌, inl, inr, ℕ, ◌+◌, Bool, true, false, List, [], ◌∷◌, ◌++◌, length, Option, None, Some, Result, Ok, Err, refl, sym, ap, ap₂, ◌∙◌, subst, append-nil, if◌then◌else◌}
+use Rattle.std.proofs.lemmas.Option.{unwrap_or-slice_get}
+use Rattle.std.specs.Prelude.{is_ok, slice_index_or, slice_set, OnErr, OnOk}
+use Rattle.std.specs.Borrow.{GName}
+use Rattle.sv_component.specs.Call.{Call, Destroyed, Entered, Left, Serviced}
+use Rattle.sv_component.specs.Runs.{OfFilter, OfServlet, Record}
+use Rattle.sv_component.specs.Standing.{is_gone}
+use Rattle.sv_component.specs.declared.answers.Gate.{Gate}
+use Rattle.sv_component.specs.declared.answers.Gate.TheVariants as gates
+use Rattle.sv_component.specs.declared.answers.Step.{Step}
+use Rattle.sv_component.specs.declared.answers.Step.TheVariants as steps
+use Rattle.sv_component.specs.declared.standing.Standing.{Standing}
+use Rattle.sv_component.specs.declared.standing.Standing.TheVariants.{Gone}
+use Rattle.sv_dispatch.specs.Did.{Did, Frame, seen}
+use Rattle.sv_dispatch.specs.Running.{done_seen, gate_seen, made_seen, offer_seen, state_of, step_seen}
+use Rattle.sv_dispatch.specs.Seen.{offers}
+use Rattle.sv_exchange.specs.Changing.{Change, Changes, Does, Write, answer, has_room, left_by}
+use Rattle.sv_exchange.specs.State as exchanges
+use Rattle.sv_exchange.specs.declared.exchange_fault.ExchangeFault.{ExchangeFault}
+use Rattle.sv_exchange.specs.declared.exchange_fault.ExchangeFault.TheVariants as faults
+use Rattle.sv_journal.specs.Journal.{JournalState}
+use Rattle.sv_lifecycle.specs.Calling.{Enters, Leaves, Serves}
+use Rattle.sv_lifecycle.specs.Standing.{LiveState, standing_at}
+use Rattle.sv_text.specs.declared.no_memory.NoMemory.{NoMemory}
+use Rattle.sv_tree.specs.Does as does
+use Rattle.sv_tree.specs.Does.{asks, choose, gives, makes, tries, ◌>>◌}
+use Rattle.sv_tree.specs.Filters.{after_of, before_of}
+use Rattle.sv_tree.specs.State.{State, on_exchange}
+use Rattle.sv_tree.specs.Tree.{service_of}
+
+-- the standings with an exchange
+abbrev pub at : List Standing → exchanges.State → State
+at its_standings its_exchange = record { exchange = its_exchange; standings = its_standings }
+
+-- an exchange changed, or nothing did
+pub tried : {E : Type 0} (change : exchanges.State → exchanges.State) (x y : exchanges.State) (standings : List Standing) (result : Result (Unit {0}) E)
+    → OnOk result (y ≡ change x) → OnErr result (y ≡ x) → tries (on_exchange change) (at standings x) [] (at standings y) (seen result)
+tried change x y standings (Ok done) so not = (refl, inl (ap (at standings) so, refl))
+tried change x y standings (Err refusal) so not = (refl, inr (ap (at standings) not, refl))
+
+-- a changing call of the container's own
+module _ (change : Change) (x y : exchanges.State) (standings : List Standing) where
+  answered_so : (said : Result Bool ExchangeFault) → (answer change x ≡ said) → y ≡ left_by said change x
+      → makes change (at standings x) [] (at standings y) (Some tt)
+  answered_so said is left = (refl, inl (ap (at standings) (left ∙ ap (λ said. left_by said change x) (sym is)), refl))
+
+  pub makes_so : (said : Result Bool ExchangeFault) → Does change said x y → makes change (at standings x) [] (at standings y) (made_seen said)
+  makes_so (Ok done) h = answered_so (Ok done) h.0 h.1
+  makes_so (Err faults.NoMemory) h = (refl, inr (ap (at standings) h.1, refl))
+  makes_so (Err faults.Committed) h = answered_so (Err faults.Committed) h.0 h.1
+  makes_so (Err faults.TooManySessions) h = answered_so (Err faults.TooManySessions) h.0 h.1
+  makes_so (Err faults.SerialSpent) h = answered_so (Err faults.SerialSpent) h.0 h.1
+  makes_so (Err faults.NoSession) h = answered_so (Err faults.NoSession) h.0 h.1
+  makes_so (Err faults.BadHeader) h = answered_so (Err faults.BadHeader) h.0 h.1
+  makes_so (Err faults.TooLarge) h = answered_so (Err faults.TooLarge) h.0 h.1
+
+has : (room done : Bool) → (if room then Ok true else Err faults.TooLarge) ≡ Ok done → room ≡ true
+has true done e = refl
+has false done e = cc
+
+has_not : (room : Bool) (fault : ExchangeFault) → (if room then Ok true else Err faults.TooLarge) ≡ Err fault → room ≡ false
+has_not true fault e = cc
+has_not false fault e = refl
+
+-- bytes are written where the body can take them
+module _ (bytes : List ℕ) (x y : exchanges.State) (standings : List Standing) where
+  abbrev Written : does.Does Bool
+  Written = makes (Write bytes) >> gives true
+
+  chosen_first : (test : Bool) (result : Option Bool) → test ≡ true → Written (at standings x) [] (at standings y) result
+      → choose test Written (gives false) (at standings x) [] (at standings y) result
+  chosen_first test result e h = subst (λ test. choose test Written (gives false) (at standings x) [] (at standings y) result) (sym e) h
+
+  refused_so : (fault : ExchangeFault) → answer (Write bytes) x ≡ Err fault → y ≡ x → offers bytes (at standings x) [] (at standings y) (Some false)
+  refused_so fault is same =
+      subst (λ test. choose test Written (gives false) (at standings x) [] (at standings y) (Some false)) (sym (has_not (has_room (length bytes) x) fault is))
+      (refl, ap (at standings) same, refl)
+
+  pub offered : (said : Result Bool ExchangeFault) → Does (Write bytes) said x y → offers bytes (at standings x) [] (at standings y) (offer_seen said)
+  offered (Ok done) h =
+      chosen_first (has_room (length bytes) x) (Some true) (has (has_room (length bytes) x) done h.0)
+      (inl record { given = tt; between = at standings y; front = []; back = []; begins = makes_so (Write bytes) x y standings (Ok done) h; goes_on = (refl, refl, refl); is_joined = refl })
+  offered (Err faults.NoMemory) h =
+      chosen_first (has_room (length bytes) x) None (has (has_room (length bytes) x) true h.0)
+      (inr (makes_so (Write bytes) x y standings (Err faults.NoMemory) h, refl))
+  offered (Err faults.Committed) h = refused_so faults.Committed h.0 h.1
+  offered (Err faults.TooManySessions) h = refused_so faults.TooManySessions h.0 h.1
+  offered (Err faults.SerialSpent) h = refused_so faults.SerialSpent h.0 h.1
+  offered (Err faults.NoSession) h = refused_so faults.NoSession h.0 h.1
+  offered (Err faults.BadHeader) h = refused_so faults.BadHeader h.0 h.1
+  offered (Err faults.TooLarge) h = refused_so faults.TooLarge h.0 h.1
+
+-- the answer of a component, unless memory was wanted for it or for its entry
+gate_ends : (whole : Bool) (gate result : Gate) → result ≡ (if whole then gate else gates.NoMemory) → (gate_seen result ≡ Some gate) ⊎ (gate_seen result ≡ None)
+gate_ends false gate result e = inr (ap gate_seen e)
+gate_ends true gates.Pass result e = inl (ap gate_seen e)
+gate_ends true gates.Stop result e = inl (ap gate_seen e)
+gate_ends true (gates.Failed kind text) result e = inl (ap gate_seen e)
+gate_ends true gates.NoMemory result e = inr (ap gate_seen e)
+
+step_ends : (whole : Bool) (step result : Step) → result ≡ (if whole then step else steps.NoMemory) → (step_seen result ≡ Some step) ⊎ (step_seen result ≡ None)
+step_ends false step result e = inr (ap step_seen e)
+step_ends true steps.Done result e = inl (ap step_seen e)
+step_ends true (steps.Forward path) result e = inl (ap step_seen e)
+step_ends true (steps.Include path) result e = inl (ap step_seen e)
+step_ends true (steps.Error code text) result e = inl (ap step_seen e)
+step_ends true (steps.Failed kind text) result e = inl (ap step_seen e)
+step_ends true (steps.Unavailable seconds) result e = inl (ap step_seen e)
+step_ends true steps.NoMemory result e = inr (ap step_seen e)
+
+done_ends : (whole done : Bool) (result : Result (Unit {0}) NoMemory) → is_ok result ≡ (if whole then done else false)
+    → (done_seen result ≡ Some done) ⊎ (done_seen result ≡ None)
+done_ends true true (Ok it) e = inl refl
+done_ends true false (Ok it) e = cc
+done_ends false done (Ok it) e = cc
+done_ends whole done (Err refusal) e = inr refl
+
+ends_by : {A : Type 0} (x y : Option A) (value : A) → y ≡ x → (x ≡ Some value) ⊎ (x ≡ None) → (y ≡ Some value) ⊎ (y ≡ None)
+ends_by x y value e (inl some) = inl (e ∙ some)
+ends_by x y value e (inr none) = inr (e ∙ none)
+
+abbrev frame_of : GName → GName → GName → ℕ → ℕ → Frame
+frame_of its_live its_exchange its_journal count others = record { servlets = count; filters = others; live = its_live; exchange = its_exchange; journal = its_journal }
+
+-- with these counts, the frame is the same
+pub framed : (live exchange journal : GName) (servlets servlets' filters filters' : ℕ) → servlets' ≡ servlets → filters' ≡ filters
+    → frame_of live exchange journal servlets' filters' ≡ frame_of live exchange journal servlets filters
+framed live exchange journal servlets servlets' filters filters' e f = ap₂ (frame_of live exchange journal) e f
+
+-- how a servlet stands, by either reading
+pub stands_at : (standings : List Standing) (place : ℕ) → standing_at standings place ≡ slice_index_or standings place Gone
+stands_at standings place = unwrap_or-slice_get standings place Gone
+
+pub here_by_place : (standings : List Standing) (place : ℕ) → is_gone (slice_index_or standings place Gone) ≡ false → is_gone (standing_at standings place) ≡ false
+here_by_place standings place here = ap is_gone (stands_at standings place) ∙ here
+
+module _ {S F L : Type 0} (ss : S → Call → S → Type 0) (fs : F → Call → F → Type 0) (ls : L → Call → L → Type 0) (live live' : LiveState S F L) (noted noted' : JournalState) (place : ℕ) (x x' : exchanges.State) (changes : Changes x x') where
+  pub asked_before : (given : Gate) (result : Option Gate) (entered : Enters ss fs ls live noted place x given live' noted' x') → result ≡ gate_seen given
+      → asks (before_of place) (at live.standings x) (OfFilter place (Entered x entered.gate x') ∷ []) (at live'.standings x') result
+  asked_before given result entered is = record {
+    answer = entered.gate;
+    exchange = x';
+    is_made = refl;
+    changes = changes;
+    is = ap (λ standings. at standings x') entered.calls.stands.standings;
+    ends = ends_by (gate_seen given) result entered.gate is (gate_ends noted'.whole entered.gate given entered.answers);
+  }
+
+  pub asked_after : (given : Result (Unit {0}) NoMemory) (result : Option Bool) (left : Leaves ss fs ls live noted place x given live' noted' x') → result ≡ done_seen given
+      → asks (after_of place) (at live.standings x) (OfFilter place (Left x left.done x') ∷ []) (at live'.standings x') result
+  asked_after given result left is = record {
+    answer = left.done;
+    exchange = x';
+    is_made = refl;
+    changes = changes;
+    is = ap (λ standings. at standings x') left.calls.stands.standings;
+    ends = ends_by (done_seen given) result left.done is (done_ends noted'.whole left.done given left.answers);
+  }
+
+  pub asked_service : (turn : ℕ) (given : Step) (result : Option Step) (served : Serves ss fs ls live noted place turn x given live' noted' x') → result ≡ step_seen given
+      → asks (service_of place turn) (at live.standings x) (OfServlet place (Serviced x turn served.step x') ∷ []) (at live'.standings x') result
+  asked_service turn given result served is = record {
+    answer = served.step;
+    exchange = x';
+    is_made = refl;
+    changes = changes;
+    is = ap (λ standings. at standings x') served.calls.stands.standings;
+    ends = ends_by (step_seen given) result served.step is (step_ends noted'.whole served.step given served.answers);
+  }
+
+-- a result is there or not
+pub there_or_not : {E : Type 0} (result : Result (Unit {0}) E) → (seen result ≡ Some tt) ⊎ (seen result ≡ None)
+there_or_not (Ok done) = inl refl
+there_or_not (Err refusal) = inr refl

@@ -1,0 +1,185 @@
+//! Parts of what a machine does: with an exchange, and with what components answered.
+
+ghost use Rattle.std.specs.Prelude.{◌≡◌, IfOk, OnErr, OnOk, Some, is_ok};
+ghost use Rattle.std.specs.Option.{option_copied};
+ghost use Rattle.sv_dispatch.specs.Did.{seen};
+ghost use Rattle.sv_dispatch.specs.Running.{done_seen, gate_seen, made_seen, offer_seen, step_seen};
+ghost use Rattle.sv_dispatch.specs.Seen.{chosen_seen, field_of};
+ghost use Rattle.sv_exchange.specs.Keeping.{with_kept};
+ghost use Rattle.sv_tree.specs.Files.{emptied};
+ghost use Rattle.sv_tree.specs.Site.{begun_by, emptied_for};
+ghost use Rattle.sv_tree.specs.State.{moment_after};
+
+use crate::error_field::ErrorField;
+use crate::tables::Chosen;
+use std::alloc::Global;
+use sv_component::{Exchange, Gate, Step};
+use sv_exchange::{ExchangeFault, KeptField};
+use sv_mapping::Kind;
+use sv_text::{NoMemory, Text};
+use sv_uri::path::Canon;
+
+/// Begins a dispatch of a path that is split so.
+pub(crate) fn enter(
+    exchange: &mut Exchange,
+    kind: Kind,
+    chosen: &Chosen,
+    canon: &Canon,
+) -> Result<(), NoMemory>
+    ensures entered { OnOk result (exchange.new ≡ begun_by (chosen_seen chosen.now) kind canon.now exchange.old) }
+    ensures refused { OnErr result (exchange.new ≡ exchange.old) }
+{
+    let path = canon.path.as_str();
+    let query = shown(&canon.query);
+    let Ok(()) = exchange.enter(kind, path, chosen.servlet_path, chosen.path_info, query) else {
+        return Err(NoMemory);
+    };
+    empty_for(exchange, kind);
+    Ok(())
+}
+
+// A forward finds an empty body (Jakarta Servlet 6.0, section 9.4).
+fn empty_for(exchange: &mut Exchange, kind: Kind)
+    ensures { exchange.new ≡ emptied_for kind exchange.old }
+{
+    match kind {
+        Kind::Forward => exchange.clear(),
+        Kind::Request => {}
+        Kind::Include => {}
+        Kind::Error => {}
+    }
+}
+
+/// Takes back what was written, unless it is committed.
+pub(crate) fn empty(exchange: &mut Exchange)
+    ensures { exchange.new ≡ emptied exchange.old }
+{
+    if !exchange.committed() {
+        exchange.clear();
+    }
+}
+
+/// Keeps an error for the answer.
+pub(crate) fn keep_error(
+    alloc: Global,
+    exchange: &mut Exchange,
+    status: u16,
+    text: &str,
+    servlet: &str,
+    field: ErrorField,
+) -> Result<(), NoMemory>
+    ensures kept { OnOk result (exchange.new ≡ with_kept
+        (record { status = status; text = text.now; servlet = Some servlet.now; field = field_of field }) exchange.old) }
+    ensures refused { OnErr result (exchange.new ≡ exchange.old) }
+{
+    let Ok(field) = kept_field(alloc, field) else {
+        return Err(NoMemory);
+    };
+    exchange.keep_error(status, text, Some(servlet), field)
+}
+
+// The field that goes with an error.
+fn kept_field(alloc: Global, field: ErrorField) -> Result<Option<KeptField>, NoMemory>
+    ensures { IfOk result (λ kept. kept ≡ field_of field) }
+{
+    match field {
+        ErrorField::Nothing => Ok(None),
+        ErrorField::Allow => named(alloc, "allow", "GET, HEAD"),
+        ErrorField::RetryAfter(seconds) => {
+            let text = format!(in alloc; "{seconds}")?;
+            named(alloc, "retry-after", text.as_str())
+        }
+    }
+}
+
+fn named(alloc: Global, name: &str, value: &str) -> Result<Option<KeptField>, NoMemory>
+    ensures { IfOk result (λ kept. kept ≡ Some (record { name = name.now; value = value.now })) }
+{
+    Ok(Some(KeptField {
+        name: Text::copy_of(alloc, name)?,
+        value: Text::copy_of(alloc, value)?,
+    }))
+}
+
+// The text, if it is there.
+fn shown(text: &Option<Text>) -> Option<&str>
+    ensures { option_copied result ≡ text.now }
+{
+    match text {
+        Some(text) => Some(text.as_str()),
+        None => None,
+    }
+}
+
+/// A servlet's answer, and a refusal where it wanted memory.
+pub(crate) fn step_of(step: Step) -> Result<Step, NoMemory>
+    ensures { seen result ≡ step_seen step }
+{
+    match step {
+        Step::NoMemory => Err(NoMemory),
+        Step::Done => Ok(Step::Done),
+        Step::Forward(path) => Ok(Step::Forward(path)),
+        Step::Include(path) => Ok(Step::Include(path)),
+        Step::Error(code, text) => Ok(Step::Error(code, text)),
+        Step::Failed(kind, text) => Ok(Step::Failed(kind, text)),
+        Step::Unavailable(seconds) => Ok(Step::Unavailable(seconds)),
+    }
+}
+
+/// A filter's answer, and a refusal where it wanted memory.
+pub(crate) fn gate_of(gate: Gate) -> Result<Gate, NoMemory>
+    ensures { seen result ≡ gate_seen gate }
+{
+    match gate {
+        Gate::NoMemory => Err(NoMemory),
+        Gate::Pass => Ok(Gate::Pass),
+        Gate::Stop => Ok(Gate::Stop),
+        Gate::Failed(kind, text) => Ok(Gate::Failed(kind, text)),
+    }
+}
+
+/// That a filter was done, and a refusal where it wanted memory.
+pub(crate) fn done_of(done: Result<(), NoMemory>) -> Result<bool, NoMemory>
+    ensures { seen result ≡ done_seen done }
+{
+    match done {
+        Ok(()) => Ok(true),
+        Err(refusal) => Err(refusal),
+    }
+}
+
+/// Whether a servlet's end was noted.
+pub(crate) fn retired(whole: bool) -> Result<(), NoMemory>
+    ensures { is_ok result ≡ whole }
+{
+    if whole { Ok(()) } else { Err(NoMemory) }
+}
+
+/// What a changing call did: a fault other than want of memory is an answer, and changes nothing.
+pub(crate) fn made(answered: Result<bool, ExchangeFault>) -> Result<(), NoMemory>
+    ensures { seen result ≡ made_seen answered }
+{
+    match answered {
+        Ok(_) => Ok(()),
+        Err(ExchangeFault::NoMemory) => Err(NoMemory),
+        Err(_) => Ok(()),
+    }
+}
+
+/// Whether the body could take what was written.
+pub(crate) fn offer(answered: Result<bool, ExchangeFault>) -> Result<bool, NoMemory>
+    ensures { seen result ≡ offer_seen answered }
+{
+    match answered {
+        Ok(_) => Ok(true),
+        Err(ExchangeFault::NoMemory) => Err(NoMemory),
+        Err(_) => Ok(false),
+    }
+}
+
+/// The moment so many seconds later, or the last one.
+pub(crate) fn moment_after(moment: u64, seconds: u64) -> u64
+    ensures { result ≡ moment_after moment seconds }
+{
+    moment.saturating_add(seconds)
+}
