@@ -64,7 +64,7 @@ fn within<M: Machine, T: Tables>(
     ensures { Did M.state M.frame M.ran (Within (T.site tables.now) room (Tree (T.site tables.now) room) resource kind canon.now)
         machine.old machine.new (seen result) }
 {
-    let Ok(chain) = tables.chain(canon.path.as_str(), tables.name(resource), kind) else {
+    let Ok(chain) = tables.chain(canon.path.as_str(), resource, kind) else {
         return Err(NoMemory);
     };
     let chain = chain.as_slice();

@@ -9,6 +9,7 @@ mod filters;
 mod machine;
 mod parts;
 mod running;
+mod site_tables;
 mod tables;
 
 pub use dispatching::dispatch_by;

@@ -16,6 +16,7 @@ use sv_tree::MAX_CALLS;
 use sv_uri::path::Canon;
 
 /// A started context, with the exchange of a request and their journal.
+#[derive(Drop)]
 pub(crate) struct Running<'a, S, F, L> {
     pub(crate) alloc: Global,
     pub(crate) live: &'a mut Live<S, F, L>,
@@ -105,17 +106,23 @@ impl<S: Servlet, F: Filter, L: Listener> Machine for Running<'_, S, F, L> {
     }
 
     fn before(&mut self, place: usize) -> Result<Gate, NoMemory> {
-        let gate = self.live.before(self.alloc, place, self.exchange, self.journal);
+        let gate = self
+            .live
+            .before(self.alloc, place, self.exchange, self.journal);
         gate_of(gate)
     }
 
     fn after(&mut self, place: usize) -> Result<bool, NoMemory> {
-        let done = self.live.after(self.alloc, place, self.exchange, self.journal);
+        let done = self
+            .live
+            .after(self.alloc, place, self.exchange, self.journal);
         done_of(done)
     }
 
     fn service(&mut self, place: usize, turn: u32) -> Result<Step, NoMemory> {
-        let step = self.live.service(self.alloc, place, self.exchange, turn, self.journal);
+        let step = self
+            .live
+            .service(self.alloc, place, self.exchange, turn, self.journal);
         step_of(step)
     }
 

@@ -52,9 +52,9 @@ pub trait Tables {
     fn name(&self, resource: Resource) -> &str
         ensures { result.now ≡ name_of (site self.now) resource };
 
-    /// The filters of a dispatch, by their places.
-    fn chain(&self, path: &str, name: &str, kind: Kind) -> Result<Vec<usize>, NoMemory>
-        ensures is { IfOk result (λ chain. chain.items ≡ (site self.now).chain path.now name.now kind) }
+    /// The filters of a dispatch to who answers, by their places.
+    fn chain(&self, path: &str, resource: Resource, kind: Kind) -> Result<Vec<usize>, NoMemory>
+        ensures is { IfOk result (λ chain. chain.items ≡ (site self.now).chain path.now (name_of (site self.now) resource) kind) }
         ensures there { IfOk result (λ chain. All (λ place. place < filters self.now) chain.items) };
 
     /// What the file servlet has for a path.

@@ -1,7 +1,7 @@
-use Rattle.std.proofs.Common.{None, Some, sym, ap, ap₂, ◌∙◌, subst, add-one}
+use Rattle.std.proofs.Common.{None, Some, sym, ap, ◌∙◌, subst, add-one}
 use Rattle.sv_dispatch.specs.Did.{seen}
 use Rattle.sv_dispatch.specs.Seen.{chosen_seen}
-use Rattle.sv_tree.specs.Site.{chosen}
+use Rattle.sv_tree.specs.Site.{chosen, name_of}
 use Rattle.sv_tree.specs.Tree.{Tree, Turn}
 use Rattle.sv_dispatch.proofs.Deeds.{Makes}
 use Rattle.sv_dispatch.proofs.DispatchDeeds.{asked_lacks, dispatch_breaks, dispatch_ends, dispatch_lacks, responds_filed, stepped_forward, within_breaks, within_ends, within_lacks, within_leaves, within_stops}
@@ -92,23 +92,23 @@ within-returns-in_default g t c =
 pub within-returns-in_default-befores : goal.within-returns-in_default-befores
 within-returns-in_default-befores g t c =
     within_stops g.M.Machine.state g.M.Machine.frame g.M.Machine.ran (g.T.Tables.site c.args.tables.now) c.args.room c.args.resource c.args.kind c.args.canon.now c.as_slice-chain.result.now
-    (c.as_slice-chain.ensures.value ∙ c.in-Ok.ensures.is ∙ ap₂ (λ path name. (g.T.Tables.site c.args.tables.now).chain path name c.args.kind) c.as_str.ensures c.name.ensures)
+    (c.as_slice-chain.ensures.value ∙ c.in-Ok.ensures.is ∙ ap (λ path. (g.T.Tables.site c.args.tables.now).chain path (name_of (g.T.Tables.site c.args.tables.now) c.args.resource) c.args.kind) c.as_str.ensures)
     c.args.machine.now c.befores.new.machine c.in_default-befores.ensures.does
 
 pub within-returns-in_default-respond : goal.within-returns-in_default-respond
 within-returns-in_default-respond g t c =
     within_breaks g.M.Machine.state g.M.Machine.frame g.M.Machine.ran (g.T.Tables.site c.args.tables.now) c.args.room c.args.resource c.args.kind c.args.canon.now c.as_slice-chain.result.now
-    (c.as_slice-chain.ensures.value ∙ c.in-Ok.ensures.is ∙ ap₂ (λ path name. (g.T.Tables.site c.args.tables.now).chain path name c.args.kind) c.as_str.ensures c.name.ensures)
+    (c.as_slice-chain.ensures.value ∙ c.in-Ok.ensures.is ∙ ap (λ path. (g.T.Tables.site c.args.tables.now).chain path (name_of (g.T.Tables.site c.args.tables.now) c.args.resource) c.args.kind) c.as_str.ensures)
     c.in-Ok-befores.passed.count c.in-Ok-befores.passed.ended c.args.machine.now c.befores.new.machine c.respond.new.machine c.in-Ok-befores.ensures.does c.in_default-respond.ensures
 
 pub within-returns-in_default-afters : goal.within-returns-in_default-afters
 within-returns-in_default-afters g t c =
     within_leaves g.M.Machine.state g.M.Machine.frame g.M.Machine.ran (g.T.Tables.site c.args.tables.now) c.args.room c.args.resource c.args.kind c.args.canon.now c.as_slice-chain.result.now
-    (c.as_slice-chain.ensures.value ∙ c.in-Ok.ensures.is ∙ ap₂ (λ path name. (g.T.Tables.site c.args.tables.now).chain path name c.args.kind) c.as_str.ensures c.name.ensures)
+    (c.as_slice-chain.ensures.value ∙ c.in-Ok.ensures.is ∙ ap (λ path. (g.T.Tables.site c.args.tables.now).chain path (name_of (g.T.Tables.site c.args.tables.now) c.args.resource) c.args.kind) c.as_str.ensures)
     c.in-Ok-befores.passed.count c.in-Ok-befores.passed.ended c.args.machine.now c.befores.new.machine c.respond.new.machine c.in-Ok-befores.ensures.does c.in-Ok-respond.finished c.afters.new.machine c.in-Ok-respond.ensures c.in_default-afters.ensures
 
 pub within-returns : goal.within-returns
 within-returns g t c =
     within_ends g.M.Machine.state g.M.Machine.frame g.M.Machine.ran (g.T.Tables.site c.args.tables.now) c.args.room c.args.resource c.args.kind c.args.canon.now c.as_slice-chain.result.now
-    (c.as_slice-chain.ensures.value ∙ c.in-Ok.ensures.is ∙ ap₂ (λ path name. (g.T.Tables.site c.args.tables.now).chain path name c.args.kind) c.as_str.ensures c.name.ensures)
+    (c.as_slice-chain.ensures.value ∙ c.in-Ok.ensures.is ∙ ap (λ path. (g.T.Tables.site c.args.tables.now).chain path (name_of (g.T.Tables.site c.args.tables.now) c.args.resource) c.args.kind) c.as_str.ensures)
     c.in-Ok-befores.passed.count c.in-Ok-befores.passed.ended c.args.machine.now c.befores.new.machine c.respond.new.machine c.in-Ok-befores.ensures.does c.in-Ok-respond.finished c.afters.new.machine c.in-Ok-respond.ensures c.in-Ok-afters.ensures
