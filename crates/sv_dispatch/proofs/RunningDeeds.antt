@@ -1,10 +1,10 @@
 -- Steps of a started context with its exchange, as a machine makes them.
-use Rattle.std.proofs.Common.{◌≡◌, ◌⊎◌, inl, inr, ℕ, ◌+◌, Bool, true, false, List, [], ◌∷◌, ◌++◌, length, Option, None, Some, Result, Ok, Err, refl, sym, ap, ap₂, ◌∙◌, subst, append-nil, if◌then◌else◌}
+use Rattle.std.proofs.Common.{◌≡◌, ◌⊎◌, inl, inr, ℕ, Bool, true, false, List, [], ◌∷◌, length, Option, None, Some, Result, Ok, Err, refl, sym, ap, ap₂, ◌∙◌, subst, if◌then◌else◌}
 use Rattle.std.proofs.lemmas.Option.{unwrap_or-slice_get}
-use Rattle.std.specs.Prelude.{is_ok, slice_index_or, slice_set, OnErr, OnOk}
+use Rattle.std.specs.Prelude.{is_ok, slice_index_or, OnErr, OnOk}
 use Rattle.std.specs.Borrow.{GName}
-use Rattle.sv_component.specs.Call.{Call, Destroyed, Entered, Left, Serviced}
-use Rattle.sv_component.specs.Runs.{OfFilter, OfServlet, Record}
+use Rattle.sv_component.specs.Call.{Call, Entered, Left, Serviced}
+use Rattle.sv_component.specs.Runs.{OfFilter, OfServlet}
 use Rattle.sv_component.specs.Standing.{is_gone}
 use Rattle.sv_component.specs.declared.answers.Gate.{Gate}
 use Rattle.sv_component.specs.declared.answers.Gate.TheVariants as gates
@@ -12,8 +12,8 @@ use Rattle.sv_component.specs.declared.answers.Step.{Step}
 use Rattle.sv_component.specs.declared.answers.Step.TheVariants as steps
 use Rattle.sv_component.specs.declared.standing.Standing.{Standing}
 use Rattle.sv_component.specs.declared.standing.Standing.TheVariants.{Gone}
-use Rattle.sv_dispatch.specs.Did.{Did, Frame, seen}
-use Rattle.sv_dispatch.specs.Running.{done_seen, gate_seen, made_seen, offer_seen, state_of, step_seen}
+use Rattle.sv_dispatch.specs.Did.{Frame, seen}
+use Rattle.sv_dispatch.specs.Running.{done_seen, gate_seen, made_seen, offer_seen, step_seen}
 use Rattle.sv_dispatch.specs.Seen.{offers}
 use Rattle.sv_exchange.specs.Changing.{Change, Changes, Does, Write, answer, has_room, left_by}
 use Rattle.sv_exchange.specs.State as exchanges

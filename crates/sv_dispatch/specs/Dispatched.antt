@@ -1,5 +1,5 @@
 -- A dispatch over a started context.
-use Rattle.std.specs.Prelude.{◌≡◌, ℕ, List, Option, length}
+use Rattle.std.specs.Prelude.{◌≡◌, List, Option, length}
 use Rattle.sv_component.specs.Call.{Call}
 use Rattle.sv_component.specs.Runs.{Record, Runs}
 use Rattle.sv_dispatch.specs.Running.{state_of}

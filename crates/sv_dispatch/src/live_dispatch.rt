@@ -26,45 +26,71 @@ use sv_uri::path::Canon;
 /// # Errors
 /// `NoMemory` where memory ended the dispatch, or the journal is broken: the calls made so far were made, and the dispatches that were
 /// under way still are.
-pub fn dispatch<S: Servlet, F: Filter, L: Listener>(
+pub fn dispatch<'a, S: Servlet, F: Filter, L: Listener>(
     alloc: Global,
-    live: &mut Live<S, F, L>,
-    exchange: &mut Exchange,
+    live: &'a mut Live<S, F, L>,
+    exchange: &'a mut Exchange,
     site: &Site,
     kind: Kind,
     canon: &Canon,
-    journal: &mut Journal,
+    journal: &'a mut Journal,
 ) -> Result<Finished, NoMemory>
     requires servlets { length live.old.parts.servlets.items ≡ length site.now.app.servlets }
     requires filters { length live.old.parts.filters.items ≡ length site.now.app.filters }
     ensures { Dispatched S.servlet_step F.filter_step L.listener_step (site_of site.now) kind canon.now
         live.old exchange.old journal.old (seen result) live.new exchange.new journal.new }
 {
-    let tables = SiteTables { alloc, site };
-    let mut machine = Running {
-        alloc,
-        live: &mut *live,
-        exchange: &mut *exchange,
-        journal: &mut *journal,
-    };
-    run(&mut machine, &tables, kind, canon)
+    let mut machine = Running::over(alloc, live, exchange, journal);
+    run(&mut machine, site, kind, canon)
 }
 
 // Makes the dispatch.
 fn run<S: Servlet, F: Filter, L: Listener>(
     machine: &mut Running<'_, S, F, L>,
-    tables: &SiteTables<'_>,
+    site: &Site,
     kind: Kind,
     canon: &Canon,
 ) -> Result<Finished, NoMemory>
-    requires servlets { length machine.old.live.now.parts.servlets.items ≡ length tables.now.site.now.app.servlets }
-    requires filters { length machine.old.live.now.parts.filters.items ≡ length tables.now.site.now.app.filters }
-    ensures made { Dispatched S.servlet_step F.filter_step L.listener_step (site_of tables.now.site.now) kind canon.now
+    requires servlets { length machine.old.live.now.parts.servlets.items ≡ length site.now.app.servlets }
+    requires filters { length machine.old.live.now.parts.filters.items ≡ length site.now.app.filters }
+    ensures made { Dispatched S.servlet_step F.filter_step L.listener_step (site_of site.now) kind canon.now
         machine.old.live.now machine.old.exchange.now machine.old.journal.now (seen result)
         machine.new.live.now machine.new.exchange.now machine.new.journal.now }
     ensures live { machine.new.live.ghost_name ≡ machine.old.live.ghost_name }
     ensures exchange { machine.new.exchange.ghost_name ≡ machine.old.exchange.ghost_name }
     ensures journal { machine.new.journal.ghost_name ≡ machine.old.journal.ghost_name }
 {
-    dispatch_by(machine.alloc, machine, tables, MAX_NESTING - 1, kind, canon)
+    let tables = SiteTables {
+        alloc: machine.alloc,
+        site,
+    };
+    dispatch_by(
+        machine.alloc,
+        machine,
+        &tables,
+        MAX_NESTING - 1,
+        kind,
+        canon,
+    )
+}
+
+impl<'a, S, F, L> Running<'a, S, F, L> {
+    // The machine over these.
+    fn over(
+        alloc: Global,
+        live: &'a mut Live<S, F, L>,
+        exchange: &'a mut Exchange,
+        journal: &'a mut Journal,
+    ) -> Running<'a, S, F, L>
+        ensures live { (result.live.ghost_name ≡ live.entry.ghost_name) × (result.live.now ≡ live.old) }
+        ensures exchange { (result.exchange.ghost_name ≡ exchange.entry.ghost_name) × (result.exchange.now ≡ exchange.old) }
+        ensures journal { (result.journal.ghost_name ≡ journal.entry.ghost_name) × (result.journal.now ≡ journal.old) }
+    {
+        Running {
+            alloc,
+            live,
+            exchange,
+            journal,
+        }
+    }
 }

@@ -1,4 +1,4 @@
-use Rattle.std.proofs.Common.{[], refl, sym, ap}
+use Rattle.std.proofs.Common.{[], refl, ap}
 use Rattle.sv_component.specs.Runs.{Runs}
 use Rattle.sv_dispatch.proofs.live_dispatch.run.Goals as goal
 

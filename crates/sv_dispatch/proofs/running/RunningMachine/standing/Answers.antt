@@ -1,4 +1,4 @@
-use Rattle.std.proofs.Common.{ap, ap₂, ◌∙◌}
+use Rattle.std.proofs.Common.{ap₂, ◌∙◌}
 use Rattle.sv_component.specs.Standing.{standing_now}
 use Rattle.sv_dispatch.proofs.RunningDeeds.{stands_at}
 use Rattle.sv_dispatch.proofs.running.RunningMachine.standing.Goals as goal
