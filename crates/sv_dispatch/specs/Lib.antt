@@ -1,3 +1,4 @@
 pub mod Did
+pub mod Dispatched
 pub mod Running
 pub mod Seen

@@ -1,0 +1,96 @@
+//! A dispatch over a started context.
+
+ghost use Rattle.std.specs.Prelude.{◌≡◌, length};
+ghost use Rattle.sv_dispatch.specs.Did.{seen};
+ghost use Rattle.sv_dispatch.specs.Dispatched.{Dispatched};
+ghost use Rattle.sv_site.specs.Site.{site_of};
+
+use crate::dispatching::dispatch_by;
+use crate::running::Running;
+use crate::site_tables::SiteTables;
+use std::alloc::Global;
+use sv_component::{Exchange, Filter, Listener, Servlet};
+use sv_journal::Journal;
+use sv_lifecycle::Live;
+use sv_mapping::Kind;
+use sv_site::Site;
+use sv_text::NoMemory;
+use sv_tree::{Finished, MAX_NESTING};
+use sv_uri::path::Canon;
+
+/// Dispatches an exchange to a path within the context: the filters, then the servlet or the file servlet, and the dispatches that they
+/// ask for (Jakarta Servlet 6.0, chapters 6 and 9). Each call of a component is noted in the journal. An error or a failure of the
+/// dispatch is kept with the exchange. The context has as many servlets and filters as the site's descriptor, as it has since
+/// [`Live::start`] with it.
+///
+/// # Errors
+/// `NoMemory` where memory ended the dispatch, or the journal is broken: the calls made so far were made, and the dispatches that were
+/// under way still are.
+pub fn dispatch<'a, S: Servlet, F: Filter, L: Listener>(
+    alloc: Global,
+    live: &'a mut Live<S, F, L>,
+    exchange: &'a mut Exchange,
+    site: &Site,
+    kind: Kind,
+    canon: &Canon,
+    journal: &'a mut Journal,
+) -> Result<Finished, NoMemory>
+    requires servlets { length live.old.parts.servlets.items ≡ length site.now.app.servlets }
+    requires filters { length live.old.parts.filters.items ≡ length site.now.app.filters }
+    ensures { Dispatched S.servlet_step F.filter_step L.listener_step (site_of site.now) kind canon.now
+        live.old exchange.old journal.old (seen result) live.new exchange.new journal.new }
+{
+    let mut machine = Running::over(alloc, live, exchange, journal);
+    run(&mut machine, site, kind, canon)
+}
+
+// Makes the dispatch.
+fn run<S: Servlet, F: Filter, L: Listener>(
+    machine: &mut Running<'_, S, F, L>,
+    site: &Site,
+    kind: Kind,
+    canon: &Canon,
+) -> Result<Finished, NoMemory>
+    requires servlets { length machine.old.live.now.parts.servlets.items ≡ length site.now.app.servlets }
+    requires filters { length machine.old.live.now.parts.filters.items ≡ length site.now.app.filters }
+    ensures made { Dispatched S.servlet_step F.filter_step L.listener_step (site_of site.now) kind canon.now
+        machine.old.live.now machine.old.exchange.now machine.old.journal.now (seen result)
+        machine.new.live.now machine.new.exchange.now machine.new.journal.now }
+    ensures live { machine.new.live.ghost_name ≡ machine.old.live.ghost_name }
+    ensures exchange { machine.new.exchange.ghost_name ≡ machine.old.exchange.ghost_name }
+    ensures journal { machine.new.journal.ghost_name ≡ machine.old.journal.ghost_name }
+{
+    let tables = SiteTables {
+        alloc: machine.alloc,
+        site,
+    };
+    dispatch_by(
+        machine.alloc,
+        machine,
+        &tables,
+        MAX_NESTING - 1,
+        kind,
+        canon,
+    )
+}
+
+impl<'a, S, F, L> Running<'a, S, F, L> {
+    // The machine over these.
+    fn over(
+        alloc: Global,
+        live: &'a mut Live<S, F, L>,
+        exchange: &'a mut Exchange,
+        journal: &'a mut Journal,
+    ) -> Running<'a, S, F, L>
+        ensures live { (result.live.ghost_name ≡ live.entry.ghost_name) × (result.live.now ≡ live.old) }
+        ensures exchange { (result.exchange.ghost_name ≡ exchange.entry.ghost_name) × (result.exchange.now ≡ exchange.old) }
+        ensures journal { (result.journal.ghost_name ≡ journal.entry.ghost_name) × (result.journal.now ≡ journal.old) }
+    {
+        Running {
+            alloc,
+            live,
+            exchange,
+            journal,
+        }
+    }
+}
