@@ -24,7 +24,7 @@ use sv_uri::path::Canon;
 
 /// Dispatches a path, with room for so many dispatches within it (Jakarta Servlet 6.0, chapters 6 and 9).
 #[cycle(dispatching)]
-pub fn dispatch_by<M: Machine, T: Tables>(
+pub(crate) fn dispatch_by<M: Machine, T: Tables>(
     alloc: Global,
     machine: &mut M,
     tables: &T,

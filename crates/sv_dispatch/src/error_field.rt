@@ -2,7 +2,7 @@
 
 /// The field that goes with an error of the container's own (RFC 9110, sections 10.2.1 and 10.2.3).
 #[derive(Clone, Copy, Debug, PartialEq, Eq)]
-pub enum ErrorField {
+pub(crate) enum ErrorField {
     /// None goes with it.
     Nothing,
     /// `allow`, with the methods by which a file is read.

@@ -15,7 +15,7 @@ use sv_tree::{DispatchFault, Finished, Resource};
 
 /// How many filters of a chain passed, and how the dispatch ended where one did not.
 #[derive(Drop)]
-pub struct Passed {
+pub(crate) struct Passed {
     pub count: usize,
     pub ended: Option<Finished>,
 }

@@ -1,4 +1,4 @@
-//! The machine that makes dispatches, held to the definitions of `sv_tree`.
+//! Dispatches over a started context, and the machine that makes them, held to the definitions of `sv_tree`.
 #![tactic(auto)]
 
 mod dispatching;
@@ -13,9 +13,4 @@ mod running;
 mod site_tables;
 mod tables;
 
-pub use dispatching::dispatch_by;
-pub use error_field::ErrorField;
-pub use filters::Passed;
 pub use live_dispatch::dispatch;
-pub use machine::Machine;
-pub use tables::{Chosen, Found, Tables};

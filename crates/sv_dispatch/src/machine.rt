@@ -8,7 +8,7 @@ use sv_text::NoMemory;
 use sv_uri::path::Canon;
 
 /// The exchange of a request, with the components of its context and their journal.
-pub trait Machine: Sized {
+pub(crate) trait Machine: Sized {
     ghost use Rattle.std.specs.Prelude.{◌≡◌, ◌<◌, List, Some, false, length};
     ghost use Rattle.sv_component.specs.Runs.{Record};
     ghost use Rattle.sv_dispatch.specs.Did.{Did, Frame, seen};

@@ -7,7 +7,7 @@ use sv_uri::path::Canon;
 
 /// Who answers a path, and how the path is split (Jakarta Servlet 6.0, section 3.5).
 #[derive(Drop)]
-pub struct Chosen<'a> {
+pub(crate) struct Chosen<'a> {
     pub resource: Resource,
     pub servlet_path: &'a str,
     pub path_info: Option<&'a str>,
@@ -15,7 +15,7 @@ pub struct Chosen<'a> {
 
 /// What the file servlet has for a path.
 #[derive(Drop)]
-pub enum Found<'a> {
+pub(crate) enum Found<'a> {
     /// A file: its content type and its bytes.
     File(&'static str, &'a [u8]),
     /// The client is sent to that location.
@@ -27,7 +27,7 @@ pub enum Found<'a> {
 }
 
 /// The tables of a context, which no dispatch changes.
-pub trait Tables {
+pub(crate) trait Tables {
     ghost use Rattle.std.specs.Prelude.{◌≡◌, ◌<◌, ℕ, IfOk};
     ghost use Rattle.std.specs.List.{All};
     ghost use Rattle.sv_dispatch.specs.Seen.{chosen_seen, found_seen};
