@@ -26,6 +26,31 @@ tell_progress() {
     done
 }
 
+# The lines of crates.txt on the crates $@.
+lines_of() {
+    grep -E "^($(IFS='|'; echo "$*"))( [^:]*)?:" "$top/crates.txt"
+}
+
+# Brings the crates $@ into the copy, so that it holds these and what it held.
+bring() {
+    cp -a "${@/#/$top/crates/}" "$copy/crates" && lines_of "$@" >> "$copy/crates.txt"
+}
+
+# Proves the crates $@, each of which stands on the one before it, each with all processors.
+prove_in_turn() {
+    local crate
+    for crate in "$@"; do
+        (cd "crates/$crate" && rt check --jobs "$(jobs)") && echo "== $crate" || return
+    done
+}
+
+# Proves the crates $@ in the copy. The last two stand on all others and wait for them: with a process a crate they would leave
+# the other processors idle.
+prove() {
+    local below=("${@:1:$#-2}") last=("${@:$#-1}")
+    cd "$copy" && bring "${below[@]}" && rt all check --jobs "$(jobs)" && bring "${last[@]}" && prove_in_turn "${last[@]}"
+}
+
 # Proves and builds the crates $@ in a copy that holds nothing else, and brings the work back.
 build() {
     local crate copy log
@@ -33,12 +58,10 @@ build() {
     log=$copy/log
     trap "rm -rf '$copy'" EXIT
     mkdir "$copy/crates"
-    cp -a "${@/#/$top/crates/}" "$copy/crates"
     cp "$top/HANDLES" "$copy"
-    grep -E "^($(IFS='|'; echo "$*"))( [^:]*)?:" "$top/crates.txt" > "$copy/crates.txt"
     echo "sv: proving and building $# crates; later runs start at once" >&2
-    if ! (cd "$copy" && rt all check --jobs "$(jobs)") 2>&1 | tell_progress "$@" ||
-        ! (cd "$copy/crates/sv" && rt run -- first < /dev/null) >> "$log" 2>&1; then
+    if ! (prove "$@") 2>&1 | tell_progress "$@" ||
+        ! (cd "$copy/crates/sv" && rt run --jobs "$(jobs)" -- first < /dev/null) >> "$log" 2>&1; then
         cat "$log" >&2
         echo "sv: the program was not built" >&2
         exit 1
