@@ -1,9 +1,11 @@
 -- Jakarta Servlet 6.0, section 13.8: laws of the verdict.
-use Rattle.std.specs.Prelude.{◌≡◌, ℕ, Bool, true, not, ◌&&◌, ◌==◌, List, [], ◌∷◌, length, filter, Option, None, is_none}
+use Rattle.std.specs.Prelude.{◌≡◌, ℕ, Bool, true, not, ◌&&◌, ◌==◌, List, [], ◌∷◌, ◌++◌, length, filter, Option, None, Some, is_none}
+use Rattle.std.specs.Bool.{then_some}
 use Rattle.std.specs.List.{list_any}
 use Rattle.sv_mapping.specs.BestMatch.{best_pattern}
 use Rattle.sv_realm.specs.declared.caller.Caller.{Caller}
 use Rattle.sv_constraints.specs.Covering.{covering, all_patterns}
+use Rattle.sv_constraints.specs.Findings.{decided, findings_of, lesser, with_one}
 use Rattle.sv_constraints.specs.Verdict.{least_number, least_where, precludes, permits_plain, is_open, admits_caller, because, uncovered, verdict, verdict_at}
 use Rattle.sv_constraints.specs.declared.constraint.Constraint.{Constraint}
 use Rattle.sv_constraints.specs.declared.cause.Cause.TheVariants.{NoPattern, Uncovered, Precluded, Transport, Unauthenticated, NeedsCaller, Role, NoRole}
@@ -55,3 +57,20 @@ OnlyTheBestPatternDecides =
     best_pattern (all_patterns constraints) path ≡ pattern → best_pattern (all_patterns others) path ≡ pattern →
     covering constraints pattern method ≡ covering others pattern method →
     verdict constraints rules method path caller ≡ verdict others rules method path caller
+
+-- the least number of the constraints that pass a test, of constraints and one more
+abbrev pub LeastOfOneMore : Type 0
+LeastOfOneMore = (test : Constraint → Bool) (members : List Constraint) (constraint : Constraint) →
+    least_where test (members ++ constraint ∷ []) ≡ lesser (least_where test members) (then_some (test constraint) constraint.number)
+
+-- what is found in constraints and one more
+abbrev pub FindingsOfOneMore : Type 0
+FindingsOfOneMore = (rules : Rules) (caller : Option Caller) (members : List Constraint) (constraint : Constraint) →
+    with_one rules caller constraint (findings_of rules caller members) ≡ findings_of rules caller (members ++ constraint ∷ [])
+
+-- what is found in the constraints that cover a request at its best pattern gives the verdict
+abbrev pub FindingsDecide : Type 0
+FindingsDecide =
+    (constraints : List Constraint) (rules : Rules) (method path : List ℕ) (caller : Option Caller) (pattern : List ℕ) →
+    Some pattern ≡ best_pattern (all_patterns constraints) path →
+    decided rules caller (Some pattern) (findings_of rules caller (covering constraints (Some pattern) method)) ≡ verdict constraints rules method path caller

@@ -20,7 +20,9 @@ pub use covering::{covers, lists};
 pub use decide::decide_plain;
 pub use decision::{Decision, Why};
 pub use findings::{Findings, lesser};
-pub use laws::{just_one_case_holds, only_the_best_pattern_decides};
+pub use laws::{
+    findings_decide, just_one_case_holds, one_more_is_found, only_the_best_pattern_decides,
+};
 pub use owned_decision::{OwnedDecision, OwnedWhy};
 pub use roles::{EVERY_CALLER, EVERY_ROLE};
 pub use rules::Rules;

@@ -9,10 +9,9 @@ use Rattle.std.proofs.Math.Nat.{min_comm}
 use Rattle.std.proofs.lemmas.Bool.Decides.{same_from_decides}
 use Rattle.std.proofs.lemmas.Slice.Eq.{bytes_eq-Decides}
 use Rattle.sv_realm.specs.declared.caller.Caller.{Caller}
-use Rattle.sv_constraints.proofs.Found.{found_more}
-use Rattle.sv_constraints.proofs.Least.{least_where_more}
 use Rattle.sv_constraints.specs.Covering.{lists}
 use Rattle.sv_constraints.specs.Findings.{findings_of, lesser, with_one}
+use Rattle.sv_constraints.specs.Laws.{FindingsOfOneMore, LeastOfOneMore}
 use Rattle.sv_constraints.specs.Roles.{admits, roles_read}
 use Rattle.sv_constraints.specs.Verdict.{least_number, least_where, admits_caller}
 use Rattle.sv_constraints.specs.declared.constraint.Auth.{Auth}
@@ -144,12 +143,12 @@ found_for rules members merged caller admitted is is_admitted =
     ∙ ap (λ y. record { covering = (findings_of rules caller members).covering; precluding = (findings_of rules caller members).precluding; permits_plain = (findings_of rules caller members).permits_plain; unauthenticated = (findings_of rules caller members).unauthenticated; admitting = y }) (is_admitted ∙ admitting_is rules members merged caller is)
 
 -- what is merged with one more constraint
-pub merged_more : (rules : Rules) (members : List Constraint) (c : Constraint) (before after : Merged) → IsMerged rules members before
+pub merged_more : LeastOfOneMore → FindingsOfOneMore → (rules : Rules) (members : List Constraint) (c : Constraint) (before after : Merged) → IsMerged rules members before
     → after.found ≡ with_one rules None c before.found
     → after.everyone ≡ lesser before.everyone (then_some (admits_everyone c) c.number)
     → ((role : List ℕ) → number_of after.roles role ≡ lesser (number_of before.roles role) (then_some (grants rules role c) c.number))
     → IsMerged rules (members ++ c ∷ []) after
-merged_more rules members c before after is found everyone roles = record {
+merged_more least_where_more found_more rules members c before after is found everyone roles = record {
   found = found ∙ ap (with_one rules None c) is.found ∙ found_more rules None members c;
   everyone = everyone ∙ ap (λ x. lesser x (then_some (admits_everyone c) c.number)) is.everyone ∙ sym (least_where_more admits_everyone members c);
   roles = λ role. roles role ∙ ap (λ x. lesser x (then_some (grants rules role c) c.number)) (is.roles role) ∙ sym (least_where_more (grants rules role) members c);

@@ -6,8 +6,9 @@ use Rattle.std.specs.Cmp.Lexicographic.{slice_cmp}
 use Rattle.std.specs.List.{AllByRecursion}
 use Rattle.std.specs.List.Sorted.{IsStrictlySortedBy}
 use Rattle.std.specs.Map.{lookup, keys_of}
-use Rattle.std.specs.Option.{option_map_or}
+use Rattle.std.specs.Option.{option_map, option_map_or}
 use Rattle.std.specs.Str.{bytes_eq}
+use Rattle.std.specs.declared.boxed.Box.{Box}
 use Rattle.std.proofs.lemmas.List.{map-append}
 use Rattle.std.proofs.lemmas.List.Elements.{filter-append}
 use Rattle.std.proofs.lemmas.Map.Text.{is_eq-slice_cmp}
@@ -19,10 +20,10 @@ use Rattle.sv_merged.specs.Uncovered.{differ, is_bare}
 use Rattle.sv_merged.specs.declared.merged.Merged.{Merged}
 
 abbrev pub Entry : Type 0
-Entry = String Global × Merged
+Entry = String Global × Box Merged Global
 
 abbrev pub is_exception : Merged → Entry → Bool
-is_exception rest entry = differ (is_bare entry.1) (is_bare rest)
+is_exception rest entry = differ (is_bare entry.1.value) (is_bare rest)
 
 -- the names of the entries that differ from the rest
 abbrev pub excepted : Merged → List Entry → List (List ℕ)
@@ -59,8 +60,8 @@ unfolding IsStrictlySortedBy
 excepted_rises rest [] sorted = tt
 excepted_rises rest (e ∷ es) sorted = rises_at e (filter (is_exception rest) es) (is_exception rest e) (excepted_above rest e.0 es sorted.0) (excepted_rises rest es sorted.1)
 
-abbrev differing : Merged → Option Merged → Bool
-differing rest found = option_map_or (λ entry. differ (is_bare entry) (is_bare rest)) found false
+abbrev differing : Merged → Option (Box Merged Global) → Bool
+differing rest found = option_map_or (λ entry. differ (is_bare entry) (is_bare rest)) (option_map (λ entry. entry.value) found) false
 
 here_at : (rest : Merged) (e : Entry) (others : List Entry) (method : List ℕ) (is : Bool) → is_exception rest e ≡ is → string_bytes e.0 ≡ method → lists (map (λ x. string_bytes x.0) others) method ≡ false → lists (map (λ x. string_bytes x.0) (cond is (e ∷ others) others)) method ≡ is_exception rest e
 here_at rest e others method true is same absent = ap (λ b. b || lists (map (λ x. string_bytes x.0) others) method) (ap (λ t. bytes_eq t method) same ∙ same_text method) ∙ sym is

@@ -1,6 +1,6 @@
 -- Texts in the order of their bytes.
 use Rattle.std.proofs.lemmas.Bool.{false≢true}
-use Rattle.std.proofs.Common.{◌≡◌, ℕ, Bool, true, false, ◌||◌, ◌&&◌, cond, List, [], ◌∷◌, refl, ap, sym, subst, ◌∙◌, Ordering, Less, Equal, Greater, nat_cmp, is_eq}
+use Rattle.std.proofs.Common.{◌≡◌, ℕ, Bool, true, false, ◌||◌, ◌&&◌, List, [], ◌∷◌, refl, ap, sym, subst, ◌∙◌, Ordering, Less, Equal, Greater, nat_cmp, is_eq}
 use Rattle.std.specs.Prelude.{filter, fold}
 use Rattle.std.specs.BTreeSet.{insert_key}
 use Rattle.std.specs.Cmp.Lexicographic.{slice_cmp, nat_list_cmp_total}
@@ -8,7 +8,9 @@ use Rattle.std.specs.List.{AllByRecursion}
 use Rattle.std.specs.List.Sorted.{IsStrictlySortedBy}
 use Rattle.std.specs.Ordering.{match_ordering, ordering_reverse}
 use Rattle.std.specs.Str.{bytes_eq}
+use Rattle.std.proofs.Math.Bool.{and_comm}
 use Rattle.std.proofs.lemmas.Map.Text.{is_eq-slice_cmp}
+use Rattle.std.proofs.lemmas.Map.Views.{any-filter_same}
 use Rattle.std.proofs.lemmas.Slice.Eq.{bytes_eq-Decides}
 use Rattle.sv_constraints.specs.Covering.{lists}
 use Rattle.sv_merged.specs.Uncovered.{rising}
@@ -139,37 +141,7 @@ rising_same (x ∷ xs) (y ∷ ys) rises_x rises_y same =
     (same text ∙ ap (λ z. bytes_eq z text || lists ys text) (sym heads))))
 
 -- a text is among those that pass a test where it is among them and passes
-passing_at : (test : List ℕ → Bool) (text other : List ℕ) (passes same : Bool) (rest : List (List ℕ)) → test text ≡ passes → (same ≡ true → test text ≡ test other) → bytes_eq text other ≡ same → lists rest other ≡ (lists rest other && test other)
-    → lists (cond passes (text ∷ rest) rest) other ≡ ((same || lists rest other) && test other)
-passing_at test text other true true rest is meets at below = ap (λ b. b || lists rest other) at ∙ sym (sym (meets refl) ∙ is)
-passing_at test text other true false rest is meets at below = ap (λ b. b || lists rest other) at ∙ below
-passing_at test text other false true rest is meets at below = below ∙ ap (λ b. lists rest other && b) fails ∙ nothing (lists rest other) ∙ sym fails
-  where
-    fails : test other ≡ false
-    fails = sym (meets refl) ∙ is
-
-    nothing : (a : Bool) → (a && false) ≡ false
-    nothing true = refl
-    nothing false = refl
-passing_at test text other false false rest is meets at below = below
-
-passing_same : (a b : Bool) (rest : Bool) → rest ≡ (a && b) → rest ≡ (rest && b)
-passing_same true true rest is = is ∙ sym (ap (λ r. r && true) is)
-passing_same true false rest is = is ∙ sym (ap (λ r. r && false) is)
-passing_same false b rest is = is ∙ sym (ap (λ r. r && b) is)
-
 pub passing_lists : (test : List ℕ → Bool) (texts : List (List ℕ)) (other : List ℕ) → lists (filter test texts) other ≡ (lists texts other && test other)
-passing_lists test [] other = refl
-passing_lists test (text ∷ texts) other =
-    passing_at test text other (test text) (bytes_eq text other) (filter test texts) refl (λ same. ap test ((bytes_eq-Decides text other).0 same)) refl
-    (passing_same (lists texts other) (test other) (lists (filter test texts) other) (passing_lists test texts other))
-    ∙ swap (bytes_eq text other) (lists texts other) (test other) (lists (filter test texts) other) (passing_lists test texts other)
-  where
-    swap : (a b c r : Bool) → r ≡ (b && c) → ((a || r) && c) ≡ ((a || b) && c)
-    swap true b c r is = refl
-    swap false true c r is = ap (λ x. x && c) is ∙ twice c
-      where
-        twice : (c : Bool) → (c && c) ≡ c
-        twice true = refl
-        twice false = refl
-    swap false false c r is = ap (λ x. x && c) is
+passing_lists test texts other =
+    any-filter_same (λ listed. bytes_eq listed other) test (test other) (λ listed same. ap test ((bytes_eq-Decides listed other).0 same)) texts
+    ∙ and_comm (test other) (lists texts other)

@@ -1,9 +1,11 @@
 -- A table by named methods, and one rule for the rest, is whole.
 use Rattle.std.proofs.lemmas.Bool.{false≢true}
-use Rattle.std.proofs.Common.{subst, ◌≡◌, ℕ, ◌+◌, ◌<◌, ◌≤◌, Bool, true, false, ◌||◌, List, [], ◌∷◌, ◌++◌, length, take, get_or, map, refl, ap, sym, ◌∙◌, Option, Some, None, cond}
+use Rattle.std.proofs.Common.{subst, ◌≡◌, ℕ, ◌+◌, ◌<◌, ◌≤◌, Bool, true, false, ◌||◌, List, [], ◌∷◌, ◌++◌, length, take, get_or, map, refl, ap, sym, ◌∙◌, Option, Some, None, cond, Global}
 use Rattle.std.specs.Borrow.{Bor}
 use Rattle.std.specs.Prelude.{MatchOption, filter, is_some, unwrap_or}
+use Rattle.std.specs.Option.{option_map}
 use Rattle.std.specs.Str.{bytes_eq}
+use Rattle.std.specs.declared.boxed.Box.{Box}
 use Rattle.std.proofs.lemmas.List.Folds.{list_any-append}
 use Rattle.std.proofs.lemmas.Slice.Eq.{bytes_eq-Decides}
 use Rattle.sv_constraints.specs.Covering.{lists}
@@ -14,6 +16,20 @@ use Rattle.sv_merged.proofs.Named.{unnamed_members}
 use Rattle.sv_merged.specs.Covering.{covers_at, named_methods}
 use Rattle.sv_merged.specs.Merged.{IsMerged}
 use Rattle.sv_merged.specs.declared.merged.Merged.{Merged}
+
+-- what is in boxes
+pub boxed_some : (found : Option (Box Merged Global)) → is_some (option_map (λ entry. entry.value) found) ≡ is_some found
+boxed_some None = refl
+boxed_some (Some entry) = refl
+
+put_boxed : (found : Option (Box Merged Global)) (same : Bool) (entry : Box Merged Global) → option_map (λ kept. kept.value) (cond same (Some entry) found) ≡ cond same (Some entry.value) (option_map (λ kept. kept.value) found)
+put_boxed found true entry = refl
+put_boxed found false entry = refl
+
+pub boxed_put : (found after : Option (Box Merged Global)) (same : Bool) (entry : Box Merged Global) (merged : Merged) → entry.value ≡ merged → after ≡ cond same (Some entry) found
+    → option_map (λ kept. kept.value) after ≡ cond same (Some merged) (option_map (λ kept. kept.value) found)
+boxed_put found after same entry merged is put =
+    ap (option_map (λ kept. kept.value)) put ∙ put_boxed found same entry ∙ ap (λ m. cond same (Some m) (option_map (λ kept. kept.value) found)) is
 
 -- each of the names has an entry, which is right
 abbrev Entered : (List ℕ → Merged → Type 0) → (List ℕ → Option Merged) → List (List ℕ) → Type 0

@@ -1,4 +1,5 @@
 pub mod Covering
+pub mod Laws
 pub mod Merged
 pub mod Table
 pub mod Uncovered

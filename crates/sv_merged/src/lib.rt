@@ -3,8 +3,10 @@
 #![tactic(auto)]
 
 mod covering;
+mod laws;
 mod merged;
 mod role_numbers;
 mod table;
 
+pub use laws::{rising_is_in_order, uncovered_methods_are_exact};
 pub use table::Table;

@@ -10,7 +10,9 @@ ghost use Rattle.sv_merged.specs.Uncovered.{is_bare};
 use crate::covering::covers_at;
 use crate::role_numbers::RoleNumbers;
 use std::alloc::Global;
-use sv_constraints::{Auth, Constraint, EVERY_CALLER, Findings, Rules, lesser, lists};
+use sv_constraints::{
+    Auth, Constraint, EVERY_CALLER, Findings, Rules, lesser, lists, one_more_is_found,
+};
 use sv_realm::Caller;
 use sv_text::NoMemory;
 
@@ -55,6 +57,7 @@ impl Merged {
         ensures { OnOk result ((members : List Constraint) → IsMerged rules.now members self.old →
             IsMerged rules.now (members ++ constraint.now ∷ []) self.new) }
     {
+        one_more_is_found();
         let everyone = names_everyone(&constraint.auth).then_some(constraint.number);
         self.found = self.found.with(constraint, rules, None);
         self.everyone = lesser(self.everyone, everyone);

@@ -1,11 +1,10 @@
 //! The merged table of a pattern.
 
 ghost use Rattle.std.specs.Prelude.{◌≡◌, ◌++◌, ◌∷◌, [], ℕ, List, IfOk, OnOk, map, Some, false};
-ghost use Rattle.std.specs.BTreeMap.{get_by_text};
 ghost use Rattle.std.specs.Option.{option_copied, option_map_or};
 ghost use Rattle.sv_constraints.specs.Covering.{covering, lists};
 ghost use Rattle.sv_constraints.specs.Findings.{findings_of};
-ghost use Rattle.sv_merged.specs.Table.{HasEntries, IsTable, entry_of};
+ghost use Rattle.sv_merged.specs.Table.{HasEntries, IsTable, entry_in, entry_of};
 ghost use Rattle.sv_merged.specs.Uncovered.{IsRising, differ, is_bare, uncovered_methods};
 ghost use Rattle.sv_text.specs.Gives.{GivesAnswer};
 
@@ -24,13 +23,14 @@ use sv_text::{Listed, NoMemory, Text};
 pub struct Table {
     /// The pattern.
     pub pattern: Pattern,
-    methods: BTreeMap<String, Merged>,
+    /// Each entry stands in a box, since a map takes room for fifteen at once.
+    methods: BTreeMap<String, Box<Merged>>,
     rest: Merged,
 }
 
 /// Sees that a method has an entry.
 fn enter(
-    methods: &mut BTreeMap<String, Merged>,
+    methods: &mut BTreeMap<String, Box<Merged>>,
     alloc: Global,
     rules: &Rules,
     members: &[&Constraint],
@@ -38,14 +38,14 @@ fn enter(
     name: &str,
 ) -> Result<(), NoMemory>
     ensures { OnOk result ((names : List (List ℕ)) →
-        HasEntries rules.now (map (λ member. member.now) members.now) pattern.now (get_by_text methods.old) names →
-        HasEntries rules.now (map (λ member. member.now) members.now) pattern.now (get_by_text methods.new) (names ++ name.now ∷ [])) }
+        HasEntries rules.now (map (λ member. member.now) members.now) pattern.now (entry_in methods.old) names →
+        HasEntries rules.now (map (λ member. member.now) members.now) pattern.now (entry_in methods.new) (names ++ name.now ∷ [])) }
 {
     if methods.contains_key(name) {
         return Ok(());
     }
     let merged = Merged::gather(alloc, rules, members, pattern, Some(name))?;
-    methods.insert(String::from_str(alloc, name)?, merged)?;
+    methods.insert(String::from_str(alloc, name)?, Box::new(alloc, merged)?)?;
     Ok(())
 }
 
@@ -88,7 +88,10 @@ impl Table {
     fn entry(&self, method: &str) -> &Merged
         ensures { result.now ≡ entry_of self.now method.now }
     {
-        self.methods.get(method).unwrap_or(&self.rest)
+        match self.methods.get(method) {
+            Some(entry) => entry,
+            None => &self.rest,
+        }
     }
 
     /// What there is to find in the merged constraints that cover the method at the pattern, by one look-up by method, and
@@ -118,7 +121,7 @@ impl Table {
     fn exceptions(&self, alloc: Global) -> Result<Listed<Text>, NoMemory>
         ensures rising { IfOk result (λ names. IsRising names) }
         ensures names { IfOk result (λ names. (method : List ℕ) → lists names method ≡
-            option_map_or (λ entry. differ (is_bare entry) (is_bare self.now.rest)) (get_by_text self.now.methods method) false) }
+            option_map_or (λ entry. differ (is_bare entry) (is_bare self.now.rest)) (entry_in self.now.methods method) false) }
     {
         let mut names = Vec::new(alloc);
         for (name, entry) in &self.methods {

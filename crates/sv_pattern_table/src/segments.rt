@@ -11,8 +11,8 @@ pub(crate) fn behind_root(path: &str) -> Option<&str>
     path.strip_prefix("/")
 }
 
-/// Cuts the first segment off what stands behind a slash: the segment, and what stands behind the next slash.
-pub(crate) fn cut(text: &str) -> (&str, Option<&str>)
+/// Splits the first segment off what stands behind a slash: the segment, and what stands behind the next slash.
+pub(crate) fn split_segment(text: &str) -> (&str, Option<&str>)
     ensures { between_slashes text.now ≡ result.0.now ∷ rest_segments (option_copied result.1) }
 {
     match text.split_once('/') {

@@ -7,7 +7,7 @@ ghost use Rattle.sv_pattern_table.specs.Trie as spec;
 ghost use Rattle.sv_pattern_table.specs.Trie.{Adds, IsTrie, Grows, Enters, along, looked_up};
 
 use crate::node::Node;
-use crate::segments::{behind_root, cut};
+use crate::segments::{behind_root, split_segment};
 use std::alloc::Global;
 use sv_text::NoMemory;
 
@@ -59,7 +59,7 @@ impl Trie {
         let mut at = 0;
         let mut rest = behind_root(path);
         while let Some(text) = rest {
-            let (segment, behind) = cut(text);
+            let (segment, behind) = split_segment(text);
             at = match self.nodes[at].child(segment) {
                 Some(child) => child,
                 None => self.add_node(alloc, at, segment)?,
@@ -111,7 +111,7 @@ impl Trie {
         let mut probes = 0;
         let mut rest = behind_root(path);
         while let Some(text) = rest {
-            let (segment, behind) = cut(text);
+            let (segment, behind) = split_segment(text);
             probes += 1;
             let Some(child) = self.nodes[at].child(segment) else {
                 return Way {

@@ -8,6 +8,10 @@ use Rattle.sv_realm.specs.declared.caller.Caller.{Caller}
 use Rattle.sv_constraints.specs.Covering.{all_patterns, covering}
 use Rattle.sv_constraints.specs.declared.constraint.Constraint.{Constraint}
 use Rattle.sv_constraints.specs.declared.rules.Rules.{Rules}
+use Rattle.sv_constraints.specs.declared.findings.Findings.{Findings}
+use Rattle.sv_constraints.specs.declared.owned_decision.OwnedDecision.{OwnedDecision}
+use Rattle.sv_constraints.specs.Findings.{decided, findings_of}
+use Rattle.sv_constraints.specs.Laws.{FindingsDecide}
 use Rattle.sv_constraints.specs.Verdict.{verdict, verdict_at}
 use Rattle.sv_merged.specs.Table.{IsTable}
 use Rattle.sv_merged.specs.declared.table.Table.{Table}
@@ -51,3 +55,9 @@ looked_up of_texts value rules constraints shared slice index path place found a
 -- no pattern
 pub no_pattern : (constraints : List Constraint) (rules : Rules) (method path : List ℕ) (caller : Option Caller) → None ≡ best_pattern (all_patterns constraints) path → verdict_at rules caller None (covering constraints None method) ≡ verdict constraints rules method path caller
 no_pattern constraints rules method path caller none = ap (λ p. verdict_at rules caller p (covering constraints p method)) none
+
+-- what a table finds decides
+pub decided_is_verdict : FindingsDecide → (constraints : List Constraint) (rules : Rules) (method path : List ℕ) (caller : Option Caller) (pattern : List ℕ) (found : Findings) (decision : OwnedDecision) → Some pattern ≡ best_pattern (all_patterns constraints) path
+    → found ≡ findings_of rules caller (covering constraints (Some pattern) method) → decision ≡ decided rules caller (Some pattern) found → decision ≡ verdict constraints rules method path caller
+decided_is_verdict decide constraints rules method path caller pattern found decision best is_found is_decided =
+    is_decided ∙ ap (decided rules caller (Some pattern)) is_found ∙ decide constraints rules method path caller pattern best

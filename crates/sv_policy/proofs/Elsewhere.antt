@@ -10,8 +10,6 @@ use Rattle.std.proofs.lemmas.List.Folds.{list_any-append}
 use Rattle.sv_constraints.specs.Covering.{all_patterns, covers, lists}
 use Rattle.sv_constraints.specs.declared.constraint.Constraint.{Constraint}
 use Rattle.sv_constraints.specs.declared.rules.Rules.{Rules}
-use Rattle.sv_merged.proofs.Joined.{filter_pass, filter_stop, seen_more}
-use Rattle.sv_merged.proofs.Rising.{passing_lists}
 use Rattle.sv_merged.specs.Merged.{IsMerged}
 use Rattle.sv_merged.specs.Table.{IsTable, entry_of}
 use Rattle.sv_merged.specs.declared.table.Table.{Table}
@@ -21,6 +19,7 @@ use Rattle.sv_policy.proofs.Whole.{all_none}
 use Rattle.sv_policy.specs.Compiled.{AreCompiled}
 use Rattle.sv_policy.specs.Patterns.{different, listed_in, lists_pattern}
 use Rattle.sv_policy.specs.Rebuilt.{AreSameElsewhere}
+use Rattle.sv_policy.proofs.Steps.{filter_pass, filter_stop, passing_lists, seen_more}
 
 -- ---- a constraint more or less leaves the other patterns alone
 pub same_with : (constraints : List Constraint) (added : Constraint) → AreSameElsewhere constraints (constraints ++ added ∷ []) (listed_in added.collections)

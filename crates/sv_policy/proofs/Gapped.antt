@@ -5,7 +5,7 @@ use Rattle.std.specs.Borrow.{Bor}
 use Rattle.std.specs.Prelude.{All, Contains, filter}
 use Rattle.std.specs.List.{list_any}
 use Rattle.std.specs.Str.{bytes_eq}
-use Rattle.std.proofs.lemmas.List.{map-append}
+use Rattle.std.proofs.lemmas.List.{map-append, take_all}
 use Rattle.std.proofs.lemmas.List.Elements.{All-cons, filter-append}
 use Rattle.std.proofs.lemmas.List.Kept.{IsStrictlySortedBy-filter}
 use Rattle.std.proofs.lemmas.Slice.Eq.{bytes_eq-Decides}
@@ -15,15 +15,14 @@ use Rattle.sv_constraints.specs.Covering.{all_patterns, covers_method, lists}
 use Rattle.sv_constraints.specs.declared.constraint.Constraint.{Constraint}
 use Rattle.sv_constraints.specs.declared.constraint.Methods.{Methods}
 use Rattle.sv_constraints.specs.declared.constraint.Methods.TheVariants as methods
-use Rattle.sv_merged.proofs.Joined.{gone_over, seen_more}
-use Rattle.sv_merged.proofs.Rising.{rising_lists, rising_rises, rising_same}
-use Rattle.sv_merged.proofs.Uncovered.{uncovered_exact, uncovered_rise}
 use Rattle.sv_merged.specs.Covering.{method_names, named_methods}
+use Rattle.sv_merged.specs.Laws.{RisingHasTheTexts, RisingIsAlone, RisingRises, UncoveredIsExact, UncoveredRises}
 use Rattle.sv_merged.specs.Uncovered.{IsRising, are_others_uncovered, has_methods, is_uncovered, rising, uncovered_methods}
 use Rattle.sv_merged.specs.declared.table.Table.{Table}
 use Rattle.sv_policy.proofs.Whole.{all_none}
 use Rattle.sv_policy.specs.Gaps.{GapsAreExact, GapsRise, gap_at, holds, is_all}
 use Rattle.sv_policy.specs.declared.gap.Gap.{Gap}
+use Rattle.sv_policy.proofs.Steps.{seen_more}
 
 -- a table among whole ones is whole
 pub whole_among : (P : Table → Type 0) (all : List Table) (table : Table) → All P all → Contains all table → P table
@@ -44,16 +43,16 @@ gaps_more has make ordered i t before after within at_i was pushed =
     ∙ filter-append has (map make (map (λ table. table.now.pattern) (take i ordered))) (make t.now.pattern ∷ []))
 
 -- texts that are listed alike come in the same order
-pub same_rising : (xs ys : List (List ℕ)) → ((text : List ℕ) → lists xs text ≡ lists ys text) → rising xs ≡ rising ys
-same_rising xs ys same = rising_same (rising xs) (rising ys) (rising_rises xs) (rising_rises ys) (λ text. rising_lists xs text ∙ same text ∙ sym (rising_lists ys text))
+pub same_rising : RisingRises → RisingHasTheTexts → RisingIsAlone → (xs ys : List (List ℕ)) → ((text : List ℕ) → lists xs text ≡ lists ys text) → rising xs ≡ rising ys
+same_rising rising_rises rising_lists rising_same xs ys same = rising_same (rising xs) (rising ys) (rising_rises xs) (rising_rises ys) (λ text. rising_lists xs text ∙ same text ∙ sym (rising_lists ys text))
 
 -- every table was gone over
-pub gaps_all : (has : Gap → Bool) (make : List ℕ → Gap) (slice ordered : List (Bor Table)) (i : ℕ) (found : List Gap) (texts patterns : List (List ℕ)) → length slice ≤ i → slice ≡ ordered
+pub gaps_all : RisingRises → RisingHasTheTexts → RisingIsAlone → (has : Gap → Bool) (make : List ℕ → Gap) (slice ordered : List (Bor Table)) (i : ℕ) (found : List Gap) (texts patterns : List (List ℕ)) → length slice ≤ i → slice ≡ ordered
     → found ≡ filter has (map make (map (λ table. table.now.pattern) (take i slice))) → map (λ (table : Bor Table). table.now.pattern) ordered ≡ rising texts → ((text : List ℕ) → lists texts text ≡ lists patterns text)
     → found ≡ filter has (map make (rising patterns))
-gaps_all has make slice ordered i found texts patterns ended same is are listed =
-    is ∙ ap (λ (tables : List (Bor Table)). filter has (map make (map (λ table. table.now.pattern) tables))) (gone_over slice i ended ∙ same)
-    ∙ ap (λ ps. filter has (map make ps)) (are ∙ same_rising texts patterns listed)
+gaps_all rising_rises rising_lists rising_same has make slice ordered i found texts patterns ended same is are listed =
+    is ∙ ap (λ (tables : List (Bor Table)). filter has (map make (map (λ table. table.now.pattern) tables))) (take_all i slice ended ∙ same)
+    ∙ ap (λ ps. filter has (map make ps)) (are ∙ same_rising rising_rises rising_lists rising_same texts patterns listed)
 
 -- ---- a gap holds just the uncovered methods of its pattern
 none_held : (found : Methods) (method : List ℕ) → has_methods found ≡ false → covers_method found method ≡ false
@@ -78,17 +77,17 @@ step true false covered listed u gap rest test is meets misses below = ap (λ b.
 step false true covered listed u gap rest test is meets misses below = below ∙ nothing listed u (sym (meets refl) ∙ misses refl)
 step false false covered listed u gap rest test is meets misses below = below
 
-held_in : (constraints : List Constraint) (pattern method : List ℕ) (texts : List (List ℕ)) → holds (filter (λ gap. has_methods gap.methods) (map (gap_at constraints) texts)) pattern method ≡ (lists texts pattern && is_uncovered constraints pattern method)
-held_in constraints pattern method [] = refl
-held_in constraints pattern method (text ∷ texts) =
+held_in : UncoveredIsExact → (constraints : List Constraint) (pattern method : List ℕ) (texts : List (List ℕ)) → holds (filter (λ gap. has_methods gap.methods) (map (gap_at constraints) texts)) pattern method ≡ (lists texts pattern && is_uncovered constraints pattern method)
+held_in uncovered_exact constraints pattern method [] = refl
+held_in uncovered_exact constraints pattern method (text ∷ texts) =
     step (has_methods (uncovered_methods constraints text)) (bytes_eq text pattern) (covers_method (uncovered_methods constraints text) method) (lists texts pattern) (is_uncovered constraints pattern method) (gap_at constraints text)
     (filter (λ gap. has_methods gap.methods) (map (gap_at constraints) texts)) (λ gap. bytes_eq gap.pattern pattern && covers_method gap.methods method) refl
     (λ same. ap (λ p. covers_method (uncovered_methods constraints p) method) ((bytes_eq-Decides text pattern).0 same) ∙ uncovered_exact constraints pattern method)
-    (none_held (uncovered_methods constraints text) method) (held_in constraints pattern method texts)
+    (none_held (uncovered_methods constraints text) method) (held_in uncovered_exact constraints pattern method texts)
 
-pub gaps_exact : GapsAreExact
-gaps_exact constraints pattern method =
-    held_in constraints pattern method (rising (all_patterns constraints))
+pub gaps_exact : RisingHasTheTexts → UncoveredIsExact → GapsAreExact
+gaps_exact rising_lists uncovered_exact constraints pattern method =
+    held_in uncovered_exact constraints pattern method (rising (all_patterns constraints))
     ∙ ap (λ b. b && is_uncovered constraints pattern method) (rising_lists (all_patterns constraints) pattern)
 
 -- ---- and they rise
@@ -111,15 +110,15 @@ lists_at : (gap : Gap) (has : Bool) (rest : List Gap) → Lists gap → All List
 lists_at gap true rest first all = All-cons Lists gap rest first all
 lists_at gap false rest first all = all
 
-lists_all : (constraints : List Constraint) (texts : List (List ℕ)) → All Lists (filter (λ gap. has_methods gap.methods) (map (gap_at constraints) texts))
-lists_all constraints [] = all_none Lists
-lists_all constraints (text ∷ texts) =
+lists_all : UncoveredRises → (constraints : List Constraint) (texts : List (List ℕ)) → All Lists (filter (λ gap. has_methods gap.methods) (map (gap_at constraints) texts))
+lists_all uncovered_rise constraints [] = all_none Lists
+lists_all uncovered_rise constraints (text ∷ texts) =
     lists_at (gap_at constraints text) (has_methods (uncovered_methods constraints text)) (filter (λ gap. has_methods gap.methods) (map (gap_at constraints) texts))
-    (uncovered_rise constraints text, not_all_at constraints text (are_others_uncovered constraints text)) (lists_all constraints texts)
+    (uncovered_rise constraints text, not_all_at constraints text (are_others_uncovered constraints text)) (lists_all uncovered_rise constraints texts)
 
-pub gaps_rising : GapsRise
-gaps_rising constraints = (
+pub gaps_rising : RisingRises → UncoveredRises → GapsRise
+gaps_rising rising_rises uncovered_rise constraints = (
   subst IsRising (sym (patterns_of constraints (rising (all_patterns constraints))))
       (IsStrictlySortedBy-filter (slice_cmp nat_cmp) (λ text. has_methods (uncovered_methods constraints text)) (rising (all_patterns constraints)) (rising_rises (all_patterns constraints))),
-  lists_all constraints (rising (all_patterns constraints)),
+  lists_all uncovered_rise constraints (rising (all_patterns constraints)),
 )

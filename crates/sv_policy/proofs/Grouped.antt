@@ -1,5 +1,5 @@
 -- Constraints are put into the groups of their patterns.
-use Rattle.std.proofs.lemmas.Bool.{false≢true}
+use Rattle.std.proofs.lemmas.Bool.{false≢true, or_parts}
 use Rattle.std.proofs.Common.{arith, subst, ◌≡◌, ℕ, zero, suc, ◌+◌, ◌<◌, ◌≤◌, Bool, true, false, not, ◌||◌, ◌&&◌, List, [], ◌∷◌, ◌++◌, length, take, get_or, map, refl, ap, ap₂, sym, ◌∙◌, cond, append-nil, ◌==◌, Option, None, Some, is_some}
 use Rattle.std.specs.Borrow.{Bor}
 use Rattle.std.specs.Prelude.{⊤, filter, fold}
@@ -7,19 +7,17 @@ use Rattle.std.specs.HashMap.{get_by}
 use Rattle.std.specs.Option.{option_map_or}
 use Rattle.std.specs.Str.{bytes_eq}
 use Rattle.std.proofs.lemmas.Bool.Decides.{same_from_decides}
-use Rattle.std.proofs.lemmas.List.{map-append, take_more}
+use Rattle.std.proofs.lemmas.List.{map-append, take_all, take_more}
 use Rattle.std.proofs.lemmas.List.Folds.{list_any-append}
 use Rattle.std.proofs.lemmas.Slice.Eq.{bytes_eq-Decides}
 use Rattle.sv_constraints.specs.Covering.{all_patterns, lists}
 use Rattle.sv_constraints.specs.declared.constraint.Constraint.{Constraint}
-use Rattle.sv_merged.proofs.Joined.{filter_pass, filter_stop, gone_over, seen_more}
-use Rattle.sv_merged.proofs.Named.{first_false, second_false}
 use Rattle.sv_policy.proofs.Listed.{different_lists, listed_any, listed_by, some_filtered}
 use Rattle.sv_policy.specs.Groups.{IsGrouped}
 use Rattle.sv_policy.specs.declared.grouping.Groups.{Groups}
-use Rattle.sv_merged.proofs.Rising.{passing_lists}
 use Rattle.sv_merged.specs.declared.table.Table.{Table}
 use Rattle.sv_policy.specs.Patterns.{different, kept_once, listed_in, lists_pattern}
+use Rattle.sv_policy.proofs.Steps.{filter_pass, filter_stop, passing_lists, seen_more}
 
 turned : (a b : List ℕ) → bytes_eq a b ≡ bytes_eq b a
 turned a b = same_from_decides (bytes_eq a b) (bytes_eq b a) (bytes_eq-Decides a b) ((λ h. sym ((bytes_eq-Decides b a).0 h)), (λ e. (bytes_eq-Decides b a).1 (sym e)))
@@ -33,8 +31,8 @@ once_push : (xs : List (List ℕ)) (y : List ℕ) → Once xs → lists xs y ≡
 once_push [] y once absent = (refl, tt)
 once_push (x ∷ xs) y once absent = (
   list_any-append (λ listed. bytes_eq listed x) xs (y ∷ [])
-      ∙ ap₂ (λ a b. a || (b || false)) once.0 (turned y x ∙ first_false (bytes_eq x y) (lists xs y) absent),
-  once_push xs y once.1 (second_false (bytes_eq x y) (lists xs y) absent),
+      ∙ ap₂ (λ a b. a || (b || false)) once.0 (turned y x ∙ (or_parts (bytes_eq x y) (lists xs y) absent).0),
+  once_push xs y once.1 ((or_parts (bytes_eq x y) (lists xs y) absent).1),
 )
 
 once_kept : (kept : List (List ℕ)) (text : List ℕ) (there : Bool) → lists kept text ≡ there → Once kept → Once (cond there kept (kept ++ text ∷ []))
@@ -50,8 +48,8 @@ different_once texts = once_from [] texts tt
 
 not_at : (items : List (Bor (List ℕ))) (i : ℕ) (x : Bor (List ℕ)) (text : List ℕ) → lists (map (λ p. p.now) items) text ≡ false → i < length items → x ≡ get_or items i x → bytes_eq x.now text ≡ false
 not_at [] i x text absent within at = let impossible : ⊥ = omega (arith, within) in absurd impossible
-not_at (y ∷ items) zero x text absent within at = ap (λ (p : Bor (List ℕ)). bytes_eq p.now text) at ∙ first_false (bytes_eq y.now text) (lists (map (λ p. p.now) items) text) absent
-not_at (y ∷ items) (suc i) x text absent within at = not_at items i x text (second_false (bytes_eq y.now text) (lists (map (λ p. p.now) items) text) absent) (omega (arith, within)) at
+not_at (y ∷ items) zero x text absent within at = ap (λ (p : Bor (List ℕ)). bytes_eq p.now text) at ∙ (or_parts (bytes_eq y.now text) (lists (map (λ p. p.now) items) text) absent).0
+not_at (y ∷ items) (suc i) x text absent within at = not_at items i x text ((or_parts (bytes_eq y.now text) (lists (map (λ p. p.now) items) text) absent).1) (omega (arith, within)) at
 
 -- a text is not among those before it
 once_take : (items : List (Bor (List ℕ))) (i : ℕ) (x : Bor (List ℕ)) → Once (map (λ p. p.now) items) → i < length items → x ≡ get_or items i x → lists (map (λ p. p.now) (take i items)) x.now ≡ false
@@ -109,7 +107,7 @@ pub entered_all : (items slice : List (Bor (List ℕ))) (i : ℕ) (constraint : 
     → members ≡ old ++ cond (lists (map (λ x. x.now) (take i slice)) q) (constraint ∷ []) [] → members ≡ old ++ cond (lists_pattern constraint q) (constraint ∷ []) []
 entered_all items slice i constraint old members q ended same are is =
     is ∙ ap (λ b. old ++ cond b (constraint ∷ []) [])
-    (ap (λ (ps : List (Bor (List ℕ))). lists (map (λ x. x.now) ps) q) (gone_over slice i ended ∙ same) ∙ ap (λ ps. lists ps q) are ∙ different_lists (listed_in constraint.collections) q ∙ listed_by q constraint)
+    (ap (λ (ps : List (Bor (List ℕ))). lists (map (λ x. x.now) ps) q) (take_all i slice ended ∙ same) ∙ ap (λ ps. lists ps q) are ∙ different_lists (listed_in constraint.collections) q ∙ listed_by q constraint)
 
 -- the members of a group with one more constraint
 more_at : (text : List ℕ) (before : List Constraint) (c : Constraint) (listed : Bool) → lists_pattern c text ≡ listed → filter (λ x. lists_pattern x text) before ++ cond listed (c ∷ []) [] ≡ filter (λ x. lists_pattern x text) (before ++ c ∷ [])

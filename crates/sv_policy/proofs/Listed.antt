@@ -7,11 +7,10 @@ use Rattle.std.specs.List.{list_any}
 use Rattle.std.specs.Str.{bytes_eq}
 use Rattle.std.proofs.lemmas.List.Folds.{list_any-append}
 use Rattle.std.proofs.lemmas.Slice.Eq.{bytes_eq-Decides}
-use Rattle.sv_constraints.proofs.Joined.{any_of_joined}
 use Rattle.sv_constraints.specs.Covering.{all_patterns, covers, covers_method, lists, patterns_in}
 use Rattle.sv_constraints.specs.declared.constraint.Constraint.{Constraint}
-use Rattle.sv_merged.proofs.Joined.{any_same}
 use Rattle.sv_policy.specs.Patterns.{different, kept_once, lists_pattern}
+use Rattle.sv_policy.proofs.Steps.{any_of_joined, any_same}
 
 -- whether one of the items that f gives passes
 pub any_seen : {A X : Type 0} (test : X → Bool) (f : A → X) (xs : List A) → list_any test (map f xs) ≡ list_any (λ x. test (f x)) xs

@@ -7,12 +7,12 @@ use Rattle.std.proofs.lemmas.List.Elements.{filter-append}
 use Rattle.sv_constraints.specs.Covering.{covers}
 use Rattle.sv_constraints.specs.declared.constraint.Constraint.{Constraint}
 use Rattle.sv_constraints.specs.declared.rules.Rules.{Rules}
-use Rattle.sv_merged.proofs.Joined.{seen_more}
 use Rattle.sv_merged.specs.Merged.{IsMerged}
 use Rattle.sv_merged.specs.Table.{IsTable, entry_of}
 use Rattle.sv_merged.specs.declared.table.Table.{Table}
 use Rattle.sv_policy.proofs.Listed.{covers_listed, filter_within}
 use Rattle.sv_policy.specs.Patterns.{lists_pattern}
+use Rattle.sv_policy.proofs.Steps.{seen_more}
 
 -- a table of the constraints that list its pattern is one of all constraints
 pub table_of_all : (rules : Rules) (constraints : List Constraint) (members : List Constraint) (table : Table) (pattern : List ℕ) → members ≡ filter (λ c. lists_pattern c pattern) constraints → pattern ≡ table.pattern → IsTable rules members table → IsTable rules constraints table

@@ -6,6 +6,7 @@ ghost use Rattle.sv_policy.specs.Patterns.{BestIsOfTexts};
 ghost use Rattle.sv_policy.specs.declared.limits.TheConstants.{MAX_CONSTRAINTS, MAX_PATTERNS_OF_CONSTRAINT};
 
 use sv_mapping::laws::best_is_unique;
+use sv_merged::{rising_is_in_order, uncovered_methods_are_exact};
 
 /// Patterns with the same texts have the same best match for each path, in whichever order and however often they are listed.
 pub fn best_is_of_texts()
@@ -17,12 +18,18 @@ pub fn best_is_of_texts()
 /// A gap holds a method just where a constraint lists its pattern and none covers the method there.
 pub fn gaps_are_exact()
     ensures { GapsAreExact }
-{}
+{
+    rising_is_in_order();
+    uncovered_methods_are_exact();
+}
 
 /// Patterns rise by bytes from gap to gap, and methods within each gap, which are never all methods.
 pub fn gaps_rise()
     ensures { GapsRise }
-{}
+{
+    rising_is_in_order();
+    uncovered_methods_are_exact();
+}
 
 /// The limits of this crate as numbers.
 pub fn limits_are_as_stated()

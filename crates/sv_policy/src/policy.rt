@@ -18,7 +18,7 @@ use crate::uncovered::gaps_of;
 use std::alloc::Global;
 use std::marker::Model;
 use std::rc::Rc;
-use sv_constraints::{Cause, Constraint, Decision, Rules, Why};
+use sv_constraints::{Cause, Constraint, Decision, Rules, Why, findings_decide};
 use sv_merged::Table;
 use sv_pattern_table::PatternTable;
 use sv_realm::Caller;
@@ -109,6 +109,7 @@ impl Policy {
         ensures counted { is_some (best_pattern (all_patterns self.now.constraints) path.now) ≡ true → 0 < result.probes }
     {
         best_is_of_texts();
+        findings_decide();
         let looked = self.index.lookup(path);
         match table_at(self.tables.as_slice(), looked.best) {
             None => Decided {

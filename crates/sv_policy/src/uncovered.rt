@@ -15,7 +15,7 @@ use std::alloc::Global;
 use std::collections::BTreeMap;
 use std::rc::Rc;
 use sv_constraints::Methods;
-use sv_merged::Table;
+use sv_merged::{Table, rising_is_in_order};
 use sv_text::NoMemory;
 
 /// The gaps of the constraints that the tables were merged of.
@@ -23,6 +23,7 @@ pub fn gaps_of(alloc: Global, tables: &[Rc<Table>]) -> Result<Vec<Gap>, NoMemory
     ensures { (rules : Rules) (constraints : List Constraint) → AreCompiled rules constraints (map (λ table. table.value) tables.now) →
         IfOk result (λ found. found.items ≡ gaps constraints) }
 {
+    rising_is_in_order();
     let mut found = Vec::new(alloc);
     for table in rising_tables(alloc, tables)?.as_slice() {
         push_gap(&mut found, alloc, *table)?;

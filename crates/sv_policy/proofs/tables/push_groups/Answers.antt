@@ -1,6 +1,6 @@
 use Rattle.std.proofs.Common.{ap, filter, map, ◌∙◌, ◌++◌}
+use Rattle.std.proofs.lemmas.List.{take_all}
 use Rattle.sv_constraints.specs.Covering.{all_patterns, lists}
-use Rattle.sv_merged.proofs.Joined.{gone_over}
 use Rattle.sv_policy.proofs.Whole.{texts_more}
 use Rattle.sv_policy.proofs.tables.push_groups.Goals as goal
 
@@ -16,7 +16,7 @@ pub returns-clause-texts : goal.returns-clause-texts
 returns-clause-texts c = λ constraints are.
     (c.loop-pattern.invariant constraints are).0
     ∙ ap (λ patterns. map (λ table. table.value.pattern) c.args.tables.now.items ++ filter (λ text. lists (all_patterns constraints) text) (map (λ pattern. pattern.now) patterns))
-    (gone_over c.as_slice-pattern-items.result.now c.loop-pattern.pattern-index c.loop-pattern-test.false ∙ c.as_slice-pattern-items.ensures.value)
+    (take_all c.loop-pattern.pattern-index c.as_slice-pattern-items.result.now c.loop-pattern-test.false ∙ c.as_slice-pattern-items.ensures.value)
 
 pub returns-clause-tables : goal.returns-clause-tables
 returns-clause-tables c = λ constraints are all. (c.loop-pattern.invariant constraints are).1 all

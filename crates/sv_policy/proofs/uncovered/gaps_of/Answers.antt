@@ -17,6 +17,6 @@ loop-table-preserved c = λ rules constraints are.
 
 pub returns : goal.returns
 returns c = λ rules constraints are.
-    gaps_all (λ gap. has_methods gap.methods) (gap_at constraints) c.as_slice-table-items.result.now c.in_ok-rising_tables.field-0.items c.loop-table.table-index c.loop-table.found.items
+    gaps_all c.rising_is_in_order.ensures.rises c.rising_is_in_order.ensures.texts c.rising_is_in_order.ensures.alone (λ gap. has_methods gap.methods) (gap_at constraints) c.as_slice-table-items.result.now c.in_ok-rising_tables.field-0.items c.loop-table.table-index c.loop-table.found.items
     (map (λ table. table.pattern) (map (λ table. table.value) c.args.tables.now)) (all_patterns constraints)
     c.loop-table-test.false c.as_slice-table-items.ensures.value (c.loop-table.invariant rules constraints are) c.in_ok-rising_tables.ensures.texts are.texts

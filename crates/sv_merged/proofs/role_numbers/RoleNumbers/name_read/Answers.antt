@@ -2,11 +2,10 @@ use Rattle.std.proofs.Common.{ap, sym, ◌∙◌, take}
 use Rattle.std.specs.Bool.{then_some}
 use Rattle.std.specs.List.{list_any}
 use Rattle.std.specs.Str.{bytes_eq}
-use Rattle.sv_constraints.proofs.Joined.{any_of_joined}
 use Rattle.sv_constraints.specs.Covering.{lists}
 use Rattle.sv_constraints.specs.Findings.{lesser}
 use Rattle.sv_constraints.specs.Roles.{roles_named}
-use Rattle.sv_merged.proofs.Joined.{any_more, gone_over}
+use Rattle.sv_merged.proofs.Joined.{any_more, any_of_joined, gone_over}
 use Rattle.sv_merged.proofs.Lowered.{lesser_twice, lesser_none}
 use Rattle.sv_merged.specs.Merged.{number_of}
 use Rattle.sv_merged.proofs.role_numbers.RoleNumbers.name_read.Goals as goal

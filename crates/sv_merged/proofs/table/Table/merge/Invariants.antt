@@ -1,8 +1,7 @@
 use Rattle.std.proofs.Common.{map, take}
-use Rattle.std.specs.BTreeMap.{get_by_text}
-use Rattle.sv_merged.specs.Table.{HasEntries}
+use Rattle.sv_merged.specs.Table.{HasEntries, entry_in}
 use Rattle.sv_merged.proofs.table.Table.merge.Given as goal
 
 abbrev pub invariant-loop-name : goal.invariant-loop-name
 invariant-loop-name l =
-    HasEntries l.rules (map (λ member. member.now) l.members) l.fn.pattern (get_by_text l.methods) (map (λ name. name.now) (take l.name-index l.name-items))
+    HasEntries l.rules (map (λ member. member.now) l.members) l.fn.pattern (entry_in l.methods) (map (λ name. name.now) (take l.name-index l.name-items))

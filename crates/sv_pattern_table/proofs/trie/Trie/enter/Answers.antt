@@ -7,12 +7,12 @@ use Rattle.sv_pattern_table.proofs.trie.Trie.enter.Goals as goal
 
 pub loop-rest-preserved-in-Some-child : goal.loop-rest-preserved-in-Some-child
 loop-rest-preserved-in-Some-child c =
-    let cut = ap (λ r. rest_segments (option_copied r)) c.in-Some.is ∙ c.cut.ensures in
-    let some = child_at c.loop-rest.self.nodes.items c.loop-rest.at c.index.result.now c.cut.result.0.now c.loop-rest.invariant.enters.within c.index.ensures ∙ (sym c.child.ensures ∙ c.in-Some-child.is) in
-    entering_child _ _ _ _ _ c.cut.result.0.now c.loop-rest.at c.in-Some-child.child c.loop-rest.invariant cut some
+    let cut = ap (λ r. rest_segments (option_copied r)) c.in-Some.is ∙ c.split_segment.ensures in
+    let some = child_at c.loop-rest.self.nodes.items c.loop-rest.at c.index.result.now c.split_segment.result.0.now c.loop-rest.invariant.enters.within c.index.ensures ∙ (sym c.child.ensures ∙ c.in-Some-child.is) in
+    entering_child _ _ _ _ _ c.split_segment.result.0.now c.loop-rest.at c.in-Some-child.child c.loop-rest.invariant cut some
 
 pub loop-rest-preserved : goal.loop-rest-preserved
 loop-rest-preserved c =
-    let cut = ap (λ r. rest_segments (option_copied r)) c.in-Some.is ∙ c.cut.ensures in
-    let none = child_at c.loop-rest.self.nodes.items c.loop-rest.at c.index.result.now c.cut.result.0.now c.loop-rest.invariant.enters.within c.index.ensures ∙ (sym c.child.ensures ∙ c.in-None.is) in
-    entering_new _ _ _ _ _ _ c.cut.result.0.now c.loop-rest.at c.in_ok-at-in-None.at c.loop-rest.invariant cut none c.in_ok-at-in-None.ensures
+    let cut = ap (λ r. rest_segments (option_copied r)) c.in-Some.is ∙ c.split_segment.ensures in
+    let none = child_at c.loop-rest.self.nodes.items c.loop-rest.at c.index.result.now c.split_segment.result.0.now c.loop-rest.invariant.enters.within c.index.ensures ∙ (sym c.child.ensures ∙ c.in-None.is) in
+    entering_new _ _ _ _ _ _ c.split_segment.result.0.now c.loop-rest.at c.in_ok-at-in-None.at c.loop-rest.invariant cut none c.in_ok-at-in-None.ensures

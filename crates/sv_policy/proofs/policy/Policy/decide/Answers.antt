@@ -2,11 +2,10 @@ use Rattle.std.proofs.lemmas.Bool.{false≢true}
 use Rattle.std.proofs.Common.{ap, is_some, ◌∙◌, map, None, Some}
 use Rattle.std.specs.Prelude.{slice_get}
 use Rattle.std.specs.Option.{option_and_then, option_copied}
-use Rattle.sv_constraints.proofs.Found.{decided_is_verdict}
 use Rattle.sv_constraints.specs.Covering.{all_patterns}
 use Rattle.sv_constraints.specs.Verdict.{verdict}
 use Rattle.sv_mapping.specs.BestMatch.{best_pattern}
-use Rattle.sv_policy.proofs.Deciding.{looked_up, no_pattern, whole_at}
+use Rattle.sv_policy.proofs.Deciding.{decided_is_verdict, looked_up, no_pattern, whole_at}
 use Rattle.sv_policy.specs.Compiled.{Standing}
 use Rattle.sv_policy.proofs.policy.Policy.decide.Goals as goal
 
@@ -19,7 +18,7 @@ returns-in-None-clause-decision c =
 
 pub returns-in-Some-clause-decision : goal.returns-in-Some-clause-decision
 returns-in-Some-clause-decision c =
-    decided_is_verdict c.self.inside.constraints.items c.self.inside.rules c.args.method.now c.args.path.now (option_copied c.args.caller) c.in-Some.table.now.pattern c.findings.result _
+    decided_is_verdict c.findings_decide.ensures c.self.inside.constraints.items c.self.inside.rules c.args.method.now c.args.path.now (option_copied c.args.caller) c.in-Some.table.now.pattern c.findings.result _
     (looked_up c.best_is_of_texts.ensures (λ table. table.value) c.self.inside.rules c.self.inside.constraints.items c.self.inside.tables.items c.as_slice.result.now c.self.inside.index c.args.path.now c.lookup-looked.result.best (Some c.in-Some.table.now)
     c.self.invariant.0 c.self.invariant.1 c.as_slice.ensures.value c.lookup-looked.ensures.text c.in-Some.ensures)
     (c.findings.ensures c.self.inside.rules c.self.inside.constraints.items

@@ -1,7 +1,7 @@
 use Rattle.std.proofs.Common.{arith, Some, None}
 use Rattle.std.proofs.lemmas.Str.Pattern.{split_once_first}
 use Rattle.sv_pattern_table.proofs.Cuts.{cut_at_first, uncut}
-use Rattle.sv_pattern_table.proofs.segments.cut.Goals as goal
+use Rattle.sv_pattern_table.proofs.segments.split_segment.Goals as goal
 
 pub returns-in-Some : goal.returns-in-Some
 returns-in-Some c =
