@@ -2,14 +2,21 @@
 
 ghost use Rattle.sv_exchange.specs.Changing.{Changes};
 
-use sv_component::{Exchange, ExchangeFault};
+use sv_component::{Exchange, ExchangeFault, Step};
 use sv_text::NoMemory;
+
+/// Says that the answer is plain text. What an exchange ignores or refuses otherwise than for memory is left out.
+pub(crate) fn set_plain(exchange: &mut Exchange) -> Result<(), NoMemory>
+    ensures { Changes exchange.old exchange.new }
+{
+    unless_refused(exchange.set_header("content-type", "text/plain"))
+}
 
 /// Says that the answer is plain text, and writes the text. What an exchange ignores or refuses otherwise than for memory is left out.
 pub(crate) fn write_plain(exchange: &mut Exchange, text: &[u8]) -> Result<(), NoMemory>
     ensures { Changes exchange.old exchange.new }
 {
-    unless_refused(exchange.set_header("content-type", "text/plain"))?;
+    set_plain(exchange)?;
     unless_refused(exchange.write(text))
 }
 
@@ -18,5 +25,13 @@ pub(crate) fn unless_refused(done: Result<bool, ExchangeFault>) -> Result<(), No
     match done {
         Err(ExchangeFault::NoMemory) => Err(NoMemory),
         Err(_) | Ok(_) => Ok(()),
+    }
+}
+
+/// The answer of a servlet that wrote what it had to write.
+pub(crate) fn done(written: Result<(), NoMemory>) -> Step {
+    match written {
+        Ok(()) => Step::Done,
+        Err(_) => Step::NoMemory,
     }
 }

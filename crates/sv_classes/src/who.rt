@@ -1,8 +1,11 @@
 //! A servlet that tells the caller.
 
-use crate::plain::write_plain;
+ghost use Rattle.sv_exchange.specs.Changing.{Changes};
+
+use crate::plain::{done, write_plain};
 use std::alloc::Global;
 use sv_component::{Config, Exchange, Init, Servlet, Step};
+use sv_text::NoMemory;
 
 /// Writes a line with the caller's name, `-` where there is none.
 #[derive(Drop)]
@@ -20,12 +23,23 @@ impl Servlet for Who {
         Init::Ready
     }
 
-    fn service(&mut self, _alloc: Global, exchange: &mut Exchange, _turn: u32) -> Step {
-        match write_plain(exchange, b"caller -\n") {
-            Ok(()) => Step::Done,
-            Err(_) => Step::NoMemory,
-        }
+    fn service(&mut self, alloc: Global, exchange: &mut Exchange, _turn: u32) -> Step {
+        done(write_caller(alloc, exchange))
     }
 
     fn destroy(&mut self) {}
+}
+
+fn write_caller(alloc: Global, exchange: &mut Exchange) -> Result<(), NoMemory>
+    ensures { Changes exchange.old exchange.new }
+{
+    let line = format!(in alloc; "caller {}\n", caller_name(exchange))?;
+    write_plain(exchange, line.as_bytes())
+}
+
+fn caller_name(exchange: &Exchange) -> &str {
+    match exchange.caller() {
+        Some(caller) => caller.name.as_str(),
+        None => "-",
+    }
 }

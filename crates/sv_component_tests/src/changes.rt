@@ -160,7 +160,8 @@ pub fn add_fields(text: &mut Draft, fields: &[Field]) {
     }
 }
 
-fn add_body(text: &mut Draft, body: &[u8]) {
+/// Adds a body, or its length where that is more than a hundred bytes.
+pub fn add_body(text: &mut Draft, body: &[u8]) {
     if body.len() <= 100 {
         text.add_bytes(body);
     } else {

@@ -1,9 +1,11 @@
 //! The program's component classes, in boxes.
 
 use crate::calls::made;
-use crate::changes::add_fields;
+use crate::changes::{add_body, add_fields};
 use std::alloc::Global;
-use sv_classes::{Bad, Halt, Log, Mark, Who};
+use sv_classes::{
+    Bad, Bye, ErrorCode, Fail, Go, Gone, Halt, Keep, Log, Mark, Nest, Out, Paths, Who,
+};
 use sv_component::{
     Config, Event, Exchange, Filter, Init, Listener, Param, Servlet, gate_answer, init_answer,
     step_answer,
@@ -12,8 +14,8 @@ use sv_journal::Answer;
 use sv_rows::{Asks, Draft, Strays, cell, hold, unescaped_text};
 use sv_text::{Listed, NoMemory, Text};
 
-/// A class, a component's name, calls made before its own, and then: the answers to `init` and to `service` or `before`, the fields
-/// and the body of the response.
+/// A class, a component's name with its parameters, calls made before its own, and then: the answers to `init` and to `service` or
+/// `before`, the fields and the body of the response.
 const CLASSES: &str = r#"
 -- the component classes of the program
 Who  | who  | flush                 | Ready  | Done | ""                       | caller -\n
@@ -21,6 +23,7 @@ Who  | who  | status 404            | Ready  | Done | content-type: text/plain |
 Who  | who  | enter INCLUDE         | Ready  | Done | ""                       | caller -\n
 Who  | who  | write x               | Ready  | Done | content-type: text/plain | xcaller -\n
 Who  | who  | set Content-Type=a    | Ready  | Done | content-type: text/plain | caller -\n
+Who  | who  | fill 4194304          | Ready  | Done | content-type: text/plain | 4194304 bytes
 Halt | h    | status 404            | Ready  | Stop | content-type: text/plain | halt\n
 Halt | h    | enter INCLUDE         | Ready  | Stop | ""                       | halt\n
 Mark | f1   | status 404            | Ready  | Pass | x-mark: f1               | ""
@@ -28,6 +31,43 @@ Mark | f1   | add X-Mark=f0         | Ready  | Pass | x-mark: f0, x-mark: f1   |
 Mark | f1   | flush                 | Ready  | Pass | ""                       | ""
 Mark | f\n1 | status 404            | Ready  | Pass | ""                       | ""
 Bad  | b    | status 404            | Failed | Pass | ""                       | ""
+-- Jakarta Servlet 6.0, section 3.5: the paths of the request, in an include those of the includer
+Paths | p | enter REQUEST                | Ready | Done | content-type: text/plain | servlet=/a info=/b\n
+Paths | p | enter ERROR                  | Ready | Done | content-type: text/plain | servlet=/e info=-\n
+Paths | p | enter REQUEST; enter FORWARD | Ready | Done | content-type: text/plain | servlet=/f info=/x\n
+Paths | p | enter REQUEST; enter INFO    | Ready | Done | ""                       | servlet=/a info=/b\n
+-- the first call of each kind; a path is that of the first parameter of its name
+Nest | n path=/n path=/m | enter REQUEST | Ready | Include /n     | content-type: text/plain | a1\n
+Nest | n path=/n         | enter FORWARD | Ready | Include /n     | content-type: text/plain | a1\n
+Nest | n path=/n         | enter INCLUDE | Ready | Done           | ""                       | b1\n
+Nest | n                 | enter ERROR   | Ready | Include\x20    | content-type: text/plain | a1\n
+Go   | g path=/p?q=1     | write x       | Ready | Forward /p?q=1 | ""                       | x
+Go   | g Path=/p         | write x       | Ready | Forward\x20    | ""                       | x
+-- errors and failures: nothing is written
+Fail | f kind=K          | write x       | Ready | Failed K       | ""                       | x
+Fail | f                 | write x       | Ready | Failed\x20     | ""                       | x
+Err  | e code=404        | write x       | Ready | Error 404      | ""                       | x
+Err  | e code=200        | status 404    | Ready | Error 200      | ""                       | ""
+Gone | g                 | write x       | Ready | Unavailable    | ""                       | x
+Gone | g seconds=10      | write x       | Ready | Unavailable    | ""                       | x
+-- numbers are decimal digits; another text, and a number that does not fit, count as 0
+Err  | e code=0404       | status 404    | Ready | Error 404      | ""                       | ""
+Err  | e code=65535      | status 404    | Ready | Error 65535    | ""                       | ""
+Err  | e code=65536      | status 404    | Ready | Error 0        | ""                       | ""
+Err  | e code=18446744073709552020 | status 404 | Ready | Error 0 | ""                       | ""
+Err  | e code=+404       | status 404    | Ready | Error 0        | ""                       | ""
+Err  | e code=-1         | status 404    | Ready | Error 0        | ""                       | ""
+Err  | e code=404x       | status 404    | Ready | Error 0        | ""                       | ""
+Err  | e code=٤          | status 404    | Ready | Error 0        | ""                       | ""
+Err  | e code=           | status 404    | Ready | Error 0        | ""                       | ""
+Err  | e                 | status 404    | Ready | Error 0        | ""                       | ""
+-- without a session, and without room for one
+Keep | k                 | write x       | Ready | Error 503      | ""                       | x
+Keep | k                 | flush         | Ready | Error 503      | ""                       | ""
+Bye  | b                 | write x       | Ready | Done | content-type: text/plain | xbye\n
+Bye  | b                 | flush         | Ready | Done | ""                       | bye\n
+Out  | o                 | write x       | Ready | Done | content-type: text/plain | xout\n
+Out  | o                 | enter INCLUDE | Ready | Done | ""                       | out\n
 "#;
 
 #[test]
@@ -43,7 +83,7 @@ impl Asks for Classes {
 
     fn answer(&self, alloc: Global, row: &str, answer: &mut Vec<u8>) -> Result<(), NoMemory> {
         let mut told = Draft::new(alloc);
-        match (named_config(alloc, cell(row, 1)), made(alloc, cell(row, 2))) {
+        match (config(alloc, cell(row, 1)), made(alloc, cell(row, 2))) {
             (Ok(config), Ok((exchange, _))) => {
                 add_calls(alloc, cell(row, 0), &config, exchange, &mut told);
             }
@@ -51,11 +91,6 @@ impl Asks for Classes {
         }
         told.add_to(answer)
     }
-}
-
-fn named_config(alloc: Global, name: &str) -> Result<Config, NoMemory> {
-    let name = unescaped_text(alloc, name)?;
-    config(alloc, name.as_str())
 }
 
 /// Makes the calls of a component, and adds their answers and the response.
@@ -72,7 +107,7 @@ fn add_calls(
     let (response, _sessions) = exchange.finish();
     add_fields(told, response.fields.as_slice());
     told.add(" | ");
-    told.add_bytes(response.body.as_slice());
+    add_body(told, response.body.as_slice());
 }
 
 fn add_answers(
@@ -83,7 +118,6 @@ fn add_answers(
     told: &mut Draft,
 ) -> Result<(), NoMemory> {
     match class {
-        "Who" => served(alloc, Box::new(alloc, Who::new())?, config, exchange, told),
         "Halt" => filtered(alloc, Box::new(alloc, Halt::new())?, config, exchange, told),
         "Mark" => filtered(
             alloc,
@@ -92,7 +126,71 @@ fn add_answers(
             exchange,
             told,
         ),
-        _ => filtered(alloc, Box::new(alloc, Bad::new())?, config, exchange, told),
+        "Bad" => filtered(alloc, Box::new(alloc, Bad::new())?, config, exchange, told),
+        _ => add_answers_of_servlet(alloc, class, config, exchange, told),
+    }
+}
+
+fn add_answers_of_servlet(
+    alloc: Global,
+    class: &str,
+    config: &Config,
+    exchange: &mut Exchange,
+    told: &mut Draft,
+) -> Result<(), NoMemory> {
+    match class {
+        "Who" => served(alloc, Box::new(alloc, Who::new())?, config, exchange, told),
+        "Paths" => served(
+            alloc,
+            Box::new(alloc, Paths::new())?,
+            config,
+            exchange,
+            told,
+        ),
+        "Nest" => served(
+            alloc,
+            Box::new(alloc, Nest::new(alloc))?,
+            config,
+            exchange,
+            told,
+        ),
+        "Go" => served(
+            alloc,
+            Box::new(alloc, Go::new(alloc))?,
+            config,
+            exchange,
+            told,
+        ),
+        "Fail" => served(
+            alloc,
+            Box::new(alloc, Fail::new(alloc))?,
+            config,
+            exchange,
+            told,
+        ),
+        _ => add_answers_of_other(alloc, class, config, exchange, told),
+    }
+}
+
+fn add_answers_of_other(
+    alloc: Global,
+    class: &str,
+    config: &Config,
+    exchange: &mut Exchange,
+    told: &mut Draft,
+) -> Result<(), NoMemory> {
+    match class {
+        "Err" => served(
+            alloc,
+            Box::new(alloc, ErrorCode::new())?,
+            config,
+            exchange,
+            told,
+        ),
+        "Gone" => served(alloc, Box::new(alloc, Gone::new())?, config, exchange, told),
+        "Keep" => served(alloc, Box::new(alloc, Keep::new())?, config, exchange, told),
+        "Bye" => served(alloc, Box::new(alloc, Bye::new())?, config, exchange, told),
+        _ => served(alloc, Box::new(alloc, Out::new())?, config, exchange, told),
     }
 }
 
@@ -134,20 +232,26 @@ fn add_both(told: &mut Draft, ready: Init, called: &Answer) {
     told.add(" | ");
 }
 
-/// The configuration of a component of that name: two parameters of one name, and one without a value.
-fn config(alloc: Global, name: &str) -> Result<Config, NoMemory> {
+/// The configuration of a component of that name, with the parameters behind it.
+fn config(alloc: Global, words: &str) -> Result<Config, NoMemory> {
+    let (name, rest) = words.split_once(' ').unwrap_or((words, ""));
+    let name = unescaped_text(alloc, name)?;
+    Ok(Config {
+        name: Text::from_string(name),
+        params: Listed::from_vec(params(alloc, rest)?),
+    })
+}
+
+fn params(alloc: Global, words: &str) -> Result<Vec<Param>, NoMemory> {
     let mut params = Vec::new(alloc);
-    for param in "path=/p,path=/q,empty=".split(',') {
-        let (name, value) = param.split_once('=').unwrap_or((param, ""));
+    for word in words.split_ascii_whitespace() {
+        let (name, value) = word.split_once('=').unwrap_or((word, ""));
         params.push(Param {
             name: Text::copy_of(alloc, name)?,
             value: Text::copy_of(alloc, value)?,
         })?;
     }
-    Ok(Config {
-        name: Text::copy_of(alloc, name)?,
-        params: Listed::from_vec(params),
-    })
+    Ok(params)
 }
 
 /// The name of a parameter, and its value: `-` for none.
@@ -171,7 +275,7 @@ impl Asks for Parameters {
     const QUESTION: usize = 1;
 
     fn answer(&self, alloc: Global, row: &str, answer: &mut Vec<u8>) -> Result<(), NoMemory> {
-        let config = config(alloc, "f1")?;
+        let config = config(alloc, "f1 path=/p path=/q empty=")?;
         answer.extend_from_slice(config.param(cell(row, 0)).unwrap_or("-").as_bytes())?;
         Ok(())
     }

@@ -1,0 +1,38 @@
+//! A servlet that ends the session.
+
+ghost use Rattle.sv_exchange.specs.Changing.{Changes};
+
+use crate::plain::{done, unless_refused, write_plain};
+use std::alloc::Global;
+use sv_component::{Config, Exchange, Init, Servlet, Step};
+use sv_text::NoMemory;
+
+/// Ends the session, if there is one, and writes a line.
+#[derive(Drop)]
+pub struct Bye {}
+
+impl Bye {
+    /// A servlet to be initialised.
+    pub fn new() -> Bye {
+        Bye {}
+    }
+}
+
+impl Servlet for Bye {
+    fn init(&mut self, _alloc: Global, _config: &Config) -> Init {
+        Init::Ready
+    }
+
+    fn service(&mut self, _alloc: Global, exchange: &mut Exchange, _turn: u32) -> Step {
+        done(end_session(exchange))
+    }
+
+    fn destroy(&mut self) {}
+}
+
+fn end_session(exchange: &mut Exchange) -> Result<(), NoMemory>
+    ensures { Changes exchange.old exchange.new }
+{
+    unless_refused(exchange.session_end())?;
+    write_plain(exchange, b"bye\n")
+}

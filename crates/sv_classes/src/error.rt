@@ -1,0 +1,36 @@
+//! A servlet that answers an error.
+
+use crate::parameter::number;
+use std::alloc::Global;
+use sv_component::{Config, Exchange, Init, Servlet, Step};
+use sv_text::Text;
+
+/// Answers an error with the code of its parameter `code`: the class `Err` of descriptors.
+#[derive(Drop)]
+pub struct ErrorCode {
+    code: u16,
+}
+
+impl ErrorCode {
+    /// A servlet to be initialised.
+    pub fn new() -> ErrorCode {
+        ErrorCode { code: 0 }
+    }
+}
+
+impl Servlet for ErrorCode {
+    fn init(&mut self, _alloc: Global, config: &Config) -> Init {
+        let code = number(config.param("code").unwrap_or(""));
+        self.code = u16::try_from(code).unwrap_or(0);
+        Init::Ready
+    }
+
+    fn service(&mut self, alloc: Global, _exchange: &mut Exchange, _turn: u32) -> Step {
+        match Text::copy_of(alloc, "error") {
+            Ok(text) => Step::Error(self.code, text),
+            Err(_) => Step::NoMemory,
+        }
+    }
+
+    fn destroy(&mut self) {}
+}

@@ -1,0 +1,41 @@
+//! A servlet that fails.
+
+use crate::parameter::{keep_parameter, no_text};
+use std::alloc::Global;
+use sv_component::{Config, Exchange, Init, Servlet, Step};
+use sv_text::{NoMemory, Text};
+
+/// Fails by the kind of its parameter `kind`.
+#[derive(Drop)]
+pub struct Fail {
+    kind: Text,
+}
+
+impl Fail {
+    /// A servlet to be initialised.
+    pub fn new(alloc: Global) -> Fail {
+        Fail {
+            kind: no_text(alloc),
+        }
+    }
+
+    fn failure(&self, alloc: Global) -> Result<Step, NoMemory> {
+        let kind = Text::copy_of(alloc, self.kind.as_str())?;
+        Ok(Step::Failed(kind, Text::copy_of(alloc, "failed")?))
+    }
+}
+
+impl Servlet for Fail {
+    fn init(&mut self, alloc: Global, config: &Config) -> Init {
+        keep_parameter(alloc, config, "kind", &mut self.kind)
+    }
+
+    fn service(&mut self, alloc: Global, _exchange: &mut Exchange, _turn: u32) -> Step {
+        match self.failure(alloc) {
+            Ok(step) => step,
+            Err(_) => Step::NoMemory,
+        }
+    }
+
+    fn destroy(&mut self) {}
+}

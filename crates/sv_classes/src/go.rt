@@ -1,0 +1,36 @@
+//! A servlet that forwards.
+
+use crate::parameter::{keep_parameter, no_text};
+use std::alloc::Global;
+use sv_component::{Config, Exchange, Init, Servlet, Step};
+use sv_text::Text;
+
+/// Forwards to the path of its parameter `path`.
+#[derive(Drop)]
+pub struct Go {
+    path: Text,
+}
+
+impl Go {
+    /// A servlet to be initialised.
+    pub fn new(alloc: Global) -> Go {
+        Go {
+            path: no_text(alloc),
+        }
+    }
+}
+
+impl Servlet for Go {
+    fn init(&mut self, alloc: Global, config: &Config) -> Init {
+        keep_parameter(alloc, config, "path", &mut self.path)
+    }
+
+    fn service(&mut self, alloc: Global, _exchange: &mut Exchange, _turn: u32) -> Step {
+        match Text::copy_of(alloc, self.path.as_str()) {
+            Ok(path) => Step::Forward(path),
+            Err(_) => Step::NoMemory,
+        }
+    }
+
+    fn destroy(&mut self) {}
+}

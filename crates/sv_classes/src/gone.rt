@@ -1,0 +1,39 @@
+//! A servlet that goes out of service.
+
+use crate::parameter::number;
+use std::alloc::Global;
+use sv_component::{Config, Exchange, Init, Servlet, Step};
+
+/// Is out of service for the seconds of its parameter `seconds`, for good where that is empty.
+#[derive(Drop)]
+pub struct Gone {
+    seconds: Option<u32>,
+}
+
+impl Gone {
+    /// A servlet to be initialised.
+    pub fn new() -> Gone {
+        Gone { seconds: None }
+    }
+}
+
+impl Servlet for Gone {
+    fn init(&mut self, _alloc: Global, config: &Config) -> Init {
+        self.seconds = seconds(config.param("seconds").unwrap_or(""));
+        Init::Ready
+    }
+
+    fn service(&mut self, _alloc: Global, _exchange: &mut Exchange, _turn: u32) -> Step {
+        Step::Unavailable(self.seconds)
+    }
+
+    fn destroy(&mut self) {}
+}
+
+fn seconds(text: &str) -> Option<u32> {
+    if text.is_empty() {
+        None
+    } else {
+        Some(u32::try_from(number(text)).unwrap_or(0))
+    }
+}

@@ -1,0 +1,55 @@
+//! A servlet that counts in the session.
+
+ghost use Rattle.sv_exchange.specs.Changing.{Changes};
+
+use crate::parameter::number;
+use crate::plain::{done, set_plain, unless_refused};
+use std::alloc::Global;
+use sv_component::{Config, Exchange, ExchangeFault, Init, Servlet, Step};
+use sv_text::{NoMemory, Text};
+
+/// Opens the session, raises the number in its attribute `n` by one, and writes it; it begins at 0 and stays at the greatest number. Where
+/// there is no session to be had, it answers 503.
+#[derive(Drop)]
+pub struct Keep {}
+
+impl Keep {
+    /// A servlet to be initialised.
+    pub fn new() -> Keep {
+        Keep {}
+    }
+}
+
+impl Servlet for Keep {
+    fn init(&mut self, _alloc: Global, _config: &Config) -> Init {
+        Init::Ready
+    }
+
+    fn service(&mut self, alloc: Global, exchange: &mut Exchange, _turn: u32) -> Step {
+        match exchange.session_open() {
+            Ok(_) => done(count(alloc, exchange)),
+            Err(ExchangeFault::NoMemory) => Step::NoMemory,
+            Err(_) => full(alloc),
+        }
+    }
+
+    fn destroy(&mut self) {}
+}
+
+fn full(alloc: Global) -> Step {
+    match Text::copy_of(alloc, "full") {
+        Ok(text) => Step::Error(503, text),
+        Err(_) => Step::NoMemory,
+    }
+}
+
+fn count(alloc: Global, exchange: &mut Exchange) -> Result<(), NoMemory>
+    ensures { Changes exchange.old exchange.new }
+{
+    let count = number(exchange.session_get("n").unwrap_or("")).saturating_add(1);
+    set_plain(exchange)?;
+    let value = format!(in alloc; "{count}")?;
+    unless_refused(exchange.session_set("n", value.as_str()))?;
+    let line = format!(in alloc; "n={count}\n")?;
+    unless_refused(exchange.write(line.as_bytes()))
+}

@@ -1,0 +1,79 @@
+//! A servlet that includes.
+
+ghost use Rattle.sv_exchange.specs.Changing.{Changes};
+
+use crate::parameter::{keep_parameter, no_text};
+use crate::plain::{done, unless_refused, write_plain};
+use std::alloc::Global;
+use sv_component::{Config, Exchange, Init, Servlet, Step};
+use sv_mapping::Kind;
+use sv_text::{NoMemory, Text};
+
+/// Counts its calls. At first it writes a line with `a` and the count, and includes the path of its parameter `path`; within an include it
+/// sets a field, which is ignored there, and writes a line with `b`; behind its own include it writes one with `c`. The count stays at the
+/// greatest number.
+#[derive(Drop)]
+pub struct Nest {
+    path: Text,
+    calls: u64,
+}
+
+impl Nest {
+    /// A servlet to be initialised.
+    pub fn new(alloc: Global) -> Nest {
+        Nest {
+            path: no_text(alloc),
+            calls: 0,
+        }
+    }
+
+    // Writes the first line, and asks for the include.
+    fn include(&self, alloc: Global, exchange: &mut Exchange) -> Result<Step, NoMemory>
+        ensures { Changes exchange.old exchange.new }
+    {
+        let line = format!(in alloc; "a{}\n", self.calls)?;
+        write_plain(exchange, line.as_bytes())?;
+        Ok(Step::Include(Text::copy_of(alloc, self.path.as_str())?))
+    }
+}
+
+impl Servlet for Nest {
+    fn init(&mut self, alloc: Global, config: &Config) -> Init {
+        keep_parameter(alloc, config, "path", &mut self.path)
+    }
+
+    fn service(&mut self, alloc: Global, exchange: &mut Exchange, turn: u32) -> Step {
+        self.calls = self.calls.saturating_add(1);
+        if turn > 0 {
+            return done(write_line(alloc, exchange, "c", self.calls));
+        }
+        if matches!(exchange.kind(), Kind::Include) {
+            return done(write_included(alloc, exchange, self.calls));
+        }
+        match self.include(alloc, exchange) {
+            Ok(step) => step,
+            Err(_) => Step::NoMemory,
+        }
+    }
+
+    fn destroy(&mut self) {}
+}
+
+fn write_included(alloc: Global, exchange: &mut Exchange, calls: u64) -> Result<(), NoMemory>
+    ensures { Changes exchange.old exchange.new }
+{
+    unless_refused(exchange.set_header("x-in", "1"))?;
+    write_line(alloc, exchange, "b", calls)
+}
+
+fn write_line(
+    alloc: Global,
+    exchange: &mut Exchange,
+    word: &str,
+    calls: u64,
+) -> Result<(), NoMemory>
+    ensures { Changes exchange.old exchange.new }
+{
+    let line = format!(in alloc; "{word}{calls}\n")?;
+    unless_refused(exchange.write(line.as_bytes()))
+}

@@ -1,0 +1,38 @@
+//! A servlet that logs the caller out.
+
+ghost use Rattle.sv_exchange.specs.Changing.{Changes};
+
+use crate::plain::{done, unless_refused, write_plain};
+use std::alloc::Global;
+use sv_component::{Config, Exchange, Init, Servlet, Step};
+use sv_text::NoMemory;
+
+/// Logs the caller out, if there is one, and writes a line.
+#[derive(Drop)]
+pub struct Out {}
+
+impl Out {
+    /// A servlet to be initialised.
+    pub fn new() -> Out {
+        Out {}
+    }
+}
+
+impl Servlet for Out {
+    fn init(&mut self, _alloc: Global, _config: &Config) -> Init {
+        Init::Ready
+    }
+
+    fn service(&mut self, _alloc: Global, exchange: &mut Exchange, _turn: u32) -> Step {
+        done(log_out(exchange))
+    }
+
+    fn destroy(&mut self) {}
+}
+
+fn log_out(exchange: &mut Exchange) -> Result<(), NoMemory>
+    ensures { Changes exchange.old exchange.new }
+{
+    unless_refused(exchange.logout())?;
+    write_plain(exchange, b"out\n")
+}

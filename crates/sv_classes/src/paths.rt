@@ -1,0 +1,40 @@
+//! A servlet that tells its paths.
+
+ghost use Rattle.sv_exchange.specs.Changing.{Changes};
+
+use crate::plain::{done, write_plain};
+use std::alloc::Global;
+use sv_component::{Config, Exchange, Init, Servlet, Step};
+use sv_text::NoMemory;
+
+/// Writes a line with the servlet path and the path info, `-` where there is none (Jakarta Servlet 6.0, section 3.5).
+#[derive(Drop)]
+pub struct Paths {}
+
+impl Paths {
+    /// A servlet to be initialised.
+    pub fn new() -> Paths {
+        Paths {}
+    }
+}
+
+impl Servlet for Paths {
+    fn init(&mut self, _alloc: Global, _config: &Config) -> Init {
+        Init::Ready
+    }
+
+    fn service(&mut self, alloc: Global, exchange: &mut Exchange, _turn: u32) -> Step {
+        done(write_paths(alloc, exchange))
+    }
+
+    fn destroy(&mut self) {}
+}
+
+fn write_paths(alloc: Global, exchange: &mut Exchange) -> Result<(), NoMemory>
+    ensures { Changes exchange.old exchange.new }
+{
+    let servlet = exchange.servlet_path();
+    let info = exchange.path_info().unwrap_or("-");
+    let line = format!(in alloc; "servlet={servlet} info={info}\n")?;
+    write_plain(exchange, line.as_bytes())
+}
