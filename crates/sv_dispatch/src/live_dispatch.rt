@@ -37,6 +37,7 @@ pub fn dispatch<'a, S: Servlet, F: Filter, L: Listener>(
 ) -> Result<Finished, NoMemory>
     requires servlets { length live.old.parts.servlets.items ≡ length site.now.app.servlets }
     requires filters { length live.old.parts.filters.items ≡ length site.now.app.filters }
+    requires listeners { length live.old.parts.listeners.items ≡ length site.now.app.listeners }
     ensures { Dispatched S.servlet_step F.filter_step L.listener_step (site_of site.now) kind canon.now
         live.old exchange.old journal.old (seen result) live.new exchange.new journal.new }
 {

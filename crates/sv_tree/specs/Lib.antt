@@ -7,4 +7,5 @@ pub mod Laws
 pub mod Served
 pub mod Site
 pub mod State
+pub mod Telling
 pub mod Tree
