@@ -1,3 +1,4 @@
+pub mod Asking
 pub mod Does
 pub mod Endings
 pub mod Faults
