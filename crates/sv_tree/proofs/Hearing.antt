@@ -1,5 +1,5 @@
 -- What holds of what listeners hear.
-use Rattle.std.proofs.Common.{◌≡◌, ℕ, List, [], ◌∷◌, ◌++◌, sym, subst, append_assoc, append-nil}
+use Rattle.std.proofs.Common.{ℕ, List, [], ◌∷◌, ◌++◌, sym, subst, append_assoc, append-nil}
 use Rattle.std.specs.Prelude.{map}
 use Rattle.sv_component.specs.Runs.{Record, OfListener}
 use Rattle.sv_journal.specs.declared.event.Event.{Event}

@@ -1,6 +1,6 @@
 -- What is done, as a program over relations: from a state, by these calls of components, to a state with a result, or with none where
 -- memory ended it. A definition is written with `do`, one step a line.
-use Rattle.std.specs.Prelude.{◌≡◌, ◌⊎◌, Bool, true, false, List, [], ◌∷◌, ◌++◌, Option, None, Some}
+use Rattle.std.specs.Prelude.{◌≡◌, ◌⊎◌, Bool, true, false, List, [], ◌++◌, Option, None, Some}
 use Rattle.sv_component.specs.Runs.{Record}
 use Rattle.sv_exchange.specs.Changing.{Change, answer, left_by}
 use Rattle.sv_exchange.specs.Dispatches.{Leaves}
