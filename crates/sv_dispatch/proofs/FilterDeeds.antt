@@ -110,10 +110,10 @@ module _ {M : Type 0} (state : M → State) (frame : M → Frame) (ran : M → L
   abbrev Rest : ℕ → Does (Unit {0})
   Rest listeners = Afters listeners (reverse (take count chain))
 
-  abbrev Call : ℕ → Does Bool
-  Call listeners = asks listeners (after_of (get_or chain count 0))
+  abbrev Last : ℕ → Does Bool
+  Last listeners = asks listeners (after_of (get_or chain count 0))
 
-  one_more : (listeners : ℕ) (a b : M) (result : Option (Unit {0})) → Makes state frame ran (Call listeners >>= λ done. choose done (Rest listeners) refuses) a b result
+  one_more : (listeners : ℕ) (a b : M) (result : Option (Unit {0})) → Makes state frame ran (Last listeners >>= λ done. choose done (Rest listeners) refuses) a b result
       → Makes state frame ran (Afters listeners (reverse (take (suc count) chain))) a b result
   one_more listeners a b result did =
       did_by state frame ran (Afters listeners) (get_or chain count 0 ∷ reverse (take count chain)) (reverse (take (suc count) chain)) a b result
@@ -123,13 +123,13 @@ module _ {M : Type 0} (state : M → State) (frame : M → Frame) (ran : M → L
       → Makes state frame ran (Afters (frame a).listeners (reverse (take (suc count) chain))) a b None
   afters_broken a b call =
       let listeners = (frame a).listeners in
-      one_more listeners a b None (did_not state frame ran (Call listeners) (λ done. choose done (Rest listeners) refuses) a b call)
+      one_more listeners a b None (did_not state frame ran (Last listeners) (λ done. choose done (Rest listeners) refuses) a b call)
 
   pub afters_refused : (a b : M) (done : Bool) → done ≡ false → Makes state frame ran (asks (frame a).listeners (after_of (get_or chain count 0))) a b (Some done)
       → Makes state frame ran (Afters (frame a).listeners (reverse (take (suc count) chain))) a b None
   afters_refused a b done is call =
       let listeners = (frame a).listeners in
-      one_more listeners a b None (did_then state frame ran (Call listeners) (λ done. choose done (Rest listeners) refuses) a b b done None call
+      one_more listeners a b None (did_then state frame ran (Last listeners) (λ done. choose done (Rest listeners) refuses) a b b done None call
       (did_other state frame ran done (Rest listeners) refuses b b None is (did_refuse state frame ran b)))
 
   pub afters_called : (a b c : M) (done : Bool) (result : Option (Unit {0})) → done ≡ true
@@ -138,6 +138,6 @@ module _ {M : Type 0} (state : M → State) (frame : M → Frame) (ran : M → L
       → Makes state frame ran (Afters (frame a).listeners (reverse (take (suc count) chain))) a c result
   afters_called a b c done result is call rest =
       let listeners = (frame a).listeners in
-      one_more listeners a c result (did_then state frame ran (Call listeners) (λ done. choose done (Rest listeners) refuses) a b c done result call
+      one_more listeners a c result (did_then state frame ran (Last listeners) (λ done. choose done (Rest listeners) refuses) a b c done result call
       (did_first state frame ran done (Rest listeners) refuses b c result is
       (did_by state frame ran Rest (frame b).listeners listeners b c result (ap (λ f. f.listeners) call.stays) rest)))

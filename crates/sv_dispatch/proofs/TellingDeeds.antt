@@ -1,7 +1,6 @@
 -- Events that are told one after another.
-use Rattle.std.proofs.Common.{◌≡◌, ℕ, List, [], ◌∷◌, ◌++◌, drop, Option, None, Some, refl, ap, ◌∙◌, sym}
+use Rattle.std.proofs.Common.{◌≡◌, ℕ, List, [], ◌∷◌, ◌++◌, drop, None, Some, refl, ap, ◌∙◌, sym}
 use Rattle.std.specs.Prelude.{slice_get}
-use Rattle.sv_component.specs.Runs.{Record}
 use Rattle.sv_exchange.specs.State as exchanges
 use Rattle.sv_journal.specs.declared.event.Event.{Event}
 use Rattle.sv_lifecycle.specs.Calling.{StandsAsBefore}
