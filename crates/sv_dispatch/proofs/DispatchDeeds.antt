@@ -79,7 +79,7 @@ module _ {M : Type 0} (state : M → State) (frame : M → Frame) (ran : M → L
     Chain = site.chain canon.path (name_of site resource) kind
 
     abbrev Behind : Reached → Does Finished
-    Behind reached = tree.Responds site room (Tree site room) resource kind canon reached.ended >>= λ result. Afters reached.passed >> gives result
+    Behind reached = tree.Responds site room (Tree site room) resource kind canon reached.ended >>= λ result. Afters site.listeners reached.passed >> gives result
 
     pub within_lacks : (a : M) → Makes state frame ran (tree.Within site room (Tree site room) resource kind canon) a a None
     within_lacks a = did_lack state frame ran (Befores site resource [] Chain >>= Behind) a
@@ -103,25 +103,34 @@ module _ {M : Type 0} (state : M → State) (frame : M → Frame) (ran : M → L
         within_breaks responds =
             let reached : Reached = record { passed = reverse (take count chain); ended = ended } in
             filtered chain a c None is (did_then state frame ran (Befores site resource [] chain) Behind a b c reached None befores
-            (did_not state frame ran (tree.Responds site room (Tree site room) resource kind canon ended) (λ result. Afters reached.passed >> gives result) b c responds))
+            (did_not state frame ran (tree.Responds site room (Tree site room) resource kind canon ended) (λ result. Afters site.listeners reached.passed >> gives result) b c responds))
 
         module _ (finished : Finished) (d : M) (responds : Makes state frame ran (tree.Responds site room (Tree site room) resource kind canon ended) b c (Some finished)) where
-          behind : (result : Option Finished) → Makes state frame ran (Afters (reverse (take count chain)) >> gives finished) c d result
+          behind : (result : Option Finished) → Makes state frame ran (Afters site.listeners (reverse (take count chain)) >> gives finished) c d result
               → Makes state frame ran (tree.Within site room (Tree site room) resource kind canon) a d result
           behind result afters =
               let reached : Reached = record { passed = reverse (take count chain); ended = ended } in
               filtered chain a d result is (did_then state frame ran (Befores site resource [] chain) Behind a b d reached result befores
-              (did_then state frame ran (tree.Responds site room (Tree site room) resource kind canon ended) (λ result. Afters reached.passed >> gives result) b c d finished result responds afters))
+              (did_then state frame ran (tree.Responds site room (Tree site room) resource kind canon ended) (λ result. Afters site.listeners reached.passed >> gives result) b c d finished result responds afters))
 
-          pub within_ends : Makes state frame ran (Afters (reverse (take count chain))) c d (Some tt)
-              → Makes state frame ran (tree.Within site room (Tree site room) resource kind canon) a d (Some finished)
-          within_ends afters =
-              behind (Some finished) (did_then state frame ran (Afters (reverse (take count chain))) (λ _. gives finished) c d d tt (Some finished) afters
-              (did_give state frame ran finished d))
+          module _ (hear : site.listeners ≡ (frame a).listeners) where
+            -- the filters are called once more, as the site has it
+            closed : (result : Option (Unit {0})) → Makes state frame ran (Afters (frame c).listeners (reverse (take count chain))) c d result
+                → Makes state frame ran (Afters site.listeners (reverse (take count chain))) c d result
+            closed result afters =
+                did_by state frame ran (λ listeners. Afters listeners (reverse (take count chain))) (frame c).listeners site.listeners c d result
+                (ap (λ f. f.listeners) (responds.stays ∙ befores.stays) ∙ sym hear) afters
 
-          pub within_leaves : Makes state frame ran (Afters (reverse (take count chain))) c d None
-              → Makes state frame ran (tree.Within site room (Tree site room) resource kind canon) a d None
-          within_leaves afters = behind None (did_not state frame ran (Afters (reverse (take count chain))) (λ _. gives finished) c d afters)
+            pub within_ends : Makes state frame ran (Afters (frame c).listeners (reverse (take count chain))) c d (Some tt)
+                → Makes state frame ran (tree.Within site room (Tree site room) resource kind canon) a d (Some finished)
+            within_ends afters =
+                behind (Some finished) (did_then state frame ran (Afters site.listeners (reverse (take count chain))) (λ _. gives finished) c d d tt (Some finished)
+                (closed (Some tt) afters) (did_give state frame ran finished d))
+
+            pub within_leaves : Makes state frame ran (Afters (frame c).listeners (reverse (take count chain))) c d None
+                → Makes state frame ran (tree.Within site room (Tree site room) resource kind canon) a d None
+            within_leaves afters =
+                behind None (did_not state frame ran (Afters site.listeners (reverse (take count chain))) (λ _. gives finished) c d (closed None afters))
 
   pub responds_ended : (resource : Resource) (kind : Kind) (canon : Canon) (given : Option Finished) (finished : Finished) (a : M) → given ≡ Some finished
       → Makes state frame ran (tree.Responds site room (Tree site room) resource kind canon given) a a (Some finished)

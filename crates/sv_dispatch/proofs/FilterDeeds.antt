@@ -6,7 +6,8 @@ use Rattle.sv_component.specs.Runs.{Record}
 use Rattle.sv_component.specs.declared.answers.Gate.{Gate}
 use Rattle.sv_component.specs.declared.answers.Gate.TheVariants as gates
 use Rattle.sv_dispatch.specs.Did.{Frame}
-use Rattle.sv_tree.specs.Does.{Does, ◌>>=◌, ◌>>◌, asks, becomes, choose, gives, refuses}
+use Rattle.sv_tree.specs.Asking.{asks}
+use Rattle.sv_tree.specs.Does.{Does, ◌>>=◌, ◌>>◌, becomes, choose, gives, refuses}
 use Rattle.sv_tree.specs.Endings.{fails, faults}
 use Rattle.sv_tree.specs.Filters.{Afters, Befores, Gated, Reached, after_of, before_of, ends_behind}
 use Rattle.sv_tree.specs.Site.{Site}
@@ -37,7 +38,7 @@ module _ {M : Type 0} (state : M → State) (frame : M → Frame) (ran : M → L
     Next = Befores site resource (get_or chain place 0 ∷ Passed) (drop (suc place) chain)
 
     abbrev Call : Does Reached
-    Call = asks (before_of (get_or chain place 0)) >>= λ gate. Gated site resource Passed gate Next
+    Call = asks site.listeners (before_of (get_or chain place 0)) >>= λ gate. Gated site resource Passed gate Next
 
     abbrev Limit : Does Reached
     Limit = ends_behind Passed (faults site resource DispatchLimit)
@@ -56,7 +57,14 @@ module _ {M : Type 0} (state : M → State) (frame : M → Frame) (ran : M → L
         (did_first state frame ran (is_full (state a)) Limit (becomes counted >> Call) a b (ended_of Passed result) full
         (did_end Passed (faults site resource DispatchLimit) a b result did))
 
-    module _ (a b : M) (free : is_full (state a) ≡ false) (count : Makes state frame ran (becomes counted) a b (Some tt)) where
+    module _ (a b : M) (hear : site.listeners ≡ (frame a).listeners) (free : is_full (state a) ≡ false) (count : Makes state frame ran (becomes counted) a b (Some tt)) where
+      -- the call, as the site has it
+      asked : (c : M) (result : Option Gate) → Makes state frame ran (asks (frame b).listeners (before_of (get_or chain place 0))) b c result
+          → Makes state frame ran (asks site.listeners (before_of (get_or chain place 0))) b c result
+      asked c result call =
+          did_by state frame ran (λ listeners. asks listeners (before_of (get_or chain place 0))) (frame b).listeners site.listeners b c result
+          (ap (λ f. f.listeners) count.stays ∙ sym hear) call
+
       counted_so : (d : M) (result : Option Reached) → Makes state frame ran Call b d result
           → Makes state frame ran (Befores site resource (reverse (take place chain)) (drop place chain)) a d result
       counted_so d result did =
@@ -64,17 +72,17 @@ module _ {M : Type 0} (state : M → State) (frame : M → Frame) (ran : M → L
           (did_other state frame ran (is_full (state a)) Limit (becomes counted >> Call) a d result free
           (did_then state frame ran (becomes counted) (λ _. Call) a b d tt result count did))
 
-      pub befores_broken : (c : M) → Makes state frame ran (asks (before_of (get_or chain place 0))) b c None
+      pub befores_broken : (c : M) → Makes state frame ran (asks (frame b).listeners (before_of (get_or chain place 0))) b c None
           → Makes state frame ran (Befores site resource (reverse (take place chain)) (drop place chain)) a c None
       befores_broken c call =
-          counted_so c None (did_not state frame ran (asks (before_of (get_or chain place 0))) (λ gate. Gated site resource Passed gate Next) b c call)
+          counted_so c None (did_not state frame ran (asks site.listeners (before_of (get_or chain place 0))) (λ gate. Gated site resource Passed gate Next) b c (asked c None call))
 
-      module _ (c : M) (gate : Gate) (call : Makes state frame ran (asks (before_of (get_or chain place 0))) b c (Some gate)) where
+      module _ (c : M) (gate : Gate) (call : Makes state frame ran (asks (frame b).listeners (before_of (get_or chain place 0))) b c (Some gate)) where
         called : (known : Gate) (d : M) (result : Option Reached) → gate ≡ known → Makes state frame ran (Gated site resource Passed known Next) c d result
             → Makes state frame ran (Befores site resource (reverse (take place chain)) (drop place chain)) a d result
         called known d result is rest =
             counted_so d result
-            (did_then state frame ran (asks (before_of (get_or chain place 0))) (λ gate. Gated site resource Passed gate Next) b c d gate result call
+            (did_then state frame ran (asks site.listeners (before_of (get_or chain place 0))) (λ gate. Gated site resource Passed gate Next) b c d gate result (asked c (Some gate) call)
             (did_by state frame ran (λ gate. Gated site resource Passed gate Next) known gate c d result (sym is) rest))
 
         pub befores_stop : gate ≡ gates.Stop
@@ -99,26 +107,37 @@ module _ {M : Type 0} (state : M → State) (frame : M → Frame) (ran : M → L
             (ap reverse (take-suc chain place 0 below) ∙ reverse-append (take place chain) (get_or chain place 0 ∷ [])) did)
 
 module _ {M : Type 0} (state : M → State) (frame : M → Frame) (ran : M → List Record → M → Type 0) (chain : List ℕ) (count : ℕ) (below : count < length chain) where
-  abbrev Rest : Does (Unit {0})
-  Rest = Afters (reverse (take count chain))
+  abbrev Rest : ℕ → Does (Unit {0})
+  Rest listeners = Afters listeners (reverse (take count chain))
 
-  one_more : (a b : M) (result : Option (Unit {0})) → Makes state frame ran (asks (after_of (get_or chain count 0)) >>= λ done. choose done Rest refuses) a b result
-      → Makes state frame ran (Afters (reverse (take (suc count) chain))) a b result
-  one_more a b result did =
-      did_by state frame ran Afters (get_or chain count 0 ∷ reverse (take count chain)) (reverse (take (suc count) chain)) a b result
+  abbrev Last : ℕ → Does Bool
+  Last listeners = asks listeners (after_of (get_or chain count 0))
+
+  one_more : (listeners : ℕ) (a b : M) (result : Option (Unit {0})) → Makes state frame ran (Last listeners >>= λ done. choose done (Rest listeners) refuses) a b result
+      → Makes state frame ran (Afters listeners (reverse (take (suc count) chain))) a b result
+  one_more listeners a b result did =
+      did_by state frame ran (Afters listeners) (get_or chain count 0 ∷ reverse (take count chain)) (reverse (take (suc count) chain)) a b result
       (sym (ap reverse (take-suc chain count 0 below) ∙ reverse-append (take count chain) (get_or chain count 0 ∷ []))) did
 
-  pub afters_broken : (a b : M) → Makes state frame ran (asks (after_of (get_or chain count 0))) a b None → Makes state frame ran (Afters (reverse (take (suc count) chain))) a b None
-  afters_broken a b call = one_more a b None (did_not state frame ran (asks (after_of (get_or chain count 0))) (λ done. choose done Rest refuses) a b call)
+  pub afters_broken : (a b : M) → Makes state frame ran (asks (frame a).listeners (after_of (get_or chain count 0))) a b None
+      → Makes state frame ran (Afters (frame a).listeners (reverse (take (suc count) chain))) a b None
+  afters_broken a b call =
+      let listeners = (frame a).listeners in
+      one_more listeners a b None (did_not state frame ran (Last listeners) (λ done. choose done (Rest listeners) refuses) a b call)
 
-  pub afters_refused : (a b : M) (done : Bool) → done ≡ false → Makes state frame ran (asks (after_of (get_or chain count 0))) a b (Some done)
-      → Makes state frame ran (Afters (reverse (take (suc count) chain))) a b None
+  pub afters_refused : (a b : M) (done : Bool) → done ≡ false → Makes state frame ran (asks (frame a).listeners (after_of (get_or chain count 0))) a b (Some done)
+      → Makes state frame ran (Afters (frame a).listeners (reverse (take (suc count) chain))) a b None
   afters_refused a b done is call =
-      one_more a b None (did_then state frame ran (asks (after_of (get_or chain count 0))) (λ done. choose done Rest refuses) a b b done None call
-      (did_other state frame ran done Rest refuses b b None is (did_refuse state frame ran b)))
+      let listeners = (frame a).listeners in
+      one_more listeners a b None (did_then state frame ran (Last listeners) (λ done. choose done (Rest listeners) refuses) a b b done None call
+      (did_other state frame ran done (Rest listeners) refuses b b None is (did_refuse state frame ran b)))
 
-  pub afters_called : (a b c : M) (done : Bool) (result : Option (Unit {0})) → done ≡ true → Makes state frame ran (asks (after_of (get_or chain count 0))) a b (Some done)
-      → Makes state frame ran (Afters (reverse (take count chain))) b c result → Makes state frame ran (Afters (reverse (take (suc count) chain))) a c result
+  pub afters_called : (a b c : M) (done : Bool) (result : Option (Unit {0})) → done ≡ true
+      → Makes state frame ran (asks (frame a).listeners (after_of (get_or chain count 0))) a b (Some done)
+      → Makes state frame ran (Afters (frame b).listeners (reverse (take count chain))) b c result
+      → Makes state frame ran (Afters (frame a).listeners (reverse (take (suc count) chain))) a c result
   afters_called a b c done result is call rest =
-      one_more a c result (did_then state frame ran (asks (after_of (get_or chain count 0))) (λ done. choose done Rest refuses) a b c done result call
-      (did_first state frame ran done Rest refuses b c result is rest))
+      let listeners = (frame a).listeners in
+      one_more listeners a c result (did_then state frame ran (Last listeners) (λ done. choose done (Rest listeners) refuses) a b c done result call
+      (did_first state frame ran done (Rest listeners) refuses b c result is
+      (did_by state frame ran Rest (frame b).listeners listeners b c result (ap (λ f. f.listeners) call.stays) rest)))

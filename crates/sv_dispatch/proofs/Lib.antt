@@ -4,4 +4,5 @@ pub mod FilingDeeds
 pub mod FilterDeeds
 pub mod LeaveDeeds
 pub mod RunningDeeds
+pub mod TellingDeeds
 pub mod TurnDeeds

@@ -1,10 +1,10 @@
 -- Steps of a started context with its exchange, as a machine makes them.
-use Rattle.std.proofs.Common.{◌≡◌, ◌⊎◌, inl, inr, ℕ, Bool, true, false, List, [], ◌∷◌, length, Option, None, Some, Result, Ok, Err, refl, sym, ap, ap₂, ◌∙◌, subst, if◌then◌else◌}
+use Rattle.std.proofs.Common.{◌≡◌, ◌⊎◌, inl, inr, ℕ, Bool, true, false, List, [], ◌∷◌, ◌++◌, length, Option, None, Some, Result, Ok, Err, refl, sym, ap, ap₂, ◌∙◌, subst, if◌then◌else◌, append_assoc}
 use Rattle.std.proofs.lemmas.Option.{unwrap_or-slice_get}
 use Rattle.std.specs.Prelude.{is_ok, slice_index_or, OnErr, OnOk}
 use Rattle.std.specs.Borrow.{GName}
 use Rattle.sv_component.specs.Call.{Call, Entered, Left, Serviced}
-use Rattle.sv_component.specs.Runs.{OfFilter, OfServlet}
+use Rattle.sv_component.specs.Runs.{Grows, OfFilter, OfServlet, Record, Runs}
 use Rattle.sv_component.specs.Standing.{is_gone}
 use Rattle.sv_component.specs.declared.answers.Gate.{Gate}
 use Rattle.sv_component.specs.declared.answers.Gate.TheVariants as gates
@@ -20,13 +20,18 @@ use Rattle.sv_exchange.specs.State as exchanges
 use Rattle.sv_exchange.specs.declared.exchange_fault.ExchangeFault.{ExchangeFault}
 use Rattle.sv_exchange.specs.declared.exchange_fault.ExchangeFault.TheVariants as faults
 use Rattle.sv_journal.specs.Journal.{JournalState}
-use Rattle.sv_lifecycle.specs.Calling.{Enters, Leaves, Serves}
-use Rattle.sv_lifecycle.specs.Standing.{LiveState, standing_at}
+use Rattle.sv_lifecycle.specs.Calling.{CallsOnce, Enters, Leaves, Serves, StandsAsBefore}
+use Rattle.sv_lifecycle.specs.Standing.{LiveState, live_world, standing_at}
+use Rattle.sv_lifecycle.specs.World.{HasSameCounts}
+use Rattle.sv_lifecycle.specs.declared.parts.Parts.{Parts}
+use Rattle.sv_listeners.specs.Telling.{then_all}
 use Rattle.sv_text.specs.declared.no_memory.NoMemory.{NoMemory}
 use Rattle.sv_tree.specs.Does as does
-use Rattle.sv_tree.specs.Does.{asks, choose, gives, makes, tries, ◌>>◌}
+use Rattle.sv_tree.specs.Asking.{asks, without_events}
+use Rattle.sv_tree.specs.Does.{choose, gives, makes, tries, ◌>>◌}
 use Rattle.sv_tree.specs.Filters.{after_of, before_of}
-use Rattle.sv_tree.specs.State.{State, on_exchange}
+use Rattle.sv_tree.specs.State.{State, on_exchange, with_exchange}
+use Rattle.sv_tree.specs.Telling.{all_told}
 use Rattle.sv_tree.specs.Tree.{service_of}
 
 -- the standings with an exchange
@@ -120,13 +125,23 @@ ends_by : {A : Type 0} (x y : Option A) (value : A) → y ≡ x → (x ≡ Some 
 ends_by x y value e (inl some) = inl (e ∙ some)
 ends_by x y value e (inr none) = inr (e ∙ none)
 
-abbrev frame_of : GName → GName → GName → ℕ → ℕ → Frame
-frame_of its_live its_exchange its_journal count others = record { servlets = count; filters = others; live = its_live; exchange = its_exchange; journal = its_journal }
+abbrev frame_of : GName → GName → GName → ℕ → ℕ → ℕ → Frame
+frame_of its_live its_exchange its_journal count others hearing =
+    record { servlets = count; filters = others; listeners = hearing; live = its_live; exchange = its_exchange; journal = its_journal }
 
--- with these counts, the frame is the same
-pub framed : (live exchange journal : GName) (servlets servlets' filters filters' : ℕ) → servlets' ≡ servlets → filters' ≡ filters
-    → frame_of live exchange journal servlets' filters' ≡ frame_of live exchange journal servlets filters
-framed live exchange journal servlets servlets' filters filters' e f = ap₂ (frame_of live exchange journal) e f
+-- no component came or went
+pub framed : {S F L : Type 0} (live exchange journal : GName) (before after : Parts S F L) → HasSameCounts before after
+    → frame_of live exchange journal (length after.servlets.items) (length after.filters.items) (length after.listeners.items)
+    ≡ frame_of live exchange journal (length before.servlets.items) (length before.filters.items) (length before.listeners.items)
+framed live exchange journal before after same =
+    ap₂ (λ frame listeners. frame listeners) (ap₂ (frame_of live exchange journal) same.servlets same.filters) same.listeners
+
+pub same_then : {S F L : Type 0} (before between after : Parts S F L) → HasSameCounts before between → HasSameCounts between after → HasSameCounts before after
+same_then before between after one two = record {
+  servlets = two.servlets ∙ one.servlets;
+  filters = two.filters ∙ one.filters;
+  listeners = two.listeners ∙ one.listeners;
+}
 
 -- how a servlet stands, by either reading
 pub stands_at : (standings : List Standing) (place : ℕ) → standing_at standings place ≡ slice_index_or standings place Gone
@@ -135,39 +150,70 @@ stands_at standings place = unwrap_or-slice_get standings place Gone
 pub here_by_place : (standings : List Standing) (place : ℕ) → is_gone (slice_index_or standings place Gone) ≡ false → is_gone (standing_at standings place) ≡ false
 here_by_place standings place here = ap is_gone (stands_at standings place) ∙ here
 
-module _ {S F L : Type 0} (ss : S → Call → S → Type 0) (fs : F → Call → F → Type 0) (ls : L → Call → L → Type 0) (live live' : LiveState S F L) (noted noted' : JournalState) (place : ℕ) (x x' : exchanges.State) (changes : Changes x x') where
-  pub asked_before : (given : Gate) (result : Option Gate) (entered : Enters ss fs ls live noted place x given live' noted' x') → result ≡ gate_seen given
-      → asks (before_of place) (at live.standings x) (OfFilter place (Entered x entered.gate x') ∷ []) (at live'.standings x') result
-  asked_before given result entered is = record {
-    answer = entered.gate;
-    exchange = x';
-    is_made = refl;
-    changes = changes;
-    is = ap (λ standings. at standings x') entered.calls.stands.standings;
-    ends = ends_by (gate_seen given) result entered.gate is (gate_ends noted'.whole entered.gate given entered.answers);
-  }
+-- an answer, unless the journal broke behind it
+whole_ends : {A : Type 0} (whole : Bool) (given : Option A) (value : A) (result : Option A) → result ≡ (if whole then given else None)
+    → (given ≡ Some value) ⊎ (given ≡ None) → (result ≡ Some value) ⊎ (result ≡ None)
+whole_ends false given value result e ends = inr e
+whole_ends true given value result e ends = ends_by given result value e ends
 
-  pub asked_after : (given : Result (Unit {0}) NoMemory) (result : Option Bool) (left : Leaves ss fs ls live noted place x given live' noted' x') → result ≡ done_seen given
-      → asks (after_of place) (at live.standings x) (OfFilter place (Left x left.done x') ∷ []) (at live'.standings x') result
-  asked_after given result left is = record {
-    answer = left.done;
-    exchange = x';
-    is_made = refl;
-    changes = changes;
-    is = ap (λ standings. at standings x') left.calls.stands.standings;
-    ends = ends_by (done_seen given) result left.done is (done_ends noted'.whole left.done given left.answers);
-  }
+-- a call, and what is told behind it
+module _ {S F L : Type 0} (ss : S → Call → S → Type 0) (fs : F → Call → F → Type 0) (ls : L → Call → L → Type 0) (live live' live'' : LiveState S F L) (noted noted' noted'' : JournalState) (x x' x'' : exchanges.State) where
+  -- the calls that were made
+  abbrev pub Noted : Record → Type 0
+  Noted call = Grows ss fs ls (live_world live noted) (then_all (call ∷ all_told (length live.parts.listeners.items) x'.events)) (live_world live'' noted'')
 
-  pub asked_service : (turn : ℕ) (given : Step) (result : Option Step) (served : Serves ss fs ls live noted place turn x given live' noted' x') → result ≡ step_seen given
-      → asks (service_of place turn) (at live.standings x) (OfServlet place (Serviced x turn served.step x') ∷ []) (at live'.standings x') result
-  asked_service turn given result served is = record {
-    answer = served.step;
-    exchange = x';
-    is_made = refl;
-    changes = changes;
-    is = ap (λ standings. at standings x') served.calls.stands.standings;
-    ends = ends_by (step_seen given) result served.step is (step_ends noted'.whole served.step given served.answers);
-  }
+  pub call_noted : (call : Record) → CallsOnce ss fs ls live noted call live' noted'
+      → Grows ss fs ls (live_world live' noted') (then_all (all_told (length live'.parts.listeners.items) x'.events)) (live_world live'' noted'') → Noted call
+  call_noted call once tellings from done so_far =
+      subst (λ listeners. Runs ss fs ls from (done ++ call ∷ all_told listeners x'.events) (live_world live'' noted'')) once.stands.counts.listeners
+      (subst (λ calls. Runs ss fs ls from calls (live_world live'' noted'')) (append_assoc done (call ∷ []) (all_told (length live'.parts.listeners.items) x'.events))
+      (tellings from (done ++ call ∷ []) (once.made from done so_far)))
+
+  module _ (place : ℕ) (changes : Changes x x') (stands : StandsAsBefore live' live'') (told : x'' ≡ without_events x') where
+    left : (call : Record) (once : CallsOnce ss fs ls live noted call live' noted') → at live''.standings x'' ≡ with_exchange (without_events x') (at live.standings x)
+    left call once = ap₂ at (stands.standings ∙ once.stands.standings) told
+
+    pub asked_before : (given : Gate) (said result : Option Gate) (entered : Enters ss fs ls live noted place x given live' noted' x') → said ≡ gate_seen given
+        → result ≡ (if noted''.whole then said else None)
+        → asks (length live.parts.listeners.items) (before_of place) (at live.standings x)
+        (OfFilter place (Entered x entered.gate x') ∷ all_told (length live.parts.listeners.items) x'.events) (at live''.standings x'') result
+    asked_before given said result entered is ends = record {
+      answer = entered.gate;
+      exchange = x';
+      is_made = refl;
+      changes = changes;
+      is = left (OfFilter place (Entered x entered.gate x')) entered.calls;
+      ends = whole_ends noted''.whole said entered.gate result ends
+          (ends_by (gate_seen given) said entered.gate is (gate_ends noted'.whole entered.gate given entered.answers));
+    }
+
+    pub asked_after : (given : Result (Unit {0}) NoMemory) (said result : Option Bool) (leaving : Leaves ss fs ls live noted place x given live' noted' x') → said ≡ done_seen given
+        → result ≡ (if noted''.whole then said else None)
+        → asks (length live.parts.listeners.items) (after_of place) (at live.standings x)
+        (OfFilter place (Left x leaving.done x') ∷ all_told (length live.parts.listeners.items) x'.events) (at live''.standings x'') result
+    asked_after given said result leaving is ends = record {
+      answer = leaving.done;
+      exchange = x';
+      is_made = refl;
+      changes = changes;
+      is = left (OfFilter place (Left x leaving.done x')) leaving.calls;
+      ends = whole_ends noted''.whole said leaving.done result ends
+          (ends_by (done_seen given) said leaving.done is (done_ends noted'.whole leaving.done given leaving.answers));
+    }
+
+    pub asked_service : (turn : ℕ) (given : Step) (said result : Option Step) (served : Serves ss fs ls live noted place turn x given live' noted' x') → said ≡ step_seen given
+        → result ≡ (if noted''.whole then said else None)
+        → asks (length live.parts.listeners.items) (service_of place turn) (at live.standings x)
+        (OfServlet place (Serviced x turn served.step x') ∷ all_told (length live.parts.listeners.items) x'.events) (at live''.standings x'') result
+    asked_service turn given said result served is ends = record {
+      answer = served.step;
+      exchange = x';
+      is_made = refl;
+      changes = changes;
+      is = left (OfServlet place (Serviced x turn served.step x')) served.calls;
+      ends = whole_ends noted''.whole said served.step result ends
+          (ends_by (step_seen given) said served.step is (step_ends noted'.whole served.step given served.answers));
+    }
 
 -- a result is there or not
 pub there_or_not : {E : Type 0} (result : Result (Unit {0}) E) → (seen result ≡ Some tt) ⊎ (seen result ≡ None)

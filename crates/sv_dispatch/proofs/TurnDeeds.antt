@@ -9,12 +9,14 @@ use Rattle.sv_component.specs.declared.standing.Standing.{Standing}
 use Rattle.sv_component.specs.declared.standing.Standing.TheVariants.{Serving, Gone, Away}
 use Rattle.sv_dispatch.specs.Did.{Frame, lasting, seen}
 use Rattle.sv_dispatch.specs.Seen.{IsHere}
-use Rattle.sv_tree.specs.Does.{Does, ◌>>=◌, ◌>>◌, asks, becomes, choose}
+use Rattle.sv_tree.specs.Asking.{asks}
+use Rattle.sv_tree.specs.Does.{Does, ◌>>=◌, ◌>>◌, becomes, choose}
 use Rattle.sv_tree.specs.Endings.{faults, is_away_for, is_missing}
 use Rattle.sv_tree.specs.Filters.{within_limit}
 use Rattle.sv_tree.specs.Laws.{count_all}
 use Rattle.sv_tree.specs.Site.{Site}
 use Rattle.sv_tree.specs.State.{Exchange, State, counted, is_full, standing_at}
+use Rattle.sv_tree.specs.Telling.{all_told}
 use Rattle.sv_tree.specs.Tree as tree
 use Rattle.sv_tree.specs.Tree.{Tree, last, service_of}
 use Rattle.sv_tree.specs.declared.dispatch_fault.DispatchFault.TheVariants.{DispatchLimit}
@@ -41,13 +43,13 @@ module _ {M : Type 0} (state : M → State) (frame : M → Frame) (ran : M → L
   pub here_counted : (place : ℕ) (a b : M) → Makes state frame ran (becomes counted) a b (Some tt) → IsHere place (state a) → IsHere place (state b)
   here_counted place a b did here = here_still place (state a) (state b) (ap (λ s. s.standings) did.does_so.1) here
 
-  pub here_asked : {A : Type 0} (call : Exchange → A → Exchange → Record) (place : ℕ) (a b : M) (result : Option A) → Makes state frame ran (asks call) a b result
-      → IsHere place (state a) → IsHere place (state b)
-  here_asked call place a b result did here = here_still place (state a) (state b) (ap (λ s. s.standings) did.does_so.is) here
+  pub here_asked : {A : Type 0} (listeners : ℕ) (call : Exchange → A → Exchange → Record) (place : ℕ) (a b : M) (result : Option A)
+      → Makes state frame ran (asks listeners call) a b result → IsHere place (state a) → IsHere place (state b)
+  here_asked listeners call place a b result did here = here_still place (state a) (state b) (ap (λ s. s.standings) did.does_so.is) here
 
   module _ (site : Site) (room place : ℕ) where
     abbrev Serve : ℕ → Does (Option Finished)
-    Serve number = asks (service_of place number) >>= tree.Stepped site room (Tree site room) place
+    Serve number = asks site.listeners (service_of place number) >>= tree.Stepped site room (Tree site room) place
 
     abbrev Limit : Does (Option Finished)
     Limit = last (faults site (Servlet place) DispatchLimit)
@@ -103,14 +105,24 @@ module _ {M : Type 0} (state : M → State) (frame : M → Frame) (ran : M → L
           (did_other state frame ran (is_full (state a)) Limit (becomes counted >> Serve number) a b result free
           (did_then state frame ran (becomes counted) (λ _. Serve number) a c b tt result count did))
 
-    pub serve_not : (number : ℕ) (a b : M) → Makes state frame ran (asks (service_of place number)) a b None
-        → Makes state frame ran (asks (service_of place number) >>= tree.Stepped site room (Tree site room) place) a b None
-    serve_not number a b call = did_not state frame ran (asks (service_of place number)) (tree.Stepped site room (Tree site room) place) a b call
+    module _ (number : ℕ) (a : M) (hear : site.listeners ≡ (frame a).listeners) where
+      -- the call, as the site has it
+      asked : (b : M) (result : Option Step) → Makes state frame ran (asks (frame a).listeners (service_of place number)) a b result
+          → Makes state frame ran (asks site.listeners (service_of place number)) a b result
+      asked b result call =
+          did_by state frame ran (λ listeners. asks listeners (service_of place number)) (frame a).listeners site.listeners a b result (sym hear) call
 
-    pub serve_so : (number : ℕ) (a b c : M) (step : Step) (result : Option (Option Finished)) → Makes state frame ran (asks (service_of place number)) a b (Some step)
-        → Makes state frame ran (tree.Stepped site room (Tree site room) place step) b c result
-        → Makes state frame ran (asks (service_of place number) >>= tree.Stepped site room (Tree site room) place) a c result
-    serve_so number a b c step result call rest = did_then state frame ran (asks (service_of place number)) (tree.Stepped site room (Tree site room) place) a b c step result call rest
+      pub serve_not : (b : M) → Makes state frame ran (asks (frame a).listeners (service_of place number)) a b None
+          → Makes state frame ran (asks site.listeners (service_of place number) >>= tree.Stepped site room (Tree site room) place) a b None
+      serve_not b call =
+          did_not state frame ran (asks site.listeners (service_of place number)) (tree.Stepped site room (Tree site room) place) a b (asked b None call)
+
+      pub serve_so : (b c : M) (step : Step) (result : Option (Option Finished)) → Makes state frame ran (asks (frame a).listeners (service_of place number)) a b (Some step)
+          → Makes state frame ran (tree.Stepped site room (Tree site room) place step) b c result
+          → Makes state frame ran (asks site.listeners (service_of place number) >>= tree.Stepped site room (Tree site room) place) a c result
+      serve_so b c step result call rest =
+          did_then state frame ran (asks site.listeners (service_of place number)) (tree.Stepped site room (Tree site room) place) a b c step result
+          (asked b (Some step) call) rest
 
     last_goes_on : {P : Type 0} (ending : Does Finished) (x y : State) (r : List Record) → last ending x r y (Some None) → P
     last_goes_on ending x y r (inl t) = some_none t.given t.goes_on.2
@@ -128,7 +140,8 @@ module _ {M : Type 0} (state : M → State) (frame : M → Frame) (ran : M → L
     raised : (number : ℕ) (x y : State) (r : List Record) → y.exchange.calls ≡ count_all r + x.exchange.calls → Serve number (counted x) r y (Some None) → x.exchange.calls < y.exchange.calls
     raised number x y r sum (inr t) = absurd_result None (sym t.1)
     raised number x y r sum (inl t) =
-        let one : count_all r ≡ 1 + count_all t.back = ap count_all (t.is_joined ∙ ap (λ front. front ++ t.back) t.begins.is_made) in
+        let one : count_all r ≡ 1 + count_all (all_told site.listeners t.begins.exchange.events ++ t.back) =
+        ap count_all (t.is_joined ∙ ap (λ front. front ++ t.back) t.begins.is_made) in
         let all : y.exchange.calls ≡ count_all r + x.exchange.calls = sum in
         omega arith
 

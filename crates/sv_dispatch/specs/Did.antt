@@ -7,10 +7,11 @@ use Rattle.sv_tree.specs.Does.{Does}
 use Rattle.sv_tree.specs.Filters.{Reached}
 use Rattle.sv_tree.specs.State.{State}
 
--- what no call changes: how many servlets and filters there are, and which values were lent
+-- what no call changes: how many servlets, filters and listeners there are, and which values were lent
 pub record Frame : Type 0 where
   pub servlets : ℕ
   pub filters : ℕ
+  pub listeners : ℕ
   pub live : GName
   pub exchange : GName
   pub journal : GName

@@ -14,11 +14,12 @@ use Rattle.sv_tree.specs.declared.limits.TheConstants.{MAX_NESTING}
 use Rattle.sv_uri.specs.declared.path.Canon.{Canon}
 
 module _ {S F L : Type 0} (servlet_step : S → Call → S → Type 0) (filter_step : F → Call → F → Type 0) (listener_step : L → Call → L → Type 0) where
-  -- these calls were made and noted, they are those of a dispatch of the kind to the path, and no servlet or filter came or went; a
-  -- dispatch that memory ended has no result
+  -- these calls were made and noted, they are those of a dispatch of the kind to the path, and no servlet, filter or listener came or
+  -- went; a dispatch that memory ended has no result
   pub record Dispatched (site : Site) (kind : Kind) (canon : Canon) (live : LiveState S F L) (exchange : exchanges.State) (noted : JournalState) (result : Option Finished) (live_after : LiveState S F L) (exchange_after : exchanges.State) (noted_after : JournalState) : Type 0 where
     pub made : List Record
     pub is_tree : Tree site MAX_NESTING kind canon (state_of live exchange) made (state_of live_after exchange_after) result
     pub runs : Runs servlet_step filter_step listener_step (live_world live noted) made (live_world live_after noted_after)
     pub servlets : length live_after.parts.servlets.items ≡ length live.parts.servlets.items
     pub filters : length live_after.parts.filters.items ≡ length live.parts.filters.items
+    pub listeners : length live_after.parts.listeners.items ≡ length live.parts.listeners.items

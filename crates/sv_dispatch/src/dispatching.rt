@@ -34,6 +34,7 @@ pub(crate) fn dispatch_by<M: Machine, T: Tables>(
 ) -> Result<Finished, NoMemory>
     requires servlets { T.servlets tables.now ≡ (M.frame machine.old).servlets }
     requires filters { T.filters tables.now ≡ (M.frame machine.old).filters }
+    requires listeners { (T.site tables.now).listeners ≡ (M.frame machine.old).listeners }
     ensures { Did M.state M.frame M.ran (Tree (T.site tables.now) (suc room) kind canon.now) machine.old machine.new (seen result) }
 {
     let chosen = tables.choose(canon.path.as_str());
@@ -60,6 +61,7 @@ fn within<M: Machine, T: Tables>(
 ) -> Result<Finished, NoMemory>
     requires servlets { T.servlets tables.now ≡ (M.frame machine.old).servlets }
     requires filters { T.filters tables.now ≡ (M.frame machine.old).filters }
+    requires listeners { (T.site tables.now).listeners ≡ (M.frame machine.old).listeners }
     requires there { (place : ℕ) → resource ≡ Servlet place → place < (M.frame machine.old).servlets }
     ensures { Did M.state M.frame M.ran (Within (T.site tables.now) room (Tree (T.site tables.now) room) resource kind canon.now)
         machine.old machine.new (seen result) }
@@ -104,6 +106,7 @@ fn respond<M: Machine, T: Tables>(
 ) -> Result<Finished, NoMemory>
     requires servlets { T.servlets tables.now ≡ (M.frame machine.old).servlets }
     requires filters { T.filters tables.now ≡ (M.frame machine.old).filters }
+    requires listeners { (T.site tables.now).listeners ≡ (M.frame machine.old).listeners }
     requires there { (place : ℕ) → resource ≡ Servlet place → place < (M.frame machine.old).servlets }
     ensures { Did M.state M.frame M.ran (Responds (T.site tables.now) room (Tree (T.site tables.now) room) resource kind canon.now ended)
         machine.old machine.new (seen result) }
@@ -145,6 +148,7 @@ fn turns<M: Machine, T: Tables>(
 ) -> Result<Finished, NoMemory>
     requires servlets { T.servlets tables.now ≡ (M.frame machine.old).servlets }
     requires filters { T.filters tables.now ≡ (M.frame machine.old).filters }
+    requires listeners { (T.site tables.now).listeners ≡ (M.frame machine.old).listeners }
     requires there { place < (M.frame machine.old).servlets }
     ensures { Did M.state M.frame M.ran (Serves (T.site tables.now) room (Tree (T.site tables.now) room) place) machine.old machine.new (seen result) }
 {
@@ -172,6 +176,7 @@ fn turn<M: Machine, T: Tables>(
 ) -> Result<Option<Finished>, NoMemory>
     requires servlets { T.servlets tables.now ≡ (M.frame machine.old).servlets }
     requires filters { T.filters tables.now ≡ (M.frame machine.old).filters }
+    requires listeners { (T.site tables.now).listeners ≡ (M.frame machine.old).listeners }
     requires there { place < (M.frame machine.old).servlets }
     ensures { Did M.state M.frame M.ran (Turn (T.site tables.now) room (Tree (T.site tables.now) room) place number)
         machine.old machine.new (seen result) }
@@ -208,6 +213,7 @@ fn stepped<M: Machine, T: Tables>(
 ) -> Result<Option<Finished>, NoMemory>
     requires servlets { T.servlets tables.now ≡ (M.frame machine.old).servlets }
     requires filters { T.filters tables.now ≡ (M.frame machine.old).filters }
+    requires listeners { (T.site tables.now).listeners ≡ (M.frame machine.old).listeners }
     requires there { place < (M.frame machine.old).servlets }
     requires here { IsHere place (M.state machine.old) }
     ensures { Did M.state M.frame M.ran (Stepped (T.site tables.now) room (Tree (T.site tables.now) room) place step) machine.old machine.new (seen result) }
@@ -288,6 +294,7 @@ fn asked_for<M: Machine, T: Tables>(
 ) -> Result<Finished, NoMemory>
     requires servlets { T.servlets tables.now ≡ (M.frame machine.old).servlets }
     requires filters { T.filters tables.now ≡ (M.frame machine.old).filters }
+    requires listeners { (T.site tables.now).listeners ≡ (M.frame machine.old).listeners }
     ensures { Did M.state M.frame M.ran (Dispatches (T.site tables.now) room (Tree (T.site tables.now) room) place kind text.now)
         machine.old machine.new (seen result) }
 {

@@ -31,6 +31,7 @@ pub(crate) fn befores<M: Machine, T: Tables>(
 ) -> Result<Passed, NoMemory>
     requires within { place ≤ length chain.now }
     requires there { All (λ filter. filter < (M.frame machine.old).filters) chain.now }
+    requires listeners { (T.site tables.now).listeners ≡ (M.frame machine.old).listeners }
     ensures does { Did M.state M.frame M.ran (Befores (T.site tables.now) resource (reverse (take place chain.now)) (drop place chain.now))
         machine.old machine.new (reached_by chain.now result) }
     ensures count { IfOk result (λ passed. passed.count ≤ length chain.now) }
@@ -87,7 +88,7 @@ pub(crate) fn afters<M: Machine>(
 ) -> Result<(), NoMemory>
     requires within { count ≤ length chain.now }
     requires there { All (λ filter. filter < (M.frame machine.old).filters) chain.now }
-    ensures { Did M.state M.frame M.ran (Afters (reverse (take count chain.now))) machine.old machine.new (seen result) }
+    ensures { Did M.state M.frame M.ran (Afters (M.frame machine.old).listeners (reverse (take count chain.now))) machine.old machine.new (seen result) }
 {
     if count == 0 {
         return Ok(());

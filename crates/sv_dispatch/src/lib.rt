@@ -12,5 +12,6 @@ mod parts;
 mod running;
 mod site_tables;
 mod tables;
+mod telling;
 
 pub use live_dispatch::dispatch;

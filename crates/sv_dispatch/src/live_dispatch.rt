@@ -19,9 +19,9 @@ use sv_tree::{Finished, MAX_NESTING};
 use sv_uri::path::Canon;
 
 /// Dispatches an exchange to a path within the context: the filters, then the servlet or the file servlet, and the dispatches that they
-/// ask for (Jakarta Servlet 6.0, chapters 6 and 9). Each call of a component is noted in the journal. An error or a failure of the
-/// dispatch is kept with the exchange. The context has as many servlets and filters as the site's descriptor, as it has since
-/// [`Live::start`] with it.
+/// ask for (Jakarta Servlet 6.0, chapters 6 and 9). Each call of a component is noted in the journal, and what it did to the session is
+/// told right behind it (section 11.3). An error or a failure of the dispatch is kept with the exchange. The context has as many
+/// servlets, filters and listeners as the site's descriptor, as it has since [`Live::start`] with it.
 ///
 /// # Errors
 /// `NoMemory` where memory ended the dispatch, or the journal is broken: the calls made so far were made, and the dispatches that were
@@ -37,6 +37,7 @@ pub fn dispatch<'a, S: Servlet, F: Filter, L: Listener>(
 ) -> Result<Finished, NoMemory>
     requires servlets { length live.old.parts.servlets.items ≡ length site.now.app.servlets }
     requires filters { length live.old.parts.filters.items ≡ length site.now.app.filters }
+    requires listeners { length live.old.parts.listeners.items ≡ length site.now.app.listeners }
     ensures { Dispatched S.servlet_step F.filter_step L.listener_step (site_of site.now) kind canon.now
         live.old exchange.old journal.old (seen result) live.new exchange.new journal.new }
 {
@@ -53,6 +54,7 @@ fn run<S: Servlet, F: Filter, L: Listener>(
 ) -> Result<Finished, NoMemory>
     requires servlets { length machine.old.live.now.parts.servlets.items ≡ length site.now.app.servlets }
     requires filters { length machine.old.live.now.parts.filters.items ≡ length site.now.app.filters }
+    requires listeners { length machine.old.live.now.parts.listeners.items ≡ length site.now.app.listeners }
     ensures made { Dispatched S.servlet_step F.filter_step L.listener_step (site_of site.now) kind canon.now
         machine.old.live.now machine.old.exchange.now machine.old.journal.now (seen result)
         machine.new.live.now machine.new.exchange.now machine.new.journal.now }

@@ -15,7 +15,8 @@ pub(crate) trait Machine: Sized {
     ghost use Rattle.sv_dispatch.specs.Seen.{IsHere, chosen_seen, field_of, offers};
     ghost use Rattle.sv_exchange.specs.Changing.{SetHeader, SetStatus};
     ghost use Rattle.sv_exchange.specs.Dispatches.{is_within_include};
-    ghost use Rattle.sv_tree.specs.Does.{asks, becomes, leaves, makes, tries};
+    ghost use Rattle.sv_tree.specs.Asking.{asks};
+    ghost use Rattle.sv_tree.specs.Does.{becomes, leaves, makes, tries};
     ghost use Rattle.sv_tree.specs.Endings.{keeps};
     ghost use Rattle.sv_tree.specs.Files.{emptied};
     ghost use Rattle.sv_tree.specs.Filters.{after_of, before_of};
@@ -95,17 +96,17 @@ pub(crate) trait Machine: Sized {
 
     fn before(&mut self, place: usize) -> Result<Gate, NoMemory>
         requires { place < (frame self.old).filters }
-        ensures { Did state frame ran (asks (before_of place)) self.old self.new (seen result) };
+        ensures { Did state frame ran (asks (frame self.old).listeners (before_of place)) self.old self.new (seen result) };
 
     /// Answers whether the filter found the memory that it wanted.
     fn after(&mut self, place: usize) -> Result<bool, NoMemory>
         requires { place < (frame self.old).filters }
-        ensures { Did state frame ran (asks (after_of place)) self.old self.new (seen result) };
+        ensures { Did state frame ran (asks (frame self.old).listeners (after_of place)) self.old self.new (seen result) };
 
     fn service(&mut self, place: usize, turn: u32) -> Result<Step, NoMemory>
         requires there { place < (frame self.old).servlets }
         requires here { IsHere place (state self.old) }
-        ensures { Did state frame ran (asks (service_of place turn)) self.old self.new (seen result) };
+        ensures { Did state frame ran (asks (frame self.old).listeners (service_of place turn)) self.old self.new (seen result) };
 
     /// Destroys the servlet, which is gone then.
     fn retire(&mut self, place: usize) -> Result<(), NoMemory>

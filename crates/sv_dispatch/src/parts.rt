@@ -1,11 +1,12 @@
 //! Parts of what a machine does: with an exchange, and with what components answered.
 
-ghost use Rattle.std.specs.Prelude.{◌≡◌, IfOk, OnErr, OnOk, Some, is_ok};
+ghost use Rattle.std.specs.Prelude.{◌≡◌, IfOk, None, OnErr, OnOk, Some, is_ok};
 ghost use Rattle.std.specs.Option.{option_copied};
 ghost use Rattle.sv_dispatch.specs.Did.{seen};
 ghost use Rattle.sv_dispatch.specs.Running.{done_seen, gate_seen, made_seen, offer_seen, step_seen};
 ghost use Rattle.sv_dispatch.specs.Seen.{chosen_seen, field_of};
 ghost use Rattle.sv_exchange.specs.Keeping.{with_kept};
+ghost use Rattle.sv_lifecycle.specs.Calling.{unless_broken};
 ghost use Rattle.sv_tree.specs.Files.{emptied};
 ghost use Rattle.sv_tree.specs.Site.{begun_by, emptied_for};
 ghost use Rattle.sv_tree.specs.State.{moment_after};
@@ -15,6 +16,7 @@ use crate::tables::Chosen;
 use std::alloc::Global;
 use sv_component::{Exchange, Gate, Step};
 use sv_exchange::{ExchangeFault, KeptField};
+use sv_journal::Journal;
 use sv_mapping::Kind;
 use sv_text::{NoMemory, Text};
 use sv_uri::path::Canon;
@@ -145,6 +147,20 @@ pub(crate) fn done_of(done: Result<(), NoMemory>) -> Result<bool, NoMemory>
     match done {
         Ok(()) => Ok(true),
         Err(refusal) => Err(refusal),
+    }
+}
+
+/// What was answered, and a refusal where the journal is broken.
+pub(crate) fn unless_broken<A: Drop>(
+    journal: &Journal,
+    answered: Result<A, NoMemory>,
+) -> Result<A, NoMemory>
+    ensures { seen result ≡ unless_broken journal.now None (seen answered) }
+{
+    if journal.whole() {
+        answered
+    } else {
+        Err(NoMemory)
     }
 }
 

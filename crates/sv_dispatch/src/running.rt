@@ -4,8 +4,10 @@ use crate::error_field::ErrorField;
 use crate::machine::Machine;
 use crate::parts::{
     done_of, empty, enter, gate_of, keep_error, made, moment_after, offer, retired, step_of,
+    unless_broken,
 };
 use crate::tables::Chosen;
+use crate::telling::tell_events;
 use std::alloc::Global;
 use sv_component::{Exchange, Filter, Gate, Listener, Servlet, Standing, Step};
 use sv_journal::Journal;
@@ -35,6 +37,7 @@ impl<S: Servlet, F: Filter, L: Listener> Machine for Running<'_, S, F, L> {
     ghost frame = { λ m. record {
       servlets = length m.live.now.parts.servlets.items;
       filters = length m.live.now.parts.filters.items;
+      listeners = length m.live.now.parts.listeners.items;
       live = m.live.ghost_name;
       exchange = m.exchange.ghost_name;
       journal = m.journal.ghost_name;
@@ -109,21 +112,24 @@ impl<S: Servlet, F: Filter, L: Listener> Machine for Running<'_, S, F, L> {
         let gate = self
             .live
             .before(self.alloc, place, self.exchange, self.journal);
-        gate_of(gate)
+        tell_events(self.alloc, self.live, self.exchange, self.journal);
+        unless_broken(self.journal, gate_of(gate))
     }
 
     fn after(&mut self, place: usize) -> Result<bool, NoMemory> {
         let done = self
             .live
             .after(self.alloc, place, self.exchange, self.journal);
-        done_of(done)
+        tell_events(self.alloc, self.live, self.exchange, self.journal);
+        unless_broken(self.journal, done_of(done))
     }
 
     fn service(&mut self, place: usize, turn: u32) -> Result<Step, NoMemory> {
         let step = self
             .live
             .service(self.alloc, place, self.exchange, turn, self.journal);
-        step_of(step)
+        tell_events(self.alloc, self.live, self.exchange, self.journal);
+        unless_broken(self.journal, step_of(step))
     }
 
     fn retire(&mut self, place: usize) -> Result<(), NoMemory> {

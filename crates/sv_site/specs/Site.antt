@@ -1,6 +1,6 @@
 -- What a dispatch asks of its context, as a descriptor and the context's files answer it: Jakarta Servlet 6.0, sections 6.2.4 (filters),
 -- 10.9.2 (error pages), 10.10 (welcome files) and 12.1 (servlets).
-use Rattle.std.specs.Prelude.{ℕ, List, Option}
+use Rattle.std.specs.Prelude.{ℕ, List, length, Option}
 use Rattle.std.specs.Option.{option_and_then}
 use Rattle.std.specs.Result.{result_ok}
 use Rattle.sv_chain.specs.FilterChain.{filter_chain}
@@ -38,4 +38,5 @@ site_of content = record {
   chain = filter_chain content.app;
   file = file_for content;
   page = error_page content;
+  listeners = length content.app.listeners;
 }

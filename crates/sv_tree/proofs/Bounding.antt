@@ -27,20 +27,20 @@ module _ (site : Site) (Q : ℕ → State → List Record → State → Bool →
     (trees : (kind : Kind) (canon : Canon) → Keeps site Q room (Tree site MAX_NESTING kind canon)) where
   sets_keeps : (field : Option KeptField) → Keeps site Q room (served.sets field)
   sets_keeps None = gives_keeps site Q law room tt
-  sets_keeps (Some field) = makes_keeps site Q law room (SetHeader field.name field.value)
+  sets_keeps (Some field) = makes_keeps site Q law room (SetHeader field.name field.value) tt
 
   resets_keeps : (status : ℕ) (field : Option KeptField) → Keeps site Q room (served.Resets status field)
   resets_keeps status field =
       then_keeps site Q law room (becomes (on_exchange reset)) (λ _. makes (SetStatus status) >> served.sets field)
       (becomes_keeps site Q law room (on_exchange reset) resets)
-      (λ _. then_keeps site Q law room (makes (SetStatus status)) (λ _. served.sets field) (makes_keeps site Q law room (SetStatus status)) (λ _. sets_keeps field))
+      (λ _. then_keeps site Q law room (makes (SetStatus status)) (λ _. served.sets field) (makes_keeps site Q law room (SetStatus status) tt) (λ _. sets_keeps field))
 
   plain_keeps : (status : ℕ) (field : Option KeptField) → Keeps site Q room (served.Plain status field)
   plain_keeps status field =
       let typed = SetHeader (codes "content-type") (codes "text/plain") in
       let written = Write (plain_text status) in
       then_keeps site Q law room (served.Resets status field) (λ _. makes typed >> makes written) (resets_keeps status field)
-      (λ _. then_keeps site Q law room (makes typed) (λ _. makes written) (makes_keeps site Q law room typed) (λ _. makes_keeps site Q law room written))
+      (λ _. then_keeps site Q law room (makes typed) (λ _. makes written) (makes_keeps site Q law room typed tt) (λ _. makes_keeps site Q law room written tt))
 
   unless_keeps : (next : Does (Unit {0})) → Keeps site Q room next → Keeps site Q room (served.unless_committed next)
   unless_keeps next h x y r result done =

@@ -1,30 +1,21 @@
 -- What changing calls leave as it is.
-use Rattle.std.specs.Prelude.{not, ◌&&◌, ℕ, Option, None, Some, is_some}
-use Rattle.std.specs.Option.{option_map_or}
-use Rattle.std.proofs.Common.{◌≡◌, ◌||◌, Bool, true, false, List, [], ◌∷◌, ◌++◌, Result, Ok, Err, refl, sym, ap, ◌∙◌, subst, if◌then◌else◌}
+use Rattle.std.proofs.Common.{◌≡◌, ◌||◌, Bool, true, false, List, [], ◌∷◌, ◌++◌, refl, sym, ap, ◌∙◌, if◌then◌else◌}
 use Rattle.std.specs.List.{list_any}
 use Rattle.std.proofs.lemmas.List.Folds.{list_any-append}
-use Rattle.sv_exchange.specs.Changing.{Change, SetStatus, SetHeader, AddHeader, Write, SetAttribute, Flush, SessionOpen, SessionSet, SessionRemove, SessionEnd, Logout, Changes, Reaches, after_all, answer, changed, is_free, is_open, is_settable, left_by}
+use Rattle.sv_exchange.specs.Changing.{Change, Changes, answer, left_by}
 use Rattle.sv_exchange.specs.Dispatches.{Leaves, entered, error_in, is_include, is_include_kind, is_within_include}
 use Rattle.sv_exchange.specs.Keeping as keeping
-use Rattle.sv_exchange.specs.Keeping.{counted}
-use Rattle.sv_exchange.specs.Sessions.{ended, has_session, logged_out, on_session, opened, session_of, session_value, with_attribute, without_attribute, without_caller}
-use Rattle.sv_exchange.proofs.Keeping.{changes_keep}
-use Rattle.sv_exchange.proofs.Reaching.{reached_on}
-use Rattle.sv_exchange.specs.Fields.{is_field, is_reserved_field}
-use Rattle.sv_exchange.specs.declared.exchange_fault.ExchangeFault.{ExchangeFault}
-use Rattle.sv_exchange.specs.declared.exchange_fault.ExchangeFault.TheVariants as faults
+use Rattle.sv_exchange.specs.Keeping.{SameHead, counted}
+use Rattle.sv_exchange.proofs.Including.{changes_keep_head, made_head}
+use Rattle.sv_exchange.proofs.Keeping.{changes_keep, made_request}
 use Rattle.sv_mapping.specs.declared.kind.Kind.{Kind}
 use Rattle.sv_mapping.specs.declared.kind.Kind.TheVariants as kinds
+use Rattle.sv_tree.specs.Asking.{without_events}
 use Rattle.sv_tree.specs.Files.{emptied}
 use Rattle.sv_tree.specs.Laws.{SameRequest, is_included}
 use Rattle.sv_tree.specs.Site.{Site, begun, emptied_for, paths_in}
 use Rattle.sv_tree.specs.State.{Exchange}
 use Rattle.sv_uri.specs.declared.path.Canon.{Canon}
-
--- status and fields are the same
-abbrev pub SameHead : Exchange → Exchange → Type 0
-SameHead x y = (y.status ≡ x.status) × (y.fields ≡ x.fields)
 
 -- the request is the same, and within an include status and fields are too
 abbrev pub Unchanged : Exchange → Exchange → Type 0
@@ -53,38 +44,11 @@ request_then x y z one two = record {
 pub still_within : (x y : Exchange) → y.dispatches ≡ x.dispatches → is_within_include x ≡ true → is_within_include y ≡ true
 still_within x y same h = ap (λ dispatches. list_any is_include dispatches) same ∙ h
 
-pub unchanged_then : (x y z : Exchange) → Unchanged x y → Unchanged y z → Unchanged x z
-unchanged_then x y z one two = (
-  request_then x y z one.0 two.0,
-  λ h. let first = one.1 h in let second = two.1 (still_within x y one.0.dispatches h) in (second.0 ∙ first.0, second.1 ∙ first.1),
-)
-
 pub unchanged_same : (x : Exchange) → Unchanged x x
 unchanged_same x = (same_request x x refl, λ h. (refl, refl))
 
--- a call that is not ignored is not made within an include
-not_open : {P : Type 0} (committed within settable : Bool) → within ≡ true → ((not committed && not within) && settable) ≡ true → P
-not_open true within settable h e = cc
-not_open false true settable h e = cc
-not_open false false settable h e = cc
-
-not_free : (committed within free : Bool) → within ≡ true → ((not committed && not within) && free) ≡ false
-not_free true within free h = refl
-not_free false true free h = refl
-not_free false false free h = cc
-
-abbrev answered : Bool → Bool → Result Bool ExchangeFault
-answered free test = if free then (if test then Ok true else Err faults.BadHeader) else Ok false
-
-not_answered : {P : Type 0} (free test : Bool) → free ≡ false → answered free test ≡ Ok true → P
-not_answered true test h e = cc
-not_answered false test h e = cc
-
-ok_true : (said : Result Bool ExchangeFault) (test : Bool) → said ≡ Ok test → said ≡ Ok true → test ≡ true
-ok_true said test is e = cc
-
--- what the exchange says of its request says this
-request_by : (x y : Exchange) → keeping.SameRequest x y → SameRequest x y
+-- what the exchange says of its request says this, once what happened is told
+request_by : (x y : Exchange) → keeping.SameRequest x y → SameRequest x (without_events y)
 request_by x y same = record {
   method = same.method;
   context_path = same.context_path;
@@ -94,73 +58,37 @@ request_by x y same = record {
   dispatches = same.dispatches;
 }
 
--- where a session lives, or a test holds, the exchange is another one
-on_session_head : (change : ℕ → Exchange → Exchange) (x : Exchange) → ((number : ℕ) → SameHead x (change number x)) → SameHead x (on_session change x)
-on_session_head change x same = found_head (session_of x)
-  where
-    found_head : (found : Option ℕ) → SameHead x (option_map_or (λ number. change number x) found x)
-    found_head None = (refl, refl)
-    found_head (Some number) = same number
-
-chosen_head : (test : Bool) (x y z : Exchange) → SameHead z x → SameHead z y → SameHead z (if test then x else y)
-chosen_head true x y z one two = one
-chosen_head false x y z one two = two
-
-changed_head : (change : Change) (x : Exchange) → is_within_include x ≡ true → answer change x ≡ Ok true → SameHead x (changed change x)
-changed_head (SetStatus status) x h e =
-    not_open x.committed (is_within_include x) (is_settable status) h (ok_true (answer (SetStatus status) x) (is_open x && is_settable status) refl e)
-changed_head (SetHeader name value) x h e =
-    not_answered (is_free name x) (is_field name value) (not_free x.committed (is_within_include x) (not (is_reserved_field name)) h) e
-changed_head (AddHeader name value) x h e =
-    not_answered (is_free name x) (is_field name value) (not_free x.committed (is_within_include x) (not (is_reserved_field name)) h) e
-changed_head (Write bytes) x h e = (refl, refl)
-changed_head (SetAttribute name value) x h e = (refl, refl)
-changed_head Flush x h e = (refl, refl)
-changed_head SessionOpen x h e = chosen_head (has_session x) x (opened x) x (refl, refl) (refl, refl)
-changed_head (SessionSet name value) x h e = on_session_head (with_attribute name value) x (λ number. (refl, refl))
-changed_head (SessionRemove name) x h e =
-    chosen_head (is_some (session_value name x)) (on_session (without_attribute name) x) x x (on_session_head (without_attribute name) x (λ number. (refl, refl))) (refl, refl)
-changed_head SessionEnd x h e = on_session_head ended x (λ number. (refl, refl))
-changed_head Logout x h e =
-    let left = on_session_head without_caller x (λ number. (refl, refl)) in
-    chosen_head (is_some x.caller) (logged_out x) x x (left.0, left.1) (refl, refl)
-
-left_head : (said : Result Bool ExchangeFault) (change : Change) (x : Exchange) → answer change x ≡ said → is_within_include x ≡ true → SameHead x (left_by said change x)
-left_head (Ok true) change x e h = changed_head change x h e
-left_head (Ok false) change x e h = (refl, refl)
-left_head (Err fault) change x e h = (refl, refl)
-
 pub made_unchanged : (change : Change) (x : Exchange) → Unchanged x (left_by (answer change x) change x)
 made_unchanged change x =
-    let y = left_by (answer change x) change x in
-    (request_by x y (changes_keep x y (reached_on change x y refl)), λ h. left_head (answer change x) change x refl h)
+    let same = made_request change x in (
+      record {
+        method = same.method;
+        context_path = same.context_path;
+        request_fields = same.request_fields;
+        moment = same.moment;
+        client = same.client;
+        dispatches = same.dispatches;
+      },
+      made_head change x,
+    )
 
-all_unchanged : (changes : List Change) (x : Exchange) → Unchanged x (after_all changes x)
-all_unchanged [] x = unchanged_same x
-all_unchanged (change ∷ changes) x =
-    let y = left_by (answer change x) change x in
-    unchanged_then x y (after_all changes y) (made_unchanged change x) (all_unchanged changes y)
-
-reaches_to : (x y : Exchange) → Changes x y → (changes : List Change) × (y ≡ after_all changes x)
-unfolding Reaches
-reaches_to x y changing = changing x ([], refl)
-
-pub unchanged : (x y : Exchange) → Changes x y → Unchanged x y
-unchanged x y changing = let reached = reaches_to x y changing in subst (Unchanged x) (sym reached.1) (all_unchanged reached.0 x)
+-- what a component leaves, once what happened is told
+pub unchanged : (x y : Exchange) → Changes x y → Unchanged x (without_events y)
+unchanged x y changing = (request_by x y (changes_keep x y changing), changes_keep_head x y changing)
 
 -- the same where the call of a component was counted
-pub called_unchanged : (x y : Exchange) → Changes (counted x) y → Unchanged x y
+pub called_unchanged : (x y : Exchange) → Changes (counted x) y → Unchanged x (without_events y)
 called_unchanged x y changing =
-    let same = unchanged (counted x) y changing in (
+    let same = changes_keep (counted x) y changing in (
       record {
-        method = same.0.method;
-        context_path = same.0.context_path;
-        request_fields = same.0.request_fields;
-        moment = same.0.moment;
-        client = same.0.client;
-        dispatches = same.0.dispatches;
+        method = same.method;
+        context_path = same.context_path;
+        request_fields = same.request_fields;
+        moment = same.moment;
+        client = same.client;
+        dispatches = same.dispatches;
       },
-      same.1,
+      changes_keep_head (counted x) y changing,
     )
 
 -- the count of calls and the error that is kept are the same
@@ -171,7 +99,7 @@ pub changes_account : (x y : Exchange) → Changes x y → SameAccount x y
 changes_account x y changing = let same = changes_keep x y changing in (same.calls, same.kept)
 
 pub made_account : (change : Change) (x : Exchange) → SameAccount x (left_by (answer change x) change x)
-made_account change x = changes_account x (left_by (answer change x) change x) (reached_on change x (left_by (answer change x) change x) refl)
+made_account change x = let same = made_request change x in (same.calls, same.kept)
 
 unless_account : (committed : Bool) (x : Exchange) → SameAccount x (if committed then x else record x { buffer = [] })
 unless_account true x = (refl, refl)

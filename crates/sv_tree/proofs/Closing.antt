@@ -1,24 +1,28 @@
 -- Each filter that passed is called just once more, the last first.
 use Rattle.std.proofs.Common.{◌≡◌, inl, inr, ℕ, Bool, true, List, [], ◌∷◌, ◌++◌, Option, None, Some, refl, sym, ap, ◌∙◌, subst, if◌then◌else◌, eq-eqb}
-use Rattle.sv_component.specs.Runs.{Record}
+use Rattle.sv_component.specs.Runs.{Record, OfListener}
 use Rattle.sv_component.specs.declared.answers.Gate.{Gate}
 use Rattle.sv_component.specs.declared.answers.Gate.TheVariants as gates
 use Rattle.sv_component.specs.declared.answers.Step.{Step}
+use Rattle.sv_journal.specs.declared.event.Event.{Event}
 use Rattle.sv_mapping.specs.declared.kind.Kind.{Kind}
 use Rattle.sv_mapping.specs.declared.kind.Kind.TheVariants as kinds
-use Rattle.sv_tree.specs.Does.{Does, ◌>>=◌, ◌>>◌, asks, becomes, gives, refuses}
+use Rattle.sv_tree.specs.Asking.{asks}
+use Rattle.sv_tree.specs.Does.{Does, ◌>>=◌, ◌>>◌, becomes, gives, refuses}
 use Rattle.sv_tree.specs.Endings as endings
 use Rattle.sv_tree.specs.Filters as filters
 use Rattle.sv_tree.specs.Filters.{Reached, after_of, before_of}
 use Rattle.sv_tree.specs.Laws.{FiltersAreClosed, close, owed_after, owed_then}
 use Rattle.sv_tree.specs.Site.{Resource, Site, name_of}
 use Rattle.sv_tree.specs.State.{Exchange, State, counted, is_full}
+use Rattle.sv_tree.specs.Telling.{all_told}
 use Rattle.sv_tree.specs.Tree as tree
 use Rattle.sv_tree.specs.declared.dispatch_fault.DispatchFault.TheVariants.{DispatchLimit}
 use Rattle.sv_tree.specs.declared.finished.Finished.{Finished}
 use Rattle.sv_tree.specs.declared.finished.Finished.TheVariants.{Done}
 use Rattle.sv_tree.proofs.Doing.{absurd_result, becomes_then, chosen_then, not_true, same_result, wants_then}
-use Rattle.sv_tree.proofs.Keeping.{Opens, Steps, WithinKeeps, tree_keeps}
+use Rattle.sv_tree.proofs.Hearing.{all_keep, all_keep_alone}
+use Rattle.sv_tree.proofs.Keeping.{Opens, Steps, WithinKeeps, told_by, tree_keeps}
 use Rattle.sv_tree.proofs.Silence.{Silent, fails_silent, faults_silent, gives_silent}
 
 owed-None : (s : List Record) → owed_then s None ≡ None
@@ -34,12 +38,26 @@ owes-append : (r s : List Record) (one two three : List ℕ) → owed_then r (So
     → owed_then (r ++ s) (Some one) ≡ Some three
 owes-append r s one two three first second = owed-append r s (Some one) ∙ ap (owed_then s) first ∙ second
 
+-- what listeners hear changes nothing of what is owed
+owed_heard : (place : ℕ) (event : Event) (r : List Record) (owed : Option (List ℕ)) → owed_then (OfListener place event ∷ r) owed ≡ owed_then r owed
+owed_heard place event r None = sym (owed-None r)
+owed_heard place event r (Some owed) = refl
+
+told_skips : (listeners : ℕ) (events : List Event) (s : List Record) (owed : Option (List ℕ)) → owed_then (all_told listeners events ++ s) owed ≡ owed_then s owed
+told_skips listeners events s owed =
+    all_keep (λ r. owed_then r owed ≡ owed_then s owed) (λ place event r h. owed_heard place event r owed ∙ h) listeners events s refl
+
+told_owes : (listeners : ℕ) (events : List Event) (owed : List ℕ) → owed_then (all_told listeners events) (Some owed) ≡ Some owed
+told_owes listeners events owed =
+    all_keep_alone (λ r. owed_then r (Some owed) ≡ Some owed) (λ place event r h. h) listeners events refl
+
 -- what comes to a result leaves what was owed
 abbrev Closes : ℕ → State → List Record → State → Bool → Type 0
 Closes room x r y b = b ≡ true → (owed : List ℕ) → owed_then r (Some owed) ≡ Some owed
 
-served : (place turn : ℕ) (x e : Exchange) (step : Step) (owed : List ℕ) → owed_then (tree.service_of place turn x step e ∷ []) (Some owed) ≡ Some owed
-served place turn x e step owed = refl
+served : (site : Site) (place turn : ℕ) (x e : Exchange) (step : Step) (owed : List ℕ)
+    → owed_then (tree.service_of place turn x step e ∷ told_by site e) (Some owed) ≡ Some owed
+served site place turn x e step owed = told_owes site.listeners e.events owed
 
 module _ (site : Site) where
   opens : (kind : Kind) → Opens site Closes kind
@@ -54,10 +72,10 @@ module _ (site : Site) where
     stays = λ room x b came owed. refl;
     joins = λ room x y z r s b one two came owed. owes-append r s owed owed owed (one refl owed) (two came owed);
     keeps = λ room x kept came owed. refl;
-    makes = λ room x change came owed. refl;
+    makes = λ room x change own came owed. refl;
     empties = λ room x came owed. refl;
     breaks = λ room x place turn step e left serving changes b. not_true b;
-    serves = λ room x place turn step e left serving changes came owed. served place turn (counted x).exchange e step owed;
+    serves = λ room x place turn step e left serving changes came owed. served site place turn (counted x).exchange e step owed;
     destroys = λ room x place b serving came owed. refl;
     forwards = opens kinds.Forward;
     includes = opens kinds.Include;
@@ -102,7 +120,7 @@ module _ (site : Site) (resource : Resource) where
   befores_owe passed (filter ∷ chain) x y r reached owed h =
       let next = filters.Befores site resource (filter ∷ passed) chain in
       let ending = endings.faults site resource DispatchLimit in
-      let call = (asks (before_of filter) >>= λ gate. filters.Gated site resource passed gate next) in
+      let call = (asks site.listeners (before_of filter) >>= λ gate. filters.Gated site resource passed gate next) in
       chosen_then (is_full x) (filters.ends_behind passed ending) (becomes counted >> call) x y r (Some reached)
       (λ _ full. let none = ends_none passed ending x y r reached (faults_silent site resource DispatchLimit) full in
       ap (λ s. owed_then s (Some (passed ++ owed))) none.0 ∙ ap (λ p. Some (p ++ owed)) (sym none.1))
@@ -110,13 +128,14 @@ module _ (site : Site) (resource : Resource) where
     where
       called : ((x y : State) (r : List Record) (reached : Reached) (owed : List ℕ) → filters.Befores site resource (filter ∷ passed) chain x r y (Some reached)
           → owed_then r (Some ((filter ∷ passed) ++ owed)) ≡ Some (reached.passed ++ owed))
-          → (asks (before_of filter) >>= λ gate. filters.Gated site resource passed gate (filters.Befores site resource (filter ∷ passed) chain)) (counted x) r y (Some reached)
+          → (asks site.listeners (before_of filter) >>= λ gate. filters.Gated site resource passed gate (filters.Befores site resource (filter ∷ passed) chain)) (counted x) r y (Some reached)
           → owed_then r (Some (passed ++ owed)) ≡ Some (reached.passed ++ owed)
       called rest (inr t) = absurd_result reached (sym t.1)
       called rest (inl t) =
           let asked = t.begins in
           elim asked.ends [
             | inl same ↦ ap (λ s. owed_then s (Some (passed ++ owed))) (t.is_joined ∙ ap (λ front. front ++ t.back) asked.is_made)
+                ∙ told_skips site.listeners asked.exchange.events t.back (owed_after (before_of filter (counted x).exchange asked.answer asked.exchange) (passed ++ owed))
                 ∙ gated_owes passed filter asked.answer (filters.Befores site resource (filter ∷ passed) chain) (counted x).exchange asked.exchange rest t.between y t.back reached owed
                 (subst (λ gate. filters.Gated site resource passed gate (filters.Befores site resource (filter ∷ passed) chain) t.between t.back y (Some reached))
                 (same_result t.given asked.answer same) t.goes_on)
@@ -126,15 +145,16 @@ module _ (site : Site) (resource : Resource) where
 closed_here : (filter : ℕ) (owed : List ℕ) → close filter (filter ∷ owed) ≡ Some owed
 closed_here filter owed = ap (λ b. if b then Some owed else None) (eq-eqb filter filter refl)
 
-afters_owe : (chain : List ℕ) (x y : State) (r : List Record) (given : Unit {0}) (owed : List ℕ)
-    → filters.Afters chain x r y (Some given) → owed_then r (Some (chain ++ owed)) ≡ Some owed
-afters_owe [] x y r given owed h = ap (λ s. owed_then s (Some owed)) h.0
-afters_owe (filter ∷ chain) x y r given owed (inr t) = absurd_result given (sym t.1)
-afters_owe (filter ∷ chain) x y r given owed (inl t) =
+afters_owe : (listeners : ℕ) (chain : List ℕ) (x y : State) (r : List Record) (given : Unit {0}) (owed : List ℕ)
+    → filters.Afters listeners chain x r y (Some given) → owed_then r (Some (chain ++ owed)) ≡ Some owed
+afters_owe listeners [] x y r given owed h = ap (λ s. owed_then s (Some owed)) h.0
+afters_owe listeners (filter ∷ chain) x y r given owed (inr t) = absurd_result given (sym t.1)
+afters_owe listeners (filter ∷ chain) x y r given owed (inl t) =
     ap (λ s. owed_then s (Some ((filter ∷ chain) ++ owed))) (t.is_joined ∙ ap (λ front. front ++ t.back) t.begins.is_made)
-    ∙ ap (owed_then t.back) (closed_here filter (chain ++ owed))
-    ∙ chosen_then t.given (filters.Afters chain) refuses t.between y t.back (Some given)
-    (λ _ on. afters_owe chain t.between y t.back given owed on) (λ _ ended. absurd_result given (sym ended.2)) t.goes_on
+    ∙ ap (owed_then (all_told listeners t.begins.exchange.events ++ t.back)) (closed_here filter (chain ++ owed))
+    ∙ told_skips listeners t.begins.exchange.events t.back (Some (chain ++ owed))
+    ∙ chosen_then t.given (filters.Afters listeners chain) refuses t.between y t.back (Some given)
+    (λ _ on. afters_owe listeners chain t.between y t.back given owed on) (λ _ ended. absurd_result given (sym ended.2)) t.goes_on
 
 within_owes : (site : Site) → WithinKeeps site Closes
 within_owes site room inner resource kind canon responds x y r None h e = not_true e
@@ -152,14 +172,14 @@ within_owes site room inner resource kind canon responds x y r (Some result) h e
     chain = site.chain canon.path (name_of site resource) kind
 
     behind : Reached → Does Finished
-    behind reached = tree.Responds site room inner resource kind canon reached.ended >>= λ result. filters.Afters reached.passed >> gives result
+    behind reached = tree.Responds site room inner resource kind canon reached.ended >>= λ result. filters.Afters site.listeners reached.passed >> gives result
 
     final : (owed : List ℕ) (passed : List ℕ) (value : Finished) (x y : State) (r : List Record)
-        → (filters.Afters passed >> gives value) x r y (Some result) → owed_then r (Some (passed ++ owed)) ≡ Some owed
+        → (filters.Afters site.listeners passed >> gives value) x r y (Some result) → owed_then r (Some (passed ++ owed)) ≡ Some owed
     final owed passed value x y r (inr t) = absurd_result result (sym t.1)
     final owed passed value x y r (inl t) =
         ap (λ s. owed_then s (Some (passed ++ owed))) (t.is_joined ∙ ap (λ back. t.front ++ back) t.goes_on.0)
-        ∙ owes-append t.front [] (passed ++ owed) owed owed (afters_owe passed x t.between t.front t.given owed t.begins) refl
+        ∙ owes-append t.front [] (passed ++ owed) owed owed (afters_owe site.listeners passed x t.between t.front t.given owed t.begins) refl
 
     rest : (owed : List ℕ) (x : State) (r : List Record) (reached : Reached) → behind reached x r y (Some result) → owed_then r (Some (reached.passed ++ owed)) ≡ Some owed
     rest owed x r reached (inr u) = absurd_result result (sym u.1)

@@ -11,7 +11,8 @@ use Rattle.sv_exchange.specs.Changing.{Change, SetHeader, SetStatus, Write, answ
 use Rattle.sv_exchange.specs.Dispatches.{Leaves, is_within_include}
 use Rattle.sv_mapping.specs.declared.kind.Kind.{Kind}
 use Rattle.sv_mapping.specs.declared.kind.Kind.TheVariants as kinds
-use Rattle.sv_tree.specs.Does.{Does, ◌>>=◌, ◌>>◌, asks, becomes, choose, gives, leaves, makes, refuses, tries, wants_memory}
+use Rattle.sv_tree.specs.Asking.{asks, without_events}
+use Rattle.sv_tree.specs.Does.{Does, ◌>>=◌, ◌>>◌, becomes, choose, gives, leaves, makes, refuses, tries, wants_memory}
 use Rattle.sv_tree.specs.Endings as endings
 use Rattle.sv_tree.specs.Endings.{error_status}
 use Rattle.sv_tree.specs.Faults.{fault_name}
@@ -21,6 +22,7 @@ use Rattle.sv_tree.specs.Filters.{Reached, after_of, before_of}
 use Rattle.sv_tree.specs.Laws.{CallsDecide}
 use Rattle.sv_tree.specs.Site.{Resource, Servlet, Files, FileAnswer, File, Redirect, Missing, NotAllowed, Site, begun, chosen, name_of}
 use Rattle.sv_tree.specs.State.{Exchange, KeptError, KeptField, State, Standing, Serving, Gone, Away, away_for, counted, is_full, on_exchange, standing_at, with_exchange, with_kept}
+use Rattle.sv_tree.specs.Telling.{all_told}
 use Rattle.sv_tree.specs.Tree as tree
 use Rattle.sv_tree.specs.Tree.{Tree, asked_for, destroys, last, service_of}
 use Rattle.sv_tree.specs.declared.dispatch_fault.DispatchFault.{DispatchFault}
@@ -101,20 +103,22 @@ choose_decides : {A : Type 0} (test : Bool) (first other : Does A) → Decides f
 choose_decides true first other one two = one
 choose_decides false first other one two = two
 
-asks_decides : {A : Type 0} (call : Exchange → A → Exchange → Record)
-    → ((x e e' : Exchange) (a a' : A) → call x a e ≡ call x a' e' → (a ≡ a') × (e ≡ e')) → Decides (asks call)
-asks_decides call tells x y y' r r' s s' a a' h h' e =
+asks_decides : {A : Type 0} (listeners : ℕ) (call : Exchange → A → Exchange → Record)
+    → ((x e e' : Exchange) (a a' : A) → call x a e ≡ call x a' e' → (a ≡ a') × (e ≡ e')) → Decides (asks listeners call)
+asks_decides listeners call tells x y y' r r' s s' a a' h h' e =
     elim h.ends [
       | inr none ↦ absurd_result a (sym none)
       | inl is ↦ elim h'.ends [
         | inr none ↦ absurd_result a' (sym none)
         | inl also ↦
-            let made = same_head (call x.exchange h.answer h.exchange) (call x.exchange h'.answer h'.exchange) s s'
+            let made = same_head (call x.exchange h.answer h.exchange) (call x.exchange h'.answer h'.exchange)
+            (all_told listeners h.exchange.events ++ s) (all_told listeners h'.exchange.events ++ s')
             (ap (λ q. q ++ s) (sym h.is_made) ∙ e ∙ ap (λ q. q ++ s') h'.is_made) in
             let same = tells x.exchange h.exchange h'.exchange h.answer h'.answer made in
             record {
-              calls = h.is_made ∙ ap (λ c. c ∷ []) made ∙ sym h'.is_made;
-              states = h.is ∙ ap (λ e. with_exchange e x) same.1 ∙ sym h'.is;
+              calls = h.is_made ∙ ap (λ c. c ∷ all_told listeners h.exchange.events) made
+                  ∙ ap (λ e. call x.exchange h'.answer h'.exchange ∷ all_told listeners e.events) same.1 ∙ sym h'.is_made;
+              states = h.is ∙ ap (λ e. with_exchange (without_events e) x) same.1 ∙ sym h'.is;
               results = same_result a h.answer is ∙ same.0 ∙ sym (same_result a' h'.answer also);
             }
       ]
@@ -155,11 +159,12 @@ behind_decides : (passed : List ℕ) (ending : Does Finished) → Decides ending
 behind_decides passed ending h =
     then_decides ending (λ result. gives record { passed = passed; ended = Some result }) h (λ result. gives_decides record { passed = passed; ended = Some result })
 
-afters_decide : (chain : List ℕ) → Decides (filters.Afters chain)
-afters_decide [] = gives_decides tt
-afters_decide (filter ∷ chain) =
-    then_decides (asks (after_of filter)) (λ done. choose done (filters.Afters chain) refuses) (asks_decides (after_of filter) (after_tells filter))
-    (λ done. choose_decides done (filters.Afters chain) refuses (afters_decide chain) refuses_decides)
+afters_decide : (listeners : ℕ) (chain : List ℕ) → Decides (filters.Afters listeners chain)
+afters_decide listeners [] = gives_decides tt
+afters_decide listeners (filter ∷ chain) =
+    then_decides (asks listeners (after_of filter)) (λ done. choose done (filters.Afters listeners chain) refuses)
+    (asks_decides listeners (after_of filter) (after_tells filter))
+    (λ done. choose_decides done (filters.Afters listeners chain) refuses (afters_decide listeners chain) refuses_decides)
 
 module _ (site : Site) where
   fails_decides : (resource : Resource) (kind text : List ℕ) → Decides (endings.fails site resource kind text)
@@ -220,10 +225,10 @@ module _ (site : Site) where
   befores_decide resource passed (filter ∷ chain) = λ x.
       let next = filters.Befores site resource (filter ∷ passed) chain in
       let ending = endings.faults site resource DispatchLimit in
-      let call = (asks (before_of filter) >>= λ gate. filters.Gated site resource passed gate next) in
+      let call = (asks site.listeners (before_of filter) >>= λ gate. filters.Gated site resource passed gate next) in
       choose_decides (is_full x) (filters.ends_behind passed ending) (becomes counted >> call) (behind_decides passed ending (faults_decides resource DispatchLimit))
       (then_decides (becomes counted) (λ _. call) (becomes_decides counted)
-      (λ _. then_decides (asks (before_of filter)) (λ gate. filters.Gated site resource passed gate next) (asks_decides (before_of filter) (before_tells filter))
+      (λ _. then_decides (asks site.listeners (before_of filter)) (λ gate. filters.Gated site resource passed gate next) (asks_decides site.listeners (before_of filter) (before_tells filter))
       (λ gate. gated_decides resource passed gate next (befores_decide resource (filter ∷ passed) chain)))) x
 
   module _ (room : ℕ) (inner : Kind → Canon → Does Finished) (inner_decides : (kind : Kind) (canon : Canon) → Decides (inner kind canon)) where
@@ -259,12 +264,12 @@ module _ (site : Site) where
 
     turn_decides : (place turn : ℕ) → Decides (tree.Turn site room inner place turn)
     turn_decides place turn x =
-        let serve = (asks (service_of place turn) >>= tree.Stepped site room inner place) in
+        let serve = (asks site.listeners (service_of place turn) >>= tree.Stepped site room inner place) in
         let limit = last (endings.faults site (Servlet place) DispatchLimit) in
         stands_decides place x.exchange.moment (standing_at x.exchange.moment place x.standings) (filters.within_limit limit serve)
         (λ x. choose_decides (is_full x) limit (becomes counted >> serve) (last_decides (endings.faults site (Servlet place) DispatchLimit) (faults_decides (Servlet place) DispatchLimit))
         (then_decides (becomes counted) (λ _. serve) (becomes_decides counted)
-        (λ _. then_decides (asks (service_of place turn)) (tree.Stepped site room inner place) (asks_decides (service_of place turn) (service_tells place turn))
+        (λ _. then_decides (asks site.listeners (service_of place turn)) (tree.Stepped site room inner place) (asks_decides site.listeners (service_of place turn) (service_tells place turn))
         (λ step. stepped_decides place step))) x) x
 
     continues_decide : (ended : Option Finished) (next more : Does Finished) → ((x : State) → DecidesAt x next more)
@@ -293,12 +298,12 @@ module _ (site : Site) where
     within_decides : (resource : Resource) (kind : Kind) (canon : Canon) → Decides (tree.Within site room inner resource kind canon)
     within_decides resource kind canon =
         let chain = site.chain canon.path (name_of site resource) kind in
-        let behind = (λ (reached : Reached). tree.Responds site room inner resource kind canon reached.ended >>= λ result. filters.Afters reached.passed >> gives result) in
+        let behind = (λ (reached : Reached). tree.Responds site room inner resource kind canon reached.ended >>= λ result. filters.Afters site.listeners reached.passed >> gives result) in
         then_decides wants_memory (λ _. filters.Befores site resource [] chain >>= behind) wants_decides
         (λ _. then_decides (filters.Befores site resource [] chain) behind (befores_decide resource [] chain)
-        (λ reached. then_decides (tree.Responds site room inner resource kind canon reached.ended) (λ result. filters.Afters reached.passed >> gives result)
+        (λ reached. then_decides (tree.Responds site room inner resource kind canon reached.ended) (λ result. filters.Afters site.listeners reached.passed >> gives result)
         (responds_decides resource kind canon reached.ended)
-        (λ result. then_decides (filters.Afters reached.passed) (λ _. gives result) (afters_decide reached.passed) (λ _. gives_decides result))))
+        (λ result. then_decides (filters.Afters site.listeners reached.passed) (λ _. gives result) (afters_decide site.listeners reached.passed) (λ _. gives_decides result))))
 
     dispatch_decides : (kind : Kind) (canon : Canon) → Decides (tree.Dispatch site room inner kind canon)
     dispatch_decides kind canon =

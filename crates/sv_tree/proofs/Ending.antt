@@ -10,7 +10,8 @@ use Rattle.sv_exchange.specs.Changing.{SetHeader, SetStatus, Write, has_room}
 use Rattle.sv_exchange.specs.Dispatches.{Leaves, is_within_include}
 use Rattle.sv_mapping.specs.declared.kind.Kind.{Kind}
 use Rattle.sv_mapping.specs.declared.kind.Kind.TheVariants as kinds
-use Rattle.sv_tree.specs.Does.{Does, ◌>>=◌, ◌>>◌, asks, becomes, choose, gives, leaves, makes, refuses, tries, wants_memory}
+use Rattle.sv_tree.specs.Asking.{asks}
+use Rattle.sv_tree.specs.Does.{Does, ◌>>=◌, ◌>>◌, becomes, choose, gives, leaves, makes, refuses, tries, wants_memory}
 use Rattle.sv_tree.specs.Endings as endings
 use Rattle.sv_tree.specs.Endings.{error_status}
 use Rattle.sv_tree.specs.Faults.{fault_name}
@@ -167,11 +168,11 @@ module _ (site : Site) (P : State → Finished → Type 0) where
     befores_end resource passed (filter ∷ chain) x y r reached h =
         let next = filters.Befores site resource (filter ∷ passed) chain in
         let ending = endings.faults site resource DispatchLimit in
-        let call = (asks (before_of filter) >>= λ gate. filters.Gated site resource passed gate next) in
+        let call = (asks site.listeners (before_of filter) >>= λ gate. filters.Gated site resource passed gate next) in
         chosen_then (is_full x) (filters.ends_behind passed ending) (becomes counted >> call) x y r (Some reached)
         (λ _ full. behind_ends passed ending (faults_ends resource DispatchLimit) x y r reached full)
         (λ _ made. then_filters (becomes counted) (λ _. call)
-        (λ _. then_filters (asks (before_of filter)) (λ gate. filters.Gated site resource passed gate next)
+        (λ _. then_filters (asks site.listeners (before_of filter)) (λ gate. filters.Gated site resource passed gate next)
         (λ gate. gated_ends resource passed gate next (befores_end resource (filter ∷ passed) chain))) x y r reached made) h
 
     module _ (room : ℕ) (inner : Kind → Canon → Does Finished) (inner_ends : (kind : Kind) (canon : Canon) → Ends (inner kind canon)) where
@@ -210,13 +211,13 @@ module _ (site : Site) (P : State → Finished → Type 0) where
 
       turn_ends : (place turn : ℕ) → TurnEnds (tree.Turn site room inner place turn)
       turn_ends place turn x y r ended h =
-          let serve = (asks (service_of place turn) >>= tree.Stepped site room inner place) in
+          let serve = (asks site.listeners (service_of place turn) >>= tree.Stepped site room inner place) in
           let limit = last (endings.faults site (Servlet place) DispatchLimit) in
           stands_ends place x.exchange.moment (standing_at x.exchange.moment place x.standings) (filters.within_limit limit serve)
           (λ x y r ended h. chosen_then (is_full x) limit (becomes counted >> serve) x y r (Some ended)
           (λ _ full. last_ends (endings.faults site (Servlet place) DispatchLimit) (faults_ends (Servlet place) DispatchLimit) x y r ended full)
           (λ _ made. then_turn (becomes counted) (λ _. serve)
-          (λ _. then_turn (asks (service_of place turn)) (tree.Stepped site room inner place) (λ step. stepped_ends place step)) x y r ended made) h)
+          (λ _. then_turn (asks site.listeners (service_of place turn)) (tree.Stepped site room inner place) (λ step. stepped_ends place step)) x y r ended made) h)
           x y r ended h
 
       continued_ends : (ended : Option Finished) (next : Does Finished) → Ends next
@@ -240,26 +241,26 @@ module _ (site : Site) (P : State → Finished → Type 0) where
           then_ends wants_memory (λ _ state. files.Filed site kind (site.file canon state.exchange.method kind) state)
           (λ _ x y r finished h. filed_ends kind (site.file canon x.exchange.method kind) x y r finished h) x y r finished h
 
-      afters_same : (chain : List ℕ) (x y : State) (r : List Record) (given : Unit {0}) → filters.Afters chain x r y (Some given)
+      afters_same : (chain : List ℕ) (x y : State) (r : List Record) (given : Unit {0}) → filters.Afters site.listeners chain x r y (Some given)
           → (y.exchange.kept ≡ x.exchange.kept) × (y.exchange.dispatches ≡ x.exchange.dispatches)
       afters_same [] x y r given h = (ap (λ s. s.exchange.kept) h.1, ap (λ s. s.exchange.dispatches) h.1)
       afters_same (filter ∷ chain) x y r given (inr t) = absurd_result given (sym t.1)
       afters_same (filter ∷ chain) x y r given (inl t) =
-          let rest = chosen_then t.given (filters.Afters chain) refuses t.between y t.back (Some given)
+          let rest = chosen_then t.given (filters.Afters site.listeners chain) refuses t.between y t.back (Some given)
           (λ _ on. afters_same chain t.between y t.back given on) (λ _ ended. absurd_result given (sym ended.2)) t.goes_on in (
             rest.0 ∙ (ap (λ s. s.exchange.kept) t.begins.is ∙ (changes_account x.exchange t.begins.exchange t.begins.changes).1),
             rest.1 ∙ (ap (λ s. s.exchange.dispatches) t.begins.is ∙ (unchanged x.exchange t.begins.exchange t.begins.changes).0.dispatches),
           )
 
       closed_ends : (chain : List ℕ) (value : Finished) (x y : State) (r : List Record) (finished : Finished) → P x value
-          → (filters.Afters chain >> gives value) x r y (Some finished) → P y finished
+          → (filters.Afters site.listeners chain >> gives value) x r y (Some finished) → P y finished
       closed_ends chain value x y r finished h (inr t) = absurd_result finished (sym t.1)
       closed_ends chain value x y r finished h (inl t) =
           let same = afters_same chain x t.between t.front t.given t.begins in
           given_ends value t.between y t.back finished (law.stays x t.between value same.0 same.1 h) t.goes_on
 
       behind_filters : (resource : Resource) (kind : Kind) (canon : Canon) (reached : Reached) (x y : State) (r : List Record) (finished : Finished) → EndsIn x reached.ended
-          → (tree.Responds site room inner resource kind canon reached.ended >>= λ result. filters.Afters reached.passed >> gives result) x r y (Some finished) → P y finished
+          → (tree.Responds site room inner resource kind canon reached.ended >>= λ result. filters.Afters site.listeners reached.passed >> gives result) x r y (Some finished) → P y finished
       behind_filters resource kind canon reached x y r finished kept (inr t) = absurd_result finished (sym t.1)
       behind_filters resource kind canon reached x y r finished kept (inl t) =
           closed_ends reached.passed t.given t.between y t.back finished
@@ -270,12 +271,12 @@ module _ (site : Site) (P : State → Finished → Type 0) where
           let chain = site.chain canon.path (name_of site resource) kind in
           then_ends wants_memory
           (λ _. filters.Befores site resource [] chain
-          >>= λ reached. tree.Responds site room inner resource kind canon reached.ended >>= λ result. filters.Afters reached.passed >> gives result)
+          >>= λ reached. tree.Responds site room inner resource kind canon reached.ended >>= λ result. filters.Afters site.listeners reached.passed >> gives result)
           (λ _ x y r finished h. opened chain x y r finished h)
         where
           opened : (chain : List ℕ) (x y : State) (r : List Record) (finished : Finished)
               → (filters.Befores site resource [] chain
-              >>= λ reached. tree.Responds site room inner resource kind canon reached.ended >>= λ result. filters.Afters reached.passed >> gives result) x r y (Some finished)
+              >>= λ reached. tree.Responds site room inner resource kind canon reached.ended >>= λ result. filters.Afters site.listeners reached.passed >> gives result) x r y (Some finished)
               → P y finished
           opened chain x y r finished (inr t) = absurd_result finished (sym t.1)
           opened chain x y r finished (inl t) =

@@ -5,7 +5,8 @@ use Rattle.std.proofs.lemmas.List.{append-nil}
 use Rattle.sv_component.specs.Runs.{Record}
 use Rattle.sv_mapping.specs.declared.kind.Kind.{Kind}
 use Rattle.sv_mapping.specs.declared.kind.Kind.TheVariants as kinds
-use Rattle.sv_tree.specs.Does.{Does, ◌>>=◌, ◌>>◌, asks, becomes, gives, leaves}
+use Rattle.sv_tree.specs.Asking.{asks}
+use Rattle.sv_tree.specs.Does.{Does, ◌>>=◌, ◌>>◌, becomes, gives, leaves}
 use Rattle.sv_tree.specs.Endings as endings
 use Rattle.sv_tree.specs.Files as files
 use Rattle.sv_tree.specs.Filters as filters
@@ -13,6 +14,7 @@ use Rattle.sv_tree.specs.Filters.{Reached, before_of}
 use Rattle.sv_tree.specs.Laws.{BeginsWith, Finds, ForwardsBeginEmpty}
 use Rattle.sv_tree.specs.Site.{Resource, Servlet, Files, Site, begun, chosen, name_of}
 use Rattle.sv_tree.specs.State.{State, Standing, Serving, Gone, Away, counted, is_full, on_exchange, standing_at}
+use Rattle.sv_tree.specs.Telling.{all_told}
 use Rattle.sv_tree.specs.Tree as tree
 use Rattle.sv_tree.specs.Tree.{Tree, last, service_of}
 use Rattle.sv_tree.specs.declared.dispatch_fault.DispatchFault.TheVariants.{DispatchLimit}
@@ -65,19 +67,19 @@ module _ (site : Site) (resource : Resource) where
   befores_begin (filter ∷ chain) x y r result empty h =
       let next = filters.Befores site resource (filter ∷ []) chain in
       let ending = endings.faults site resource DispatchLimit in
-      let call = (asks (before_of filter) >>= λ gate. filters.Gated site resource [] gate next) in
+      let call = (asks site.listeners (before_of filter) >>= λ gate. filters.Gated site resource [] gate next) in
       chosen_then (is_full x) (filters.ends_behind [] ending) (becomes counted >> call) x y r result
       (λ _ full. inr (behind_passes ending (faults_silent site resource DispatchLimit) x y r result full))
       (λ _ made. inl (called (becomes_then counted (λ _. call) x y r result made))) h
     where
-      called : (asks (before_of filter) >>= λ gate. filters.Gated site resource [] gate (filters.Befores site resource (filter ∷ []) chain)) (counted x) r y result → Begun r
+      called : (asks site.listeners (before_of filter) >>= λ gate. filters.Gated site resource [] gate (filters.Befores site resource (filter ∷ []) chain)) (counted x) r y result → Begun r
       called (inl t) = (
         before_of filter (counted x).exchange t.begins.answer t.begins.exchange,
-        t.back,
+        all_told site.listeners t.begins.exchange.events ++ t.back,
         t.is_joined ∙ ap (λ front. front ++ t.back) t.begins.is_made,
         empty,
       )
-      called (inr t) = (before_of filter (counted x).exchange t.0.answer t.0.exchange, [], t.0.is_made, empty)
+      called (inr t) = (before_of filter (counted x).exchange t.0.answer t.0.exchange, all_told site.listeners t.0.exchange.events, t.0.is_made, empty)
 
 module _ (site : Site) (room : ℕ) (inner : Kind → Canon → Does Finished) where
   stands_begins : (place moment : ℕ) (standing : Standing) (next : Does (Option Finished)) (x y : State) (r : List Record) (result : Option (Option Finished))
@@ -92,21 +94,21 @@ module _ (site : Site) (room : ℕ) (inner : Kind → Canon → Does Finished) w
   turn_begins : (place turn : ℕ) (x y : State) (r : List Record) (result : Option (Option Finished)) → x.exchange.buffer ≡ []
       → tree.Turn site room inner place turn x r y result → Begun r ⊎ Ended r result
   turn_begins place turn x y r result empty h =
-      let serve = (asks (service_of place turn) >>= tree.Stepped site room inner place) in
+      let serve = (asks site.listeners (service_of place turn) >>= tree.Stepped site room inner place) in
       let limit = last (endings.faults site (Servlet place) DispatchLimit) in
       stands_begins place x.exchange.moment (standing_at x.exchange.moment place x.standings) (filters.within_limit limit serve) x y r result
       (λ done. chosen_then (is_full x) limit (becomes counted >> serve) x y r result
       (λ _ full. inr (last_ended (endings.faults site (Servlet place) DispatchLimit) (faults_silent site (Servlet place) DispatchLimit) x y r result full))
       (λ _ made. inl (called (becomes_then counted (λ _. serve) x y r result made))) done) h
     where
-      called : (asks (service_of place turn) >>= tree.Stepped site room inner place) (counted x) r y result → Begun r
+      called : (asks site.listeners (service_of place turn) >>= tree.Stepped site room inner place) (counted x) r y result → Begun r
       called (inl t) = (
         service_of place turn (counted x).exchange t.begins.answer t.begins.exchange,
-        t.back,
+        all_told site.listeners t.begins.exchange.events ++ t.back,
         t.is_joined ∙ ap (λ front. front ++ t.back) t.begins.is_made,
         empty,
       )
-      called (inr t) = (service_of place turn (counted x).exchange t.0.answer t.0.exchange, [], t.0.is_made, empty)
+      called (inr t) = (service_of place turn (counted x).exchange t.0.answer t.0.exchange, all_told site.listeners t.0.exchange.events, t.0.is_made, empty)
 
   continued_none : (ended : Option Finished) (finished : Finished) (next : Does Finished) (x y : State) (r : List Record) (result : Option Finished) → ended ≡ Some finished
       → tree.Continues site room inner ended next x r y result → r ≡ []
@@ -142,16 +144,16 @@ module _ (site : Site) (room : ℕ) (inner : Kind → Canon → Does Finished) w
 
   -- where no filter was called, none is called afterwards
   afters_none : (passed : List ℕ) (value : Finished) (x y : State) (r : List Record) (result : Option Finished) → passed ≡ []
-      → (filters.Afters passed >> gives value) x r y result → r ≡ []
-  afters_none passed value x y r result none h = closed (subst (λ p. (filters.Afters p >> gives value) x r y result) none h)
+      → (filters.Afters site.listeners passed >> gives value) x r y result → r ≡ []
+  afters_none passed value x y r result none h = closed (subst (λ p. (filters.Afters site.listeners p >> gives value) x r y result) none h)
     where
-      closed : (filters.Afters [] >> gives value) x r y result → r ≡ []
+      closed : (filters.Afters site.listeners [] >> gives value) x r y result → r ≡ []
       closed (inl t) = t.is_joined ∙ ap (λ s. t.front ++ s) t.goes_on.0 ∙ ap (λ s. s ++ []) t.begins.0
       closed (inr t) = t.0.0
 
   behind_none : (resource : Resource) (kind : Kind) (canon : Canon) (reached : Reached) (x y : State) (r : List Record) (result : Option Finished)
       → reached.passed ≡ [] → ((x y : State) (r : List Record) (result : Option Finished) → tree.Responds site room inner resource kind canon reached.ended x r y result → r ≡ [])
-      → (tree.Responds site room inner resource kind canon reached.ended >>= λ value. filters.Afters reached.passed >> gives value) x r y result → r ≡ []
+      → (tree.Responds site room inner resource kind canon reached.ended >>= λ value. filters.Afters site.listeners reached.passed >> gives value) x r y result → r ≡ []
   behind_none resource kind canon reached x y r result none silent (inl t) =
       t.is_joined ∙ ap (λ s. t.front ++ s) (afters_none reached.passed t.given t.between y t.back result none t.goes_on)
       ∙ ap (λ s. s ++ []) (silent x t.between t.front (Some t.given) t.begins)
@@ -159,7 +161,7 @@ module _ (site : Site) (room : ℕ) (inner : Kind → Canon → Does Finished) w
 
   behind_begins : (resource : Resource) (kind : Kind) (canon : Canon) (reached : Reached) (x y : State) (r : List Record) (result : Option Finished)
       → x.exchange.buffer ≡ [] → reached.passed ≡ [] → reached.ended ≡ None
-      → (tree.Responds site room inner resource kind canon reached.ended >>= λ value. filters.Afters reached.passed >> gives value) x r y result → Begun r ⊎ (r ≡ [])
+      → (tree.Responds site room inner resource kind canon reached.ended >>= λ value. filters.Afters site.listeners reached.passed >> gives value) x r y result → Begun r ⊎ (r ≡ [])
   behind_begins resource kind canon reached x y r result empty none going (inl t) =
       elim (responds_begins resource kind canon x t.between t.front (Some t.given) empty
       (subst (λ o. tree.Responds site room inner resource kind canon o x t.front t.between (Some t.given)) going t.begins)) [
@@ -188,7 +190,7 @@ module _ (site : Site) (room : ℕ) (inner : Kind → Canon → Does Finished) w
       chain = site.chain canon.path (name_of site resource) kind
 
       behind : Reached → Does Finished
-      behind reached = tree.Responds site room inner resource kind canon reached.ended >>= λ value. filters.Afters reached.passed >> gives value
+      behind reached = tree.Responds site room inner resource kind canon reached.ended >>= λ value. filters.Afters site.listeners reached.passed >> gives value
 
       rest : (given : Reached) (between : State) (back : List Record) → behind given between back y result
           → ((Some given ≡ None) ⊎ ((reached : Reached) × (Some given ≡ Some reached) × (reached.passed ≡ [])

@@ -2,12 +2,13 @@
 use Rattle.std.proofs.Common.{◌≡◌, ℕ, Bool, true, false, List, refl, sym, ap, ◌∙◌}
 use Rattle.sv_component.specs.Runs.{Record}
 use Rattle.sv_exchange.specs.Dispatches.{Leaves, entered, is_within_include}
+use Rattle.sv_exchange.specs.Keeping.{SameHead}
 use Rattle.sv_mapping.specs.declared.kind.Kind.{Kind}
 use Rattle.sv_mapping.specs.declared.kind.Kind.TheVariants as kinds
 use Rattle.sv_tree.specs.Laws.{IncludesKeep, is_included}
 use Rattle.sv_tree.specs.Site.{Site, begun, paths_in}
 use Rattle.sv_tree.specs.State.{Exchange, State, on_exchange}
-use Rattle.sv_tree.proofs.Changing.{SameHead, emptied_head, emptied_unchanged, made_unchanged, same_dispatches, still_within, called_unchanged, unchanged, within_begun, within_inner}
+use Rattle.sv_tree.proofs.Changing.{emptied_head, emptied_unchanged, made_unchanged, same_dispatches, still_within, called_unchanged, unchanged, within_begun, within_inner}
 use Rattle.sv_tree.proofs.Doing.{not_true}
 use Rattle.sv_tree.proofs.Keeping.{FilterSteps, Opens, Steps, away_unchanged, tree_gives, within_keeps}
 use Rattle.sv_uri.specs.declared.path.Canon.{Canon}
@@ -53,7 +54,7 @@ module _ (site : Site) where
       λ within. head_then x.exchange y.exchange z.exchange (one.1 within) (two.1 (still_within x.exchange y.exchange (one.0 refl) within)),
     );
     keeps = λ room x kept. (λ _. refl, λ _. (refl, refl));
-    makes = λ room x change. let same = made_unchanged change x.exchange in (λ _. same.0.dispatches, same.1);
+    makes = λ room x change own. let same = made_unchanged change x.exchange in (λ _. same.0.dispatches, same.1);
     empties = λ room x. let same = emptied_unchanged x.exchange in (λ _. same.0.dispatches, same.1);
     breaks = λ room x place turn step e left serving changes. let same = called_unchanged x.exchange e changes in (λ _. same.0.dispatches, same.1);
     serves = λ room x place turn step e left serving changes. let same = away_unchanged x place step e changes in (λ _. same.0.dispatches, same.1);

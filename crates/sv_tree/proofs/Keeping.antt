@@ -8,11 +8,12 @@ use Rattle.sv_component.specs.declared.answers.Gate.{Gate}
 use Rattle.sv_component.specs.declared.answers.Gate.TheVariants as gates
 use Rattle.sv_component.specs.declared.answers.Step.{Step}
 use Rattle.sv_component.specs.declared.answers.Step.TheVariants as steps
-use Rattle.sv_exchange.specs.Changing.{Change, SetHeader, SetStatus, Write, Changes, answer, has_room, left_by}
+use Rattle.sv_exchange.specs.Changing.{Change, SetHeader, SetStatus, AddHeader, Write, SetAttribute, Flush, SessionOpen, SessionSet, SessionRemove, SessionEnd, Logout, Changes, answer, has_room, left_by}
 use Rattle.sv_exchange.specs.Dispatches.{Leaves, is_within_include}
 use Rattle.sv_mapping.specs.declared.kind.Kind.{Kind}
 use Rattle.sv_mapping.specs.declared.kind.Kind.TheVariants as kinds
-use Rattle.sv_tree.specs.Does.{Does, ◌>>=◌, ◌>>◌, Asks, asks, becomes, choose, gives, leaves, makes, refuses, tries, wants_memory}
+use Rattle.sv_tree.specs.Asking.{Asks, asks, without_events}
+use Rattle.sv_tree.specs.Does.{Does, ◌>>=◌, ◌>>◌, becomes, choose, gives, leaves, makes, refuses, tries, wants_memory}
 use Rattle.sv_tree.specs.Endings as endings
 use Rattle.sv_tree.specs.Endings.{error_status}
 use Rattle.sv_tree.specs.Faults.{fault_name}
@@ -21,6 +22,7 @@ use Rattle.sv_tree.specs.Filters as filters
 use Rattle.sv_tree.specs.Filters.{Reached, after_of, before_of}
 use Rattle.sv_tree.specs.Site.{Resource, Servlet, Files, FileAnswer, File, Redirect, Missing, NotAllowed, Site, begun, chosen, name_of}
 use Rattle.sv_tree.specs.State.{Exchange, KeptError, KeptField, State, Standing, Serving, Gone, Away, away_for, counted, is_full, on_exchange, standing_at, with_exchange, with_kept, with_standing}
+use Rattle.sv_tree.specs.Telling.{all_told}
 use Rattle.sv_tree.specs.Tree as tree
 use Rattle.sv_tree.specs.Tree.{Tree, asked_for, destroys, last, service_of}
 use Rattle.sv_tree.specs.declared.dispatch_fault.DispatchFault.{DispatchFault}
@@ -43,7 +45,7 @@ abbrev pub away_by : ℕ → Step → State → State
 away_by place (steps.Unavailable (Some seconds)) state = away_for place seconds state
 away_by place step state = state
 
-away_same : (place : ℕ) (step : Step) (state : State)
+pub away_same : (place : ℕ) (step : Step) (state : State)
     → (away_by place step state).exchange ≡ state.exchange
 away_same place (steps.Unavailable (Some seconds)) state = refl
 away_same place (steps.Unavailable None) state = refl
@@ -54,9 +56,27 @@ away_same place (steps.Error code text) state = refl
 away_same place (steps.Failed kind text) state = refl
 away_same place steps.NoMemory state = refl
 
--- the state behind a call that counts
+-- the state behind a call, once what happened is told
 abbrev pub called : Exchange → State → State
-called exchange state = with_exchange exchange state
+called exchange state = with_exchange (without_events exchange) state
+
+-- what is told behind a call
+abbrev pub told_by : Site → Exchange → List Record
+told_by site exchange = all_told site.listeners exchange.events
+
+-- the changing calls that the container makes
+abbrev pub IsOwn : Change → Type 0
+IsOwn (SetStatus status) = Unit {0}
+IsOwn (SetHeader name value) = Unit {0}
+IsOwn (AddHeader name value) = ⊥
+IsOwn (Write bytes) = Unit {0}
+IsOwn (SetAttribute name value) = ⊥
+IsOwn Flush = ⊥
+IsOwn SessionOpen = ⊥
+IsOwn (SessionSet name value) = ⊥
+IsOwn (SessionRemove name) = ⊥
+IsOwn SessionEnd = ⊥
+IsOwn Logout = ⊥
 
 pub away_unchanged : (x : State) (place : ℕ) (step : Step) (e : Exchange) → Changes (counted x).exchange e
     → Unchanged x.exchange (away_by place step (called e x)).exchange
@@ -86,12 +106,12 @@ module _ (site : Site) (Q : ℕ → State → List Record → State → Bool →
     pub stays : (room : ℕ) (x : State) (b : Bool) → Q room x [] x b
     pub joins : (room : ℕ) (x y z : State) (r s : List Record) (b : Bool) → Q room x r y true → Q room y s z b → Q room x (r ++ s) z b
     pub keeps : (room : ℕ) (x : State) (kept : KeptError) → Q room x [] (with_kept kept x) true
-    pub makes : (room : ℕ) (x : State) (change : Change) → Q room x [] (on_exchange (λ e. left_by (answer change e) change e) x) true
+    pub makes : (room : ℕ) (x : State) (change : Change) → IsOwn change → Q room x [] (on_exchange (λ e. left_by (answer change e) change e) x) true
     pub empties : (room : ℕ) (x : State) → Q room x [] (on_exchange files.emptied x) true
     pub breaks : (room : ℕ) (x : State) (place turn : ℕ) (step : Step) (e : Exchange) → is_full x ≡ false → stands place x ≡ Serving → Changes (counted x).exchange e
-        → Q room x (service_of place turn (counted x).exchange step e ∷ []) (called e x) false
+        → Q room x (service_of place turn (counted x).exchange step e ∷ told_by site e) (called e x) false
     pub serves : (room : ℕ) (x : State) (place turn : ℕ) (step : Step) (e : Exchange) → is_full x ≡ false → stands place x ≡ Serving → Changes (counted x).exchange e
-        → Q room x (service_of place turn (counted x).exchange step e ∷ []) (away_by place step (called e x)) true
+        → Q room x (service_of place turn (counted x).exchange step e ∷ told_by site e) (away_by place step (called e x)) true
     pub destroys : (room : ℕ) (x : State) (place : ℕ) (b : Bool) → stands place x ≡ Serving
         → Q room x (OfServlet place Destroyed ∷ []) (with_standing place Gone x) b
     pub forwards : Opens kinds.Forward
@@ -139,8 +159,8 @@ module _ (site : Site) (Q : ℕ → State → List Record → State → Bool →
     pub becomes_keeps : (change : State → State) → ((x : State) → Q room x [] (change x) true) → Keeps room (becomes change)
     becomes_keeps change kept x y r result h = changed_keeps change x y r tt result (kept x) h.0 h.1 h.2
 
-    pub makes_keeps : (change : Change) → Keeps room (makes change)
-    makes_keeps change = tries_keeps (on_exchange (λ e. left_by (answer change e) change e)) (λ x. law.makes room x change)
+    pub makes_keeps : (change : Change) → IsOwn change → Keeps room (makes change)
+    makes_keeps change own = tries_keeps (on_exchange (λ e. left_by (answer change e) change e)) (λ x. law.makes room x change own)
 
     pub keeps_keeps : (kept : KeptError) → Keeps room (endings.keeps kept)
     keeps_keeps kept = tries_keeps (with_kept kept) (λ x. law.keeps room x kept)
@@ -182,9 +202,9 @@ module _ (site : Site) (Q : ℕ → State → List Record → State → Bool →
     sends_keeps content_type bytes =
         let typed = SetHeader (codes "content-type") content_type in
         then_keeps (makes typed) (λ _ state. choose (has_room (length bytes) state.exchange) (makes (Write bytes) >> gives Done) (endings.faults site Files TooLarge) state)
-        (makes_keeps typed)
+        (makes_keeps typed tt)
         (λ _ x y r result h. chosen_then (has_room (length bytes) x.exchange) (makes (Write bytes) >> gives Done) (endings.faults site Files TooLarge) x y r result
-        (λ _ done. then_keeps (makes (Write bytes)) (λ _. gives Done) (makes_keeps (Write bytes)) (λ _. gives_keeps Done) x y r result done)
+        (λ _ done. then_keeps (makes (Write bytes)) (λ _. gives Done) (makes_keeps (Write bytes) tt) (λ _. gives_keeps Done) x y r result done)
         (λ _ done. faults_keeps Files TooLarge x y r result done) h)
 
     sends_to_keeps : (location : List ℕ) → Keeps room (files.SendsTo site location)
@@ -193,8 +213,8 @@ module _ (site : Site) (Q : ℕ → State → List Record → State → Bool →
         let located = SetHeader (codes "location") location in
         then_keeps (becomes (on_exchange files.emptied)) (λ _. makes found >> (makes located >> gives Done))
         (becomes_keeps (on_exchange files.emptied) (λ x. law.empties room x))
-        (λ _. then_keeps (makes found) (λ _. makes located >> gives Done) (makes_keeps found)
-        (λ _. then_keeps (makes located) (λ _. gives Done) (makes_keeps located) (λ _. gives_keeps Done)))
+        (λ _. then_keeps (makes found) (λ _. makes located >> gives Done) (makes_keeps found tt)
+        (λ _. then_keeps (makes located) (λ _. gives Done) (makes_keeps located tt) (λ _. gives_keeps Done)))
 
     misses_keeps : (kind : Kind) → Keeps room (files.Misses site kind)
     misses_keeps kinds.Include = faults_keeps Files MissingInclude
@@ -233,9 +253,9 @@ module _ (site : Site) (Q : ℕ → State → List Record → State → Bool →
       behind_call : (place turn : ℕ) (x : State) (e : Exchange) (step : Step) (does : Does (Option Finished)) → Keeps room does
           → is_full x ≡ false → stands place x ≡ Serving → Changes (counted x).exchange e
           → (y : State) (r : List Record) (result : Option (Option Finished)) → does (away_by place step (called e x)) r y result
-          → Q room x (service_of place turn (counted x).exchange step e ∷ r) y (came result)
+          → Q room x (service_of place turn (counted x).exchange step e ∷ (told_by site e ++ r)) y (came result)
       behind_call place turn x e step does h left serving changes y r result done =
-          law.joins room x (away_by place step (called e x)) y (service_of place turn (counted x).exchange step e ∷ []) r (came result)
+          law.joins room x (away_by place step (called e x)) y (service_of place turn (counted x).exchange step e ∷ told_by site e) r (came result)
           (law.serves room x place turn step e left serving changes) (h (away_by place step (called e x)) y r result done)
 
       -- the changing calls of a component leave the standings as they are
@@ -248,9 +268,9 @@ module _ (site : Site) (Q : ℕ → State → List Record → State → Bool →
           → is_full x ≡ false → stands place x ≡ Serving → Changes (counted x).exchange e
           → (y : State) (r : List Record) (result : Option (Option Finished))
           → (destroys place >> last (endings.is_missing site (Servlet place))) (called e x) r y result
-          → Q room x (service_of place turn (counted x).exchange (steps.Unavailable None) e ∷ r) y (came result)
+          → Q room x (service_of place turn (counted x).exchange (steps.Unavailable None) e ∷ (told_by site e ++ r)) y (came result)
       destroyed place turn x e left serving changes y r result (inr t) =
-          law.joins room x (called e x) y (service_of place turn (counted x).exchange (steps.Unavailable None) e ∷ []) r (came result)
+          law.joins room x (called e x) y (service_of place turn (counted x).exchange (steps.Unavailable None) e ∷ told_by site e) r (came result)
           (law.serves room x place turn (steps.Unavailable None) e left serving changes)
           (subst (λ o. Q room (called e x) r y (came o)) (sym t.1) (subst (λ s. Q room (called e x) r s false) (sym t.0.1)
           (subst (λ s. Q room (called e x) s (with_standing place Gone (called e x)) false) (sym t.0.0)
@@ -258,8 +278,8 @@ module _ (site : Site) (Q : ℕ → State → List Record → State → Bool →
       destroyed place turn x e left serving changes y r result (inl t) =
           let gone = with_standing place Gone (called e x) in
           let end = last_keeps (endings.is_missing site (Servlet place)) (missing_keeps (Servlet place)) t.between y t.back result t.goes_on in
-          subst (λ s. Q room x (service_of place turn (counted x).exchange (steps.Unavailable None) e ∷ s) y (came result)) (sym (t.is_joined ∙ ap (λ front. front ++ t.back) t.begins.0))
-          (law.joins room x (called e x) y (service_of place turn (counted x).exchange (steps.Unavailable None) e ∷ []) (OfServlet place Destroyed ∷ t.back) (came result)
+          subst (λ s. Q room x (service_of place turn (counted x).exchange (steps.Unavailable None) e ∷ (told_by site e ++ s)) y (came result)) (sym (t.is_joined ∙ ap (λ front. front ++ t.back) t.begins.0))
+          (law.joins room x (called e x) y (service_of place turn (counted x).exchange (steps.Unavailable None) e ∷ told_by site e) (OfServlet place Destroyed ∷ t.back) (came result)
           (law.serves room x place turn (steps.Unavailable None) e left serving changes)
           (law.joins room (called e x) gone y (OfServlet place Destroyed ∷ []) t.back (came result)
           (law.destroys room (called e x) place true (still_serving place x e serving changes))
@@ -269,7 +289,7 @@ module _ (site : Site) (Q : ℕ → State → List Record → State → Bool →
           → is_full x ≡ false → stands place x ≡ Serving → Changes (counted x).exchange e
           → (step : Step) (y : State) (r : List Record) (result : Option (Option Finished))
           → tree.Stepped site room inner place step (called e x) r y result
-          → Q room x (service_of place turn (counted x).exchange step e ∷ r) y (came result)
+          → Q room x (service_of place turn (counted x).exchange step e ∷ (told_by site e ++ r)) y (came result)
       stepped_keeps place turn x e left serving changes steps.Done y r result done =
           behind_call place turn x e steps.Done (last (gives Done)) (last_keeps (gives Done) (gives_keeps Done)) left serving changes y r result done
       stepped_keeps place turn x e left serving changes (steps.Forward text) y r result done =
@@ -306,7 +326,7 @@ module _ (site : Site) (Q : ℕ → State → List Record → State → Bool →
       -- a turn that is made
       made : (place turn : ℕ) (x y : State) (r : List Record) (result : Option (Option Finished))
           → is_full x ≡ false → stands place x ≡ Serving
-          → (asks (service_of place turn) >>= tree.Stepped site room inner place) (counted x) r y result
+          → (asks site.listeners (service_of place turn) >>= tree.Stepped site room inner place) (counted x) r y result
           → Q room x r y (came result)
       made place turn x y r result left serving (inl t) =
           let call = t.begins in
@@ -327,7 +347,7 @@ module _ (site : Site) (Q : ℕ → State → List Record → State → Bool →
 
       pub turn_keeps : (place turn : ℕ) → Keeps room (tree.Turn site room inner place turn)
       turn_keeps place turn x y r result h =
-          let serve = (asks (service_of place turn) >>= tree.Stepped site room inner place) in
+          let serve = (asks site.listeners (service_of place turn) >>= tree.Stepped site room inner place) in
           let limit = last (endings.faults site (Servlet place) DispatchLimit) in
           stood place x.exchange.moment (stands place x) (filters.within_limit limit serve) x y r result
           (λ serving done. chosen_then (is_full x) limit (becomes counted >> serve) x y r result
@@ -363,23 +383,23 @@ module _ (site : Site) (Q : ℕ → State → List Record → State → Bool →
   -- what the calls of filters keep
   pub record FilterSteps : Type 0 where
     pub before : (room place : ℕ) (x : State) (gate : Gate) (e : Exchange) (b : Bool) → is_full x ≡ false → Changes (counted x).exchange e
-        → Q room x (before_of place (counted x).exchange gate e ∷ []) (called e x) b
+        → Q room x (before_of place (counted x).exchange gate e ∷ told_by site e) (called e x) b
     pub after : (room place : ℕ) (x : State) (done : Bool) (e : Exchange) (b : Bool) → Changes x.exchange e
-        → Q room x (after_of place x.exchange done e ∷ []) (with_exchange e x) b
+        → Q room x (after_of place x.exchange done e ∷ told_by site e) (called e x) b
 
   module _ (law : Steps) (calls : FilterSteps) where
     -- the call of a component, where it keeps it however it is answered
     asked_keeps : {A : Type 0} (room : ℕ) (call : Exchange → A → Exchange → Record) (change : State → State) (x : State)
-        → ((answer : A) (e : Exchange) (b : Bool) → Changes (change x).exchange e → Q room x (call (change x).exchange answer e ∷ []) (with_exchange e (change x)) b)
-        → (x' y : State) (r : List Record) (result : Option A) → x' ≡ change x → x'.exchange ≡ (change x).exchange → Asks call x' r y result → Q room x r y (came result)
+        → ((answer : A) (e : Exchange) (b : Bool) → Changes (change x).exchange e → Q room x (call (change x).exchange answer e ∷ told_by site e) (called e (change x)) b)
+        → (x' y : State) (r : List Record) (result : Option A) → x' ≡ change x → x'.exchange ≡ (change x).exchange → Asks site.listeners call x' r y result → Q room x r y (came result)
     asked_keeps room call change x kept x' y r result same exchange asked =
-        subst (λ s. Q room x r s (came result)) (sym (asked.is ∙ ap (with_exchange asked.exchange) same))
-        (subst (λ s. Q room x s (with_exchange asked.exchange (change x)) (came result)) (sym (asked.is_made ∙ ap (λ before. call before asked.answer asked.exchange ∷ []) exchange))
+        subst (λ s. Q room x r s (came result)) (sym (asked.is ∙ ap (called asked.exchange) same))
+        (subst (λ s. Q room x s (called asked.exchange (change x)) (came result)) (sym (asked.is_made ∙ ap (λ before. call before asked.answer asked.exchange ∷ told_by site asked.exchange) exchange))
         (kept asked.answer asked.exchange (came result) (subst (λ before. Changes before asked.exchange) exchange asked.changes)))
 
     passed_keeps : (room : ℕ) (resource : Resource) (passed : List ℕ) (filter : ℕ) (next : Does Reached) → Keeps room next
         → (x y : State) (r : List Record) (result : Option Reached) → is_full x ≡ false
-        → (asks (before_of filter) >>= λ gate. filters.Gated site resource passed gate next) (counted x) r y result
+        → (asks site.listeners (before_of filter) >>= λ gate. filters.Gated site resource passed gate next) (counted x) r y result
         → Q room x r y (came result)
     passed_keeps room resource passed filter next h x y r result left (inl t) =
         subst (λ s. Q room x s y (came result)) (sym t.is_joined)
@@ -397,29 +417,29 @@ module _ (site : Site) (Q : ℕ → State → List Record → State → Bool →
     befores_keep room resource passed (filter ∷ chain) = λ x y r result h.
         let next = filters.Befores site resource (filter ∷ passed) chain in
         let ending = endings.faults site resource DispatchLimit in
-        let call = (asks (before_of filter) >>= λ gate. filters.Gated site resource passed gate next) in
+        let call = (asks site.listeners (before_of filter) >>= λ gate. filters.Gated site resource passed gate next) in
         chosen_then (is_full x) (filters.ends_behind passed ending) (becomes counted >> call) x y r result
         (λ _ full. behind_keeps law room passed ending (faults_keeps law room resource DispatchLimit) x y r result full)
         (λ left made. passed_keeps room resource passed filter next (befores_keep room resource (filter ∷ passed) chain) x y r result left
         (becomes_then counted (λ _. call) x y r result made)) h
 
-    afters_keep : (room : ℕ) (chain : List ℕ) → Keeps room (filters.Afters chain)
+    afters_keep : (room : ℕ) (chain : List ℕ) → Keeps room (filters.Afters site.listeners chain)
     afters_keep room [] = gives_keeps law room tt
     afters_keep room (filter ∷ chain) =
-        then_keeps law room (asks (after_of filter)) (λ done. choose done (filters.Afters chain) refuses)
+        then_keeps law room (asks site.listeners (after_of filter)) (λ done. choose done (filters.Afters site.listeners chain) refuses)
         (λ x y r result h. asked_keeps room (after_of filter) (λ s. s) x (λ done e b changes. calls.after room filter x done e b changes) x y r result refl refl h)
-        (λ done x y r result h. chosen_then done (filters.Afters chain) refuses x y r result
+        (λ done x y r result h. chosen_then done (filters.Afters site.listeners chain) refuses x y r result
         (λ _ on. afters_keep room chain x y r result on) (λ _ ended. refuses_keeps law room x y r result ended) h)
 
     pub within_keeps : WithinKeeps
     within_keeps room inner resource kind canon responds =
         let chain = site.chain canon.path (name_of site resource) kind in
-        let behind = (λ (reached : Reached). tree.Responds site room inner resource kind canon reached.ended >>= λ result. filters.Afters reached.passed >> gives result) in
+        let behind = (λ (reached : Reached). tree.Responds site room inner resource kind canon reached.ended >>= λ result. filters.Afters site.listeners reached.passed >> gives result) in
         then_keeps law room wants_memory (λ _. filters.Befores site resource [] chain >>= behind) (wants_keeps law room)
         (λ _. then_keeps law room (filters.Befores site resource [] chain) behind (befores_keep room resource [] chain)
-        (λ reached. then_keeps law room (tree.Responds site room inner resource kind canon reached.ended) (λ result. filters.Afters reached.passed >> gives result)
+        (λ reached. then_keeps law room (tree.Responds site room inner resource kind canon reached.ended) (λ result. filters.Afters site.listeners reached.passed >> gives result)
         (responds reached.ended)
-        (λ result. then_keeps law room (filters.Afters reached.passed) (λ _. gives result) (afters_keep room reached.passed) (λ _. gives_keeps law room result))))
+        (λ result. then_keeps law room (filters.Afters site.listeners reached.passed) (λ _. gives result) (afters_keep room reached.passed) (λ _. gives_keeps law room result))))
 
   -- a dispatch that is made: what its parts keep, and what it gives by that
   module _ (room : ℕ) (kind : Kind) (canon : Canon) (given : State → List Record → State → Bool → Type 0) (opens : OpensTo given room kind canon) where

@@ -6,7 +6,9 @@ pub mod Counting
 pub mod Deciding
 pub mod Doing
 pub mod Ending
+pub mod Following
 pub mod Forwarding
+pub mod Hearing
 pub mod Including
 pub mod Keeping
 pub mod Nesting

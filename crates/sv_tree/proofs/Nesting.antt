@@ -7,16 +7,19 @@ use Rattle.sv_component.specs.declared.answers.Step.{Step}
 use Rattle.sv_exchange.specs.Changing.{Changes}
 use Rattle.sv_exchange.specs.Dispatches.{Leaves, client_in, entered, error_in}
 use Rattle.sv_exchange.specs.Keeping as counting
+use Rattle.sv_journal.specs.declared.event.Event.{Event}
 use Rattle.sv_mapping.specs.declared.kind.Kind.{Kind}
 use Rattle.sv_mapping.specs.declared.kind.Kind.TheVariants as kinds
 use Rattle.sv_tree.specs.Laws.{AreWithin, DispatchesEnd, DispatchesNest, SameRequest}
 use Rattle.sv_tree.specs.Site.{Site, begun, chosen, paths_in}
 use Rattle.sv_tree.specs.State.{Exchange, State, counted}
+use Rattle.sv_tree.specs.Telling.{all_told}
 use Rattle.sv_tree.specs.Tree.{Tree, Within, service_of}
 use Rattle.sv_tree.specs.declared.finished.Finished.{Finished}
 use Rattle.sv_tree.proofs.Changing.{begun_dispatches, emptied_request, emptied_unchanged, made_unchanged, request_then, same_dispatches, same_request, called_unchanged, unchanged}
 use Rattle.sv_tree.proofs.Doing.{not_true}
-use Rattle.sv_tree.proofs.Keeping.{FilterSteps, Keeps, Opens, Steps, away_by, away_unchanged, called, came, inside_keeps, tree_gives, tree_keeps, within_keeps}
+use Rattle.sv_tree.proofs.Hearing.{all_keep_alone}
+use Rattle.sv_tree.proofs.Keeping.{FilterSteps, Keeps, Opens, Steps, away_by, away_unchanged, called, came, told_by, inside_keeps, tree_gives, tree_keeps, within_keeps}
 use Rattle.sv_uri.specs.declared.path.Canon.{Canon}
 
 -- what an exchange shows stays
@@ -59,7 +62,7 @@ module _ (site : Site) where
     joins = λ room x y z r s b one two came. request_then x.exchange y.exchange z.exchange (one refl) (two came);
     keeps = λ room x kept came.
         record { method = refl; context_path = refl; request_fields = refl; moment = refl; client = refl; dispatches = refl };
-    makes = λ room x change came. (made_unchanged change x.exchange).0;
+    makes = λ room x change own came. (made_unchanged change x.exchange).0;
     empties = λ room x came. (emptied_unchanged x.exchange).0;
     breaks = λ room x place turn step e left serving changes came. (called_unchanged x.exchange e changes).0;
     serves = λ room x place turn step e left serving changes came. (away_unchanged x place step e changes).0;
@@ -99,16 +102,22 @@ within-append : (bound : ℕ) (r s : List Record) → AreWithin bound r → AreW
 within-append bound [] s one two = two
 within-append bound (call ∷ r) s one two = (one.0, within-append bound r s one.1 two)
 
+-- what listeners hear stands within any bound
+within-told : (bound listeners : ℕ) (events : List Event) → AreWithin bound (all_told listeners events)
+within-told bound listeners events = all_keep_alone (AreWithin bound) (λ place event r h. (omega arith, h)) listeners events tt
+
 nest_one : (room : ℕ) (x e : Exchange) → Changes x e → (e.dispatches ≡ x.dispatches) × (length x.dispatches ≤ length x.dispatches + room)
 nest_one room x e changes = ((unchanged x e changes).0.dispatches, omega arith)
 
 nest_called : (room : ℕ) (x e : Exchange) → Changes (counting.counted x) e → (e.dispatches ≡ x.dispatches) × (length x.dispatches ≤ length x.dispatches + room)
 nest_called room x e changes = ((called_unchanged x e changes).0.dispatches, omega arith)
 
-away_nests : (room : ℕ) (x : State) (place turn : ℕ) (step : Step) (e : Exchange) → Changes (counted x).exchange e
-    → Nests room x (service_of place turn (counted x).exchange step e ∷ []) (away_by place step (called e x)) true
-away_nests room x place turn step e changes =
-    (λ _. (away_unchanged x place step e changes).0.dispatches, ((nest_called room x.exchange e changes).1, tt))
+away_nests : (site : Site) (room : ℕ) (x : State) (place turn : ℕ) (step : Step) (e : Exchange) → Changes (counted x).exchange e
+    → Nests room x (service_of place turn (counted x).exchange step e ∷ told_by site e) (away_by place step (called e x)) true
+away_nests site room x place turn step e changes = (
+  λ _. (away_unchanged x place step e changes).0.dispatches,
+  ((nest_called room x.exchange e changes).1, within-told (length x.exchange.dispatches + room) site.listeners e.events),
+)
 
 module _ (site : Site) where
   deeper : (room : ℕ) (kind : Kind) (canon : Canon) (x : Exchange)
@@ -136,10 +145,11 @@ module _ (site : Site) where
       within-append (length x.exchange.dispatches + room) r s one.1 (subst (λ dispatches. AreWithin (length dispatches + room) s) (one.0 refl) two.1),
     );
     keeps = λ room x kept. (λ came. refl, tt);
-    makes = λ room x change. (λ came. (made_unchanged change x.exchange).0.dispatches, tt);
+    makes = λ room x change own. (λ came. (made_unchanged change x.exchange).0.dispatches, tt);
     empties = λ room x. (λ came. (emptied_unchanged x.exchange).0.dispatches, tt);
-    breaks = λ room x place turn step e left serving changes. let one = nest_called room x.exchange e changes in (λ came. one.0, (one.1, tt));
-    serves = λ room x place turn step e left serving changes. away_nests room x place turn step e changes;
+    breaks = λ room x place turn step e left serving changes. let one = nest_called room x.exchange e changes in
+        (λ came. one.0, (one.1, within-told (length x.exchange.dispatches + room) site.listeners e.events));
+    serves = λ room x place turn step e left serving changes. away_nests site room x place turn step e changes;
     destroys = λ room x place b serving. (λ came. refl, (omega arith, tt));
     forwards = nest_opens kinds.Forward;
     includes = nest_opens kinds.Include;
@@ -147,8 +157,10 @@ module _ (site : Site) where
 
   nest_filters : FilterSteps site Nests
   nest_filters = record {
-    before = λ room place x gate e b left changes. let one = nest_called room x.exchange e changes in (λ came. one.0, (one.1, tt));
-    after = λ room place x done e b changes. let one = nest_one room x.exchange e changes in (λ came. one.0, (one.1, tt));
+    before = λ room place x gate e b left changes. let one = nest_called room x.exchange e changes in
+        (λ came. one.0, (one.1, within-told (length x.exchange.dispatches + room) site.listeners e.events));
+    after = λ room place x done e b changes. let one = nest_one room x.exchange e changes in
+        (λ came. one.0, (one.1, within-told (length x.exchange.dispatches + room) site.listeners e.events));
   }
 
   pub nests_tree : (room : ℕ) (kind : Kind) (canon : Canon) (x y : State) (r : List Record) (result : Option Finished)

@@ -1,20 +1,24 @@
 -- Servlets are called only while they are in service.
 use Rattle.std.specs.Prelude.{slice_set}
-use Rattle.std.proofs.Common.{◌≡◌, ℕ, ◌+◌, Bool, true, false, List, [], ◌∷◌, ◌++◌, None, Some, refl, sym, ap, ◌∙◌, subst}
+use Rattle.std.proofs.Common.{◌≡◌, ℕ, Bool, true, false, List, [], ◌∷◌, ◌++◌, None, Some, refl, sym, ap, ◌∙◌, subst}
 use Rattle.sv_component.specs.Runs.{Record}
 use Rattle.sv_component.specs.declared.answers.Step.{Step}
 use Rattle.sv_component.specs.declared.answers.Step.TheVariants as steps
 use Rattle.sv_exchange.specs.Changing.{Changes}
 use Rattle.sv_exchange.specs.Dispatches.{entered}
+use Rattle.sv_journal.specs.declared.event.Event.{Event}
 use Rattle.sv_mapping.specs.declared.kind.Kind.{Kind}
 use Rattle.sv_mapping.specs.declared.kind.Kind.TheVariants as kinds
+use Rattle.sv_tree.specs.Filters.{after_of, before_of}
 use Rattle.sv_tree.specs.Laws.{AreOfServing, OnlyServingAreCalled, stands_after, stands_after_all}
 use Rattle.sv_tree.specs.Site.{Site, begun, paths_in}
 use Rattle.sv_tree.specs.State.{Exchange, State, Standing, Serving, Away, moment_after, counted, on_exchange}
+use Rattle.sv_tree.specs.Telling.{all_told}
 use Rattle.sv_tree.specs.Tree.{service_of}
 use Rattle.sv_tree.proofs.Changing.{emptied_request, emptied_unchanged, made_unchanged, called_unchanged, unchanged}
 use Rattle.sv_tree.proofs.Doing.{not_true}
-use Rattle.sv_tree.proofs.Keeping.{FilterSteps, Opens, Steps, away_by, called, came, stands, tree_keeps, within_keeps}
+use Rattle.sv_tree.proofs.Hearing.{all_keep_alone}
+use Rattle.sv_tree.proofs.Keeping.{FilterSteps, Opens, Steps, away_by, called, came, stands, told_by, tree_keeps, within_keeps}
 use Rattle.sv_uri.specs.declared.path.Canon.{Canon}
 
 abbrev Serves : ℕ → State → List Record → State → Bool → Type 0
@@ -60,6 +64,24 @@ served x place turn (steps.Error code text) e serving changes = ((serving, tt), 
 served x place turn (steps.Failed kind text) e serving changes = ((serving, tt), λ _. refl, (called_unchanged x.exchange e changes).0.moment)
 served x place turn steps.NoMemory e serving changes = ((serving, tt), λ _. refl, (called_unchanged x.exchange e changes).0.moment)
 
+-- what listeners hear changes no standing
+stands-told : (moment listeners : ℕ) (events : List Event) (standings : List Standing) → stands_after_all moment (all_told listeners events) standings ≡ standings
+stands-told moment listeners events standings =
+    all_keep_alone (λ r. stands_after_all moment r standings ≡ standings) (λ place event r h. h) listeners events refl
+
+serving-told : (moment listeners : ℕ) (events : List Event) (standings : List Standing) → AreOfServing moment standings (all_told listeners events)
+serving-told moment listeners events standings = all_keep_alone (AreOfServing moment standings) (λ place event r h. (tt, h)) listeners events tt
+
+-- the same with what is told behind it
+then_told : (site : Site) (room : ℕ) (x y : State) (r : List Record) (b : Bool) (e : Exchange) → Serves room x r y b → Serves room x (r ++ told_by site e) y b
+then_told site room x y r b e h =
+    let moment = x.exchange.moment in
+    let standings = stands_after_all moment r x.standings in (
+      serving-append moment r (told_by site e) x.standings h.0 (serving-told moment site.listeners e.events standings),
+      λ came. h.1 came ∙ sym (stands-append moment r (told_by site e) x.standings ∙ stands-told moment site.listeners e.events standings),
+      h.2,
+    )
+
 module _ (site : Site) where
   begun_moment : (kind : Kind) (canon : Canon) (x : Exchange) → (begun site kind canon x).moment ≡ x.moment
   begun_moment kind canon x = (emptied_request kind (entered kind (paths_in site canon x) x)).moment
@@ -83,10 +105,14 @@ module _ (site : Site) where
     stays = λ room x b. (tt, λ _. refl, refl);
     joins = serve_joins;
     keeps = λ room x kept. (tt, λ _. refl, refl);
-    makes = λ room x change. (tt, λ _. refl, (made_unchanged change x.exchange).0.moment);
+    makes = λ room x change own. (tt, λ _. refl, (made_unchanged change x.exchange).0.moment);
     empties = λ room x. (tt, λ _. refl, (emptied_unchanged x.exchange).0.moment);
-    breaks = λ room x place turn step e left serving changes. ((serving, tt), not_true, (called_unchanged x.exchange e changes).0.moment);
-    serves = λ room x place turn step e left serving changes. served x place turn step e serving changes;
+    breaks = λ room x place turn step e left serving changes.
+        then_told site room x (called e x) (service_of place turn (counted x).exchange step e ∷ []) false e
+        ((serving, tt), not_true, (called_unchanged x.exchange e changes).0.moment);
+    serves = λ room x place turn step e left serving changes.
+        then_told site room x (away_by place step (called e x)) (service_of place turn (counted x).exchange step e ∷ []) true e
+        (served x place turn step e serving changes);
     destroys = λ room x place b serving. ((serving, tt), λ _. refl, refl);
     forwards = opens kinds.Forward;
     includes = opens kinds.Include;
@@ -94,8 +120,12 @@ module _ (site : Site) where
 
   filters : FilterSteps site Serves
   filters = record {
-    before = λ room place x gate e b left changes. ((tt, tt), λ _. refl, (called_unchanged x.exchange e changes).0.moment);
-    after = λ room place x done e b changes. ((tt, tt), λ _. refl, (unchanged x.exchange e changes).0.moment);
+    before = λ room place x gate e b left changes.
+        then_told site room x (called e x) (before_of place (counted x).exchange gate e ∷ []) b e
+        ((tt, tt), λ _. refl, (called_unchanged x.exchange e changes).0.moment);
+    after = λ room place x done e b changes.
+        then_told site room x (called e x) (after_of place x.exchange done e ∷ []) b e
+        ((tt, tt), λ _. refl, (unchanged x.exchange e changes).0.moment);
   }
 
   pub only_serving_are_called : OnlyServingAreCalled site

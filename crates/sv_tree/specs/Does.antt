@@ -1,8 +1,8 @@
 -- What is done, as a program over relations: from a state, by these calls of components, to a state with a result, or with none where
 -- memory ended it. A definition is written with `do`, one step a line.
-use Rattle.std.specs.Prelude.{◌≡◌, ◌⊎◌, Bool, true, false, List, [], ◌∷◌, ◌++◌, Option, None, Some}
+use Rattle.std.specs.Prelude.{◌≡◌, ◌⊎◌, Bool, true, false, List, [], ◌++◌, Option, None, Some}
 use Rattle.sv_component.specs.Runs.{Record}
-use Rattle.sv_exchange.specs.Changing.{Change, Changes, answer, left_by}
+use Rattle.sv_exchange.specs.Changing.{Change, answer, left_by}
 use Rattle.sv_exchange.specs.Dispatches.{Leaves}
 use Rattle.sv_tree.specs.State.{Exchange, State, on_exchange, with_exchange}
 
@@ -70,15 +70,3 @@ abbrev pub leaves : Does (Unit {0})
 leaves before calls after result =
     (exchange : Exchange) × Leaves before.exchange exchange
     × (calls ≡ []) × (after ≡ with_exchange exchange before) × (result ≡ Some tt)
-
--- a component is called: it makes changing calls of the exchange alone, and answers; memory may end the dispatch behind the call
-pub record Asks {A : Type 0} (call : Exchange → A → Exchange → Record) (before : State) (calls : List Record) (after : State) (result : Option A) : Type 0 where
-  pub answer : A
-  pub exchange : Exchange
-  pub is_made : calls ≡ call before.exchange answer exchange ∷ []
-  pub changes : Changes before.exchange exchange
-  pub is : after ≡ with_exchange exchange before
-  pub ends : (result ≡ Some answer) ⊎ (result ≡ None)
-
-abbrev pub asks : {A : Type 0} → (Exchange → A → Exchange → Record) → Does A
-asks call = Asks call

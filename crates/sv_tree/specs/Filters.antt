@@ -4,7 +4,8 @@ use Rattle.sv_component.specs.Call.{Entered, Left}
 use Rattle.sv_component.specs.Runs.{Record, OfFilter}
 use Rattle.sv_component.specs.declared.answers.Gate.{Gate}
 use Rattle.sv_component.specs.declared.answers.Gate.TheVariants as gates
-use Rattle.sv_tree.specs.Does.{Does, ◌>>=◌, ◌>>◌, asks, becomes, choose, gives, refuses, sees}
+use Rattle.sv_tree.specs.Asking.{asks}
+use Rattle.sv_tree.specs.Does.{Does, ◌>>=◌, ◌>>◌, becomes, choose, gives, refuses, sees}
 use Rattle.sv_tree.specs.Endings.{fails, faults}
 use Rattle.sv_tree.specs.Site.{Resource, Site}
 use Rattle.sv_tree.specs.State.{Exchange, counted, is_full}
@@ -46,12 +47,12 @@ module _ (site : Site) (resource : Resource) where
   abbrev pub Befores : List ℕ → List ℕ → Does Reached
   Befores passed [] = gives record { passed = passed; ended = None }
   Befores passed (filter ∷ chain) = within_limit (ends_behind passed (faults site resource DispatchLimit)) do
-    gate ← asks (before_of filter)
+    gate ← asks site.listeners (before_of filter)
     Gated passed gate (Befores (filter ∷ passed) chain)
 
--- those that passed are called once more, the last first
-abbrev pub Afters : List ℕ → Does (Unit {0})
-Afters [] = gives tt
-Afters (filter ∷ filters) = do
-  done ← asks (after_of filter)
-  choose done (Afters filters) refuses
+-- those that passed are called once more, the last first; as many listeners hear what they did
+abbrev pub Afters : ℕ → List ℕ → Does (Unit {0})
+Afters listeners [] = gives tt
+Afters listeners (filter ∷ filters) = do
+  done ← asks listeners (after_of filter)
+  choose done (Afters listeners filters) refuses

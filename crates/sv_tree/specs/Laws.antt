@@ -1,15 +1,18 @@
 -- What holds of every dispatch, and of every answer to a request (Jakarta Servlet 6.0, chapters 2, 6 and 9).
-use Rattle.std.specs.Prelude.{◌≡◌, ◌⊎◌, ℕ, ◌+◌, ◌≤◌, ◌==◌, Bool, true, false, ◌||◌, List, [], ◌∷◌, ◌++◌, length, Option, None, Some, slice_set, if◌then◌else◌}
+use Rattle.std.specs.Prelude.{◌≡◌, ◌⊎◌, ℕ, ◌+◌, ◌≤◌, ◌==◌, Bool, true, false, ◌||◌, List, [], ◌∷◌, ◌++◌, length, not, Option, None, Some, slice_set, if◌then◌else◌}
+use Rattle.std.specs.List.{filter, flat_map}
 use Rattle.sv_component.specs.Call.{Destroyed, Entered, Left, Serviced}
-use Rattle.sv_component.specs.Runs.{Record, OfFilter, OfServlet}
+use Rattle.sv_component.specs.Runs.{Record, OfFilter, OfListener, OfServlet}
 use Rattle.sv_component.specs.declared.answers.Gate.TheVariants as gates
 use Rattle.sv_component.specs.declared.answers.Step.TheVariants as steps
 use Rattle.sv_exchange.specs.Dispatches.{client_in, is_include_kind, is_within_include}
+use Rattle.sv_journal.specs.declared.event.Event.{Event}
 use Rattle.sv_mapping.specs.declared.kind.Kind.{Kind}
 use Rattle.sv_mapping.specs.declared.kind.Kind.TheVariants as kinds
 use Rattle.sv_tree.specs.Served.{Served}
 use Rattle.sv_tree.specs.Site.{Site, paths_in}
 use Rattle.sv_tree.specs.State.{Exchange, KeptError, State, Standing, Serving, Gone, Away, moment_after, standing_at}
+use Rattle.sv_tree.specs.Telling.{all_told}
 use Rattle.sv_tree.specs.Tree.{Tree}
 use Rattle.sv_tree.specs.declared.finished.Finished.{Finished}
 use Rattle.sv_tree.specs.declared.finished.Finished.TheVariants.{Done, Error, Failed}
@@ -223,3 +226,34 @@ ForwardsBeginEmpty site =
     (room : ℕ) (canon : Canon) (before after : State) (calls : List Record) (result : Option Finished)
     → Tree site room kinds.Forward canon before calls after result
     → BeginsWith [] calls
+
+-- what happened to the session is told when the call that caused it is over: no event is left behind a dispatch (section 11.3)
+abbrev pub EventsAreTold : Site → Type 0
+EventsAreTold site =
+    (room : ℕ) (kind : Kind) (canon : Canon) (before after : State) (calls : List Record) (result : Option Finished)
+    → before.exchange.events ≡ []
+    → Tree site room kind canon before calls after result
+    → after.exchange.events ≡ []
+
+abbrev pub is_of_listener : Record → Bool
+is_of_listener (OfListener place event) = true
+is_of_listener (OfFilter place call) = false
+is_of_listener (OfServlet place call) = false
+
+-- the events that a call left to be told
+abbrev pub left_events : Record → List Event
+left_events (OfFilter place (Entered before gate after)) = after.events
+left_events (OfFilter place (Left before done after)) = after.events
+left_events (OfServlet place (Serviced before turn step after)) = after.events
+left_events made = []
+
+-- a call, and what is told behind it
+abbrev pub told_behind : Site → Record → List Record
+told_behind site made = made ∷ all_told site.listeners (left_events made)
+
+-- each call of a filter or a servlet is followed at once by the tellings of the events that it left, and listeners hear nothing else
+abbrev pub TellingsFollow : Site → Type 0
+TellingsFollow site =
+    (room : ℕ) (kind : Kind) (canon : Canon) (before after : State) (calls : List Record) (result : Option Finished)
+    → Tree site room kind canon before calls after result
+    → calls ≡ flat_map (told_behind site) (filter (λ made. not (is_of_listener made)) calls)

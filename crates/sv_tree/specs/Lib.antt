@@ -1,3 +1,4 @@
+pub mod Asking
 pub mod Does
 pub mod Endings
 pub mod Faults
@@ -7,4 +8,5 @@ pub mod Laws
 pub mod Served
 pub mod Site
 pub mod State
+pub mod Telling
 pub mod Tree

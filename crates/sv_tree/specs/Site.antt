@@ -36,6 +36,8 @@ pub record Site : Type 0 where
   pub file : Canon → List ℕ → Kind → FileAnswer
   -- the error page for a status and the kind of a failure
   pub page : ℕ → Option (List ℕ) → Option Canon
+  -- how many listeners there are
+  pub listeners : ℕ
 
 -- who answers a path, and how the path is split
 pub record Chosen : Type 0 where

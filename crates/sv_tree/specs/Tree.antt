@@ -6,7 +6,8 @@ use Rattle.sv_component.specs.declared.answers.Step.{Step}
 use Rattle.sv_component.specs.declared.answers.Step.TheVariants as steps
 use Rattle.sv_mapping.specs.declared.kind.Kind.{Kind}
 use Rattle.sv_mapping.specs.declared.kind.Kind.TheVariants as kinds
-use Rattle.sv_tree.specs.Does.{Does, ◌>>=◌, ◌>>◌, asks, becomes, gives, leaves, never, refuses, sees, tries, wants_memory}
+use Rattle.sv_tree.specs.Asking.{asks}
+use Rattle.sv_tree.specs.Does.{Does, ◌>>=◌, ◌>>◌, becomes, gives, leaves, never, refuses, sees, tries, wants_memory}
 use Rattle.sv_tree.specs.Endings.{errs, error_status, fails, faults, is_away_for, is_missing}
 use Rattle.sv_tree.specs.Files.{Filed}
 use Rattle.sv_tree.specs.Filters.{Afters, Befores, within_limit}
@@ -95,7 +96,7 @@ module _ (site : Site) (room : ℕ) (inner : Kind → Canon → Does Finished) w
   Turn place turn = sees λ state.
       Stands place state.exchange.moment (standing_at state.exchange.moment place state.standings)
       (within_limit (last (faults site (Servlet place) DispatchLimit)) do
-        step ← asks (service_of place turn)
+        step ← asks site.listeners (service_of place turn)
         Stepped place step)
 
   abbrev pub Continues : Option Finished → Does Finished → Does Finished
@@ -127,7 +128,7 @@ module _ (site : Site) (room : ℕ) (inner : Kind → Canon → Does Finished) w
     wants_memory
     reached ← Befores site resource [] (site.chain canon.path (name_of site resource) kind)
     result ← Responds resource kind canon reached.ended
-    Afters reached.passed
+    Afters site.listeners reached.passed
     gives result
 
   -- a dispatch: what it shows lasts to its end

@@ -1,7 +1,7 @@
 //! The laws of dispatches, each the contract of a function that does nothing.
 
 ghost use Rattle.std.specs.Prelude.{◌≡◌, ◌-◌, ◌^◌};
-ghost use Rattle.sv_tree.specs.Laws.{AnswersOnce, CallsAreCounted, CallsDecide, DispatchesEnd, DispatchesNest, EndingsAreKept, FiltersAreClosed, ForwardsBeginEmpty, IncludesEndInNoError, IncludesKeep, OnlyServingAreCalled, RequestsAreBounded};
+ghost use Rattle.sv_tree.specs.Laws.{AnswersOnce, CallsAreCounted, CallsDecide, DispatchesEnd, DispatchesNest, EndingsAreKept, EventsAreTold, FiltersAreClosed, ForwardsBeginEmpty, IncludesEndInNoError, IncludesKeep, OnlyServingAreCalled, RequestsAreBounded, TellingsFollow};
 ghost use Rattle.sv_tree.specs.Site.{Site};
 ghost use Rattle.sv_tree.specs.declared.limits.TheConstants.{FOUND, INTERNAL_SERVER_ERROR, LAST_MOMENT, LEAST_ERROR, MAX_CALLS, MAX_ERROR, MAX_NESTING, METHOD_NOT_ALLOWED, NOT_FOUND, SERVICE_UNAVAILABLE};
 
@@ -63,6 +63,16 @@ pub fn endings_are_kept()
 /// The buffer is empty where a forward begins.
 pub fn forwards_begin_empty()
     ensures { (site : Site) → ForwardsBeginEmpty site }
+{}
+
+/// What happened to the session is told when the call that caused it is over.
+pub fn events_are_told()
+    ensures { (site : Site) → EventsAreTold site }
+{}
+
+/// Each call of a filter or a servlet is followed at once by the tellings of what it did to the session, and nothing else is told.
+pub fn tellings_follow()
+    ensures { (site : Site) → TellingsFollow site }
 {}
 
 /// The numbers of this crate: definitions and code cite the constants, so that both would move with one.

@@ -23,14 +23,14 @@ turn-returns-in_default g t c =
     turn_counted g.M.Machine.state g.M.Machine.frame g.M.Machine.ran (g.T.Tables.site c.args.tables.now) c.args.room c.args.place c.args.number
     c.args.machine.now c.service.new.self c.count.new.self None c.standing.result c.standing.ensures c.in-Serving.is (sym c.is_full.ensures ∙ c.if-is_full.false) c.count.ensures
     (serve_not g.M.Machine.state g.M.Machine.frame g.M.Machine.ran (g.T.Tables.site c.args.tables.now) c.args.room c.args.place c.args.number
-    c.count.new.self c.service.new.self c.in_default.ensures)
+    c.count.new.self (c.requires.listeners ∙ sym (ap (λ f. f.listeners) c.count.ensures.stays)) c.service.new.self c.in_default.ensures)
 
 pub turn-returns-in-Ok : goal.turn-returns-in-Ok
 turn-returns-in-Ok g t c =
     turn_counted g.M.Machine.state g.M.Machine.frame g.M.Machine.ran (g.T.Tables.site c.args.tables.now) c.args.room c.args.place c.args.number
     c.args.machine.now c.stepped.new.machine c.count.new.self (seen c.stepped.result) c.standing.result c.standing.ensures c.in-Serving.is (sym c.is_full.ensures ∙ c.if-is_full.false) c.count.ensures
     (serve_so g.M.Machine.state g.M.Machine.frame g.M.Machine.ran (g.T.Tables.site c.args.tables.now) c.args.room c.args.place c.args.number
-    c.count.new.self c.service.new.self c.stepped.new.machine c.in-Ok.step (seen c.stepped.result) c.in-Ok.ensures c.stepped.ensures)
+    c.count.new.self (c.requires.listeners ∙ sym (ap (λ f. f.listeners) c.count.ensures.stays)) c.service.new.self c.stepped.new.machine c.in-Ok.step (seen c.stepped.result) c.in-Ok.ensures c.stepped.ensures)
 
 pub turns-returns-in_default : goal.turns-returns-in_default
 turns-returns-in_default g t c =
@@ -105,10 +105,10 @@ pub within-returns-in_default-afters : goal.within-returns-in_default-afters
 within-returns-in_default-afters g t c =
     within_leaves g.M.Machine.state g.M.Machine.frame g.M.Machine.ran (g.T.Tables.site c.args.tables.now) c.args.room c.args.resource c.args.kind c.args.canon.now c.as_slice-chain.result.now
     (c.as_slice-chain.ensures.value ∙ c.in-Ok.ensures.is ∙ ap (λ path. (g.T.Tables.site c.args.tables.now).chain path (name_of (g.T.Tables.site c.args.tables.now) c.args.resource) c.args.kind) c.as_str.ensures)
-    c.in-Ok-befores.passed.count c.in-Ok-befores.passed.ended c.args.machine.now c.befores.new.machine c.respond.new.machine c.in-Ok-befores.ensures.does c.in-Ok-respond.finished c.afters.new.machine c.in-Ok-respond.ensures c.in_default-afters.ensures
+    c.in-Ok-befores.passed.count c.in-Ok-befores.passed.ended c.args.machine.now c.befores.new.machine c.respond.new.machine c.in-Ok-befores.ensures.does c.in-Ok-respond.finished c.afters.new.machine c.in-Ok-respond.ensures c.requires.listeners c.in_default-afters.ensures
 
 pub within-returns : goal.within-returns
 within-returns g t c =
     within_ends g.M.Machine.state g.M.Machine.frame g.M.Machine.ran (g.T.Tables.site c.args.tables.now) c.args.room c.args.resource c.args.kind c.args.canon.now c.as_slice-chain.result.now
     (c.as_slice-chain.ensures.value ∙ c.in-Ok.ensures.is ∙ ap (λ path. (g.T.Tables.site c.args.tables.now).chain path (name_of (g.T.Tables.site c.args.tables.now) c.args.resource) c.args.kind) c.as_str.ensures)
-    c.in-Ok-befores.passed.count c.in-Ok-befores.passed.ended c.args.machine.now c.befores.new.machine c.respond.new.machine c.in-Ok-befores.ensures.does c.in-Ok-respond.finished c.afters.new.machine c.in-Ok-respond.ensures c.in-Ok-afters.ensures
+    c.in-Ok-befores.passed.count c.in-Ok-befores.passed.ended c.args.machine.now c.befores.new.machine c.respond.new.machine c.in-Ok-befores.ensures.does c.in-Ok-respond.finished c.afters.new.machine c.in-Ok-respond.ensures c.requires.listeners c.in-Ok-afters.ensures

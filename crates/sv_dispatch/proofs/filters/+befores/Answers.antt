@@ -18,12 +18,12 @@ returns-then-is_full-clause-does g t c =
 pub returns-in_default-before-clause-does : goal.returns-in_default-before-clause-does
 returns-in_default-before-clause-does g t c =
     befores_broken g.M.Machine.state g.M.Machine.frame g.M.Machine.ran (g.T.Tables.site c.args.tables.now) c.args.resource c.args.chain.now c.args.place (omega arith)
-    c.args.machine.now c.count.new.self (sym c.is_full.ensures ∙ c.if-is_full.false) c.count.ensures c.before-2.new.self c.in_default-before.ensures
+    c.args.machine.now c.count.new.self c.requires.listeners (sym c.is_full.ensures ∙ c.if-is_full.false) c.count.ensures c.before-2.new.self c.in_default-before.ensures
 
 pub returns-in_default-fail-clause-does : goal.returns-in_default-fail-clause-does
 returns-in_default-fail-clause-does g t c =
     befores_failed g.M.Machine.state g.M.Machine.frame g.M.Machine.ran (g.T.Tables.site c.args.tables.now) c.args.resource c.args.chain.now c.args.place (omega arith)
-    c.args.machine.now c.count.new.self (sym c.is_full.ensures ∙ c.if-is_full.false) c.count.ensures c.before-2.new.self c.in-Ok-before.gate c.in-Ok-before.ensures
+    c.args.machine.now c.count.new.self c.requires.listeners (sym c.is_full.ensures ∙ c.if-is_full.false) c.count.ensures c.before-2.new.self c.in-Ok-before.gate c.in-Ok-before.ensures
     c.in-Failed.kind c.in-Failed.text c.fail.new.machine None c.in-Failed.is c.in_default-fail.ensures
 
 pub returns-in-Pass-clause-does : goal.returns-in-Pass-clause-does
@@ -31,7 +31,7 @@ returns-in-Pass-clause-does g t c =
     let chain = c.args.chain.now in
     let one : c.args.place + 1 ≡ suc c.args.place = omega arith in
     befores_passed g.M.Machine.state g.M.Machine.frame g.M.Machine.ran (g.T.Tables.site c.args.tables.now) c.args.resource c.args.chain.now c.args.place (omega arith)
-    c.args.machine.now c.count.new.self (sym c.is_full.ensures ∙ c.if-is_full.false) c.count.ensures c.before-2.new.self c.in-Ok-before.gate c.in-Ok-before.ensures
+    c.args.machine.now c.count.new.self c.requires.listeners (sym c.is_full.ensures ∙ c.if-is_full.false) c.count.ensures c.before-2.new.self c.in-Ok-before.gate c.in-Ok-before.ensures
     c.befores.new.machine (reached_by c.args.chain.now c.befores.result) c.in-Pass.is
     (subst (λ n. Makes g.M.Machine.state g.M.Machine.frame g.M.Machine.ran (Befores (g.T.Tables.site c.args.tables.now) c.args.resource (reverse (take n chain)) (drop n chain))
     c.before-2.new.self c.befores.new.machine (reached_by chain c.befores.result)) one c.befores.ensures.does)
@@ -39,10 +39,10 @@ returns-in-Pass-clause-does g t c =
 pub returns-in-Stop-clause-does : goal.returns-in-Stop-clause-does
 returns-in-Stop-clause-does g t c =
     befores_stop g.M.Machine.state g.M.Machine.frame g.M.Machine.ran (g.T.Tables.site c.args.tables.now) c.args.resource c.args.chain.now c.args.place (omega arith)
-    c.args.machine.now c.count.new.self (sym c.is_full.ensures ∙ c.if-is_full.false) c.count.ensures c.before-2.new.self c.in-Ok-before.gate c.in-Ok-before.ensures c.in-Stop.is
+    c.args.machine.now c.count.new.self c.requires.listeners (sym c.is_full.ensures ∙ c.if-is_full.false) c.count.ensures c.before-2.new.self c.in-Ok-before.gate c.in-Ok-before.ensures c.in-Stop.is
 
 pub returns-in-Ok-fail-clause-does : goal.returns-in-Ok-fail-clause-does
 returns-in-Ok-fail-clause-does g t c =
     befores_failed g.M.Machine.state g.M.Machine.frame g.M.Machine.ran (g.T.Tables.site c.args.tables.now) c.args.resource c.args.chain.now c.args.place (omega arith)
-    c.args.machine.now c.count.new.self (sym c.is_full.ensures ∙ c.if-is_full.false) c.count.ensures c.before-2.new.self c.in-Ok-before.gate c.in-Ok-before.ensures
+    c.args.machine.now c.count.new.self c.requires.listeners (sym c.is_full.ensures ∙ c.if-is_full.false) c.count.ensures c.before-2.new.self c.in-Ok-before.gate c.in-Ok-before.ensures
     c.in-Failed.kind c.in-Failed.text c.fail.new.machine (Some c.in-Ok-fail.ended) c.in-Failed.is c.in-Ok-fail.ensures

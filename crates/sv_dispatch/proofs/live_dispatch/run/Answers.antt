@@ -10,4 +10,5 @@ returns-clause-made g c = record {
   runs = c.dispatch_by.ensures.runs c.args.machine.now [] refl;
   servlets = ap (λ frame. frame.servlets) c.dispatch_by.ensures.stays;
   filters = ap (λ frame. frame.filters) c.dispatch_by.ensures.stays;
+  listeners = ap (λ frame. frame.listeners) c.dispatch_by.ensures.stays;
 }

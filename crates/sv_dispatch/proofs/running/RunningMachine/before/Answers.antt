@@ -2,19 +2,25 @@ use Rattle.sv_dispatch.specs.Did.{seen}
 use Rattle.sv_lifecycle.specs.Standing.{live_world}
 use Rattle.sv_component.specs.Call.{Entered}
 use Rattle.sv_component.specs.Runs.{OfFilter}
-use Rattle.std.proofs.Common.{[], ◌∷◌, length}
-use Rattle.sv_dispatch.proofs.RunningDeeds.{asked_before, framed}
+use Rattle.sv_tree.specs.Telling.{all_told}
+use Rattle.std.proofs.Common.{◌∷◌, length}
+use Rattle.sv_dispatch.proofs.RunningDeeds.{asked_before, call_noted, framed, same_then}
 use Rattle.sv_dispatch.proofs.running.RunningMachine.before.Goals as goal
 
 pub returns : goal.returns
-returns g c = record {
-  made = OfFilter c.args.place (Entered c.args.self.now.exchange.now c.before-gate.ensures.enters.gate c.before-gate.new.exchange) ∷ [];
-  does_so = asked_before g.S.Servlet.servlet_step g.F.Filter.filter_step g.L.Listener.listener_step c.args.self.now.live.now c.before-gate.new.self
-      c.args.self.now.journal.now c.before-gate.new.journal c.args.place c.args.self.now.exchange.now c.before-gate.new.exchange c.before-gate.ensures.reached
-      c.before-gate.result (seen c.gate_of.result) c.before-gate.ensures.enters c.gate_of.ensures;
-  runs = λ from done so_far. c.before-gate.ensures.enters.calls.made (live_world from.live.now from.journal.now) done so_far;
-  stays = framed c.args.self.now.live.ghost_name c.args.self.now.exchange.ghost_name c.args.self.now.journal.ghost_name
-      (length c.args.self.now.live.now.parts.servlets.items) (length c.before-gate.new.self.parts.servlets.items)
-      (length c.args.self.now.live.now.parts.filters.items) (length c.before-gate.new.self.parts.filters.items)
-      c.before-gate.ensures.enters.calls.stands.counts.servlets c.before-gate.ensures.enters.calls.stands.counts.filters;
-}
+returns g c =
+    let m = c.args.self.now in
+    let live = m.live.now in
+    let call = OfFilter c.args.place (Entered c.args.self.now.exchange.now c.before-gate.ensures.enters.gate c.before-gate.new.exchange) in
+    record {
+      made = call ∷ all_told (length live.parts.listeners.items) c.before-gate.new.exchange.events;
+      does_so = asked_before g.S.Servlet.servlet_step g.F.Filter.filter_step g.L.Listener.listener_step live c.before-gate.new.self c.tell_events.new.live
+          m.journal.now c.before-gate.new.journal c.tell_events.new.journal m.exchange.now c.before-gate.new.exchange c.tell_events.new.exchange
+          c.args.place c.before-gate.ensures.reached c.tell_events.ensures.stands c.tell_events.ensures.told
+          c.before-gate.result (seen c.gate_of.result) (seen c.unless_broken.result) c.before-gate.ensures.enters c.gate_of.ensures c.unless_broken.ensures;
+      runs = λ from done so_far. call_noted g.S.Servlet.servlet_step g.F.Filter.filter_step g.L.Listener.listener_step live c.before-gate.new.self c.tell_events.new.live
+          m.journal.now c.before-gate.new.journal c.tell_events.new.journal m.exchange.now c.before-gate.new.exchange c.tell_events.new.exchange
+          call c.before-gate.ensures.enters.calls c.tell_events.ensures.made (live_world from.live.now from.journal.now) done so_far;
+      stays = framed m.live.ghost_name m.exchange.ghost_name m.journal.ghost_name live.parts c.tell_events.new.live.parts
+          (same_then live.parts c.before-gate.new.self.parts c.tell_events.new.live.parts c.before-gate.ensures.enters.calls.stands.counts c.tell_events.ensures.stands.counts);
+    }

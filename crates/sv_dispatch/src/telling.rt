@@ -1,0 +1,46 @@
+//! What happened to the session of a request is told.
+
+ghost use Rattle.std.specs.Prelude.{◌≡◌, length};
+ghost use Rattle.sv_component.specs.Runs.{Grows};
+ghost use Rattle.sv_lifecycle.specs.Calling.{StandsAsBefore};
+ghost use Rattle.sv_lifecycle.specs.Standing.{live_world};
+ghost use Rattle.sv_listeners.specs.Telling.{then_all, told};
+ghost use Rattle.sv_tree.specs.Asking.{without_events};
+ghost use Rattle.sv_tree.specs.Telling.{all_told};
+
+use std::alloc::Global;
+use sv_component::{Event, Exchange, Filter, Listener, Servlet};
+use sv_journal::Journal;
+use sv_lifecycle::Live;
+
+/// Has the listeners hear each event that is still to be told, the oldest first (Jakarta Servlet 6.0, section 11.3). Where an entry finds
+/// no memory the journal breaks, and the listeners are told all the same.
+pub(crate) fn tell_events<S: Servlet, F: Filter, L: Listener>(
+    alloc: Global,
+    live: &mut Live<S, F, L>,
+    exchange: &mut Exchange,
+    journal: &mut Journal,
+)
+    ensures made { Grows S.servlet_step F.filter_step L.listener_step (live_world live.old journal.old)
+        (then_all (all_told (length live.old.parts.listeners.items) exchange.old.events)) (live_world live.new journal.new) }
+    ensures stands { StandsAsBefore live.old live.new }
+    ensures told { exchange.new ≡ without_events exchange.old }
+{
+    while let Some(event) = exchange.take_event() {
+        tell_event(alloc, live, event, journal);
+    }
+}
+
+// Has the listeners hear the event.
+fn tell_event<S: Servlet, F: Filter, L: Listener>(
+    alloc: Global,
+    live: &mut Live<S, F, L>,
+    event: Event,
+    journal: &mut Journal,
+)
+    ensures made { Grows S.servlet_step F.filter_step L.listener_step (live_world live.old journal.old)
+        (then_all (told event (length live.old.parts.listeners.items))) (live_world live.new journal.new) }
+    ensures stands { StandsAsBefore live.old live.new }
+{
+    live.tell_all(alloc, &event, journal);
+}
