@@ -37,7 +37,7 @@ use Rattle.sv_lifecycle.proofs.Beginning.{initialised_push}
 use Rattle.sv_lifecycle.proofs.Fitting.{same_length}
 use Rattle.sv_lifecycle.proofs.Places.{all_kept}
 
-all_below : (count : ℕ) → All (λ place. place < count) (range_with_len 0 count)
+pub all_below : (count : ℕ) → All (λ place. place < count) (range_with_len 0 count)
 all_below count k d within =
     let len = length-range_with_len 0 count in
     omega (arith, within, len, get_or-range_with_len 0 count k d (omega (arith, within, len)))

@@ -1,5 +1,6 @@
 -- One call of a started context's component.
-use Rattle.std.proofs.Common.{◌≡◌, ℕ, List, set, refl, subst}
+use Rattle.std.proofs.Common.{◌≡◌, ℕ, ◌<◌, Bool, true, false, List, length, set, Result, Err, is_ok, refl, sym, ap, subst}
+use Rattle.std.specs.Prelude.{cond}
 use Rattle.sv_component.specs.Call.{Call, Destroyed}
 use Rattle.sv_component.specs.Runs.{Moves, OfServlet, Record}
 use Rattle.sv_component.proofs.Running.{grows_by}
@@ -9,6 +10,18 @@ use Rattle.sv_lifecycle.specs.Standing.{LiveState}
 use Rattle.sv_lifecycle.specs.World.{HasSameCounts, world}
 use Rattle.sv_lifecycle.specs.declared.parts.Parts.{Parts}
 use Rattle.sv_component.specs.declared.standing.Standing.TheVariants.{Gone}
+
+-- a component of a live context is there once its fields are seen
+pub servlet_there : {S F L : Type 0} (before opened : LiveState S F L) (place : ℕ) → opened ≡ before → place < length before.parts.servlets.items → place < length opened.parts.servlets.items
+servlet_there {S} {F} {L} before opened place is there = subst (λ (live : LiveState S F L). place < length live.parts.servlets.items) (sym is) there
+
+pub filter_there : {S F L : Type 0} (before opened : LiveState S F L) (place : ℕ) → opened ≡ before → place < length before.parts.filters.items → place < length opened.parts.filters.items
+filter_there {S} {F} {L} before opened place is there = subst (λ (live : LiveState S F L). place < length live.parts.filters.items) (sym is) there
+
+-- want of memory is no success
+pub ok_unless : {A E : Type 0} (whole : Bool) (no_memory : E) (done result : Result A E) → result ≡ cond whole done (Err no_memory) → is_ok result ≡ cond whole (is_ok done) false
+ok_unless true no_memory done result is = ap is_ok is
+ok_unless false no_memory done result is = ap is_ok is
 
 module _ {S F L : Type 0} (ss : S → Call → S → Type 0) (fs : F → Call → F → Type 0) (ls : L → Call → L → Type 0) where
   pub calls_once : (before opened : LiveState S F L) (text : List ℕ) (noted : JournalState) (call : Record) (parts_after : Parts S F L) (noted_after : JournalState)

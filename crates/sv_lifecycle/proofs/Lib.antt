@@ -3,6 +3,7 @@ pub mod Beginning
 pub mod ByPlace
 pub mod Ending
 pub mod Fitting
+pub mod Mirroring
 pub mod Moving
 pub mod Ordering
 pub mod Places

@@ -5,7 +5,7 @@ use Rattle.std.specs.Option.{option_map}
 use Rattle.std.proofs.lemmas.Option.{slice_get-get_or}
 use Rattle.sv_component.specs.Call.{Call}
 use Rattle.sv_component.specs.Noted.{filter_entry, servlet_entry}
-use Rattle.sv_component.specs.Runs.{Moves, MovesAt, NamedStep, OfFilter, OfServlet}
+use Rattle.sv_component.specs.Runs.{Moves, MovesAt, NamedStep, OfFilter, OfServlet, Record}
 use Rattle.sv_component.specs.World.{World, name_at}
 use Rattle.sv_component.specs.declared.named.Named.{Named}
 use Rattle.sv_journal.specs.Journal.{JournalState, Takes}
@@ -55,3 +55,7 @@ module _ {S F L : Type 0} (ss : S → Call → S → Type 0) (fs : F → Call �
     journal = subst (λ name. Takes before.journal (filter_entry before.context name call) noted) (named_at before.filters place old text there is_old named) takes;
     context = refl;
   }
+
+  -- the same record by another name
+  pub moves_same : (before after : World S F L) (made other : Record) → made ≡ other → Moves ss fs ls before other after → Moves ss fs ls before made after
+  moves_same before after made other same moves = subst (λ record_made. Moves ss fs ls before record_made after) (sym same) moves

@@ -2,6 +2,7 @@ pub mod Begins
 pub mod Calling
 pub mod Calls
 pub mod Fit
+pub mod Laws
 pub mod Order
 pub mod Plan
 pub mod SessionEnds

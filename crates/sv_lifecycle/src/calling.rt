@@ -1,10 +1,12 @@
 //! Calls of a started context's components by place.
 
-ghost use Rattle.std.specs.Prelude.{◌≡◌, ◌<◌, false, is_ok, length};
+ghost use Rattle.std.specs.Prelude.{◌≡◌, ◌<◌, false, is_ok, length, Some};
+ghost use Rattle.sv_text.specs.Gives.{GivesAnswer};
 ghost use Rattle.sv_component.specs.Runs.{Grows};
 ghost use Rattle.sv_exchange.specs.Changing.{Changes};
 ghost use Rattle.sv_listeners.specs.Telling.{then_all, told};
 ghost use Rattle.sv_lifecycle.specs.Calling.{Enters, Leaves, Retires, Serves, StandsAsBefore, StandsBut, unless_broken};
+ghost use Rattle.sv_journal.specs.declared.answer.Answer.{Answer as AnswerData};
 ghost use Rattle.sv_component.specs.declared.answers.Gate.TheVariants as gates;
 ghost use Rattle.sv_component.specs.declared.answers.Step.TheVariants as steps;
 ghost use Rattle.sv_component.specs.Standing.{is_gone};
@@ -12,9 +14,12 @@ ghost use Rattle.sv_lifecycle.specs.Standing.{live_world, standing_at};
 ghost use Rattle.sv_component.specs.declared.standing.Standing.TheVariants as standings;
 
 use crate::live::Live;
+use crate::order::Place;
 use std::alloc::Global;
-use sv_component::{Event, Exchange, Filter, Gate, Listener, Servlet, Standing, Step};
-use sv_journal::Journal;
+use sv_component::{
+    Event, Exchange, Filter, Gate, Listener, Servlet, Standing, Step, gate_answer, step_answer,
+};
+use sv_journal::{Answer, CallName, Entry, Journal};
 use sv_text::NoMemory;
 
 impl<S: Servlet, F: Filter, L: Listener> Live<S, F, L> {
@@ -56,8 +61,13 @@ impl<S: Servlet, F: Filter, L: Listener> Live<S, F, L> {
             self.old journal.old place turn exchange.old result self.new journal.new exchange.new }
         ensures reached { Changes exchange.old exchange.new }
     {
-        let step = self.parts.service(alloc, self.context.as_str(), place, exchange, turn, journal);
-        step_unless_broken(journal, step)
+        let named = &mut self.parts.servlets[place];
+        let step = named.component.service(alloc, exchange, turn);
+        let noted = some_answer(step_answer(alloc, &step));
+        let context = self.context.as_str();
+        let name = named.name.as_str();
+        journal.note(Entry::of_servlet(alloc, context, name, CallName::Service(turn), noted));
+        unless_broken(journal, step, Step::NoMemory)
     }
 
     /// Calls the filter at the place before what stands behind it (Jakarta Servlet 6.0, section 6.2.1). Where the journal is broken the
@@ -74,10 +84,13 @@ impl<S: Servlet, F: Filter, L: Listener> Live<S, F, L> {
             self.old journal.old place exchange.old result self.new journal.new exchange.new }
         ensures reached { Changes exchange.old exchange.new }
     {
-        let gate = self
-            .parts
-            .before(alloc, self.context.as_str(), place, exchange, journal);
-        gate_unless_broken(journal, gate)
+        let named = &mut self.parts.filters[place];
+        let gate = named.component.before(alloc, exchange);
+        let noted = some_answer(gate_answer(alloc, &gate));
+        let context = self.context.as_str();
+        let name = named.name.as_str();
+        journal.note(Entry::of_filter(alloc, context, name, CallName::Before, noted));
+        unless_broken(journal, gate, Gate::NoMemory)
     }
 
     /// Calls the filter at the place after what stands behind it (Jakarta Servlet 6.0, section 6.2.1). It is `NoMemory` where the filter
@@ -94,10 +107,12 @@ impl<S: Servlet, F: Filter, L: Listener> Live<S, F, L> {
             self.old journal.old place exchange.old result self.new journal.new exchange.new }
         ensures reached { Changes exchange.old exchange.new }
     {
-        let done = self
-            .parts
-            .after(alloc, self.context.as_str(), place, exchange, journal);
-        done_unless_broken(journal, done)
+        let named = &mut self.parts.filters[place];
+        let done = named.component.after(alloc, exchange);
+        let context = self.context.as_str();
+        let name = named.name.as_str();
+        journal.note(Entry::of_filter(alloc, context, name, CallName::After, Ok(None)));
+        unless_broken(journal, done, Err(NoMemory))
     }
 
     /// Destroys the servlet at the place, which is gone from then on (Jakarta Servlet 6.0, section 2.3.3.2).
@@ -106,8 +121,7 @@ impl<S: Servlet, F: Filter, L: Listener> Live<S, F, L> {
         requires not_gone { is_gone (standing_at self.old.standings place) ≡ false }
         ensures { Retires S.servlet_step F.filter_step L.listener_step self.old journal.old place self.new journal.new }
     {
-        self.parts
-            .destroy_servlet(alloc, self.context.as_str(), place, journal);
+        self.parts.destroy(alloc, self.context.as_str(), Place::Servlet(place), journal);
         self.standings[place] = Standing::Gone;
     }
 
@@ -132,28 +146,19 @@ impl<S: Servlet, F: Filter, L: Listener> Live<S, F, L> {
     }
 }
 
-fn step_unless_broken(journal: &Journal, step: Step) -> Step
-    ensures { result ≡ unless_broken journal.now steps.NoMemory step }
+// The answer of a component, or that for want of memory where the journal is broken.
+fn unless_broken<A: Drop>(journal: &Journal, answer: A, no_memory: A) -> A
+    ensures { result ≡ unless_broken journal.now no_memory answer }
 {
-    if journal.whole() {
-        step
-    } else {
-        Step::NoMemory
-    }
+    if journal.whole() { answer } else { no_memory }
 }
 
-fn gate_unless_broken(journal: &Journal, gate: Gate) -> Gate
-    ensures { result ≡ unless_broken journal.now gates.NoMemory gate }
+// The answer that an entry has.
+fn some_answer(answer: Result<Answer, NoMemory>) -> Result<Option<Answer>, NoMemory>
+    ensures { (known : AnswerData) → GivesAnswer answer known → GivesAnswer result (Some known) }
 {
-    if journal.whole() {
-        gate
-    } else {
-        Gate::NoMemory
+    match answer {
+        Ok(answer) => Ok(Some(answer)),
+        Err(refusal) => Err(refusal),
     }
-}
-
-fn done_unless_broken(journal: &Journal, done: Result<(), NoMemory>) -> Result<(), NoMemory>
-    ensures { is_ok result ≡ unless_broken journal.now false (is_ok done) }
-{
-    if journal.whole() { done } else { Err(NoMemory) }
 }

@@ -6,6 +6,7 @@ mod calling;
 mod calls;
 mod configs;
 mod fit;
+mod laws;
 mod live;
 mod order;
 mod parts;
@@ -14,6 +15,7 @@ mod session_ends;
 mod start;
 mod start_fault;
 
+pub use laws::{stops_mirror_starts, undone_starts_mirror};
 pub use live::Live;
 pub use parts::Parts;
 pub use start_fault::{StartCode, StartFault};

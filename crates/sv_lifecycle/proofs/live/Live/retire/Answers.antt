@@ -3,5 +3,5 @@ use Rattle.sv_lifecycle.proofs.live.Live.retire.Goals as goal
 
 pub returns : goal.returns
 returns g c =
-    retires g.S.Servlet.servlet_step g.F.Filter.filter_step g.L.Listener.listener_step c.args.self.now _ c.as_str.result.now c.args.journal.now c.args.place c.destroy_servlet.new.self c.destroy_servlet.new.journal
-    c.self.view_is c.as_str.ensures c.destroy_servlet.ensures.moves c.destroy_servlet.ensures.counts
+    retires g.S.Servlet.servlet_step g.F.Filter.filter_step g.L.Listener.listener_step c.args.self.now _ c.as_str.result.now c.args.journal.now c.args.place c.destroy.new.self c.destroy.new.journal
+    c.self.view_is c.as_str.ensures c.destroy.ensures.moves c.destroy.ensures.counts

@@ -1,0 +1,37 @@
+-- What holds of starts and stops of contexts (Jakarta Servlet 6.0, sections 2.3, 6.2.1 and 11.3).
+use Rattle.std.specs.Prelude.{◌≡◌, ℕ, List, [], ◌∷◌, ◌++◌, length, reverse}
+use Rattle.std.specs.List.{flat_map}
+use Rattle.sv_component.specs.Call.{Destroyed, Inited}
+use Rattle.sv_component.specs.Runs.{Record, OfFilter, OfListener, OfServlet}
+use Rattle.sv_component.specs.declared.answers.Init.TheVariants.{Ready}
+use Rattle.sv_descriptor.specs.declared.web_app.WebApp.{WebApp}
+use Rattle.sv_journal.specs.Journal.{JournalState}
+use Rattle.sv_journal.specs.declared.event.Event.TheVariants.{ContextDestroyed, ContextInitialized}
+use Rattle.sv_lifecycle.specs.Calls.{start_calls, stop_calls}
+use Rattle.sv_lifecycle.specs.Standing.{LiveState, in_service}
+use Rattle.sv_lifecycle.specs.Starting.{Attempt, IsUndone, Stands, called}
+
+-- what a stop answers a call of a start with: a component whose init answered that it is ready is destroyed, and a listener that heard
+-- that the context starts hears that it stops
+abbrev pub answered_by : Record → List Record
+answered_by (OfServlet place (Inited config Ready)) = OfServlet place Destroyed ∷ []
+answered_by (OfFilter place (Inited config Ready)) = OfFilter place Destroyed ∷ []
+answered_by (OfListener place ContextInitialized) = OfListener place ContextDestroyed ∷ []
+answered_by made = []
+
+-- the calls of a start in a mirror: what answers the last of them comes first
+abbrev pub mirrored : List Record → List Record
+mirrored calls = reverse (flat_map answered_by calls)
+
+-- a stop right behind a start, without sessions, mirrors the start
+abbrev pub StopsMirrorStarts : Type 0 → Type 0 → Type 0 → Type 0
+StopsMirrorStarts S F L =
+    (context : List ℕ) (app : WebApp) (attempt : Attempt) (live : LiveState S F L) (journal : JournalState)
+    → Stands context app attempt live journal
+    → stop_calls (length live.parts.listeners.items) (in_service live) [] ≡ mirrored attempt.calls
+
+-- a start that is undone goes as far as it goes, and mirrors that
+abbrev pub UndoneStartsMirror : Type 0
+UndoneStartsMirror =
+    (app : WebApp) (attempt : Attempt) → IsUndone app attempt
+    → attempt.calls ≡ start_calls app (called attempt) ++ mirrored (start_calls app (called attempt))
