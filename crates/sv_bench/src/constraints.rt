@@ -87,7 +87,8 @@ pub fn constraint(
     })
 }
 
-fn two_texts(alloc: Global, first: &str, second: &str) -> Option<Listed<Text>> {
+/// A list of two texts.
+pub fn two_texts(alloc: Global, first: &str, second: &str) -> Option<Listed<Text>> {
     let mut texts = Vec::new(alloc);
     texts.push(Text::copy_of(alloc, first).ok()?).ok()?;
     texts.push(Text::copy_of(alloc, second).ok()?).ok()?;

@@ -1,6 +1,6 @@
 //! Decisions by compiled policies, and what finds the same paths whole.
 
-use crate::constraints::constraint;
+use crate::constraints::{constraint, two_texts};
 use crate::measure::Work;
 use crate::patterns::{numbered_pattern, numbered_text};
 use std::alloc::Global;
@@ -8,6 +8,15 @@ use std::collections::HashMap;
 use sv_constraints::{Constraint, Decision, Methods, Rules};
 use sv_policy::Policy;
 use sv_text::Listed;
+
+/// The methods that the constraints of a policy cover.
+#[derive(Clone, Copy)]
+pub enum Covered {
+    /// All methods.
+    All,
+    /// `GET` and `POST`, which each constraint names.
+    GetAndPost,
+}
 
 /// Deciding requests, each for another path, by a policy.
 #[derive(Drop)]
@@ -18,10 +27,10 @@ pub struct Compiled {
 
 impl Compiled {
     /// A policy of so many constraints, each on the pattern `/pN/*`, and a path `/pN/x` for each.
-    pub fn new(alloc: Global, count: u32) -> Option<Compiled> {
+    pub fn new(alloc: Global, count: u32, covered: Covered) -> Option<Compiled> {
         let mut constraints = Vec::new(alloc);
         for number in 0..count {
-            constraints.push(numbered(alloc, number)?).ok()?;
+            constraints.push(numbered(alloc, number, covered)?).ok()?;
         }
         let rules = Rules {
             declared: Listed::from_vec(Vec::new(alloc)),
@@ -73,11 +82,15 @@ impl Work for Known {
 }
 
 /// The constraint on the pattern `/pN/*`.
-fn numbered(alloc: Global, number: u32) -> Option<Constraint> {
+fn numbered(alloc: Global, number: u32, covered: Covered) -> Option<Constraint> {
     let mut patterns = Vec::new(alloc);
     let pattern = numbered_pattern(alloc, "/p", number, "/*")?;
     patterns.push(pattern).ok()?;
-    constraint(alloc, number, patterns, Methods::All)
+    let methods = match covered {
+        Covered::All => Methods::All,
+        Covered::GetAndPost => Methods::Only(two_texts(alloc, "GET", "POST")?),
+    };
+    constraint(alloc, number, patterns, methods)
 }
 
 fn paths(alloc: Global, count: u32) -> Option<Vec<String>> {
