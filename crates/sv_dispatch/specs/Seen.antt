@@ -1,29 +1,13 @@
 -- What code hands from one step of a dispatch to the next, as the definitions have it.
 use Rattle.std.specs.Prelude.{◌≡◌, ℕ, Bool, true, false, List, codes, decimal, length, Option, Some, None, slice_index_or}
-use Rattle.std.specs.Option.{option_copied}
 use Rattle.sv_component.specs.Standing.{is_gone}
 use Rattle.sv_component.specs.declared.standing.Standing.TheVariants.{Gone}
 use Rattle.sv_dispatch.specs.declared.error_field.ErrorField.{ErrorField}
 use Rattle.sv_dispatch.specs.declared.error_field.ErrorField.TheVariants as fields
-use Rattle.sv_dispatch.specs.declared.tables.Chosen.{Chosen}
-use Rattle.sv_dispatch.specs.declared.tables.Found.{Found}
-use Rattle.sv_dispatch.specs.declared.tables.Found.TheVariants as found
 use Rattle.sv_exchange.specs.Changing.{Write, has_room}
 use Rattle.sv_exchange.specs.declared.kept_error.KeptField.{KeptField}
 use Rattle.sv_tree.specs.Does.{Does, ◌>>◌, choose, gives, makes, sees}
-use Rattle.sv_tree.specs.Site as site
 use Rattle.sv_tree.specs.State.{State}
-
--- who answers, with the path split
-abbrev pub chosen_seen : Chosen → site.Chosen
-chosen_seen chosen = record { resource = chosen.resource; servlet_path = chosen.servlet_path.now; path_info = option_copied chosen.path_info }
-
--- what the file servlet has
-abbrev pub found_seen : Found → site.FileAnswer
-found_seen (found.File content_type bytes) = site.File content_type.now bytes.now
-found_seen (found.Redirect location) = site.Redirect location
-found_seen found.Missing = site.Missing
-found_seen found.NotAllowed = site.NotAllowed
 
 -- the field that goes with an error (RFC 9110, sections 10.2.1 and 10.2.3)
 abbrev pub field_of : ErrorField → Option KeptField

@@ -2,14 +2,15 @@
 
 ghost use Rattle.std.specs.Prelude.{◌≡◌, codes};
 ghost use Rattle.sv_dispatch.specs.Did.{Did, seen};
-ghost use Rattle.sv_dispatch.specs.Seen.{found_seen};
+ghost use Rattle.sv_site.specs.Seen.{found_seen};
 ghost use Rattle.sv_tree.specs.Files.{Filed, Misses, Sends, SendsTo};
 
 use crate::endings::{fault, missing, not_allowed};
 use crate::machine::Machine;
-use crate::tables::{Found, Tables};
+use crate::tables::Tables;
 use std::alloc::Global;
 use sv_mapping::Kind;
+use sv_site::FileFound;
 use sv_text::NoMemory;
 use sv_tree::{DispatchFault, FOUND, Finished, Resource};
 
@@ -19,15 +20,18 @@ pub(crate) fn filed<M: Machine, T: Tables>(
     machine: &mut M,
     tables: &T,
     kind: Kind,
-    found: Found<'_>,
+    found: FileFound<'_>,
 ) -> Result<Finished, NoMemory>
     ensures { Did M.state M.frame M.ran (Filed (T.site tables.now) kind (found_seen found.entry)) machine.old machine.new (seen result) }
 {
     match found {
-        Found::File(content_type, bytes) => send(alloc, machine, tables, content_type, bytes),
-        Found::Redirect(location) => send_to(machine, tables, location.as_str()),
-        Found::Missing => miss(alloc, machine, tables, kind),
-        Found::NotAllowed => not_allowed(alloc, machine, tables, Resource::Files),
+        FileFound::File {
+            content_type,
+            bytes,
+        } => send(alloc, machine, tables, content_type, bytes),
+        FileFound::Redirect(location) => send_to(machine, tables, location.as_str()),
+        FileFound::Missing => miss(alloc, machine, tables, kind),
+        FileFound::NotAllowed => not_allowed(alloc, machine, tables, Resource::Files),
     }
 }
 

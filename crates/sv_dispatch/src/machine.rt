@@ -1,9 +1,9 @@
 //! What a dispatch does by itself: one method for each step of the definitions.
 
 use crate::error_field::ErrorField;
-use crate::tables::Chosen;
 use sv_component::{Gate, Standing, Step};
 use sv_mapping::Kind;
+use sv_site::Chosen;
 use sv_text::NoMemory;
 use sv_uri::path::Canon;
 
@@ -12,9 +12,10 @@ pub(crate) trait Machine: Sized {
     ghost use Rattle.std.specs.Prelude.{◌≡◌, ◌<◌, List, Some, false, length};
     ghost use Rattle.sv_component.specs.Runs.{Record};
     ghost use Rattle.sv_dispatch.specs.Did.{Did, Frame, seen};
-    ghost use Rattle.sv_dispatch.specs.Seen.{IsHere, chosen_seen, field_of, offers};
+    ghost use Rattle.sv_dispatch.specs.Seen.{IsHere, field_of, offers};
     ghost use Rattle.sv_exchange.specs.Changing.{SetHeader, SetStatus};
     ghost use Rattle.sv_exchange.specs.Dispatches.{is_within_include};
+    ghost use Rattle.sv_site.specs.Seen.{chosen_seen};
     ghost use Rattle.sv_tree.specs.Asking.{asks};
     ghost use Rattle.sv_tree.specs.Does.{becomes, leaves, makes, tries};
     ghost use Rattle.sv_tree.specs.Endings.{keeps};

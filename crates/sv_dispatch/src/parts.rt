@@ -4,20 +4,21 @@ ghost use Rattle.std.specs.Prelude.{◌≡◌, IfOk, None, OnErr, OnOk, Some, is
 ghost use Rattle.std.specs.Option.{option_copied};
 ghost use Rattle.sv_dispatch.specs.Did.{seen};
 ghost use Rattle.sv_dispatch.specs.Running.{done_seen, gate_seen, made_seen, offer_seen, step_seen};
-ghost use Rattle.sv_dispatch.specs.Seen.{chosen_seen, field_of};
+ghost use Rattle.sv_dispatch.specs.Seen.{field_of};
 ghost use Rattle.sv_exchange.specs.Keeping.{with_kept};
 ghost use Rattle.sv_lifecycle.specs.Calling.{unless_broken};
+ghost use Rattle.sv_site.specs.Seen.{chosen_seen};
 ghost use Rattle.sv_tree.specs.Files.{emptied};
 ghost use Rattle.sv_tree.specs.Site.{begun_by, emptied_for};
 ghost use Rattle.sv_tree.specs.State.{moment_after};
 
 use crate::error_field::ErrorField;
-use crate::tables::Chosen;
 use std::alloc::Global;
 use sv_component::{Exchange, Gate, Step};
 use sv_exchange::{ExchangeFault, KeptField};
 use sv_journal::Journal;
 use sv_mapping::Kind;
+use sv_site::Chosen;
 use sv_text::{NoMemory, Text};
 use sv_uri::path::Canon;
 

@@ -6,13 +6,13 @@ use crate::parts::{
     done_of, empty, enter, gate_of, keep_error, made, moment_after, offer, retired, step_of,
     unless_broken,
 };
-use crate::tables::Chosen;
 use crate::telling::tell_events;
 use std::alloc::Global;
 use sv_component::{Exchange, Filter, Gate, Listener, Servlet, Standing, Step};
 use sv_journal::Journal;
 use sv_lifecycle::Live;
 use sv_mapping::Kind;
+use sv_site::Chosen;
 use sv_text::NoMemory;
 use sv_tree::MAX_CALLS;
 use sv_uri::path::Canon;

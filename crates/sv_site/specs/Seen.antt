@@ -4,19 +4,13 @@ use Rattle.std.specs.Option.{option_copied}
 use Rattle.sv_site.specs.declared.chosen.Chosen as code
 use Rattle.sv_site.specs.declared.file_found.FileFound as found
 use Rattle.sv_site.specs.declared.file_found.FileFound.TheVariants as founds
-use Rattle.sv_site.specs.declared.resource.Resource as resource
-use Rattle.sv_site.specs.declared.resource.Resource.TheVariants as resources
 use Rattle.sv_tree.specs.Site.{Chosen, FileAnswer, File, Redirect, Missing, NotAllowed, Site}
 use Rattle.sv_tree.specs.declared.resource.Resource.{Resource}
 use Rattle.sv_tree.specs.declared.resource.Resource.TheVariants.{Servlet, Files}
 
-abbrev pub resource_seen : resource.Resource → Resource
-resource_seen (resources.Servlet place) = Servlet place
-resource_seen resources.Files = Files
-
 abbrev pub chosen_seen : code.Chosen → Chosen
 chosen_seen chosen = record {
-  resource = resource_seen chosen.resource;
+  resource = chosen.resource;
   servlet_path = chosen.servlet_path.now;
   path_info = option_copied chosen.path_info;
 }

@@ -1,6 +1,6 @@
 //! Who answers a path.
 
-use crate::resource::Resource;
+use sv_tree::Resource;
 
 /// Who answers a path, and how the path is split (Jakarta Servlet 6.0, sections 3.5 and 12.1).
 #[derive(Clone, Copy)]

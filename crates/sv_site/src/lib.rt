@@ -6,12 +6,10 @@ mod chosen;
 mod file_found;
 mod patterns;
 mod redirect;
-mod resource;
 mod servlet_patterns;
 mod site;
 
 pub use chosen::Chosen;
 pub use file_found::FileFound;
-pub use resource::Resource;
 pub use servlet_patterns::ServletPatterns;
 pub use site::Site;

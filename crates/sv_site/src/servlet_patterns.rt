@@ -10,13 +10,13 @@ ghost use Rattle.sv_site.specs.ServletMappings as spec;
 
 use crate::chosen::Chosen;
 use crate::patterns::{copied_patterns, servlet_places};
-use crate::resource::Resource;
 use std::alloc::Global;
 use std::marker::Model;
 use sv_descriptor::Descriptor;
 use sv_mapping::{Pattern, split};
 use sv_pattern_table::PatternTable;
 use sv_text::NoMemory;
+use sv_tree::Resource;
 
 /// The patterns of a descriptor's servlets, compiled for look-ups. Contracts see the list of the patterns, each with the place of its
 /// servlet.

@@ -8,14 +8,13 @@ ghost use Rattle.sv_uri.specs.Canonical.{canonical};
 ghost use Rattle.sv_descriptor.specs.Agreement.{servlet_names};
 ghost use Rattle.sv_descriptor.specs.Location.{is_location};
 ghost use Rattle.sv_descriptor.specs.WellFormed.{IsWellFormed};
-ghost use Rattle.sv_site.specs.Seen.{IsThere, chosen_seen, found_seen, resource_seen};
+ghost use Rattle.sv_site.specs.Seen.{IsThere, chosen_seen, found_seen};
 ghost use Rattle.sv_site.specs.ServletMappings.{mappings_of};
 ghost use Rattle.sv_site.specs.Site.{site_of};
 ghost use Rattle.sv_tree.specs.Site as tree;
 
 use crate::chosen::Chosen;
 use crate::file_found::{FileFound, answered};
-use crate::resource::Resource;
 use crate::servlet_patterns::ServletPatterns;
 use std::alloc::Global;
 use std::marker::Model;
@@ -24,6 +23,7 @@ use sv_descriptor::{Descriptor, Kind};
 use sv_error_pages::page_for;
 use sv_files::Files;
 use sv_text::{NoMemory, Text};
+use sv_tree::Resource;
 use sv_uri::canon;
 use sv_uri::fault::CanonFault;
 use sv_uri::path::Canon;
@@ -97,14 +97,14 @@ impl Site {
     /// section 12.1). It takes no memory, and its price does not grow with the number of patterns.
     pub fn chosen<'a>(&self, path: &'a str) -> Chosen<'a>
         ensures chosen { chosen_seen result ≡ tree.chosen (site_of self.now) path.now }
-        ensures declared { IsThere (site_of self.now) (resource_seen result.resource) }
+        ensures declared { IsThere (site_of self.now) result.resource }
     {
         self.patterns.chosen(path)
     }
 
     /// The name of who answers: that of the servlet, or `default`.
     pub fn name_of(&self, resource: Resource) -> &str
-        ensures { result.now ≡ tree.name_of (site_of self.now) (resource_seen resource) }
+        ensures { result.now ≡ tree.name_of (site_of self.now) resource }
     {
         match resource {
             Resource::Servlet(place) => self.servlet_name(place),
@@ -123,7 +123,7 @@ impl Site {
         resource: Resource,
         kind: Kind,
     ) -> Result<Vec<usize>, NoMemory>
-        ensures chain { IfOk result (λ chain. chain.items ≡ (site_of self.now).chain path.now (tree.name_of (site_of self.now) (resource_seen resource)) kind) }
+        ensures chain { IfOk result (λ chain. chain.items ≡ (site_of self.now).chain path.now (tree.name_of (site_of self.now) resource) kind) }
         ensures places { IfOk result (λ chain. All (λ place. place < length self.now.app.filters) chain.items) }
     {
         chain_plain(alloc, &self.descriptor, path, self.name_of(resource), kind)

@@ -1,6 +1,6 @@
 use Rattle.std.proofs.Common.{None, Some, sym, ap, ◌∙◌, subst, add-one}
 use Rattle.sv_dispatch.specs.Did.{seen}
-use Rattle.sv_dispatch.specs.Seen.{chosen_seen}
+use Rattle.sv_site.specs.Seen.{chosen_seen}
 use Rattle.sv_tree.specs.Site.{chosen, name_of}
 use Rattle.sv_tree.specs.Tree.{Tree, Turn}
 use Rattle.sv_dispatch.proofs.Deeds.{Makes}
