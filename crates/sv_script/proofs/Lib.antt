@@ -1,0 +1,3 @@
+mod EscapeLemmas
+mod FieldLemmas
+mod ReadBackLemmas

@@ -1,0 +1,19 @@
+-- The fields of a line: texts with single blanks between them, some of them numbers.
+use Rattle.std.specs.Prelude.{ℕ, ◌+◌, ◌^◌, Bool, ◌==◌, ◌&&◌, nat_lt, List, length, take, drop, position, Option, Some, None, if◌then◌else◌}
+use Rattle.std.specs.Option.{option_map}
+use Rattle.std.specs.Char.{is_ascii_digit}
+use Rattle.std.specs.List.{list_all}
+use Rattle.std.specs.Str.{byte}
+use Rattle.std.specs.Str.Parse.{digits_value}
+
+-- what stands before the first blank and behind it, where there is one
+abbrev pub at_blank : List ℕ → Option (List ℕ × List ℕ)
+at_blank text = option_map (λ place. (take place text, drop (place + 1) text)) (position (λ b. b == byte " ") text)
+
+-- one decimal digit or more, of a number that fits 64 bits
+abbrev pub is_number : List ℕ → Bool
+is_number text = list_all is_ascii_digit text && nat_lt 0 (length text) && nat_lt (digits_value 10 text) (2 ^ 64)
+
+-- the number that the text is
+abbrev pub number : List ℕ → Option ℕ
+number text = if is_number text then Some (digits_value 10 text) else None

@@ -1,0 +1,42 @@
+-- What a line of a script asks for.
+use Rattle.std.specs.Prelude.{ℕ, Bool, true, ◌==◌, List, [], ◌∷◌, codes, Option, Some, None, Result, Ok, if◌then◌else◌}
+use Rattle.std.specs.Option.{option_map, option_and_then, ok_or}
+use Rattle.std.specs.Str.{byte, bytes_eq}
+use Rattle.sv_script.specs.Escape.{unescaped}
+use Rattle.sv_script.specs.Fields.{at_blank, number}
+use Rattle.sv_script.specs.declared.fault.LineFault.{LineFault}
+use Rattle.sv_script.specs.declared.fault.LineFault.TheVariants.{Unreadable, NoMemory}
+use Rattle.sv_script.specs.declared.line.ScriptLine.{ScriptLine}
+use Rattle.sv_script.specs.declared.line.ScriptLine.TheVariants.{Nothing, Open, Send, End, Lost, Tick}
+
+-- an empty line, or a comment
+abbrev pub is_skipped : List ℕ → Bool
+is_skipped [] = true
+is_skipped (b ∷ text) = b == byte "#"
+
+-- a piece for a connection: its number, a blank, and the text of its bytes
+abbrev pub piece : List ℕ → Option ScriptLine
+piece rest = option_and_then (λ cut. option_and_then (λ connection. option_map (Send connection) (unescaped cut.1)) (number cut.0)) (at_blank rest)
+
+-- what a word asks for with what is behind its blank
+abbrev pub asked_by : List ℕ → List ℕ → Option ScriptLine
+asked_by word rest =
+    if bytes_eq word (codes "open") then option_map Open (number rest)
+    else if bytes_eq word (codes "send") then piece rest
+    else if bytes_eq word (codes "end") then option_map End (number rest)
+    else if bytes_eq word (codes "lost") then option_map Lost (number rest)
+    else if bytes_eq word (codes "tick") then option_map Tick (number rest)
+    else None
+
+-- what a line asks for that is not skipped
+abbrev pub spoken : List ℕ → Option ScriptLine
+spoken line = option_and_then (λ cut. asked_by cut.0 cut.1) (at_blank line)
+
+-- what a line asks for
+abbrev pub asked : List ℕ → Result ScriptLine LineFault
+asked line = if is_skipped line then Ok Nothing else ok_or (spoken line) Unreadable
+
+-- the fault, apart from want of memory
+abbrev pub line_fault : LineFault → Option LineFault
+line_fault Unreadable = Some Unreadable
+line_fault NoMemory = None

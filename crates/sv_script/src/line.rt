@@ -1,0 +1,96 @@
+//! What a line of a script asks for.
+
+ghost use Rattle.std.specs.Prelude.{◌≡◌};
+ghost use Rattle.sv_text.specs.Gives.{Gives, GivesAnswer};
+ghost use Rattle.sv_script.specs.Line as spec;
+
+use crate::escape::unescaped;
+use crate::fault::LineFault;
+use crate::fields::{at_blank, number};
+use std::alloc::Global;
+use sv_text::{Bytes, NoMemory};
+
+/// What a line of a script asks for.
+#[derive(Debug, Drop)]
+pub enum ScriptLine {
+    /// Nothing: the line is empty, or a comment, which begins with `#`.
+    Nothing,
+    /// `open C`: a connection of this number opens.
+    Open(u64),
+    /// `send C TEXT`: the bytes of the text, which may be none, arrive on the connection of this number.
+    Send(u64, Bytes),
+    /// `end C`: the peer of the connection of this number ends its stream.
+    End(u64),
+    /// `lost C`: the connection of this number is lost.
+    Lost(u64),
+    /// `tick M`: it is that moment, in seconds since 1970.
+    Tick(u64),
+}
+
+/// What a line asks for, given without its line feed. Its fields stand between single blanks, and a number is one decimal digit or
+/// more, below 2^64; a text is the rest of the line, blanks included.
+///
+/// # Errors
+/// [`LineFault::Unreadable`] where the line has none of the forms, and [`LineFault::NoMemory`].
+pub fn read_line(alloc: Global, line: &[u8]) -> Result<ScriptLine, LineFault>
+    ensures { Gives spec.line_fault result (spec.asked line.now) }
+{
+    if is_skipped(line) {
+        return Ok(ScriptLine::Nothing);
+    }
+    match spoken(alloc, line)? {
+        Some(asked) => Ok(asked),
+        None => Err(LineFault::Unreadable),
+    }
+}
+
+fn is_skipped(line: &[u8]) -> bool
+    ensures { result ≡ spec.is_skipped line.now }
+{
+    match line.first() {
+        Some(first) => *first == b'#',
+        None => true,
+    }
+}
+
+fn spoken(alloc: Global, line: &[u8]) -> Result<Option<ScriptLine>, NoMemory>
+    ensures { GivesAnswer result (spec.spoken line.now) }
+{
+    match at_blank(line) {
+        Some((word, rest)) => asked_by(alloc, word, rest),
+        None => Ok(None),
+    }
+}
+
+fn asked_by(alloc: Global, word: &[u8], rest: &[u8]) -> Result<Option<ScriptLine>, NoMemory>
+    ensures { GivesAnswer result (spec.asked_by word.now rest.now) }
+{
+    if word == b"open".as_slice() {
+        Ok(number(rest).map(ScriptLine::Open))
+    } else if word == b"send".as_slice() {
+        piece(alloc, rest)
+    } else if word == b"end".as_slice() {
+        Ok(number(rest).map(ScriptLine::End))
+    } else if word == b"lost".as_slice() {
+        Ok(number(rest).map(ScriptLine::Lost))
+    } else if word == b"tick".as_slice() {
+        Ok(number(rest).map(ScriptLine::Tick))
+    } else {
+        Ok(None)
+    }
+}
+
+fn piece(alloc: Global, rest: &[u8]) -> Result<Option<ScriptLine>, NoMemory>
+    ensures { GivesAnswer result (spec.piece rest.now) }
+{
+    let Some((connection, text)) = at_blank(rest) else {
+        return Ok(None);
+    };
+    let Some(connection) = number(connection) else {
+        return Ok(None);
+    };
+    let Some(bytes) = unescaped(alloc, text)? else {
+        return Ok(None);
+    };
+    Ok(Some(ScriptLine::Send(connection, bytes)))
+}
