@@ -1,10 +1,9 @@
 -- The text of bytes stands for these bytes.
-use Rattle.std.proofs.Common.{◌≡◌, ℕ, ◌+◌, ◌*◌, ◌/◌, ◌%◌, ◌<◌, ◌⊎◌, Bool, true, false, cond, codes, eqb, List, [], ◌∷◌, ◌++◌, Some, None, Option, refl, sym, ap, ◌∙◌, ⊎_elim, append_assoc, arith}
+use Rattle.std.proofs.Common.{◌≡◌, ℕ, ◌+◌, ◌*◌, ◌/◌, ◌%◌, ◌<◌, Bool, true, false, cond, codes, eqb, List, [], ◌∷◌, ◌++◌, Some, refl, ap, ◌∙◌, ⊎_elim, arith}
 use Rattle.std.proofs.lemmas.Bool.Decides.{eqb_tells, nat_tests}
 use Rattle.std.proofs.lemmas.List.Elements.{All-head, All-tail}
-use Rattle.std.specs.Char.{digit_value, is_digit}
+use Rattle.std.specs.Char.{digit_value}
 use Rattle.std.specs.Fmt.{digit_glyph}
-use Rattle.std.specs.List.{All}
 use Rattle.sv_script.specs.Escape.{byte_text, escaped, hex_byte, hex_digit, hex_text, is_plain, preceded, preceded_by, unescaped}
 use Rattle.sv_script.specs.Laws.{ReadsBack}
 use Rattle.sv_script.proofs.EscapeLemmas.{both_read, digits_first, named_first, plain_first}

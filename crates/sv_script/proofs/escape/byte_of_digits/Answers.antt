@@ -1,6 +1,6 @@
-use Rattle.std.proofs.Common.{◌≡◌, ◌∷◌, ◌∙◌, [], None, Some, ap, sym, arith}
+use Rattle.std.proofs.Common.{◌∷◌, ◌∙◌, ap, sym, arith}
 use Rattle.std.proofs.lemmas.List.{nil_from_length}
-use Rattle.sv_script.specs.Escape.{hex_byte, preceded_by, unescaped}
+use Rattle.sv_script.specs.Escape.{preceded_by, unescaped}
 use Rattle.sv_script.proofs.EscapeLemmas.{both_read, no_digit_behind, no_high, no_low, one_digit_behind, with_digits}
 use Rattle.sv_script.proofs.escape.byte_of_digits.Goals as goal
 

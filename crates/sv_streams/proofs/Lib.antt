@@ -1,0 +1,3 @@
+mod CallLemmas
+mod LineLemmas
+mod ProgressLemmas

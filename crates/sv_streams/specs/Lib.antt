@@ -1,0 +1,5 @@
+pub mod Calls
+pub mod LineSteps
+pub mod Lines
+pub mod Memory
+pub mod Standard

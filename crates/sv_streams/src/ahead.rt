@@ -1,0 +1,99 @@
+//! What was read ahead.
+
+ghost use Rattle.std.specs.Prelude.{◌≡◌, ◌<◌, [], length, vec_items, OnErr};
+ghost use Rattle.sv_streams.specs.Calls.{read_result};
+
+use crate::lines_fault::LinesFault;
+use crate::stream::{ReadFailed, Source};
+use std::alloc::Global;
+use std::marker::Model;
+
+/// As many bytes are asked for at a read.
+const PIECE_BYTES: usize = 8192;
+
+/// Bytes that were read and not yet looked at. Contracts see their list.
+#[derive(Drop)]
+pub(crate) struct Ahead {
+    piece: Vec<u8>,
+    at: usize,
+}
+
+impl Model for Ahead {
+    ghost use Rattle.std.specs.Prelude.{ℕ, List, drop, ◌≤◌, vec_len};
+
+    ghost Value = { List ℕ };
+
+    ghost view = { λ a. drop a.at a.piece.items };
+
+    ghost invariant = { λ a. a.at ≤ vec_len a.piece };
+}
+
+impl Ahead {
+    ghost use Rattle.std.specs.Prelude.{◌≡◌, ◌≤◌, [], length, drop};
+    ghost use Rattle.sv_streams.specs.LineSteps.{Refills};
+
+    /// No bytes.
+    pub fn new(alloc: Global) -> Ahead
+        ensures { result ≡ [] }
+    {
+        Ahead {
+            piece: Vec::new(alloc),
+            at: 0,
+        }
+    }
+
+    /// The bytes.
+    pub fn as_slice(&self) -> &[u8]
+        ensures { result.now ≡ self.now }
+    {
+        self.piece.as_slice().split_at(self.at).1
+    }
+
+    /// Passes over so many bytes.
+    pub fn skip(&mut self, count: usize)
+        requires { count ≤ length self.old }
+        ensures { self.new ≡ drop count self.old }
+    {
+        self.at += count;
+    }
+
+    /// Passes over all bytes.
+    pub fn clear(&mut self)
+        ensures { self.new ≡ [] }
+    {
+        self.piece.clear();
+        self.at = 0;
+    }
+
+    /// Reads once, where all bytes have been passed over.
+    pub fn refill<S: Source>(&mut self, source: &mut S) -> Result<(), LinesFault>
+        requires { self.old ≡ [] }
+        ensures { Refills S.makes source.old result source.new self.new }
+    {
+        self.piece.clear();
+        self.at = 0;
+        self.piece.resize(PIECE_BYTES, 0)?;
+        match read_piece(source, &mut self.piece) {
+            Ok(()) => Ok(()),
+            Err(_) => Err(LinesFault::ReadFailed),
+        }
+    }
+}
+
+// Reads once into a piece, which then holds what came.
+fn read_piece<S: Source>(source: &mut S, piece: &mut Vec<u8>) -> Result<(), ReadFailed>
+    requires { 0 < length (vec_items piece.old) }
+    ensures made { S.makes source.old (read_result result (vec_items piece.new)) source.new }
+    ensures nothing { OnErr result (vec_items piece.new ≡ []) }
+{
+    match source.read(piece.as_mut_slice()) {
+        Ok(count) => {
+            piece.truncate(count);
+            Ok(())
+        }
+        Err(failed) => {
+            piece.clear();
+            Err(failed)
+        }
+    }
+}

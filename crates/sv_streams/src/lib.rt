@@ -1,0 +1,20 @@
+//! Readers, writers and clocks as the container needs them: what their calls did is told to contracts, and they are read and written by
+//! loops of the product's own.
+#![tactic(auto)]
+
+mod ahead;
+mod clock;
+mod line_reader;
+mod lines_fault;
+mod memory_stream;
+mod standard;
+mod stream;
+mod writing;
+
+pub use clock::{Clock, SystemClock};
+pub use line_reader::{LineReader, MAX_READS};
+pub use lines_fault::LinesFault;
+pub use memory_stream::MemoryStream;
+pub use standard::{ReadSource, ReadWriteStream, WriteSink};
+pub use stream::{ReadFailed, Sink, Source, Stream, WriteFailed};
+pub use writing::write_all;
