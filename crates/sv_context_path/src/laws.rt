@@ -1,6 +1,6 @@
 //! Laws of the choice of a context, each the contract of a function that does nothing.
 
-ghost use Rattle.sv_explain.specs.Context.{IsFoundWhereServed, IsUnique};
+ghost use Rattle.sv_context_path.specs.Chosen.{IsFoundWhereServed, IsUnique};
 
 /// Of the context paths of a list the chosen ones for a path are equal.
 pub fn the_chosen_context_path_is_unique()

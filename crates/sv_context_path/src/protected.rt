@@ -3,7 +3,7 @@
 ghost use Rattle.std.specs.Prelude.{◌≡◌};
 ghost use Rattle.std.specs.List.{after_first, before_first};
 ghost use Rattle.sv_mapping.specs.Pattern.{is_slash};
-ghost use Rattle.sv_explain.specs.Protected.{is_protected};
+ghost use Rattle.sv_context_path.specs.Protected.{is_protected};
 
 /// Whether the first segment of a path within a context names a folder that is served to no client, in letters of either
 /// case.

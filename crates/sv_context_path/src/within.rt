@@ -2,7 +2,7 @@
 
 ghost use Rattle.std.specs.Prelude.{◌≡◌, IsTrue};
 ghost use Rattle.sv_mapping.specs.Pattern.{is_at_or_below};
-ghost use Rattle.sv_explain.specs.ContextPath.{path_within};
+ghost use Rattle.sv_context_path.specs.Within.{path_within};
 
 /// The path within a context that serves it: what follows the context path, and `/` where nothing does.
 pub fn path_within<'a>(context: &str, path: &'a str) -> &'a str
