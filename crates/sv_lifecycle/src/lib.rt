@@ -14,6 +14,7 @@ mod session_ends;
 mod start;
 mod start_fault;
 
+pub use fit::fits;
 pub use live::Live;
 pub use parts::Parts;
 pub use start_fault::{StartCode, StartFault};
