@@ -1,134 +1,36 @@
--- The longest context path that leads to a path.
-use Rattle.std.proofs.Common.{◌≡◌, ℕ, ◌<◌, ◌+◌, Bool, true, false, cond, ◌&&◌, ◌||◌, not, List, [], ◌∷◌, length, map, take, get_or, ltb, refl, sym, ◌∙◌, ap, arith, inl, inr, Option, Some, None, IsTrue, IfSome, Bor}
-use Rattle.std.specs.List.{Contains, list_any, find}
-use Rattle.std.specs.Option.{option_copied}
-use Rattle.std.proofs.lemmas.Bool.Decides.{nat_tests}
-use Rattle.std.proofs.lemmas.Bool.{and_from, and_parts, both_ways, cases_Bool, false_from_ne_true, le-ltb, ltb-false, not-true, not_from_false, or_cases, or_left, or_right}
-use Rattle.std.proofs.lemmas.List.Folds.{list_any-from_Any, list_any_more}
-use Rattle.std.proofs.Math.Bool.{or_comm, or-false}
+-- The context at the place that was chosen.
+use Rattle.std.proofs.Common.{◌≡◌, ℕ, ◌<◌, Bool, true, false, List, length, map, ltb, sym, ◌∙◌, ap, inl, inr, Option, Some, None, IsTrue, IfSome, Bor, get_or, refl}
+use Rattle.std.specs.Prelude.{is_some}
+use Rattle.std.specs.List.{find, position, position_or_len, slice_get}
+use Rattle.std.specs.Option.{option_and_then, option_copied}
+use Rattle.std.proofs.lemmas.Bool.{both_ways, cases_Bool, lt-ltb, ltb-false}
+use Rattle.std.proofs.lemmas.List.Folds.{find_at}
+use Rattle.std.proofs.lemmas.Option.{slice_get-get_or, slice_get_past}
+use Rattle.sv_context_path.specs.Chosen.{is_chosen}
 use Rattle.sv_mapping.specs.Pattern.{is_at_or_below}
-use Rattle.sv_explain.specs.Context.{context_of, context_paths, is_chosen}
+use Rattle.sv_explain.specs.Context.{context_of, context_paths}
 use Rattle.sv_explain.specs.declared.context.ContextPolicy.{ContextPolicy}
-use Rattle.sv_explain.proofs.Texts.{below_front}
 
--- no context path of the list that leads to the path is longer than a chosen one
-not_longer : (contexts : List (List ℕ)) (path a b : List ℕ) → Contains contexts b → is_at_or_below b path ≡ true → is_chosen contexts path a ≡ true → ltb (length a) (length b) ≡ false
-not_longer contexts path a b member serves chosen =
-    elim (cases_Bool (ltb (length a) (length b))) [
-      | inr e ↦ e
-      | inl e ↦
-          let found = list_any-from_Any (λ other. is_at_or_below other path && ltb (length a) (length other)) contexts (member.0, b, member.1, member.2, and_from _ _ serves e) in
-          absurd (both_ways _ (not-true _ (and_parts (is_at_or_below a path) _ chosen).1) found)
-    ]
+abbrev chosen_place : List ContextPolicy → List ℕ → Option ℕ
+chosen_place contexts path = position (λ context. is_chosen (context_paths contexts) path context.path) contexts
 
-pub chosen_equal : (contexts : List (List ℕ)) (path a b : List ℕ) → Contains contexts a → Contains contexts b → is_chosen contexts path a ≡ true → is_chosen contexts path b ≡ true → a ≡ b
-chosen_equal contexts path a b a_in b_in a_chosen b_chosen =
-    let a_serves = (and_parts (is_at_or_below a path) _ a_chosen).0 in
-    let b_serves = (and_parts (is_at_or_below b path) _ b_chosen).0 in
-    let over = ltb-false _ _ (not_longer contexts path a b b_in b_serves a_chosen) in
-    let under = ltb-false _ _ (not_longer contexts path b a a_in a_serves b_chosen) in
-    let same : length a ≡ length b = omega (arith, over, under) in
-    sym (below_front a path a_serves) ∙ (ap (λ n. take n path) same ∙ below_front b path b_serves)
+at_place : {X : Type 0} (t : X → Bool) (xs : List X) → option_and_then (λ i. slice_get xs i) (position t xs) ≡ find t xs
+at_place t xs =
+    elim (cases_Bool (ltb (position_or_len t xs) (length xs))) [ inl e ↦ rw e (sym (find_at t xs)) | inr e ↦ rw e (sym (find_at t xs ∙ slice_get_past xs _ (ltb-false _ _ e))) ]
 
--- ---- the longest
-longer_of_two : (len longest other : ℕ) → (ltb len longest || ltb len other) ≡ ltb len (cond (ltb longest other) other longest)
-longer_of_two len longest other =
-    elim (cases_Bool (ltb longest other)) [ inl e ↦ rw e (grind (arith, nat_tests, e)) | inr e ↦ rw e (grind (arith, nat_tests, e)) ]
+pub found_by_place : (contexts : List ContextPolicy) (path : List ℕ) (place : Option ℕ) → place ≡ chosen_place contexts path
+    → option_and_then (λ i. slice_get contexts i) place ≡ context_of contexts path
+found_by_place contexts path place at = ap (option_and_then (λ i. slice_get contexts i)) at ∙ at_place (λ context. is_chosen (context_paths contexts) path context.path) contexts
 
-next_longest : (len longest other : ℕ) (serves : Bool)
-    → (ltb len longest || (serves && ltb len other)) ≡ ltb len (cond (serves && ltb longest other) other longest)
-next_longest len longest other true = longer_of_two len longest other
-next_longest len longest other false = or-false (ltb len longest)
+pub serves_by_place : (contexts : List ContextPolicy) (path : List ℕ) (place : ℕ) (got : Option (Bor ContextPolicy)) → option_copied got ≡ slice_get contexts place
+    → ((context : ContextPolicy) → slice_get contexts place ≡ Some context → IsTrue (is_at_or_below context.path path))
+    → IfSome got (λ context. IsTrue (is_at_or_below context.now.path path))
+serves_by_place contexts path place None same serves = tt
+serves_by_place contexts path place (Some context) same serves = serves context.now (sym same)
 
--- one context more
-pub longest_more : (contexts : List ContextPolicy) (path : List ℕ) (i : ℕ) (context : ContextPolicy) (longest : ℕ) (taken : Bool)
-    → i < length contexts → context ≡ get_or contexts i context → taken ≡ (is_at_or_below context.path path && ltb longest (length context.path))
-    → ((len : ℕ) → list_any (λ context. is_at_or_below context.path path && ltb len (length context.path)) (take i contexts) ≡ ltb len longest)
-    → (len : ℕ) → list_any (λ context. is_at_or_below context.path path && ltb len (length context.path)) (take (i + 1) contexts) ≡ ltb len (cond taken (length context.path) longest)
-longest_more contexts path i context longest taken within at takes known len =
-    list_any_more (λ context. is_at_or_below context.path path && ltb len (length context.path)) contexts i context within
-    ∙ rw (known len, ← at, takes) (next_longest len longest (length context.path) (is_at_or_below context.path path))
-
-list_any-map : {X Y : Type 0} (test : Y → Bool) (f : X → Y) (xs : List X) → list_any test (map f xs) ≡ list_any (λ x. test (f x)) xs
-list_any-map test f [] = refl
-list_any-map test f (x ∷ xs) = ap (λ rest. test (f x) || rest) (list_any-map test f xs)
-
--- what is found passes the test
-found_passes : {X : Type 0} (test : X → Bool) (xs : List X) (x : X) → find test xs ≡ Some x → test x ≡ true
-found_passes test [] x h = cc
-found_passes test (y ∷ ys) x h = elim (cases_Bool (test y)) [ inl e ↦ cc | inr e ↦ found_passes test ys x (rw e at h) ]
-
-found_serves : (contexts : List ContextPolicy) (path : List ℕ) (context : ContextPolicy) → context_of contexts path ≡ Some context → is_at_or_below context.path path ≡ true
-found_serves contexts path context found =
-    (and_parts (is_at_or_below context.path path) _ (found_passes (λ context. is_chosen (context_paths contexts) path context.path) contexts context found)).0
-
-pub reference_serves : (contexts : List ContextPolicy) (path : List ℕ) (found : Option (Bor ContextPolicy)) → option_copied found ≡ context_of contexts path
-    → IfSome found (λ context. IsTrue (is_at_or_below context.now.path path))
-reference_serves contexts path None h = tt
-reference_serves contexts path (Some context) h = found_serves contexts path context.now (sym h)
-
--- the test of the code is that of the definition, where `longest` is the length of the longest
-pub found_by_longest : (contexts : List ContextPolicy) (path : List ℕ) (longest : ℕ)
-    → ((len : ℕ) → list_any (λ context. is_at_or_below context.path path && ltb len (length context.path)) contexts ≡ ltb len longest)
-    → find (λ context. is_at_or_below context.path path && not (ltb (length context.path) longest)) contexts ≡ context_of contexts path
-found_by_longest contexts path longest known = ap (λ test. find test contexts) (λ i context. same context i)
-  where
-    longer : (len : ℕ) → list_any (λ other. is_at_or_below other path && ltb len (length other)) (context_paths contexts) ≡ ltb len longest
-    longer len = list_any-map _ (λ context. context.path) contexts ∙ known len
-
-    same : (context : ContextPolicy) → (is_at_or_below context.path path && not (ltb (length context.path) longest)) ≡ is_chosen (context_paths contexts) path context.path
-    same context = rw (longer (length context.path)) refl
-
--- ---- there is a chosen one where one serves
-weaken : {X : Type 0} (t u : X → Bool) → ((x : X) → t x ≡ true → u x ≡ true) → (xs : List X) → list_any t xs ≡ true → list_any u xs ≡ true
-weaken t u weaker [] h = cc
-weaken t u weaker (x ∷ xs) h = elim (or_cases (t x) (list_any t xs) h) [ inl e ↦ or_left _ _ (weaker x e) | inr e ↦ or_right _ _ (weaken t u weaker xs e) ]
-
-module _ (path : List ℕ) where
-  abbrev serves : List ℕ → Bool
-  serves context = is_at_or_below context path
-
-  longest_of : List (List ℕ) → ℕ
-  longest_of [] = 0
-  longest_of (context ∷ rest) = cond (serves context && ltb (longest_of rest) (length context)) (length context) (longest_of rest)
-
-  longer_than : (len : ℕ) (contexts : List (List ℕ)) → list_any (λ other. serves other && ltb len (length other)) contexts ≡ ltb len (longest_of contexts)
-  unfolding longest_of
-  longer_than len [] = sym (le-ltb len 0 (omega arith))
-  longer_than len (context ∷ rest) =
-      rw (longer_than len rest) (or_comm (serves context && ltb len (length context)) (ltb len (longest_of rest)) ∙ next_longest len (longest_of rest) (length context) (serves context))
-
-  abbrev reaches : ℕ → List ℕ → Bool
-  reaches longest context = serves context && not (ltb (length context) longest)
-
-  -- the front context, and the length of the longest behind it
-  attained_at : (context : List ℕ) (rest : List (List ℕ)) (longest : ℕ) (here longer : Bool) → here ≡ serves context → longer ≡ ltb longest (length context)
-      → (list_any serves rest ≡ true → list_any (reaches longest) rest ≡ true) → (ltb (length context) longest ≡ true → list_any serves rest ≡ true)
-      → (here || list_any serves rest) ≡ true
-      → (reaches (cond (here && longer) (length context) longest) context || list_any (reaches (cond (here && longer) (length context) longest)) rest) ≡ true
-  attained_at context rest longest false longer e f behind some h = or_right _ _ (behind h)
-  attained_at context rest longest true true e f behind some h =
-      or_left _ _ (and_from _ _ (sym e) (not_from_false _ (le-ltb (length context) (length context) (omega arith))))
-  attained_at context rest longest true false e f behind some h =
-      elim (cases_Bool (ltb (length context) longest)) [
-        | inl below ↦ or_right _ _ (behind (some below))
-        | inr reached ↦ or_left _ _ (and_from _ _ (sym e) (not_from_false _ reached))
-      ]
-
-  attained : (contexts : List (List ℕ)) → list_any serves contexts ≡ true → list_any (reaches (longest_of contexts)) contexts ≡ true
-  unfolding longest_of
-  attained [] h = cc
-  attained (context ∷ rest) h =
-      attained_at context rest (longest_of rest) _ _ refl refl (attained rest)
-      (λ below. weaken (λ other. serves other && ltb (length context) (length other)) serves (λ other e. (and_parts _ _ e).0) rest (longer_than (length context) rest ∙ below))
-      h
-
-pub chosen_where_served : (contexts : List (List ℕ)) (path : List ℕ) → list_any (is_chosen contexts path) contexts ≡ list_any (λ context. is_at_or_below context path) contexts
-chosen_where_served contexts path =
-    elim (cases_Bool (list_any (λ context. is_at_or_below context path) contexts)) [
-      | inl e ↦ ap (λ test. list_any test contexts) (λ i context. same context i) ∙ attained path contexts e ∙ sym e
-      | inr e ↦ false_from_ne_true _ (λ h. both_ways _ e (weaken (is_chosen contexts path) (λ context. is_at_or_below context path) (λ context f. (and_parts _ _ f).0) contexts h)) ∙ sym e
-    ]
-  where
-    same : (context : List ℕ) → is_chosen contexts path context ≡ (is_at_or_below context path && not (ltb (length context) (longest_of path contexts)))
-    same context = rw (longer_than path (length context) contexts) refl
+-- what is got of a place that is there
+pub got : (contexts : List ContextPolicy) (place : ℕ) (found : Option (Bor ContextPolicy)) → place < length contexts
+    → is_some found ≡ ltb place (length contexts) → IfSome found (λ context. context.now ≡ get_or contexts place context.now)
+    → option_copied found ≡ slice_get contexts place
+got contexts place None within some is = absurd (both_ways _ (sym some) (lt-ltb _ _ within))
+got contexts place (Some context) within some is = ap Some is ∙ sym (slice_get-get_or contexts place context.now within)

@@ -1,13 +1,7 @@
--- Jakarta Servlet 6.0, section 12.1: the context of a request has the longest context path that matches the start of its path.
-use Rattle.std.specs.Prelude.{◌≡◌, ℕ, Bool, ◌&&◌, not, nat_lt, List, length, map, find, Option, IsTrue, Contains}
-use Rattle.std.specs.List.{list_any}
-use Rattle.sv_mapping.specs.Pattern.{is_at_or_below}
+-- Jakarta Servlet 6.0, section 12.1: the context of a request.
+use Rattle.std.specs.Prelude.{ℕ, List, map, find, Option}
+use Rattle.sv_context_path.specs.Chosen.{is_chosen}
 use Rattle.sv_explain.specs.declared.context.ContextPolicy.{ContextPolicy}
-
--- the path is the context path or lies below it, and so it is with no longer context path of the list
-abbrev pub is_chosen : List (List ℕ) → List ℕ → List ℕ → Bool
-is_chosen contexts path context =
-    is_at_or_below context path && not (list_any (λ other. is_at_or_below other path && nat_lt (length context) (length other)) contexts)
 
 abbrev pub context_paths : List ContextPolicy → List (List ℕ)
 context_paths contexts = map (λ context. context.path) contexts
@@ -15,13 +9,3 @@ context_paths contexts = map (λ context. context.path) contexts
 -- the first context with the chosen context path
 abbrev pub context_of : List ContextPolicy → List ℕ → Option ContextPolicy
 context_of contexts path = find (λ context. is_chosen (context_paths contexts) path context.path) contexts
-
--- the chosen context paths of a list are equal
-abbrev pub IsUnique : Type 0
-IsUnique = (contexts : List (List ℕ)) (path a b : List ℕ) → Contains contexts a → Contains contexts b
-    → IsTrue (is_chosen contexts path a) → IsTrue (is_chosen contexts path b) → a ≡ b
-
--- there is a chosen one exactly where some context path is the path or lies above it
-abbrev pub IsFoundWhereServed : Type 0
-IsFoundWhereServed = (contexts : List (List ℕ)) (path : List ℕ)
-    → list_any (is_chosen contexts path) contexts ≡ list_any (λ context. is_at_or_below context path) contexts

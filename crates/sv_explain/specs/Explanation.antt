@@ -12,8 +12,8 @@ use Rattle.sv_realm.specs.declared.caller.Caller.{Caller}
 use Rattle.sv_realm.specs.declared.user.User.{User}
 use Rattle.sv_constraints.specs.Verdict.{verdict}
 use Rattle.sv_explain.specs.Context.{context_of}
-use Rattle.sv_explain.specs.ContextPath.{path_within}
-use Rattle.sv_explain.specs.Protected.{is_protected}
+use Rattle.sv_context_path.specs.Within.{path_within}
+use Rattle.sv_context_path.specs.Protected.{is_protected}
 use Rattle.sv_explain.specs.declared.context.ContextPolicy.{ContextPolicy}
 use Rattle.sv_explain.specs.declared.explanation.Explanation.{Explanation}
 use Rattle.sv_explain.specs.declared.explanation.Explanation.TheVariants.{Refused, Hidden, Decided}

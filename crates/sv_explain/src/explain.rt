@@ -8,12 +8,11 @@ ghost use Rattle.sv_explain.specs.Explanation as spec;
 ghost use Rattle.sv_explain.specs.Fault.{explain_fault};
 
 use crate::context::{ContextPolicy, context_of};
-use crate::context_path::path_within;
 use crate::explanation::{Explanation, HiddenCause};
 use crate::fault::ExplainFault;
-use crate::protected::is_protected;
 use std::alloc::Global;
 use sv_constraints::{OwnedDecision, decide_plain};
+use sv_context_path::{is_protected, path_within};
 use sv_realm::{Caller, Realm};
 use sv_text::{NoMemory, Text};
 use sv_uri::canon;

@@ -3,15 +3,11 @@
 #![tactic(auto)]
 
 mod context;
-mod context_path;
 mod explain;
 mod explanation;
 mod fault;
-mod laws;
-mod protected;
 
 pub use context::ContextPolicy;
 pub use explain::explain_parts;
 pub use explanation::{Explanation, HiddenCause};
 pub use fault::ExplainFault;
-pub use laws::{a_context_is_found_where_one_serves, the_chosen_context_path_is_unique};

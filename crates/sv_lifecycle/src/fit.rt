@@ -8,8 +8,9 @@ use sv_component::Named;
 use sv_descriptor::WebApp;
 use sv_schema::Named as Declared;
 
-/// Whether the servlets and filters have the descriptor's names in its order, and there are as many listeners as it declares.
-pub(crate) fn fits<S, F, L>(app: &WebApp, parts: &Parts<S, F, L>) -> bool
+/// Whether the servlets and filters have the descriptor's names in its order, and there are as many listeners as it declares. Components
+/// that do not are refused by [`Live::start`](crate::Live::start) before anything else.
+pub fn fits<S, F, L>(app: &WebApp, parts: &Parts<S, F, L>) -> bool
     ensures { MatchBool result (Fits app.now parts.now) (Fits app.now parts.now → ⊥) }
 {
     names_fit(app.servlets.as_slice(), parts.servlets.as_slice())

@@ -15,6 +15,7 @@ mod session_ends;
 mod start;
 mod start_fault;
 
+pub use fit::fits;
 pub use laws::{stops_mirror_starts, undone_starts_mirror};
 pub use live::Live;
 pub use parts::Parts;

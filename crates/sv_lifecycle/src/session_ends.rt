@@ -6,13 +6,34 @@ ghost use Rattle.sv_component.specs.Runs.{Grows};
 ghost use Rattle.sv_listeners.specs.Telling.{then_all};
 ghost use Rattle.sv_session.specs.Calls.{ended};
 ghost use Rattle.sv_lifecycle.specs.SessionEnds.{all_told, by_number, end_events, ends_told};
+ghost use Rattle.sv_lifecycle.specs.Calling.{StandsAsBefore};
+ghost use Rattle.sv_lifecycle.specs.Standing.{live_world};
 ghost use Rattle.sv_lifecycle.specs.World.{HasSameCounts, world};
 
+use crate::live::Live;
 use crate::parts::Parts;
 use std::alloc::Global;
 use sv_component::{Event, Filter, Listener, Servlet};
 use sv_journal::Journal;
 use sv_session::{Attribute, EndedSession, Sessions};
+
+impl<S: Servlet, F: Filter, L: Listener> Live<S, F, L> {
+    /// Has the listeners hear that a session has ended, and then that each of its attributes has gone, in the order in which they were first
+    /// set (Jakarta Servlet 6.0, sections 7.5 and 11.3.4).
+    pub fn tell_end(&mut self, alloc: Global, session: EndedSession, journal: &mut Journal)
+        ensures made { Grows S.servlet_step F.filter_step L.listener_step
+            (live_world self.old journal.old) (then_all (all_told (end_events session) (length self.old.parts.listeners.items))) (live_world self.new journal.new) }
+        ensures stands { StandsAsBefore self.old self.new }
+    {
+        tell_end(
+            alloc,
+            self.context.as_str(),
+            &mut self.parts,
+            session,
+            journal,
+        );
+    }
+}
 
 /// Ends all sessions in the order of their numbers, and has the listeners hear of each.
 pub(crate) fn end_sessions<S: Servlet, F: Filter, L: Listener>(

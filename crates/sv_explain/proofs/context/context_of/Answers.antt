@@ -1,9 +1,17 @@
-use Rattle.std.proofs.Common.{◌∙◌}
-use Rattle.sv_explain.proofs.Contexts.{found_by_longest, reference_serves}
+use Rattle.std.proofs.Common.{Some, None, sym, ◌∙◌}
+use Rattle.sv_explain.proofs.Contexts.{found_by_place, got, serves_by_place}
 use Rattle.sv_explain.proofs.context.context_of.Goals as goal
 
-pub returns-clause-chosen : goal.returns-clause-chosen
-returns-clause-chosen c = c.first_as_long.ensures ∙ found_by_longest c.args.contexts.now c.args.path.now c.longest_path.result c.longest_path.ensures
+pub returns-in-Some-clause-chosen : goal.returns-in-Some-clause-chosen
+returns-in-Some-clause-chosen c =
+    got c.args.contexts.now c.in-Some.place c.get.result c.in-Some.ensures.bound c.get.ensures.lookup.0 c.get.ensures.lookup.1
+    ∙ found_by_place c.args.contexts.now c.args.path.now (Some c.in-Some.place) (sym c.in-Some.is ∙ c.context_place.ensures.chosen)
 
-pub returns-clause-above : goal.returns-clause-above
-returns-clause-above c = reference_serves c.args.contexts.now c.args.path.now c.first_as_long.result (c.first_as_long.ensures ∙ found_by_longest c.args.contexts.now c.args.path.now c.longest_path.result c.longest_path.ensures)
+pub returns-in-Some-clause-above : goal.returns-in-Some-clause-above
+returns-in-Some-clause-above c =
+    serves_by_place c.args.contexts.now c.args.path.now c.in-Some.place c.get.result
+    (got c.args.contexts.now c.in-Some.place c.get.result c.in-Some.ensures.bound c.get.ensures.lookup.0 c.get.ensures.lookup.1) c.in-Some.ensures.above
+
+pub returns-in-None-clause-chosen : goal.returns-in-None-clause-chosen
+returns-in-None-clause-chosen c =
+    found_by_place c.args.contexts.now c.args.path.now None (sym c.in-None.is ∙ c.context_place.ensures.chosen)

@@ -1,0 +1,99 @@
+-- A deployment and its end.
+use Rattle.std.proofs.Common.{◌≡◌, ℕ, Bool, true, false, List, [], length, refl, sym, ap, subst, inl, None, Result, Ok, Err}
+use Rattle.std.specs.Prelude.{MatchBool}
+use Rattle.sv_component.specs.Call.{Call}
+use Rattle.sv_component.specs.Runs.{Grows}
+use Rattle.sv_descriptor.specs.declared.web_app.WebApp.{WebApp}
+use Rattle.sv_files.specs.declared.file.File.{File}
+use Rattle.sv_journal.specs.Journal.{JournalState}
+use Rattle.sv_lifecycle.specs.Calls.{stop_calls}
+use Rattle.sv_lifecycle.specs.Fit.{Fits}
+use Rattle.sv_lifecycle.specs.Starting.{Refuses}
+use Rattle.sv_lifecycle.specs.Standing as standing
+use Rattle.sv_lifecycle.specs.Standing.{LiveState, live_world}
+use Rattle.sv_lifecycle.specs.World.{world}
+use Rattle.sv_lifecycle.specs.declared.parts.Parts.{Parts}
+use Rattle.sv_lifecycle.specs.declared.start_fault.StartCode.{StartCode}
+use Rattle.sv_lifecycle.specs.declared.start_fault.StartCode.TheVariants.{NoMemory, PartsMismatch}
+use Rattle.sv_lifecycle.specs.declared.start_fault.StartFault.{StartFault}
+use Rattle.sv_listeners.specs.Telling.{then_all}
+use Rattle.sv_realm.specs.declared.user.User.{User}
+use Rattle.sv_session.specs.Store.{Store}
+use Rattle.sv_site.specs.Site.{Content}
+use Rattle.sv_context.specs.Deployment.{Deploys, Undeploys, content_of, deployed, no_sessions}
+use Rattle.sv_context.specs.State.{AreComponentsOf, context_of, in_service, world_of}
+use Rattle.sv_context.specs.declared.deployment.Deployment.{Deployment}
+use Rattle.sv_context.proofs.Expiries.{grows_nothing, world_same}
+
+-- the start stands
+pub deployed_so : {S F L : Type 0} (deployment : Deployment S F L) (started : Result (LiveState S F L) (StartFault S F L)) (live : LiveState S F L)
+    (content : Content) (users : List User) (store : Store)
+    → started ≡ Ok live → content ≡ content_of deployment → users ≡ deployment.users → store ≡ no_sessions deployment.descriptor
+    → Ok (context_of content users live store) ≡ deployed deployment started
+deployed_so deployment started live content users store is its_content its_users its_store = rw (is, its_content, its_users, its_store) refl
+
+-- the start is refused
+pub refused_so : {S F L : Type 0} (deployment : Deployment S F L) (started : Result (LiveState S F L) (StartFault S F L)) (fault : StartFault S F L)
+    → started ≡ Err fault → Err (record { fault = fault.code; deployment = record deployment { parts = fault.parts } }) ≡ deployed deployment started
+refused_so deployment started fault is = rw is refl
+
+module _ {S F L : Type 0} (ss : S → Call → S → Type 0) (fs : F → Call → F → Type 0) (ls : L → Call → L → Type 0) where
+  -- the stop of the started components is that of the context
+  pub stopped_so : (content : Content) (users : List User) (live : LiveState S F L) (store : Store) (parts : Parts S F L) (noted noted_after : JournalState)
+      → AreComponentsOf content live
+      → Grows ss fs ls (live_world live noted) (then_all (stop_calls (length live.parts.listeners.items) (standing.in_service live) store.sessions)) (world live.context parts noted_after)
+      → Grows ss fs ls (world_of (context_of content users live store) noted)
+      (then_all (stop_calls (length live.parts.listeners.items) (in_service (context_of content users live store)) store.sessions)) (world content.context_path parts noted_after)
+  stopped_so content users live store parts noted noted_after components stops =
+      subst (λ from. Grows ss fs ls from (then_all (stop_calls (length live.parts.listeners.items) (standing.in_service live) store.sessions)) (world content.context_path parts noted_after))
+      (world_same content users live store noted components)
+      (subst (λ path. Grows ss fs ls (live_world live noted) (then_all (stop_calls (length live.parts.listeners.items) (standing.in_service live) store.sessions)) (world path parts noted_after))
+      components.context stops)
+
+  -- a deployment whose start began nothing
+  undone : (deployment : Deployment S F L) (code : StartCode) (journal : JournalState)
+      → Refuses deployment.descriptor deployment.parts (record { order = []; begun = []; stopper = None; calls = [] }) code journal
+      → Deploys ss fs ls deployment journal (Err (record { fault = code; deployment = deployment })) journal
+  undone deployment code journal means = record {
+    started = Err (record { code = code; parts = deployment.parts });
+    starts = record {
+      attempt = record { order = []; begun = []; stopper = None; calls = [] };
+      made = grows_nothing ss fs ls (world deployment.path deployment.parts journal);
+      means = means;
+    };
+    is = refl;
+  }
+
+  -- components that are the descriptor's, and want of memory
+  pub no_memory_so : (deployment : Deployment S F L) (app : WebApp) (tested : Bool) (code : StartCode) (journal : JournalState)
+      → app ≡ deployment.descriptor → MatchBool tested (Fits app deployment.parts) (Fits app deployment.parts → ⊥) → tested ≡ true → code ≡ NoMemory
+      → Deploys ss fs ls deployment journal (Err (record { fault = code; deployment = deployment })) journal
+  no_memory_so deployment app false code journal same fits is its_code = cc
+  no_memory_so deployment app true code journal same fits is its_code =
+      subst (λ code. Deploys ss fs ls deployment journal (Err (record { fault = code; deployment = deployment })) journal) (sym its_code)
+      (undone deployment NoMemory journal (subst (λ app. Fits app deployment.parts) same fits, inl refl))
+
+  -- components that are not
+  pub mismatch_so : (deployment : Deployment S F L) (app : WebApp) (tested : Bool) (code : StartCode) (journal : JournalState)
+      → app ≡ deployment.descriptor → MatchBool tested (Fits app deployment.parts) (Fits app deployment.parts → ⊥) → tested ≡ false → code ≡ PartsMismatch
+      → Deploys ss fs ls deployment journal (Err (record { fault = code; deployment = deployment })) journal
+  mismatch_so deployment app true code journal same fits is its_code = cc
+  mismatch_so deployment app false code journal same fits is its_code =
+      subst (λ code. Deploys ss fs ls deployment journal (Err (record { fault = code; deployment = deployment })) journal) (sym its_code)
+      (undone deployment PartsMismatch journal (subst (λ app. Fits app deployment.parts → ⊥) same fits, refl))
+
+  -- what is handed back
+  pub undeployed_so : (content : Content) (users : List User) (live : LiveState S F L) (store : Store) (parts : Parts S F L) (noted noted_after : JournalState)
+      (path : List ℕ) (app : WebApp) (files : List File)
+      → AreComponentsOf content live → record { context_path = path; app = app; files = files } ≡ content
+      → Grows ss fs ls (live_world live noted) (then_all (stop_calls (length live.parts.listeners.items) (standing.in_service live) store.sessions)) (world live.context parts noted_after)
+      → Undeploys ss fs ls (context_of content users live store) noted (record { path = path; descriptor = app; files = files; users = users; parts = parts }) noted_after
+  undeployed_so content users live store parts noted noted_after path app files components same stops = record {
+    stops =
+        subst (λ path. Grows ss fs ls (world_of (context_of content users live store) noted)
+        (then_all (stop_calls (length live.parts.listeners.items) (in_service (context_of content users live store)) store.sessions)) (world path parts noted_after))
+        (sym (ap (λ (its : Content). its.context_path) same))
+        (stopped_so content users live store parts noted noted_after components stops);
+    content = same;
+    users = refl;
+  }

@@ -1,0 +1,2 @@
+pub mod Deployments
+pub mod Expiries

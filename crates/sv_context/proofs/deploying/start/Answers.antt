@@ -1,0 +1,19 @@
+use Rattle.std.proofs.Common.{refl, subst}
+use Rattle.sv_lifecycle.specs.Starting.{Starts}
+use Rattle.sv_context.proofs.Deployments.{deployed_so, refused_so}
+use Rattle.sv_context.proofs.deploying.start.Goals as goal
+
+pub returns-in-Ok : goal.returns-in-Ok
+returns-in-Ok g c = record {
+  started = c.start.result;
+  starts = rw c.as_str.ensures at c.start.ensures;
+  is = deployed_so c.args.deployment c.start.result c.in-Ok.live c.new-site.result c.args.deployment.users c.no_sessions-sessions.result
+      c.in-Ok.is c.new-site.ensures refl c.no_sessions-sessions.ensures;
+}
+
+pub returns-in-Err : goal.returns-in-Err
+returns-in-Err g c = record {
+  started = c.start.result;
+  starts = rw c.as_str.ensures at c.start.ensures;
+  is = refused_so c.args.deployment c.start.result c.in-Err.field-0 c.in-Err.is;
+}

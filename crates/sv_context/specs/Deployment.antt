@@ -1,0 +1,44 @@
+-- The start and the stop of a context (Jakarta Servlet 6.0, sections 2.3, 7.5, 10.12 and 11.3).
+use Rattle.std.specs.Prelude.{◌≡◌, ℕ, ◌*◌, length, Result, Ok, Err}
+use Rattle.sv_component.specs.Call.{Call}
+use Rattle.sv_component.specs.Runs.{Grows}
+use Rattle.sv_descriptor.specs.declared.web_app.WebApp.{WebApp}
+use Rattle.sv_journal.specs.Journal.{JournalState}
+use Rattle.sv_lifecycle.specs.Calls.{stop_calls}
+use Rattle.sv_lifecycle.specs.Standing.{LiveState}
+use Rattle.sv_lifecycle.specs.Starting.{Starts}
+use Rattle.sv_lifecycle.specs.World.{world}
+use Rattle.sv_lifecycle.specs.declared.start_fault.StartFault.{StartFault}
+use Rattle.sv_listeners.specs.Telling.{then_all}
+use Rattle.sv_session.specs.Store.{Store, empty_store}
+use Rattle.sv_site.specs.Site.{Content}
+use Rattle.sv_context.specs.State.{ContextState, context_of, in_service, world_of}
+use Rattle.sv_context.specs.declared.deployment.DeployFault.{DeployFault}
+use Rattle.sv_context.specs.declared.deployment.Deployment.{Deployment}
+use Rattle.sv_context.specs.declared.limits.TheConstants.{MAX_SESSIONS, SECONDS_OF_MINUTE}
+
+abbrev pub content_of : {S F L : Type 0} → Deployment S F L → Content
+content_of deployment = record { context_path = deployment.path; app = deployment.descriptor; files = deployment.files }
+
+-- no session yet; one lives as long without a request as the descriptor says, which counts in minutes
+abbrev pub no_sessions : WebApp → Store
+no_sessions app = empty_store MAX_SESSIONS (app.session.timeout * SECONDS_OF_MINUTE)
+
+-- the context whose components were started, or the deployment, whose components are as the calls of the start left them
+abbrev pub deployed : {S F L : Type 0} → Deployment S F L → Result (LiveState S F L) (StartFault S F L) → Result (ContextState S F L) (DeployFault S F L)
+deployed deployment (Ok live) = Ok (context_of (content_of deployment) deployment.users live (no_sessions deployment.descriptor))
+deployed deployment (Err fault) = Err record { fault = fault.code; deployment = record deployment { parts = fault.parts } }
+
+module _ {S F L : Type 0} (servlet_step : S → Call → S → Type 0) (filter_step : F → Call → F → Type 0) (listener_step : L → Call → L → Type 0) where
+  -- the components of a deployment are started
+  pub record Deploys (deployment : Deployment S F L) (before : JournalState) (result : Result (ContextState S F L) (DeployFault S F L)) (after : JournalState) : Type 0 where
+    pub started : Result (LiveState S F L) (StartFault S F L)
+    pub starts : Starts servlet_step filter_step listener_step deployment.path deployment.descriptor deployment.parts before started after
+    pub is : result ≡ deployed deployment started
+
+  -- the context stops, and what it was deployed with is handed back, the components as the calls of the stop left them
+  pub record Undeploys (context : ContextState S F L) (before : JournalState) (result : Deployment S F L) (after : JournalState) : Type 0 where
+    pub stops : Grows servlet_step filter_step listener_step
+        (world_of context before) (then_all (stop_calls (length context.listeners) (in_service context) context.store.sessions)) (world result.path result.parts after)
+    pub content : content_of result ≡ context.content
+    pub users : result.users ≡ context.users

@@ -1,0 +1,4 @@
+pub mod Deployment
+pub mod Expiry
+pub mod Laws
+pub mod State

@@ -1,0 +1,69 @@
+-- A deployed context as contracts see it: what it was deployed with, its components and how they stand, and its sessions (Jakarta Servlet 6.0,
+-- chapters 2, 3 and 7).
+use Rattle.std.specs.Prelude.{◌≡◌, ℕ, List, length}
+use Rattle.std.specs.List.{filter}
+use Rattle.sv_component.specs.World.{World}
+use Rattle.sv_component.specs.declared.named.Named.{Named}
+use Rattle.sv_component.specs.declared.standing.Standing.{Standing}
+use Rattle.sv_journal.specs.Journal.{JournalState}
+use Rattle.sv_lifecycle.specs.Standing.{LiveState, is_in_service}
+use Rattle.sv_lifecycle.specs.declared.order.Place.{Place}
+use Rattle.sv_realm.specs.declared.user.User.{User}
+use Rattle.sv_session.specs.Store.{Store}
+use Rattle.sv_site.specs.Site.{Content}
+
+pub record ContextState (S F L : Type 0) : Type 0 where
+  -- the context's path, its descriptor and its files
+  pub content : Content
+  pub users : List User
+  -- the components, in the order of the descriptor
+  pub servlets : List (Named S)
+  pub filters : List (Named F)
+  pub listeners : List L
+  -- the components that were initialised, in order, and how the servlets stand
+  pub initialised : List Place
+  pub standings : List Standing
+  pub store : Store
+
+-- a context of its parts
+abbrev pub context_of : {S F L : Type 0} → Content → List User → LiveState S F L → Store → ContextState S F L
+context_of its_content its_users live its_store = record {
+  content = its_content;
+  users = its_users;
+  servlets = live.parts.servlets.items;
+  filters = live.parts.filters.items;
+  listeners = live.parts.listeners.items;
+  initialised = live.initialised;
+  standings = live.standings;
+  store = its_store;
+}
+
+-- the components with the journal, as runs see them
+abbrev pub world_of : {S F L : Type 0} → ContextState S F L → JournalState → World S F L
+world_of context its_journal = record {
+  context = context.content.context_path;
+  servlets = context.servlets;
+  filters = context.filters;
+  listeners = context.listeners;
+  journal = its_journal;
+}
+
+-- the components that were initialised and are not gone, in the order of their inits
+abbrev pub in_service : {S F L : Type 0} → ContextState S F L → List Place
+in_service context = filter (is_in_service context.standings) context.initialised
+
+-- what was deployed stays, no component comes or goes, and what was initialised was
+pub record IsSameDeployment {S F L : Type 0} (before after : ContextState S F L) : Type 0 where
+  pub content : after.content ≡ before.content
+  pub users : after.users ≡ before.users
+  pub servlets : length after.servlets ≡ length before.servlets
+  pub filters : length after.filters ≡ length before.filters
+  pub listeners : length after.listeners ≡ length before.listeners
+  pub initialised : after.initialised ≡ before.initialised
+
+-- the started components are those of the content: it has their path, and declares as many
+pub record AreComponentsOf {S F L : Type 0} (content : Content) (live : LiveState S F L) : Type 0 where
+  pub context : live.context ≡ content.context_path
+  pub servlets : length live.parts.servlets.items ≡ length content.app.servlets
+  pub filters : length live.parts.filters.items ≡ length content.app.filters
+  pub listeners : length live.parts.listeners.items ≡ length content.app.listeners

@@ -1,0 +1,27 @@
+//! A deployed context.
+
+use std::marker::Model;
+use sv_lifecycle::Live;
+use sv_realm::Realm;
+use sv_session::Sessions;
+use sv_site::Site;
+
+/// A deployed context: a web application that is started, with its sessions (Jakarta Servlet 6.0, chapters 2, 3 and 7). Contracts see a
+/// `ContextState`.
+#[derive(Drop)]
+pub struct Context<S, F, L> {
+    pub(crate) site: Site,
+    pub(crate) users: Realm,
+    pub(crate) live: Live<S, F, L>,
+    pub(crate) sessions: Sessions,
+}
+
+impl<S, F, L> Model for Context<S, F, L> {
+    ghost use Rattle.sv_context.specs.State.{AreComponentsOf, ContextState, context_of};
+
+    ghost Value = { ContextState S F L };
+
+    ghost view = { λ context. context_of context.site context.users context.live context.sessions };
+
+    ghost invariant = { λ context. AreComponentsOf context.site context.live };
+}

@@ -1,0 +1,42 @@
+//! How the sessions of a context expire.
+
+ghost use Rattle.sv_realm.specs.declared.user.User.{User};
+ghost use Rattle.sv_site.specs.Site.{Content};
+ghost use Rattle.std.specs.Prelude.{List};
+ghost use Rattle.sv_context.specs.Expiry.{Expires};
+ghost use Rattle.sv_context.specs.State.{AreComponentsOf, context_of};
+
+use crate::context::Context;
+use std::alloc::Global;
+use sv_component::{Filter, Listener, Servlet};
+use sv_journal::Journal;
+use sv_lifecycle::Live;
+use sv_session::Sessions;
+
+impl<S: Servlet, F: Filter, L: Listener> Context<S, F, L> {
+    /// Ends the sessions that have expired at a moment, in seconds since 1970, by deadline and then number, and has the listeners hear of each
+    /// (Jakarta Servlet 6.0, sections 7.5 and 11.3.4). A journal that breaks holds nothing up.
+    pub fn expire(&mut self, alloc: Global, moment: u64, journal: &mut Journal)
+        ensures { Expires S.servlet_step F.filter_step L.listener_step moment self.old journal.old self.new journal.new }
+    {
+        end_expired(alloc, moment, &mut self.live, &mut self.sessions, journal);
+    }
+}
+
+// Ends the sessions that have expired, and has the listeners of the started components hear of each.
+fn end_expired<S: Servlet, F: Filter, L: Listener>(
+    alloc: Global,
+    moment: u64,
+    live: &mut Live<S, F, L>,
+    sessions: &mut Sessions,
+    journal: &mut Journal,
+)
+    ensures expires { (content : Content) (users : List User) → AreComponentsOf content live.old
+        → Expires S.servlet_step F.filter_step L.listener_step moment
+        (context_of content users live.old sessions.old) journal.old (context_of content users live.new sessions.new) journal.new }
+    ensures components { (content : Content) → AreComponentsOf content live.old → AreComponentsOf content live.new }
+{
+    while let Some(session) = sessions.expire(moment) {
+        live.tell_end(alloc, session, journal);
+    }
+}

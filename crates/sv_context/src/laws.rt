@@ -1,0 +1,28 @@
+//! The laws of contexts, each the contract of a function that cites the laws of sessions.
+
+ghost use Rattle.std.specs.Prelude.{◌≡◌};
+ghost use Rattle.sv_context.specs.Laws.{ExpiryLeavesNone, ExpiryOfNoneIsNothing};
+
+use crate::limits::{MAX_SESSIONS, SECONDS_OF_MINUTE};
+use sv_component::{Filter, Listener, Servlet};
+use sv_session::expiry_ends_exactly_the_expired_sessions;
+
+/// Once the sessions of a context that have expired at a moment have ended, none has expired at it.
+pub fn an_expiry_leaves_none_expired<S: Servlet, F: Filter, L: Listener>()
+    ensures { ExpiryLeavesNone S.servlet_step F.filter_step L.listener_step }
+{
+    expiry_ends_exactly_the_expired_sessions();
+}
+
+/// Where no session of a context has expired at a moment, their expiry can be, and it can only be that nothing changes and nothing is told.
+pub fn an_expiry_of_none_is_nothing<S: Servlet, F: Filter, L: Listener>()
+    ensures { ExpiryOfNoneIsNothing S.servlet_step F.filter_step L.listener_step }
+{
+    expiry_ends_exactly_the_expired_sessions();
+}
+
+/// The numbers of this crate: definitions and code cite the constants, so that both would move with one.
+pub fn limits_are_as_stated()
+    ensures sessions { MAX_SESSIONS ≡ 1000 }
+    ensures minute { SECONDS_OF_MINUTE ≡ 60 }
+{}
