@@ -115,6 +115,7 @@ fn dispatched(
     let app = site.descriptor().web_app();
     if live.servlets() != app.servlets.as_slice().len()
         || live.filters() != app.filters.as_slice().len()
+        || live.listeners() != app.listeners.as_slice().len()
     {
         return Err(NoMemory);
     }

@@ -23,7 +23,25 @@ w Who /w; o Out /o; s Script does=include:/o then=forward:/w /s | - | sessions 1
 w Who /w; b Bye /b; s Script does=include:/b then=forward:/w /s | - | sessions 1 | GET /s #1 ~ann; GET /w | servlet s service 0 Include /b, servlet b service 0 Done, servlet s service 1 Forward /w, servlet w service 0 Done | Done | 200, content-type: text/plain | caller -\n | servlet w service 0 Done | Done | 200, content-type: text/plain | caller -\n
 "#;
 
+/// What listeners hear of sessions.
+const HEARD: &str = r#"
+-- Jakarta Servlet 6.0, section 11.3: behind the call, the oldest event first; ends in reverse, the rest in declared order
+k Keep /k | - | listener; listener | GET /k; GET /k #1 | servlet k service 0 Done, 1 SessionCreated 1, 2 SessionCreated 1, 1 AttributeAdded 1 n, 2 AttributeAdded 1 n | Done | 200, content-type: text/plain, cookie 000000000000000000000000000000010000000000000001 / | n=1\n | servlet k service 0 Done, 1 AttributeReplaced 1 n, 2 AttributeReplaced 1 n | Done | 200, content-type: text/plain | n=2\n
+k Keep /k; b Bye /b | - | listener; listener | GET /k; GET /b #1; GET /b #1 | servlet k service 0 Done, 1 SessionCreated 1, 2 SessionCreated 1, 1 AttributeAdded 1 n, 2 AttributeAdded 1 n | Done | 200, content-type: text/plain, cookie 000000000000000000000000000000010000000000000001 / | n=1\n | servlet b service 0 Done, 2 SessionDestroyed 1, 1 SessionDestroyed 1, 1 AttributeRemoved 1 n, 2 AttributeRemoved 1 n | Done | 200, content-type: text/plain | bye\n | servlet b service 0 Done | Done | 200, content-type: text/plain | bye\n
+s Script does=open,put:a=1,put:b=2,put:a=3,take:b,take:c,end /s | - | listener | GET /s | servlet s service 0 Done, 1 SessionCreated 1, 1 AttributeAdded 1 a, 1 AttributeAdded 1 b, 1 AttributeReplaced 1 a, 1 AttributeRemoved 1 b, 1 SessionDestroyed 1, 1 AttributeRemoved 1 a | Done | 200 | ""
+-- behind each call of each component, before the next call
+n Nest path=/k /n; k Keep /k | - | listener | GET /n | servlet n service 0 Include /k, servlet k service 0 Done, 1 SessionCreated 1, 1 AttributeAdded 1 n, servlet n service 1 Done | Done | 200, content-type: text/plain, cookie 000000000000000000000000000000010000000000000001 / | a1\nn=1\nc2\n
+a Who /a | f Script does=open then=end; f: /* | listener | GET /a | filter f before Pass, 1 SessionCreated 1, servlet a service 0 Done, filter f after, 1 SessionDestroyed 1 | Done | 200, content-type: text/plain | caller -\n
+s Script does=include:/b then=forward:/k /s; b Bye /b; k Keep /k | - | listener; sessions 1 | GET /s #1 | servlet s service 0 Include /b, servlet b service 0 Done, 1 SessionDestroyed 1, servlet s service 1 Forward /k, servlet k service 0 Done, 1 SessionCreated 2, 1 AttributeAdded 2 n | Done | 200, content-type: text/plain, cookie 000000000000000000000000000000010000000000000002 / | n=1\n
+-- whatever the call answers, and before a servlet is destroyed
+s Script does=open,away: /s | - | listener | GET /s | servlet s service 0 Unavailable, 1 SessionCreated 1, servlet s destroy | Error 404 Not Found in s | 200, cookie 000000000000000000000000000000010000000000000001 / | ""
+s Script does=open,fail:K /s | f Mark; f: /* | listener | GET /s | filter f before Pass, servlet s service 0 Failed K, 1 SessionCreated 1, filter f after | Failed K f in s | 200, x-mark: f, cookie 000000000000000000000000000000010000000000000001 / | ""
+s Script does=open,error:410 /s | - | listener | GET /s | servlet s service 0 Error 410, 1 SessionCreated 1 | Error 410 e in s | 200, cookie 000000000000000000000000000000010000000000000001 / | ""
+s Script does=open,forward:a /s | - | listener | GET /s | servlet s service 0 Forward a, 1 SessionCreated 1 | Failed BadDispatchPath BadDispatchPath in s | 200, cookie 000000000000000000000000000000010000000000000001 / | ""
+a Who /a | x Script does=open,stop; x: /* | listener | GET /a | filter x before Stop, 1 SessionCreated 1 | Done | 200, cookie 000000000000000000000000000000010000000000000001 / | ""
+"#;
+
 #[test]
 fn a_session_is_held_within_dispatches(rt: HostRuntime) -> Result<(), Strays> {
-    hold(&rt, &[HELD], &Dispatches)
+    hold(&rt, &[HELD, HEARD], &Dispatches)
 }
