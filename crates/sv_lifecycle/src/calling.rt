@@ -37,6 +37,13 @@ impl<S: Servlet, F: Filter, L: Listener> Live<S, F, L> {
         self.parts.filters.len()
     }
 
+    /// How many listeners there are.
+    pub fn listeners(&self) -> usize
+        ensures { result ≡ length self.now.parts.listeners.items }
+    {
+        self.parts.listeners.len()
+    }
+
     /// How the servlet at the place stands.
     pub fn standing(&self, place: usize) -> Standing
         requires { place < length self.now.parts.servlets.items }

@@ -1,0 +1,212 @@
+//! What a context answers to the requests of a row.
+
+use crate::components::TestLive;
+use crate::contexts::{TestContext, context, declared};
+use crate::requests::{Request, exchange, path, read_request};
+use std::alloc::Global;
+use sv_dispatch::dispatch;
+use sv_exchange::{Exchange, KeptError};
+use sv_journal::Journal;
+use sv_rows::{Draft, cell};
+use sv_session::Sessions;
+use sv_site::Site;
+use sv_text::NoMemory;
+use sv_tree::Finished;
+use sv_uri::path::Canon;
+use sv_wire::Response;
+
+/// Writes the answers of a context to requests: for each the entries of its dispatch, its result with the error that is kept, the status
+/// with the fields and the cookie, and the body.
+pub fn answer_all(
+    alloc: Global,
+    declared: &str,
+    requests: &str,
+    answer: &mut Vec<u8>,
+) -> Result<(), NoMemory> {
+    let mut told = Draft::new(alloc);
+    match context(alloc, declared) {
+        Some(context) => ask_all(alloc, declared, context, requests, &mut told),
+        None => told.add("no context"),
+    }
+    told.add_to(answer)
+}
+
+fn ask_all(alloc: Global, row: &str, context: TestContext, requests: &str, told: &mut Draft) {
+    let TestContext {
+        mut live,
+        site,
+        mut sessions,
+    } = context;
+    for part in requests.split(';') {
+        if !told.is_empty() {
+            told.add(" | ");
+        }
+        let request = read_request(part.trim());
+        sessions = match asked(alloc, row, request, sessions) {
+            Some((canon, exchange)) => ask(
+                alloc, request, &canon, &mut live, &site, exchange, told,
+            ),
+            None => {
+                told.fail();
+                Sessions::new(alloc, 0, 0)
+            }
+        };
+    }
+}
+
+/// A request's path, and its exchange.
+fn asked(
+    alloc: Global,
+    row: &str,
+    request: Request<'_>,
+    sessions: Sessions,
+) -> Option<(Canon, Exchange)> {
+    let Some(canon) = path(alloc, request.target) else {
+        return None;
+    };
+    let Some(exchange) = exchange(alloc, request, &canon, declared(row, "context"), sessions) else {
+        return None;
+    };
+    Some((canon, exchange))
+}
+
+/// Makes a request, and gives the sessions back.
+fn ask(
+    alloc: Global,
+    request: Request<'_>,
+    canon: &Canon,
+    live: &mut TestLive,
+    site: &Site,
+    mut exchange: Exchange,
+    told: &mut Draft,
+) -> Sessions {
+    let mut journal = Journal::new(alloc);
+    match dispatched(
+        alloc,
+        live,
+        &mut exchange,
+        site,
+        request,
+        canon,
+        &mut journal,
+    ) {
+        Ok(finished) => {
+            add_entries(told, alloc, &journal);
+            add_finished(told, &finished);
+            add_kept(told, exchange.kept());
+        }
+        Err(_) => told.fail(),
+    }
+    let (response, sessions) = exchange.finish();
+    add_response(told, &response);
+    sessions
+}
+
+/// Dispatches a request, where the context has the components of its descriptor, as it has since its start.
+fn dispatched(
+    alloc: Global,
+    live: &mut TestLive,
+    exchange: &mut Exchange,
+    site: &Site,
+    request: Request<'_>,
+    canon: &Canon,
+    journal: &mut Journal,
+) -> Result<Finished, NoMemory> {
+    let app = site.descriptor().web_app();
+    if live.servlets() != app.servlets.as_slice().len()
+        || live.filters() != app.filters.as_slice().len()
+        || live.listeners() != app.listeners.as_slice().len()
+    {
+        return Err(NoMemory);
+    }
+    dispatch(alloc, live, exchange, site, request.kind, canon, journal)
+}
+
+/// Adds the entries of a journal, each without its first two words, which are the same for all of a kind; more than forty are told by
+/// their number.
+fn add_entries(told: &mut Draft, alloc: Global, journal: &Journal) {
+    let entries = journal.entries();
+    if entries.len() > 40 {
+        told.add_shown(&entries.len());
+        told.add(" entries | ");
+        return;
+    }
+    let mut front = "";
+    for entry in entries {
+        told.add(front);
+        front = ", ";
+        match format!(in alloc; "{entry}") {
+            Ok(line) => told.add(line.splitn(3, ' ').nth(2).unwrap_or("")),
+            Err(_) => told.fail(),
+        }
+    }
+    told.add(" | ");
+}
+
+fn add_finished(told: &mut Draft, finished: &Finished) {
+    match finished {
+        Finished::Done => told.add("Done"),
+        Finished::Error(status, text) => {
+            told.add("Error ");
+            told.add_shown(status);
+            told.add(" ");
+            told.add(text.as_str());
+        }
+        Finished::Failed(kind, text) => {
+            told.add("Failed ");
+            told.add(kind.as_str());
+            told.add(" ");
+            told.add(text.as_str());
+        }
+    }
+}
+
+/// Adds the servlet in which a kept error arose, and the field that goes with it.
+fn add_kept(told: &mut Draft, kept: Option<&KeptError>) {
+    if let Some(kept) = kept {
+        told.add(" in ");
+        told.add(name_of(kept));
+        if let Some(field) = &kept.field {
+            told.add(", ");
+            told.add(field.name.as_str());
+            told.add(": ");
+            told.add(field.value.as_str());
+        }
+    }
+}
+
+fn name_of(kept: &KeptError) -> &str {
+    match &kept.servlet {
+        Some(servlet) => servlet.as_str(),
+        None => "-",
+    }
+}
+
+fn add_response(told: &mut Draft, response: &Response) {
+    told.add(" | ");
+    told.add_shown(&response.status);
+    for field in response.fields.as_slice() {
+        told.add(", ");
+        told.add(field.name.as_str());
+        told.add(": ");
+        told.add_bytes(field.value.as_bytes());
+    }
+    if let Some(cookie) = &response.cookie {
+        told.add(", cookie ");
+        told.add(cookie.id.as_str());
+        told.add(" ");
+        told.add(cookie.path.as_str());
+    }
+    told.add(" | ");
+    add_body(told, response.body.as_slice());
+}
+
+/// Adds a body, or its length where that is more than two hundred bytes.
+fn add_body(told: &mut Draft, body: &[u8]) {
+    if body.len() <= 200 {
+        told.add_bytes(body);
+    } else {
+        told.add_shown(&body.len());
+        told.add(" bytes");
+    }
+}

@@ -1,0 +1,108 @@
+//! Contexts that a row declares.
+
+use crate::components::{TestLive, parts};
+use crate::descriptors::descriptor;
+use crate::words::{first_word, number_of};
+use std::alloc::Global;
+use sv_descriptor::Descriptor;
+use sv_files::{File, Files};
+use sv_journal::Journal;
+use sv_rows::cell;
+use sv_session::Sessions;
+use sv_site::{ServletPatterns, Site};
+use sv_text::{Bytes, NoMemory, Text};
+
+/// A started context: its components, its site and its sessions.
+#[derive(Drop)]
+pub struct TestContext {
+    pub live: TestLive,
+    pub site: Site,
+    pub sessions: Sessions,
+}
+
+/// The context that a row declares; none where it does not start.
+pub fn context(alloc: Global, row: &str) -> Option<TestContext> {
+    let Some(descriptor) = descriptor(alloc, row) else {
+        return None;
+    };
+    let Some(live) = started(alloc, row, &descriptor) else {
+        return None;
+    };
+    let Some(site) = site(alloc, row, descriptor) else {
+        return None;
+    };
+    let sessions = sessions(alloc, number_of(declared(row, "sessions")));
+    Some(TestContext {
+        live,
+        site,
+        sessions,
+    })
+}
+
+fn started(alloc: Global, row: &str, descriptor: &Descriptor) -> Option<TestLive> {
+    let Ok(parts) = parts(alloc, row) else {
+        return None;
+    };
+    let path = declared(row, "context");
+    TestLive::start(alloc, path, parts, descriptor, &mut Journal::new(alloc)).ok()
+}
+
+fn site(alloc: Global, row: &str, descriptor: Descriptor) -> Option<Site> {
+    let Ok(path) = Text::copy_of(alloc, declared(row, "context")) else {
+        return None;
+    };
+    let Ok(patterns) = ServletPatterns::of(alloc, &descriptor) else {
+        return None;
+    };
+    let Some(files) = files(alloc, row) else {
+        return None;
+    };
+    Some(Site::new(path, descriptor, files, patterns))
+}
+
+fn files(alloc: Global, row: &str) -> Option<Files> {
+    let Ok(list) = file_list(alloc, row) else {
+        return None;
+    };
+    Files::from_list(alloc, list).ok()
+}
+
+/// The files of a row: each a path, and what the file holds.
+fn file_list(alloc: Global, row: &str) -> Result<Vec<File>, NoMemory> {
+    let mut list = Vec::new(alloc);
+    for part in cell(row, 2).split(';') {
+        let (word, rest) = first_word(part.trim());
+        if word == "file" {
+            list.push(file(alloc, rest)?)?;
+        }
+    }
+    Ok(list)
+}
+
+fn file(alloc: Global, words: &str) -> Result<File, NoMemory> {
+    let (path, text) = first_word(words);
+    Ok(File {
+        path: Text::copy_of(alloc, path)?,
+        bytes: Bytes::copy_of(alloc, text.as_bytes())?,
+    })
+}
+
+/// What a row declares behind a word, empty where it does not.
+pub fn declared<'a>(row: &'a str, word: &str) -> &'a str {
+    for part in cell(row, 2).split(';') {
+        let (first, rest) = first_word(part.trim());
+        if first == word {
+            return rest;
+        }
+    }
+    ""
+}
+
+/// Sessions of which so many stand, of a thousand that may.
+fn sessions(alloc: Global, count: u64) -> Sessions {
+    let mut sessions = Sessions::new(alloc, 1000, 0);
+    for _ in 0..count {
+        let _opened = sessions.open((0, 0), 0);
+    }
+    sessions
+}

@@ -1,0 +1,163 @@
+//! Requests that a row makes.
+
+use crate::words::{first_word, number_of};
+use http::Method;
+use http_header::{HeaderName, HeaderValue};
+use std::alloc::Global;
+use sv_exchange::{Exchange, HeldSession};
+use sv_head::Field;
+use sv_mapping::Kind;
+use sv_realm::Caller;
+use sv_session::Sessions;
+use sv_text::{Bytes, Listed, NoMemory, Text};
+use sv_uri::canon;
+use sv_uri::path::Canon;
+use sv_wire::{Message, Target};
+
+/// A request: a method and a target in the context, and words: a moment behind `@`, the session that is held behind `#`, its caller behind
+/// `~`, the kind of its dispatch, and else the body of a form.
+#[derive(Clone, Copy)]
+pub struct Request<'a> {
+    pub target: &'a str,
+    pub kind: Kind,
+    method: &'a str,
+    moment: u64,
+    held: u64,
+    caller: &'a str,
+    form: &'a str,
+}
+
+/// The request that a part of a cell writes.
+pub fn read_request(part: &str) -> Request<'_> {
+    let (method, rest) = first_word(part);
+    let (target, words) = first_word(rest);
+    let mut request = Request {
+        target,
+        kind: Kind::Request,
+        method,
+        moment: 0,
+        held: 0,
+        caller: "",
+        form: "",
+    };
+    for word in words.split_ascii_whitespace() {
+        request = request.with(word);
+    }
+    request
+}
+
+impl<'a> Request<'a> {
+    fn with(self, word: &'a str) -> Request<'a> {
+        let mut request = self;
+        if let Some(moment) = word.strip_prefix("@") {
+            request.moment = number_of(moment);
+        } else if let Some(held) = word.strip_prefix("#") {
+            request.held = number_of(held);
+        } else if let Some(caller) = word.strip_prefix("~") {
+            request.caller = caller;
+        } else {
+            return request.with_kind(word);
+        }
+        request
+    }
+
+    fn with_kind(self, word: &'a str) -> Request<'a> {
+        let mut request = self;
+        match word {
+            "FORWARD" => request.kind = Kind::Forward,
+            "INCLUDE" => request.kind = Kind::Include,
+            "ERROR" => request.kind = Kind::Error,
+            form => request.form = form,
+        }
+        request
+    }
+}
+
+/// The canonical path of a target; none where it has none.
+pub fn path(alloc: Global, target: &str) -> Option<Canon> {
+    canon(alloc, target.as_bytes()).ok()
+}
+
+/// The exchange of a request in a context of that path, with its sessions; none where there is no memory.
+pub fn exchange(
+    alloc: Global,
+    request: Request<'_>,
+    canon: &Canon,
+    context: &str,
+    sessions: Sessions,
+) -> Option<Exchange> {
+    let Ok(message) = message(alloc, request) else {
+        return None;
+    };
+    let Ok(held) = held(alloc, request) else {
+        return None;
+    };
+    Exchange::begin(
+        alloc,
+        &message,
+        canon,
+        context,
+        request.moment,
+        (0, 1),
+        held,
+        sessions,
+    )
+    .ok()
+}
+
+fn message(alloc: Global, request: Request<'_>) -> Result<Message, NoMemory> {
+    let mut fields = Vec::new(alloc);
+    if !request.form.is_empty() {
+        fields.push(form_type(alloc)?)?;
+    }
+    Ok(Message {
+        method: method(request.method),
+        target: Target::Star,
+        minor: 1,
+        fields: Listed::from_vec(fields),
+        body: Bytes::copy_of(alloc, request.form.as_bytes())?,
+        keep: true,
+    })
+}
+
+fn method(name: &str) -> Method {
+    match name {
+        "POST" => Method::POST,
+        "PUT" => Method::PUT,
+        "HEAD" => Method::HEAD,
+        _ => Method::GET,
+    }
+}
+
+/// The field that says that a body is that of a form.
+fn form_type(alloc: Global) -> Result<Field, NoMemory> {
+    let Ok(name) = HeaderName::from_bytes(alloc, b"content-type") else {
+        return Err(NoMemory);
+    };
+    let Ok(value) = HeaderValue::from_bytes(alloc, b"application/x-www-form-urlencoded") else {
+        return Err(NoMemory);
+    };
+    Ok(Field { name, value })
+}
+
+fn held(alloc: Global, request: Request<'_>) -> Result<Option<HeldSession>, NoMemory> {
+    if request.held == 0 {
+        return Ok(None);
+    }
+    Ok(Some(HeldSession {
+        number: request.held,
+        is_renewed: false,
+        caller: caller(alloc, request.caller)?,
+    }))
+}
+
+fn caller(alloc: Global, name: &str) -> Result<Option<Caller>, NoMemory> {
+    if name.is_empty() {
+        return Ok(None);
+    }
+    Ok(Some(Caller {
+        number: 0,
+        name: Text::copy_of(alloc, name)?,
+        roles: Listed::from_vec(Vec::new(alloc)),
+    }))
+}

@@ -1,0 +1,28 @@
+//! Dispatches as rows.
+
+use crate::answers::answer_all;
+use std::alloc::Global;
+use sv_rows::{Asks, Strays, cell, hold};
+use sv_text::NoMemory;
+
+/// What a context answers to requests: the context is declared by the first three cells of a row, as the tables say.
+pub struct Dispatches;
+
+impl Asks for Dispatches {
+    const QUESTION: usize = 4;
+
+    fn answer(&self, alloc: Global, row: &str, answer: &mut Vec<u8>) -> Result<(), NoMemory> {
+        answer_all(alloc, row, cell(row, 3), answer)
+    }
+}
+
+/// The same of a context that all rows share.
+pub struct Shared(pub &'static str);
+
+impl Asks for Shared {
+    const QUESTION: usize = 1;
+
+    fn answer(&self, alloc: Global, row: &str, answer: &mut Vec<u8>) -> Result<(), NoMemory> {
+        answer_all(alloc, self.0, cell(row, 0), answer)
+    }
+}
