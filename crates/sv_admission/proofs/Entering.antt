@@ -1,6 +1,5 @@
 -- The entry of an outcome.
 use Rattle.std.proofs.Common.{◌≡◌, ℕ, List, refl}
-use Rattle.std.specs.Prelude.{◌↔◌}
 use Rattle.sv_admission.specs.Answer.{entry_of}
 use Rattle.sv_journal.specs.declared.entry.Entry.TheVariants as entries
 use Rattle.sv_outcome.specs.declared.outcome.Outcome.{Outcome}

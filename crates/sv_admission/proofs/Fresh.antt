@@ -1,11 +1,11 @@
 -- What a message does to sessions are calls of its moment, so it leaves none that has expired.
-use Rattle.std.proofs.Common.{◌≡◌, ℕ, ◌+◌, Bool, true, false, not, cond, List, [], ◌∷◌, length, eqb, arith, refl, sym, subst, Option, None, Some, inl, inr}
+use Rattle.std.proofs.Common.{◌≡◌, ℕ, ◌+◌, false, not, List, [], ◌∷◌, length, eqb, arith, refl, subst, Option, None, Some, inl, inr}
 use Rattle.std.specs.Option.{option_map, option_map_or}
 use Rattle.std.proofs.lemmas.Bool.{cases_Bool, eqb-true, not-false}
 use Rattle.sv_admission.specs.Admission.{outcome_in, settled_in, store_accessed}
 use Rattle.sv_admission.specs.Asked.{Asked}
 use Rattle.sv_admission.specs.Held.{accessed, session_held}
-use Rattle.sv_admission.specs.Judged.{left_by_login, login_step, post_in}
+use Rattle.sv_admission.specs.Judged.{left_by_login, post_in}
 use Rattle.sv_admission.proofs.Saving.{no_fault}
 use Rattle.sv_admission.specs.Settled.{interrupted, opened_with, saved_in, settled_by, unchanged}
 use Rattle.sv_context_path.specs.Protected.{is_protected}
@@ -13,11 +13,11 @@ use Rattle.sv_descriptor.specs.declared.login.FormLogin.{FormLogin}
 use Rattle.sv_descriptor.specs.declared.web_app.WebApp.{WebApp}
 use Rattle.sv_login.specs.Login.{has_no_session, login}
 use Rattle.sv_login.specs.Post.{Post, is_login, user_sent}
-use Rattle.sv_login.specs.Session.{living, logged_in, session_faults, session_number, with_session}
+use Rattle.sv_login.specs.Session.{living, session_faults, session_number, with_session}
 use Rattle.sv_outcome.specs.declared.outcome.Outcome.{Outcome}
 use Rattle.sv_outcome.specs.declared.outcome.Outcome.TheVariants as outcomes
 use Rattle.sv_realm.specs.declared.user.User.{User}
-use Rattle.sv_session.specs.Calls.{opened, opening_faults, renamed, renaming_faults, with_caller, with_saved}
+use Rattle.sv_session.specs.Calls.{opened, opening_faults, renamed, renaming_faults, with_saved}
 use Rattle.sv_session.specs.Expiry.{HasNoneExpired}
 use Rattle.sv_session.specs.Laws.{CallsLeaveNoneExpired}
 use Rattle.sv_session.specs.Runs.{Call, EnterCaller, IsAt, Open, Rename, Save, TakeSaved, Touch, left_by, unless}

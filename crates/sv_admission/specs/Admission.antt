@@ -1,6 +1,6 @@
 -- What becomes of a message in its context before any component is called: the session that it holds is accessed, it is judged, and the sessions
 -- are settled (Jakarta Servlet 6.0, chapters 7 and 13).
-use Rattle.std.specs.Prelude.{ℕ, List, Option}
+use Rattle.std.specs.Prelude.{List}
 use Rattle.sv_outcome.specs.declared.outcome.Outcome.{Outcome}
 use Rattle.sv_realm.specs.declared.user.User.{User}
 use Rattle.sv_session.specs.Store.{Store}

@@ -1,5 +1,5 @@
 -- How a message is answered, and what the journal says of it (Jakarta Servlet 6.0, sections 10.5, 10.9, 13.6.3 and 13.8).
-use Rattle.std.specs.Prelude.{ℕ, List, ◌++◌, Option, None, Some, codes, unwrap_or, option_and_then}
+use Rattle.std.specs.Prelude.{ℕ, List, ◌++◌, Option, None, codes, unwrap_or, option_and_then}
 use Rattle.std.specs.Option.{option_map}
 use Rattle.std.specs.Result.{result_ok}
 use Rattle.sv_descriptor.specs.declared.web_app.WebApp.{WebApp}
