@@ -1,5 +1,5 @@
 -- The start and the stop of a context (Jakarta Servlet 6.0, sections 2.3, 7.5, 10.12 and 11.3).
-use Rattle.std.specs.Prelude.{◌≡◌, ℕ, ◌*◌, length, Result, Ok, Err}
+use Rattle.std.specs.Prelude.{◌≡◌, ◌*◌, length, Result, Ok, Err}
 use Rattle.sv_component.specs.Call.{Call}
 use Rattle.sv_component.specs.Runs.{Grows}
 use Rattle.sv_descriptor.specs.declared.web_app.WebApp.{WebApp}

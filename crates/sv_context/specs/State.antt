@@ -1,6 +1,6 @@
 -- A deployed context as contracts see it: what it was deployed with, its components and how they stand, and its sessions (Jakarta Servlet 6.0,
 -- chapters 2, 3 and 7).
-use Rattle.std.specs.Prelude.{◌≡◌, ℕ, List, length}
+use Rattle.std.specs.Prelude.{◌≡◌, List, length}
 use Rattle.std.specs.List.{filter}
 use Rattle.sv_component.specs.World.{World}
 use Rattle.sv_component.specs.declared.named.Named.{Named}

@@ -1,5 +1,5 @@
 -- The choice of a context among others, by the longest context path.
-use Rattle.std.proofs.Common.{◌≡◌, ℕ, ◌<◌, ◌+◌, Bool, true, false, cond, ◌&&◌, ◌||◌, not, List, [], ◌∷◌, length, map, take, get_or, ltb, refl, sym, ◌∙◌, ap, subst, Option, Some, None, IsTrue, IfSome}
+use Rattle.std.proofs.Common.{◌≡◌, ℕ, ◌<◌, ◌+◌, Bool, true, cond, ◌&&◌, ◌||◌, not, List, [], ◌∷◌, length, map, take, get_or, ltb, refl, sym, ◌∙◌, ap, subst, Option, Some, None, IsTrue, IfSome}
 use Rattle.std.specs.List.{list_any, position, slice_get}
 use Rattle.std.proofs.lemmas.Bool.{and_parts}
 use Rattle.std.proofs.lemmas.List.Quantifiers.{position-Some}

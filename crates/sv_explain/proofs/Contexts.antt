@@ -1,5 +1,5 @@
 -- The context at the place that was chosen.
-use Rattle.std.proofs.Common.{◌≡◌, ℕ, ◌<◌, Bool, true, false, List, length, map, ltb, sym, ◌∙◌, ap, inl, inr, Option, Some, None, IsTrue, IfSome, Bor, get_or, refl}
+use Rattle.std.proofs.Common.{◌≡◌, ℕ, ◌<◌, Bool, List, length, ltb, sym, ◌∙◌, ap, inl, inr, Option, Some, None, IsTrue, IfSome, Bor, get_or}
 use Rattle.std.specs.Prelude.{is_some}
 use Rattle.std.specs.List.{find, position, position_or_len, slice_get}
 use Rattle.std.specs.Option.{option_and_then, option_copied}

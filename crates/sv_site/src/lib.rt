@@ -11,5 +11,6 @@ mod site;
 
 pub use chosen::Chosen;
 pub use file_found::FileFound;
+pub use redirect::sent_to;
 pub use servlet_patterns::ServletPatterns;
 pub use site::Site;

@@ -10,7 +10,7 @@ use sv_uri::location;
 use sv_uri::path::Canon;
 
 /// The value of a Location field (RFC 9110, section 10.2.2) for a path within a context, with the query of the target that was read.
-pub(crate) fn sent_to(
+pub fn sent_to(
     alloc: Global,
     context_path: &str,
     path: &str,

@@ -85,6 +85,13 @@ impl Site {
         (context_path, descriptor, files)
     }
 
+    /// The context's path, which is empty for the root context.
+    pub fn context_path(&self) -> &str
+        ensures { result.now ≡ self.now.context_path }
+    {
+        self.context_path.as_str()
+    }
+
     /// The descriptor.
     pub fn descriptor(&self) -> &Descriptor
         ensures value { result.now ≡ self.now.app }

@@ -1,5 +1,4 @@
-use Rattle.std.proofs.Common.{refl, subst}
-use Rattle.sv_lifecycle.specs.Starting.{Starts}
+use Rattle.std.proofs.Common.{refl}
 use Rattle.sv_context.proofs.Deployments.{deployed_so, refused_so}
 use Rattle.sv_context.proofs.deploying.start.Goals as goal
 

@@ -1,0 +1,4 @@
+pub mod Entering
+pub mod Fresh
+pub mod Saving
+pub mod Verdicts

@@ -1,0 +1,71 @@
+-- How the code settles sessions.
+use Rattle.std.proofs.Common.{◌≡◌, ℕ, ◌+◌, Bool, true, false, List, [], ◌∷◌, refl, sym, ◌∙◌, ap, subst, Option, None, Some, Result, Ok, Err, IfOk}
+use Rattle.std.specs.List.{slice_get}
+use Rattle.std.specs.Str.{bytes_eq}
+use Rattle.std.specs.Prelude.{codes}
+use Rattle.sv_admission.specs.Asked.{Asked}
+use Rattle.sv_admission.specs.Seen.{seen}
+use Rattle.sv_admission.specs.Settled.{Settled, interrupted, opened_with, renewed, saved_in, unchanged}
+use Rattle.sv_admission.specs.declared.settling.Settled as code
+use Rattle.sv_session.specs.Calls.{Refuses, opened, opening_faults, with_saved}
+use Rattle.sv_session.specs.Runs.{unless}
+use Rattle.sv_session.specs.Store.{Store}
+use Rattle.sv_session.specs.declared.session_fault.SessionFault.{SessionFault}
+use Rattle.sv_session.specs.declared.session_fault.SessionFault.TheVariants.{SerialSpent, TooMany}
+use Rattle.sv_site.specs.FileServlet.{sent_to}
+use Rattle.sv_text.specs.declared.no_memory.NoMemory.{NoMemory}
+
+pub no_fault : {A : Type 0} (faults : List SessionFault) (done refused : A) → faults ≡ [] → unless faults done refused ≡ done
+no_fault [] done refused h = refl
+no_fault (fault ∷ faults) done refused h = cc
+
+pub some_fault : {A : Type 0} (faults : List SessionFault) (fault : SessionFault) (done refused : A) → slice_get faults 0 ≡ Some fault → unless faults done refused ≡ refused
+some_fault [] fault done refused h = cc
+some_fault (first ∷ faults) fault done refused h = refl
+
+-- a session was opened, and the target saved in it
+pub opened_so : (asked : Asked) (moment : ℕ) (words : ℕ × ℕ) (target : List ℕ) (store between after : Store) (number : ℕ) (x : Settled)
+    → asked.moment ≡ moment → asked.words ≡ words
+    → (opening_faults store ≡ []) × (number ≡ store.serial + 1) × (between ≡ opened words moment store)
+    → after ≡ with_saved number (Some target) between → x ≡ renewed None number after
+    → x ≡ saved_in asked target None store
+opened_so asked moment words target store between after number x at with_words (none, is_number, opens) saves is =
+    let made : renewed None number after ≡ opened_with asked target store = rw (saves, opens, is_number, ← at, ← with_words) refl in
+    is ∙ made ∙ sym (no_fault (opening_faults store) (opened_with asked target store) (unchanged None store) none)
+
+-- none could be opened
+refused_so : (asked : Asked) (target : List ℕ) (store after : Store) (fault : SessionFault) (x : Settled)
+    → (slice_get (opening_faults store) 0 ≡ Some fault) × (after ≡ store) → x ≡ unchanged None after
+    → x ≡ saved_in asked target None store
+refused_so asked target store after fault x (some, same) is =
+    is ∙ ap (unchanged None) same ∙ sym (some_fault (opening_faults store) fault (opened_with asked target store) (unchanged None store) some)
+
+-- the store is full, or its serials are spent
+pub full_so : (asked : Asked) (target : List ℕ) (store after : Store) (fault : SessionFault) (x : Settled)
+    → fault ≡ TooMany → Refuses (opening_faults store) fault store after → x ≡ unchanged None after → x ≡ saved_in asked target None store
+full_so asked target store after fault x is refuses =
+    refused_so asked target store after TooMany x (subst (λ other. Refuses (opening_faults store) other store after) is refuses)
+
+pub spent_so : (asked : Asked) (target : List ℕ) (store after : Store) (fault : SessionFault) (x : Settled)
+    → fault ≡ SerialSpent → Refuses (opening_faults store) fault store after → x ≡ unchanged None after → x ≡ saved_in asked target None store
+spent_so asked target store after fault x is refuses =
+    refused_so asked target store after SerialSpent x (subst (λ other. Refuses (opening_faults store) other store after) is refuses)
+
+-- a method other than GET
+pub not_saved : (context_path : List ℕ) (asked : Asked) (held : Option ℕ) (store : Store) (test : Bool) (x : Settled)
+    → test ≡ bytes_eq asked.message.method (codes "GET") → test ≡ false → x ≡ unchanged held store → x ≡ interrupted context_path asked held store
+not_saved context_path asked held store test x is not is_unchanged = let other = sym is ∙ not in rw other is_unchanged
+
+-- GET
+pub is_saved : (context_path : List ℕ) (asked : Asked) (target : List ℕ) (held : Option ℕ) (store after : Store) (test : Bool) (result : Result code.Settled NoMemory)
+    → test ≡ bytes_eq asked.message.method (codes "GET") → test ≡ true → target ≡ sent_to context_path asked.canon.path asked.canon.query
+    → IfOk result (λ settled. seen after settled ≡ saved_in asked target held store)
+    → IfOk result (λ settled. seen after settled ≡ interrupted context_path asked held store)
+is_saved context_path asked target held store after test (Err refusal) is got where_to saves = tt
+is_saved context_path asked target held store after test (Ok settled) is got where_to saves =
+    let get = sym is ∙ got in rw get (saves ∙ ap (λ text. saved_in asked text held store) where_to)
+
+-- the target is saved in the session that is held
+pub held_so : (asked : Asked) (target : List ℕ) (held : Option ℕ) (number : ℕ) (store after : Store) (x : Settled)
+    → held ≡ Some number → after ≡ with_saved number (Some target) store → x ≡ unchanged (Some number) after → x ≡ saved_in asked target held store
+held_so asked target held number store after x is saves is_unchanged = rw is (is_unchanged ∙ ap (unchanged (Some number)) saves)

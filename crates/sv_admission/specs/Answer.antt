@@ -1,0 +1,58 @@
+-- How a message is answered, and what the journal says of it (Jakarta Servlet 6.0, sections 10.5, 10.9, 13.6.3 and 13.8).
+use Rattle.std.specs.Prelude.{ℕ, List, ◌++◌, Option, None, codes, unwrap_or, option_and_then}
+use Rattle.std.specs.Option.{option_map}
+use Rattle.std.specs.Result.{result_ok}
+use Rattle.sv_descriptor.specs.declared.web_app.WebApp.{WebApp}
+use Rattle.sv_journal.specs.declared.entry.Entry.{Entry}
+use Rattle.sv_journal.specs.declared.entry.Entry.TheVariants as entries
+use Rattle.sv_journal.specs.declared.refusal_cause.RefusalCause.TheVariants as causes
+use Rattle.sv_outcome.specs.declared.outcome.Outcome.{Outcome}
+use Rattle.sv_outcome.specs.declared.outcome.Outcome.TheVariants as outcomes
+use Rattle.sv_site.specs.Site.{Content, error_page}
+use Rattle.sv_tree.specs.declared.limits.TheConstants.{NOT_FOUND, SERVICE_UNAVAILABLE}
+use Rattle.sv_uri.specs.Canonical.{canonical}
+use Rattle.sv_uri.specs.LocationField.{location}
+use Rattle.sv_uri.specs.declared.path.Canon.{Canon}
+use Rattle.sv_admission.specs.declared.answer.Answer.{Answer}
+use Rattle.sv_admission.specs.declared.answer.Answer.TheVariants as answers
+use Rattle.sv_admission.specs.declared.limits.TheConstants.{FORBIDDEN}
+
+-- the path and the query of a page of form login; a well-formed descriptor has no other than such as have a canonical path
+abbrev pub page_at : Option (List ℕ) → Canon
+page_at page = unwrap_or (option_and_then (λ text. result_ok (canonical text)) page) (record { path = codes "/"; query = None })
+
+abbrev pub login_page : WebApp → Canon
+login_page app = page_at (option_map (λ pages. pages.login_page) app.login)
+
+abbrev pub login_error_page : WebApp → Canon
+login_error_page app = page_at (option_map (λ pages. pages.error_page) app.login)
+
+-- the root of a context
+abbrev pub root_of : List ℕ → List ℕ
+root_of context_path = location context_path ++ codes "/"
+
+-- an error of the container's own, with its page where there is one
+abbrev pub error_with : Content → ℕ → Answer
+error_with content status = answers.Error status (error_page content status None)
+
+-- how a message is answered, case by case
+abbrev pub answer_to : Content → Outcome → Answer
+answer_to content outcomes.Protected = error_with content NOT_FOUND
+answer_to content (outcomes.LoggedIn number target) = answers.SeeOther (unwrap_or target (root_of content.context_path))
+answer_to content outcomes.LoginFailed = answers.Page (login_error_page content.app)
+answer_to content outcomes.NoSession = error_with content SERVICE_UNAVAILABLE
+answer_to content outcomes.Entered = answers.Entered
+answer_to content (outcomes.SentToLogin why) = answers.Page (login_page content.app)
+answer_to content (outcomes.NoLogin why) = error_with content FORBIDDEN
+answer_to content (outcomes.Denied why) = error_with content FORBIDDEN
+
+-- its entry, case by case; the path is that in the context
+abbrev pub entry_of : List ℕ → List ℕ → Outcome → Entry
+entry_of context path outcomes.Protected = entries.Hidden causes.Protected
+entry_of context path (outcomes.LoggedIn number target) = entries.Refused causes.LoggedIn
+entry_of context path outcomes.LoginFailed = entries.Refused causes.LoginFailed
+entry_of context path outcomes.NoSession = entries.Refused causes.NoSession
+entry_of context path outcomes.Entered = entries.Entered context path
+entry_of context path (outcomes.SentToLogin why) = entries.SentToLogin context why
+entry_of context path (outcomes.NoLogin why) = entries.Refused (causes.NoLogin why)
+entry_of context path (outcomes.Denied why) = entries.Refused (causes.Denied why)

@@ -1,0 +1,16 @@
+-- A message as its context receives it (Jakarta Servlet 6.0, section 3.5).
+use Rattle.std.specs.Prelude.{ℕ}
+use Rattle.sv_uri.specs.declared.path.Canon.{Canon}
+use Rattle.sv_wire.specs.declared.message.Message.{Message}
+
+pub record Asked : Type 0 where
+  pub message : Message
+  -- the path in the context, with the query
+  pub canon : Canon
+  -- in seconds since 1970
+  pub moment : ℕ
+  -- the two random ones of the message
+  pub words : ℕ × ℕ
+
+abbrev pub asked_by : Message → Canon → ℕ → ℕ × ℕ → Asked
+asked_by message canon moment words = record { message = message; canon = canon; moment = moment; words = words }

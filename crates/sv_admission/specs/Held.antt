@@ -1,0 +1,22 @@
+-- The session that a message holds, and its caller (Jakarta Servlet 6.0, sections 7.1.1, 7.6 and 13.3).
+use Rattle.std.specs.Prelude.{ℕ, List, Option, None, Some, codes, option_and_then}
+use Rattle.sv_cookies.specs.Held.{held}
+use Rattle.sv_realm.specs.Realm.{caller_at}
+use Rattle.sv_realm.specs.declared.caller.Caller.{Caller}
+use Rattle.sv_realm.specs.declared.user.User.{User}
+use Rattle.sv_session.specs.Calls.{caller_of, touched}
+use Rattle.sv_session.specs.Store.{Store}
+use Rattle.sv_admission.specs.Asked.{Asked}
+
+-- the session that the message's cookies name
+abbrev pub session_held : Asked → Store → Option ℕ
+session_held asked store = held (codes "JSESSIONID") asked.message.fields store
+
+-- the message is an access to it
+abbrev pub accessed : Option ℕ → ℕ → Store → Store
+accessed None moment store = store
+accessed (Some number) moment store = touched number moment store
+
+-- the user who has logged in to a session
+abbrev pub caller_held : List User → Option ℕ → Store → Option Caller
+caller_held users session store = option_and_then (caller_at users) (option_and_then (λ number. caller_of number store) session)

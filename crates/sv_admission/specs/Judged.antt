@@ -1,0 +1,45 @@
+-- What is found of a message, and what becomes of it (Jakarta Servlet 6.0, sections 10.5, 13.6.3 and 13.8).
+use Rattle.std.specs.Prelude.{ℕ, List, Option, codes, find, if◌then◌else◌}
+use Rattle.std.specs.Option.{option_map, option_map_or}
+use Rattle.sv_constraints.specs.Verdict.{verdict}
+use Rattle.sv_context_path.specs.Protected.{is_protected}
+use Rattle.sv_descriptor.specs.declared.web_app.WebApp.{WebApp}
+use Rattle.sv_head.specs.Fields.{is_named}
+use Rattle.sv_head.specs.declared.field.Field.{Field}
+use Rattle.sv_login.specs.Login.{login}
+use Rattle.sv_login.specs.Post.{Post, post_of}
+use Rattle.sv_login.specs.declared.outcome.LoginOutcome.{LoginOutcome}
+use Rattle.sv_outcome.specs.Outcome.{Findings, outcome}
+use Rattle.sv_outcome.specs.declared.outcome.Outcome.{Outcome}
+use Rattle.sv_realm.specs.declared.user.User.{User}
+use Rattle.sv_session.specs.Store.{Store}
+use Rattle.sv_admission.specs.Asked.{Asked}
+use Rattle.sv_admission.specs.Held.{caller_held}
+
+-- the type of the body
+abbrev pub content_type : List Field → Option (List ℕ)
+content_type fields = option_map (λ field. field.value.bytes) (find (is_named (codes "content-type")) fields)
+
+abbrev pub post_in : Asked → Post
+post_in asked = post_of asked.message.method asked.canon.path (content_type asked.message.fields) asked.message.body
+
+-- the login step of the message, where the context has form login: what it answers, and what it leaves of the sessions
+abbrev pub login_step : WebApp → List User → Asked → Option ℕ → Store → Option (LoginOutcome × Store)
+login_step app users asked session store =
+    option_map (λ pages. login users (post_in asked) session asked.words asked.moment store) app.login
+
+abbrev pub findings : WebApp → List User → Asked → Option ℕ → Store → Findings
+findings app users asked session store = record {
+  is_protected = is_protected asked.canon.path;
+  login = option_map (λ step. step.0) (login_step app users asked session store);
+  verdict = verdict app.constraints app.rules asked.message.method asked.canon.path (caller_held users session store);
+}
+
+abbrev pub outcome_of : WebApp → List User → Asked → Option ℕ → Store → Outcome
+outcome_of app users asked session store = outcome (findings app users asked session store)
+
+-- what a login leaves of the sessions; behind a hidden folder there is none
+abbrev pub left_by_login : WebApp → List User → Asked → Option ℕ → Store → Store
+left_by_login app users asked session store =
+    if is_protected asked.canon.path then store
+    else option_map_or (λ step. step.1) (login_step app users asked session store) store

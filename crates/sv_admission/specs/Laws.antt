@@ -1,0 +1,30 @@
+-- What holds of every message in its context (Jakarta Servlet 6.0, sections 7.5, 10.5, 13.6.3 and 13.8).
+use Rattle.std.specs.Prelude.{◌≡◌, ◌↔◌, List}
+use Rattle.sv_admission.specs.Admission.{admission, settled_in, store_accessed}
+use Rattle.sv_admission.specs.Asked.{Asked}
+use Rattle.sv_admission.specs.Held.{session_held}
+use Rattle.sv_admission.specs.Judged.{findings}
+use Rattle.sv_constraints.specs.declared.owned_decision.OwnedDecision.TheVariants as decisions
+use Rattle.sv_constraints.specs.declared.owned_decision.OwnedWhy.{OwnedWhy}
+use Rattle.sv_journal.specs.declared.entry.Entry.TheVariants as entries
+use Rattle.sv_outcome.specs.Laws.{IsOrdinary}
+use Rattle.sv_outcome.specs.Outcome.{Findings}
+use Rattle.sv_realm.specs.declared.user.User.{User}
+use Rattle.sv_session.specs.Expiry.{HasNoneExpired}
+use Rattle.sv_session.specs.Store.{Store}
+use Rattle.sv_site.specs.Site.{Content}
+
+-- what is found of a message
+abbrev pub found_of : Content → List User → Asked → Store → Findings
+found_of content users asked store = findings content.app users asked (session_held asked store) (store_accessed content users asked store)
+
+-- the journal says of a message that it entered exactly where its path is not hidden, it is no login post, and the verdict is open
+abbrev pub EntersExactlyByAnOpenVerdict : Type 0
+EntersExactlyByAnOpenVerdict = (content : Content) (users : List User) (asked : Asked) (store : Store)
+    → ((admission content users asked store).entry ≡ entries.Entered content.context_path asked.canon.path)
+    ↔ (IsOrdinary (found_of content users asked store) × ((why : OwnedWhy) × ((found_of content users asked store).verdict ≡ decisions.Open why)))
+
+-- where no session has expired at the moment of a message, it leaves none that has
+abbrev pub LeavesNoneExpired : Type 0
+LeavesNoneExpired = (content : Content) (users : List User) (asked : Asked) (store : Store)
+    → HasNoneExpired asked.moment store → HasNoneExpired asked.moment (settled_in content users asked store).store

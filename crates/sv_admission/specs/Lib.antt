@@ -1,0 +1,8 @@
+pub mod Admission
+pub mod Answer
+pub mod Asked
+pub mod Held
+pub mod Judged
+pub mod Laws
+pub mod Seen
+pub mod Settled

@@ -1,0 +1,7 @@
+-- What the code has of settled sessions, beside the store.
+use Rattle.sv_session.specs.Store.{Store}
+use Rattle.sv_admission.specs.Settled.{Settled}
+use Rattle.sv_admission.specs.declared.settling.Settled as code
+
+abbrev pub seen : Store → code.Settled → Settled
+seen store settled = record { store = store; session = settled.session; is_renewed = settled.is_renewed; event = settled.event }

@@ -1,0 +1,17 @@
+//! What becomes of a message in its context before any component is called (Jakarta Servlet 6.0, chapters 7, 10 and 13).
+#![tactic(auto)]
+
+mod admission;
+mod answer;
+mod judging;
+mod laws;
+mod limits;
+mod settling;
+
+pub use admission::{Admission, admit};
+pub use answer::Answer;
+pub use laws::{
+    an_entry_says_entered_exactly_by_an_open_verdict, limits_are_as_stated,
+    no_admission_leaves_an_expired_session,
+};
+pub use limits::{FORBIDDEN, SEE_OTHER};
