@@ -1,0 +1,2 @@
+mod Contexts
+mod Feedings

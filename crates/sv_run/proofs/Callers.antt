@@ -1,0 +1,246 @@
+-- Which sessions hold a caller.
+use Rattle.std.proofs.Common.{◌≡◌, ◌≢◌, ◌⊎◌, ℕ, zero, suc, Bool, true, false, List, [], ◌∷◌, ◌++◌, Some, Ok, Err, refl, sym, ap, ◌∙◌, subst, inl, inr, append_assoc, slice_get, slice_set}
+use Rattle.std.specs.List.{AllByRecursion}
+use Rattle.sv_journal.specs.declared.entry.Entry.{Entry}
+use Rattle.sv_run.specs.Contexts.{Handling, Theory}
+use Rattle.sv_run.specs.Effect.{Answered, Deed, Effect, Handled}
+use Rattle.sv_run.specs.Events.{Accepts, Ended, ExpiresAll, Happening, Happens, Lost, Opened, Piece, Tick}
+use Rattle.sv_run.specs.Items.{HandlesAt, Responds, Takes, TakesItem}
+use Rattle.sv_run.specs.Lawful.{GivesCallersByLogin, Holds, LogsIn}
+use Rattle.sv_run.specs.Laws.{CallersLoggedIn, HoldsAt, KeepsCaller, LoggedInBefore}
+use Rattle.sv_run.specs.Messages.{Destination, Itself, Within, destination}
+use Rattle.sv_run.specs.Runs.{Answer, Run, deeds_of}
+use Rattle.sv_run.specs.State.{State, World}
+use Rattle.sv_run.specs.declared.step_fault.StepFault.TheVariants.{Stopped, BadConnection, TooManyConnections, NoMemory}
+use Rattle.sv_run.proofs.Outcomes.{all_append}
+use Rattle.sv_wire.specs.declared.item.Item.{Item}
+use Rattle.sv_wire.specs.declared.item.Item.TheVariants.{Continue, Message, Refuse}
+use Rattle.sv_wire.specs.declared.message.Message.{Message as MessageRecord}
+
+-- what stands at a place of a list in which another place was set
+at_set : {X : Type 0} (items : List X) (set place : ℕ) (new there : X) → slice_get (slice_set items set new) place ≡ Some there
+    → ((place ≡ set) × (new ≡ there)) ⊎ ((place ≢ set) × (slice_get items place ≡ Some there))
+at_set [] set place new there found = absurd (cc)
+at_set (item ∷ items) zero zero new there found = inl (refl, cc)
+at_set (item ∷ items) zero (suc place) new there found = inr (λ same. absurd (cc), found)
+at_set (item ∷ items) (suc set) zero new there found = inr (λ same. absurd (cc), found)
+at_set (item ∷ items) (suc set) (suc place) new there found = next (at_set items set place new there found)
+  where
+    next : ((place ≡ set) × (new ≡ there)) ⊎ ((place ≢ set) × (slice_get items place ≡ Some there))
+        → ((suc place ≡ suc set) × (new ≡ there)) ⊎ ((suc place ≢ suc set) × (slice_get items place ≡ Some there))
+    next (inl here) = inl (ap suc here.0, here.1)
+    next (inr apart) = inr (λ same. apart.0 (cc), apart.1)
+
+-- no container is stopped and runs
+runs_on : {b : Bool} → b ≡ true → b ≡ false → ⊥
+runs_on is not = absurd (cc)
+
+-- a container that is stopped stays so
+stopped_stays : {Context Words : Type 0} (theory : Theory Context Words) (before after : State Context Words) (happenings : List Happening) (answers : List (Answer Context))
+    → Run theory before happenings answers after → before.stopped ≡ true → after.stopped ≡ true
+stopped_stays theory before after [] [] run stopped = ap (λ s. s.stopped) run ∙ stopped
+stopped_stays theory before after [] (answer ∷ answers) run stopped = absurd run
+stopped_stays theory before after (happening ∷ happenings) [] run stopped = absurd run
+stopped_stays theory before after (happening ∷ happenings) (Ok effect ∷ answers) run stopped = absurd (runs_on stopped run.1.runs)
+stopped_stays {Context} {Words} theory before after (happening ∷ happenings) (Err Stopped ∷ answers) run stopped =
+    stopped_stays theory run.0 after happenings answers run.2 (ap (λ (s : State Context Words). s.stopped) run.1.1 ∙ stopped)
+stopped_stays theory before after (happening ∷ happenings) (Err BadConnection ∷ answers) run stopped = absurd (runs_on stopped run.1.runs)
+stopped_stays theory before after (happening ∷ happenings) (Err TooManyConnections ∷ answers) run stopped = absurd (runs_on stopped run.1.runs)
+stopped_stays theory before after (happening ∷ happenings) (Err NoMemory ∷ answers) run stopped = absurd (runs_on stopped run.1.runs)
+
+module _ {Context Words : Type 0} (theory : Theory Context Words) (place number caller : ℕ) where
+  -- whatever holds the caller then held it before, and all along, or got it by a login
+  abbrev Came : List Context → List (Deed Context) → List Context → Type 0
+  Came before deeds after =
+      HoldsAt theory place number caller after
+      → (HoldsAt theory place number caller before × AllByRecursion (KeepsCaller theory place number caller) deeds)
+      ⊎ LoggedInBefore theory place number caller deeds
+
+  came_so : (before : List Context) → Came before [] before
+  came_so before holds = inl (holds, tt)
+
+  came_on : (before between after : List Context) (deeds more : List (Deed Context)) → Came before deeds between → Came between more after
+      → Came before (deeds ++ more) after
+  came_on before between after deeds more first second holds = by_second (second holds)
+    where
+      by_first : AllByRecursion (KeepsCaller theory place number caller) more
+          → (HoldsAt theory place number caller before × AllByRecursion (KeepsCaller theory place number caller) deeds)
+          ⊎ LoggedInBefore theory place number caller deeds
+          → (HoldsAt theory place number caller before × AllByRecursion (KeepsCaller theory place number caller) (deeds ++ more))
+          ⊎ LoggedInBefore theory place number caller (deeds ++ more)
+      by_first kept (inl held) = inl (held.0, all_append (KeepsCaller theory place number caller) deeds more held.1 kept)
+      by_first kept (inr logged) =
+          inr record {
+            earlier = logged.earlier;
+            login = logged.login;
+            later = logged.later ++ more;
+            are = ap (λ ds. ds ++ more) logged.are ∙ append_assoc logged.earlier (Handled place logged.login ∷ logged.later) more;
+            logs_in = logged.logs_in;
+            stays = all_append (KeepsCaller theory place number caller) logged.later more logged.stays kept;
+          }
+
+      by_second : (HoldsAt theory place number caller between × AllByRecursion (KeepsCaller theory place number caller) more)
+          ⊎ LoggedInBefore theory place number caller more
+          → (HoldsAt theory place number caller before × AllByRecursion (KeepsCaller theory place number caller) (deeds ++ more))
+          ⊎ LoggedInBefore theory place number caller (deeds ++ more)
+      by_second (inl held) = by_first held.1 (first held.0)
+      by_second (inr logged) =
+          inr record {
+            earlier = deeds ++ logged.earlier;
+            login = logged.login;
+            later = logged.later;
+            are = ap (λ ds. deeds ++ ds) logged.are ∙ sym (append_assoc deeds logged.earlier (Handled place logged.login ∷ logged.later));
+            logs_in = logged.logs_in;
+            stays = logged.stays;
+          }
+
+  came_same : (before after : List Context) → after ≡ before → Came before [] after
+  came_same before after same = subst (λ cs. Came before [] cs) (sym same) (came_so before)
+
+  -- a message that the container answers itself
+  came_answered : (before after : List Context) (entry : Entry) → after ≡ before → Came before (Answered entry ∷ []) after
+  came_answered before after entry same = subst (λ cs. Came before (Answered entry ∷ []) cs) (sym same) (λ holds. inl (holds, (tt, tt)))
+
+  module _ (lawful : GivesCallersByLogin theory) where
+    came_handled : (moment other : ℕ) (before after : List Context) (handling : Handling Context) → HandlesAt theory moment other before handling after
+        → Came before (Handled other handling ∷ []) after
+    came_handled moment other before after handling handles holds =
+        by_place (at_set before other place handling.after holds.context (subst (λ cs. slice_get cs place ≡ Some holds.context) handles.is_after holds.there))
+      where
+        Found : Type 0
+        Found = (HoldsAt theory place number caller before × AllByRecursion (KeepsCaller theory place number caller) (Handled other handling ∷ []))
+            ⊎ LoggedInBefore theory place number caller (Handled other handling ∷ [])
+
+        by_login : place ≡ other → Holds theory number caller handling.after
+            → (Holds theory number caller handling.context) ⊎ (LogsIn theory number caller handling) → Found
+        by_login here holds_then (inl held) = inl (
+          record { context = handling.context; there = ap (λ p. slice_get before p) here ∙ handles.there; holds = held },
+          ((λ same. holds_then), tt),
+        )
+        by_login here holds_then (inr logs_in) =
+            inr record {
+              earlier = [];
+              login = handling;
+              later = [];
+              are = ap (λ p. Handled p handling ∷ []) (sym here);
+              logs_in = logs_in;
+              stays = tt;
+            }
+
+        by_place : ((place ≡ other) × (handling.after ≡ holds.context)) ⊎ ((place ≢ other) × (slice_get before place ≡ Some holds.context)) → Found
+        by_place (inl here) =
+            let holds_then = subst (λ c. Holds theory number caller c) (sym here.1) holds.holds in
+            by_login here.0 holds_then (lawful.by_login handling number caller handles.handles holds_then)
+        by_place (inr apart) = inl (
+          record { context = holds.context; there = apart.1; holds = holds.holds },
+          ((λ same. absurd (apart.0 same)), tt),
+        )
+
+    came_responds : (moment : ℕ) (to : Destination) (message : MessageRecord) (words : ℕ × ℕ) (before after : List Context) (effect : Effect Context)
+        → Responds theory moment to message words before effect after → Came before effect.deeds after
+    came_responds moment (Itself entry response) message words before after effect responds =
+        subst (λ (e : Effect Context). Came before e.deeds after) (sym responds.2) (came_answered before after entry responds.3)
+    came_responds moment (Within other canon) message words before after effect responds =
+        subst (λ (e : Effect Context). Came before e.deeds after) (sym responds.5) (came_handled moment other before after responds.0 responds.3)
+
+    came_item : (moment : ℕ) (item : Item) (before after : World Context Words) (effect : Effect Context)
+        → TakesItem theory moment item before effect after → Came before.contexts effect.deeds after.contexts
+    came_item moment Continue before after effect takes =
+        subst (λ (e : Effect Context). Came before.contexts e.deeds after.contexts) (sym takes.0)
+        (came_same before.contexts after.contexts (ap (λ (w : World Context Words). w.contexts) takes.1))
+    came_item moment (Refuse fault) before after effect takes =
+        subst (λ (e : Effect Context). Came before.contexts e.deeds after.contexts) (sym takes.2)
+        (came_answered before.contexts after.contexts _ (ap (λ (w : World Context Words). w.contexts) takes.3))
+    came_item moment (Message message) before after effect takes =
+        came_responds moment (destination theory before.contexts message.target) message takes.0 before.contexts after.contexts effect takes.2
+
+    came_takes : (moment : ℕ) (items : List Item) (before after : World Context Words) (effect : Effect Context)
+        → Takes theory moment items before effect after → Came before.contexts effect.deeds after.contexts
+    came_takes moment [] before after effect takes =
+        subst (λ (e : Effect Context). Came before.contexts e.deeds after.contexts) (sym takes.0)
+        (came_same before.contexts after.contexts (ap (λ (w : World Context Words). w.contexts) takes.1))
+    came_takes moment (item ∷ items) before after effect takes =
+        subst (λ (e : Effect Context). Came before.contexts e.deeds after.contexts) (sym takes.5)
+        (came_on before.contexts takes.0.contexts after.contexts takes.1.deeds takes.2.deeds
+        (came_item moment item before takes.0 takes.1 takes.3)
+        (came_takes moment items takes.0 after takes.2 takes.4))
+
+    came_happens : (before after : State Context Words) (happening : Happening) (effect : Effect Context)
+        → Happens theory before happening effect after → Came before.world.contexts effect.deeds after.world.contexts
+    came_happens before after (Opened other) effect happens =
+        subst (λ ds. Came before.world.contexts ds after.world.contexts) (sym (ap (λ (e : Effect Context). e.deeds) happens.0))
+        (came_same before.world.contexts after.world.contexts (ap (λ (s : State Context Words). s.world.contexts) happens.1))
+    came_happens before after (Piece other bytes moment) effect happens =
+        subst (λ cs. Came before.world.contexts effect.deeds cs) (sym (ap (λ (s : State Context Words). s.world.contexts) happens.is_after))
+        (came_takes before.moment happens.items before.world happens.world effect happens.takes)
+    came_happens before after (Ended other) effect happens =
+        subst (λ ds. Came before.world.contexts ds after.world.contexts) (sym (ap (λ (e : Effect Context). e.deeds) happens.0))
+        (came_same before.world.contexts after.world.contexts (ap (λ (s : State Context Words). s.world.contexts) happens.1))
+    came_happens before after (Lost other) effect happens =
+        subst (λ ds. Came before.world.contexts ds after.world.contexts) (sym (ap (λ (e : Effect Context). e.deeds) happens.0))
+        (came_same before.world.contexts after.world.contexts (ap (λ (s : State Context Words). s.world.contexts) happens.1))
+    came_happens before after (Tick moment) effect happens =
+        subst (λ ds. Came before.world.contexts ds after.world.contexts) (sym (ap (λ (e : Effect Context). e.deeds) happens.0))
+        (came_same before.world.contexts after.world.contexts (ap (λ (s : State Context Words). s.world.contexts) happens.1))
+
+    -- sessions that end take their callers along
+    held_before : (contexts after : List Context) (moment : ℕ) (told : List Entry) (at : ℕ) → ExpiresAll theory.conduct contexts moment told after
+        → (context : Context) → slice_get after at ≡ Some context → Holds theory number caller context
+        → (old : Context) × (slice_get contexts at ≡ Some old) × Holds theory number caller old
+    held_before [] after moment told at expires context there holds = absurd (empty (subst (λ cs. slice_get cs at ≡ Some context) expires.1 there))
+      where
+        empty : slice_get [] at ≡ Some context → ⊥
+        empty found = absurd (cc)
+    held_before (first ∷ others) after moment told at expires context there holds =
+        by_place at (subst (λ cs. slice_get cs at ≡ Some context) expires.7 there) (λ k. held_before others expires.3 moment expires.1 k expires.5 context)
+      where
+        by_place : (k : ℕ) → slice_get (expires.2 ∷ expires.3) k ≡ Some context
+            → ((j : ℕ) → slice_get expires.3 j ≡ Some context → Holds theory number caller context
+            → (old : Context) × (slice_get others j ≡ Some old) × Holds theory number caller old)
+            → (old : Context) × (slice_get (first ∷ others) k ≡ Some old) × Holds theory number caller old
+        by_place zero found later = (
+          first,
+          refl,
+          lawful.not_by_expiry first expires.2 moment expires.0 number caller expires.4 (subst (λ c. Holds theory number caller c) (cc) holds),
+        )
+        by_place (suc j) found later = later j found holds
+
+    came_expires : (contexts after : List Context) (moment : ℕ) (told : List Entry) → ExpiresAll theory.conduct contexts moment told after → Came contexts [] after
+    came_expires contexts after moment told expires holds =
+        let old = held_before contexts after moment told place expires holds.context holds.there holds.holds in
+        inl (record { context = old.0; there = old.1; holds = old.2 }, tt)
+
+    came_accepts : (before after : State Context Words) (happening : Happening) (effect : Effect Context)
+        → Accepts theory before happening effect after → Came before.world.contexts effect.deeds after.world.contexts
+    came_accepts before after happening effect accepts =
+        subst (λ (e : Effect Context). Came before.world.contexts e.deeds after.world.contexts) (sym accepts.is_joined)
+        (came_on before.world.contexts accepts.contexts after.world.contexts [] accepts.brings.deeds
+        (came_expires before.world.contexts accepts.contexts _ accepts.told accepts.expires)
+        (came_happens _ after happening accepts.brings accepts.happens))
+
+    came_run : (before after : State Context Words) (happenings : List Happening) (answers : List (Answer Context))
+        → Run theory before happenings answers after → after.stopped ≡ false → Came before.world.contexts (deeds_of answers) after.world.contexts
+    came_run before after [] [] run runs = came_same before.world.contexts after.world.contexts (ap (λ (s : State Context Words). s.world.contexts) run)
+    came_run before after [] (answer ∷ answers) run runs = absurd run
+    came_run before after (happening ∷ happenings) [] run runs = absurd run
+    came_run before after (happening ∷ happenings) (Ok effect ∷ answers) run runs =
+        came_on before.world.contexts run.0.world.contexts after.world.contexts effect.deeds (deeds_of answers)
+        (came_accepts before run.0 happening effect run.1) (came_run run.0 after happenings answers run.2 runs)
+    came_run before after (happening ∷ happenings) (Err Stopped ∷ answers) run runs =
+        subst (λ (s : State Context Words). Came s.world.contexts (deeds_of answers) after.world.contexts) run.1.1 (came_run run.0 after happenings answers run.2 runs)
+    came_run before after (happening ∷ happenings) (Err BadConnection ∷ answers) run runs =
+        subst (λ (s : State Context Words). Came s.world.contexts (deeds_of answers) after.world.contexts) run.1.stays (came_run run.0 after happenings answers run.2 runs)
+    came_run before after (happening ∷ happenings) (Err TooManyConnections ∷ answers) run runs =
+        subst (λ (s : State Context Words). Came s.world.contexts (deeds_of answers) after.world.contexts) run.1.stays (came_run run.0 after happenings answers run.2 runs)
+    came_run before after (happening ∷ happenings) (Err NoMemory ∷ answers) run runs =
+        absurd (runs_on (stopped_stays theory run.0 after happenings answers run.2 run.1.stops) runs)
+
+pub callers_logged_in : {Context Words : Type 0} (theory : Theory Context Words) → CallersLoggedIn theory
+callers_logged_in theory lawful before after happenings answers place number caller run runs not_before holds =
+    found (came_run theory place number caller lawful before after happenings answers run runs holds)
+  where
+    found : (HoldsAt theory place number caller before.world.contexts × AllByRecursion (KeepsCaller theory place number caller) (deeds_of answers))
+        ⊎ LoggedInBefore theory place number caller (deeds_of answers)
+        → LoggedInBefore theory place number caller (deeds_of answers)
+    found (inl held) = absurd (not_before held.0)
+    found (inr logged) = logged

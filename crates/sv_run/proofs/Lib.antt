@@ -1,0 +1,10 @@
+mod Beside
+mod Callers
+mod Cuts
+mod Effects
+mod Feedings
+mod Joining
+mod Orders
+mod Outcomes
+mod Stepping
+mod Taking

@@ -1,0 +1,68 @@
+-- What an event brings. Effects are joined in their order.
+use Rattle.std.specs.Prelude.{ℕ, Bool, true, false, ◌||◌, List, [], ◌∷◌, ◌++◌}
+use Rattle.sv_journal.specs.Journal.{JournalState}
+use Rattle.sv_journal.specs.declared.entry.Entry.{Entry}
+use Rattle.sv_run.specs.Contexts.{Handling}
+use Rattle.sv_run.specs.declared.reaction.Reaction.{Reaction}
+
+-- what became of a message: the container answered it itself, with that entry, or the context at a place handled it
+pub data Deed (Context : Type 0) : Type 0 where
+  Answered : Entry → Deed Context
+  Handled : ℕ → Handling Context → Deed Context
+
+-- the bytes for the connection and whether it closes, the entries of the journal, and what became of each message
+pub record Effect (Context : Type 0) : Type 0 where
+  pub sends : List ℕ
+  pub closes : Bool
+  pub journal : List Entry
+  pub deeds : List (Deed Context)
+
+abbrev pub whole : List Entry → JournalState
+whole entries = record { entries = entries; whole = true }
+
+-- a journal that has gained entries
+abbrev pub noting : List Entry → JournalState → JournalState
+noting entries journal = record journal { entries = journal.entries ++ entries }
+
+module _ {Context : Type 0} where
+  -- what is seen of an effect
+  abbrev pub shown : Effect Context → Reaction
+  shown effect = record { sends = effect.sends; closes = effect.closes; journal = whole effect.journal }
+
+  abbrev pub nothing : Effect Context
+  nothing = record { sends = []; closes = false; journal = []; deeds = [] }
+
+  -- bytes alone
+  abbrev pub sending : List ℕ → Effect Context
+  sending bytes = record nothing { sends = bytes }
+
+  -- entries alone
+  abbrev pub telling : List Entry → Effect Context
+  telling entries = record nothing { journal = entries }
+
+  -- that the connection closes, alone
+  abbrev pub closing : Effect Context
+  closing = record nothing { closes = true }
+
+  -- a message that the container answered itself
+  abbrev pub answered : Entry → List ℕ → Bool → Effect Context
+  answered entry text closes = record { sends = text; closes = closes; journal = entry ∷ []; deeds = Answered entry ∷ [] }
+
+  -- a message that the context at a place handled
+  abbrev pub handled : ℕ → Handling Context → List ℕ → Bool → Effect Context
+  handled place handling text closes =
+      record { sends = text; closes = closes; journal = handling.entries; deeds = Handled place handling ∷ [] }
+
+  -- one behind another
+  abbrev pub joined : Effect Context → Effect Context → Effect Context
+  joined first second =
+      record {
+        sends = first.sends ++ second.sends;
+        closes = first.closes || second.closes;
+        journal = first.journal ++ second.journal;
+        deeds = first.deeds ++ second.deeds;
+      }
+
+  abbrev pub joined_all : List (Effect Context) → Effect Context
+  joined_all [] = nothing
+  joined_all (effect ∷ effects) = joined effect (joined_all effects)

@@ -1,0 +1,93 @@
+-- What the laws of runs want of a context.
+use Rattle.std.specs.Prelude.{◌≡◌, ◌⊎◌, ℕ, Bool, true, false, List, [], ◌∷◌, filter, Option, Some}
+use Rattle.std.specs.List.{AllByRecursion}
+use Rattle.sv_context_path.specs.Within.{path_within}
+use Rattle.sv_journal.specs.declared.entry.Entry.{Entry}
+use Rattle.sv_journal.specs.declared.entry.Entry.TheVariants.{Entered, SentToLogin, Refused, Hidden, Told, Called}
+use Rattle.sv_journal.specs.declared.refusal_cause.RefusalCause.TheVariants as causes
+use Rattle.sv_outcome.specs.Outcome.{outcome}
+use Rattle.sv_outcome.specs.declared.outcome.Outcome.{Outcome}
+use Rattle.sv_outcome.specs.declared.outcome.Outcome.TheVariants as outcomes
+use Rattle.sv_run.specs.Contexts.{Conduct, Handling, HasNoneExpired, Theory}
+use Rattle.sv_session.specs.Calls.{caller_of}
+
+-- whether an entry says what became of a message; the others say what was called and what listeners heard
+abbrev pub is_outcome : Entry → Bool
+is_outcome (Entered context path) = true
+is_outcome (SentToLogin context why) = true
+is_outcome (Refused cause) = true
+is_outcome (Hidden cause) = true
+is_outcome (Told context listener event) = false
+is_outcome (Called context component call answer) = false
+
+-- the entry of an outcome, in a context and by the path within it
+abbrev pub outcome_entry : List ℕ → List ℕ → Outcome → Entry
+outcome_entry context path outcomes.Entered = Entered context path
+outcome_entry context path (outcomes.SentToLogin why) = SentToLogin context why
+outcome_entry context path outcomes.Protected = Hidden causes.Protected
+outcome_entry context path (outcomes.LoggedIn number target) = Refused causes.LoggedIn
+outcome_entry context path outcomes.LoginFailed = Refused causes.LoginFailed
+outcome_entry context path outcomes.NoSession = Refused causes.NoSession
+outcome_entry context path (outcomes.NoLogin why) = Refused (causes.NoLogin why)
+outcome_entry context path (outcomes.Denied why) = Refused (causes.Denied why)
+
+-- no calls move nothing, and what is moved by some calls and then by others is moved by calls
+pub record IsMotion {Context : Type 0} (conduct : Conduct Context) : Type 0 where
+  pub stands : (context : Context) → conduct.Moves context context
+  pub goes_on : (before between after : Context) → conduct.Moves before between → conduct.Moves between after → conduct.Moves before after
+
+module _ {Context Words : Type 0} (theory : Theory Context Words) where
+  abbrev pub AreSettled : ℕ → List Context → Type 0
+  AreSettled moment contexts = AllByRecursion (HasNoneExpired theory moment) contexts
+
+  -- sessions end when they have expired, and only then
+  pub record EndsExpired : Type 0 where
+    -- once the expired have ended, none has expired
+    pub settles : (context after : Context) (moment : ℕ) (told : List Entry)
+        → theory.conduct.Expires context moment told after → HasNoneExpired theory moment after
+    -- where none has expired, that they end is possible, tells nothing and changes nothing
+    pub stays : (context : Context) (moment : ℕ) → HasNoneExpired theory moment context → theory.conduct.Expires context moment [] context
+    pub ends_nothing : (context after : Context) (moment : ℕ) (told : List Entry)
+        → HasNoneExpired theory moment context → theory.conduct.Expires context moment told after → (told ≡ []) × (after ≡ context)
+    -- no request leaves a session that has expired at its own moment
+    pub keeps : (handling : Handling Context) → theory.conduct.Handles handling
+        → HasNoneExpired theory handling.request.moment handling.context → HasNoneExpired theory handling.request.moment handling.after
+
+  -- the outcome of a request
+  abbrev pub outcome_of : Handling Context → Outcome
+  outcome_of handling = outcome (theory.conduct.found handling.context handling.request)
+
+  -- the entry of its outcome
+  abbrev pub entry_of : Handling Context → Entry
+  entry_of handling =
+      outcome_entry (theory.path_of handling.context)
+      (path_within (theory.path_of handling.context) handling.request.canon.path) (outcome_of handling)
+
+  -- the entry of a request's outcome stands first, and behind it no other outcome
+  pub record StartsWithOutcome (handling : Handling Context) : Type 0 where
+    pub behind : List Entry
+    pub are : handling.entries ≡ entry_of handling ∷ behind
+    pub no_other : filter is_outcome behind ≡ []
+
+  -- a request has just one outcome, and it is told; what expires has none
+  pub record TellsOutcomes : Type 0 where
+    pub tells : (handling : Handling Context) → theory.conduct.Handles handling → StartsWithOutcome handling
+    pub ends_silently : (context after : Context) (moment : ℕ) (told : List Entry)
+        → theory.conduct.Expires context moment told after → filter is_outcome told ≡ []
+
+  -- the session of that number holds that caller
+  abbrev pub Holds : ℕ → ℕ → Context → Type 0
+  Holds number caller context = caller_of number (theory.conduct.sessions_of context) ≡ Some caller
+
+  -- the request was a login on that session as that caller, whose name and password it sent
+  pub record LogsIn (number caller : ℕ) (handling : Handling Context) : Type 0 where
+    pub target : Option (List ℕ)
+    pub passed : outcome_of handling ≡ outcomes.LoggedIn number target
+    pub fits : theory.conduct.caller_sent handling.context handling.request ≡ Some caller
+
+  -- a session gets a caller by a login alone
+  pub record GivesCallersByLogin : Type 0 where
+    pub by_login : (handling : Handling Context) (number caller : ℕ) → theory.conduct.Handles handling → Holds number caller handling.after
+        → Holds number caller handling.context ⊎ LogsIn number caller handling
+    pub not_by_expiry : (context after : Context) (moment : ℕ) (told : List Entry) (number caller : ℕ)
+        → theory.conduct.Expires context moment told after → Holds number caller after → Holds number caller context

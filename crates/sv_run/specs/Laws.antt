@@ -1,0 +1,201 @@
+-- The laws of runs.
+use Rattle.std.specs.Prelude.{◌≡◌, ◌≢◌, ◌↔◌, ℕ, true, false, List, [], ◌∷◌, ◌++◌, filter, map, Option, Some, Ok, Err, slice_get}
+use Rattle.std.specs.List.{AllByRecursion}
+use Rattle.sv_constraints.specs.declared.owned_decision.OwnedDecision.TheVariants as decisions
+use Rattle.sv_constraints.specs.declared.owned_decision.OwnedWhy.{OwnedWhy}
+use Rattle.sv_context_path.specs.Within.{path_within}
+use Rattle.sv_journal.specs.declared.entry.Entry.{Entry}
+use Rattle.sv_journal.specs.declared.entry.Entry.TheVariants as entries
+use Rattle.sv_outcome.specs.Laws.{IsOrdinary}
+use Rattle.sv_run.specs.Contexts.{Handling, Theory}
+use Rattle.sv_run.specs.Effect.{Answered, Deed, Effect, Handled, joined, joined_all}
+use Rattle.sv_run.specs.Events.{Accepts, Happening, Piece, Steps, connection_of, moment_after}
+use Rattle.sv_run.specs.Feeding.{Feeds}
+use Rattle.sv_run.specs.Lawful.{EndsExpired, GivesCallersByLogin, Holds, LogsIn, TellsOutcomes, entry_of, is_outcome}
+use Rattle.sv_run.specs.Runs.{Answer, Run, deeds_of, journal_of}
+use Rattle.sv_run.specs.State.{State}
+use Rattle.sv_run.specs.declared.step_fault.StepFault.{StepFault}
+use Rattle.sv_run.specs.declared.step_fault.StepFault.TheVariants.{NoMemory}
+use Rattle.sv_wire.specs.Inbox.{Held}
+use Rattle.sv_wire.specs.Items.{are_ended}
+use Rattle.sv_wire.specs.Reads.{Reads}
+use Rattle.sv_wire.specs.declared.item.Item.{Item}
+use Rattle.sv_wire.specs.declared.owed_head.OwedHead.{OwedHead}
+
+-- a reading that has ended stays as it is, whatever follows
+abbrev pub EndedReadingsStay : Type 0
+EndedReadingsStay =
+    (owed : Option OwedHead) (first second : List ℕ) (items : List Item) (left : Option OwedHead) (rest : List ℕ)
+    → are_ended items ≡ true → Reads owed first items left rest → Reads owed (first ++ second) items left rest
+
+-- the two parts of a piece complete the same items, and the same is held then
+abbrev pub FeedsInParts : Held → List ℕ → List ℕ → List Item → Held → Type 0
+FeedsInParts before first second items after =
+    (front : List Item) × (more : List Item) × (between : Held)
+    × Feeds before first front between × Feeds between second more after × (items ≡ front ++ more)
+
+abbrev pub FeedingsMayBeCut : Type 0
+FeedingsMayBeCut =
+    (before after : Held) (first second : List ℕ) (items : List Item)
+    → Feeds before (first ++ second) items after ↔ FeedsInParts before first second items after
+
+-- the text of a piece that comes in parts
+abbrev pub text_of_parts : List (List ℕ) → List ℕ
+text_of_parts [] = []
+text_of_parts (part ∷ parts) = part ++ text_of_parts parts
+
+-- the parts as pieces at one moment
+abbrev pub pieces_of : ℕ → ℕ → List (List ℕ) → List Happening
+pieces_of number moment parts = map (λ part. Piece number part moment) parts
+
+-- effects that differ in their entries alone
+pub record AreAlike {Context : Type 0} (one other : Effect Context) : Type 0 where
+  pub sends : one.sends ≡ other.sends
+  pub closes : one.closes ≡ other.closes
+  pub deeds : one.deeds ≡ other.deeds
+
+-- the piece completes no item
+pub record CompletesNothing {Context Words : Type 0} (state : State Context Words) (number : ℕ) (bytes : List ℕ) : Type 0 where
+  pub held : Held
+  pub left : Held
+  pub holds : state.connections.held number ≡ Some held
+  pub feeds : Feeds held bytes [] left
+
+module _ {Context Words : Type 0} (theory : Theory Context Words) where
+  -- two pieces at one moment
+  pub record AcceptsInParts (before : State Context Words) (number : ℕ) (first second : List ℕ) (moment : ℕ) (effect : Effect Context)
+      (after : State Context Words) : Type 0 where
+    pub between : State Context Words
+    pub front : Effect Context
+    pub back : Effect Context
+    pub begins : Accepts theory before (Piece number first moment) front between
+    pub goes_on : Accepts theory between (Piece number second moment) back after
+    pub is_joined : effect ≡ joined front back
+
+  -- a piece brings what its two parts bring
+  abbrev pub PiecesMayBeCut : Type 0
+  PiecesMayBeCut =
+      EndsExpired theory → (before after : State Context Words) (number : ℕ) (first second : List ℕ) (moment : ℕ) (effect : Effect Context)
+      → Accepts theory before (Piece number (first ++ second) moment) effect after
+      ↔ AcceptsInParts before number first second moment effect after
+
+  -- and what its parts bring, however many they are
+  abbrev pub PiecesMayComeInParts : Type 0
+  PiecesMayComeInParts =
+      EndsExpired theory → (before after : State Context Words) (number : ℕ) (first : List ℕ) (parts : List (List ℕ)) (moment : ℕ) (effect : Effect Context)
+      → Accepts theory before (Piece number (first ++ text_of_parts parts) moment) effect after
+      ↔ ((effects : List (Effect Context))
+      × Run theory before (pieces_of number moment (first ∷ parts)) (map Ok effects) after × (effect ≡ joined_all effects))
+
+  -- two events, one behind the other, with the journals joined
+  pub record AcceptsBoth (before : State Context Words) (first second : Happening) (front back : Effect Context) (journal : List Entry)
+      (after : State Context Words) : Type 0 where
+    pub between : State Context Words
+    pub begins : Accepts theory before first front between
+    pub goes_on : Accepts theory between second back after
+    pub is_joined : journal ≡ front.journal ++ back.journal
+
+  -- the same in the other order, with effects that are alike
+  pub record AcceptsOtherwise (before : State Context Words) (first second : Happening) (front back : Effect Context) (journal : List Entry)
+      (after : State Context Words) : Type 0 where
+    pub other_front : Effect Context
+    pub other_back : Effect Context
+    pub accepts : AcceptsBoth before second first other_front other_back journal after
+    pub first_alike : AreAlike front other_back
+    pub second_alike : AreAlike back other_front
+
+  -- of a piece that completes no item and an event of another connection, neither of which raises the moment, either order brings the same
+  abbrev pub OrdersAreAlike : Type 0
+  OrdersAreAlike =
+      EndsExpired theory → (before after : State Context Words) (number : ℕ) (bytes : List ℕ) (moment : ℕ) (other : Happening) (journal : List Entry)
+      (one two : Effect Context)
+      → connection_of other ≢ Some number
+      → moment_after before.moment (Piece number bytes moment) ≡ before.moment → moment_after before.moment other ≡ before.moment
+      → CompletesNothing before number bytes
+      → (AcceptsBoth before (Piece number bytes moment) other one two journal after
+      → AcceptsOtherwise before (Piece number bytes moment) other one two journal after)
+      × (AcceptsBoth before other (Piece number bytes moment) one two journal after
+      → AcceptsOtherwise before other (Piece number bytes moment) one two journal after)
+
+  -- a refused event changes nothing, unless it wants memory
+  abbrev pub RefusedEventsChangeNothing : Type 0
+  RefusedEventsChangeNothing =
+      (before after : State Context Words) (happening : Happening) (fault : StepFault)
+      → Steps theory before happening (Err fault) after → fault ≢ NoMemory → after ≡ before
+
+  -- runs one behind another are a run
+  abbrev pub RunsJoin : Type 0
+  RunsJoin =
+      (before between after : State Context Words) (first second : List Happening) (answers more : List (Answer Context))
+      → Run theory before first answers between → Run theory between second more after
+      → Run theory before (first ++ second) (answers ++ more) after
+
+  -- a run over two lists of events is one over the first, and then one over the second
+  pub record RunsInParts (before : State Context Words) (first second : List Happening) (answers : List (Answer Context))
+      (after : State Context Words) : Type 0 where
+    pub front : List (Answer Context)
+    pub back : List (Answer Context)
+    pub between : State Context Words
+    pub begins : Run theory before first front between
+    pub goes_on : Run theory between second back after
+    pub are : answers ≡ front ++ back
+
+  abbrev pub RunsSplit : Type 0
+  RunsSplit =
+      (before after : State Context Words) (first second : List Happening) (answers : List (Answer Context))
+      → Run theory before (first ++ second) answers after → RunsInParts before first second answers after
+
+  -- the entry that says what became of a message
+  abbrev pub deed_entry : Deed Context → Entry
+  deed_entry (Answered entry) = entry
+  deed_entry (Handled place handling) = entry_of theory handling
+
+  -- the combined constraints allow the request, which is neither to a protected path nor a login
+  pub record IsAllowed (handling : Handling Context) : Type 0 where
+    pub ordinary : IsOrdinary (theory.conduct.found handling.context handling.request)
+    pub why : OwnedWhy
+    pub verdict : (theory.conduct.found handling.context handling.request).verdict ≡ decisions.Open why
+
+  -- a request enters exactly where it is allowed; what the container answers itself never does
+  abbrev pub EntersWhereAllowed : Deed Context → Type 0
+  EntersWhereAllowed (Answered entry) = (context path : List ℕ) → entry ≢ entries.Entered context path
+  EntersWhereAllowed (Handled place handling) =
+      (entry_of theory handling
+      ≡ entries.Entered (theory.path_of handling.context) (path_within (theory.path_of handling.context) handling.request.canon.path))
+      ↔ IsAllowed handling
+
+  -- over every list of events, the journal tells the outcome of each message once, in order, and a request enters exactly where the combined
+  -- constraints allow it
+  abbrev pub RequestsEnterExactlyWhereAllowed : Type 0
+  RequestsEnterExactlyWhereAllowed =
+      TellsOutcomes theory → (before after : State Context Words) (happenings : List Happening) (answers : List (Answer Context))
+      → Run theory before happenings answers after
+      → (filter is_outcome (journal_of answers) ≡ map deed_entry (deeds_of answers)) × AllByRecursion EntersWhereAllowed (deeds_of answers)
+
+  -- whatever became of a message, the session of that number of the context at the place still holds the caller then
+  abbrev pub KeepsCaller : ℕ → ℕ → ℕ → Deed Context → Type 0
+  KeepsCaller place number caller (Answered entry) = Unit {0}
+  KeepsCaller place number caller (Handled other handling) = place ≡ other → Holds theory number caller handling.after
+
+  -- a request to the context at the place was a login on the session of that number as that caller, and each later one left it so
+  pub record LoggedInBefore (place number caller : ℕ) (deeds : List (Deed Context)) : Type 0 where
+    pub earlier : List (Deed Context)
+    pub login : Handling Context
+    pub later : List (Deed Context)
+    pub are : deeds ≡ earlier ++ Handled place login ∷ later
+    pub logs_in : LogsIn theory number caller login
+    pub stays : AllByRecursion (KeepsCaller place number caller) later
+
+  -- the session of that number of the context at the place holds the caller
+  pub record HoldsAt (place number caller : ℕ) (contexts : List Context) : Type 0 where
+    pub context : Context
+    pub there : slice_get contexts place ≡ Some context
+    pub holds : Holds theory number caller context
+
+  -- until memory is refused, a session holds a caller only by a login that fits, which nothing has undone
+  abbrev pub CallersLoggedIn : Type 0
+  CallersLoggedIn =
+      GivesCallersByLogin theory → (before after : State Context Words) (happenings : List Happening) (answers : List (Answer Context)) (place number caller : ℕ)
+      → Run theory before happenings answers after → after.stopped ≡ false
+      → ¬ (HoldsAt place number caller before.world.contexts) → HoldsAt place number caller after.world.contexts
+      → LoggedInBefore place number caller (deeds_of answers)

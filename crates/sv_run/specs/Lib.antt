@@ -1,0 +1,13 @@
+pub mod Connections
+pub mod Contexts
+pub mod Effect
+pub mod Events
+pub mod Feeding
+pub mod Items
+pub mod Lawful
+pub mod Laws
+pub mod Messages
+pub mod Runs
+pub mod Seen
+pub mod State
+pub mod StepFault

@@ -1,0 +1,10 @@
+-- The texts of what refuses an event.
+use Rattle.std.specs.Prelude.{ℕ, List, codes}
+use Rattle.sv_run.specs.declared.step_fault.StepFault.{StepFault}
+use Rattle.sv_run.specs.declared.step_fault.StepFault.TheVariants.{Stopped, BadConnection, TooManyConnections, NoMemory}
+
+abbrev pub fault_name : StepFault → List ℕ
+fault_name Stopped = codes "Stopped"
+fault_name BadConnection = codes "BadConnection"
+fault_name TooManyConnections = codes "TooManyConnections"
+fault_name NoMemory = codes "no memory"

@@ -1,0 +1,64 @@
+//! What a container wants of a context, and of a source of random words.
+
+ghost use Rattle.std.specs.Prelude.{◌≡◌, ℕ, true, List, IfOk, IsTrue};
+ghost use Rattle.http.specs.StatusCode.{IsStatusCode};
+ghost use Rattle.sv_journal.specs.declared.entry.Entry.{Entry};
+ghost use Rattle.sv_mapping.specs.Pattern.{is_at_or_below};
+ghost use Rattle.sv_run.specs.Contexts.{Conduct, request_of};
+ghost use Rattle.sv_run.specs.Effect.{noting};
+ghost use Rattle.sv_run.specs.Lawful.{IsMotion};
+
+use std::alloc::Global;
+use sv_context_path::HasContextPath;
+use sv_journal::Journal;
+use sv_text::NoMemory;
+use sv_uri::path::Canon;
+use sv_wire::{Message, Response};
+
+/// A deployed context, which handles requests. The laws of runs speak of what it does, its [`conduct`](crate).
+pub trait Context: HasContextPath + Sized {
+    ghost conduct: { Conduct Self };
+
+    /// Handles a message whose target has that canonical path, which the context serves. The moment is the container's, and the words are the
+    /// message's own.
+    ///
+    /// `NoMemory` says that a growth was refused, or that a component wants memory: the context can then be undeployed, and no more.
+    fn handle(
+        &mut self,
+        alloc: Global,
+        message: &Message,
+        canon: &Canon,
+        moment: u64,
+        words: (u64, u64),
+        journal: &mut Journal,
+    ) -> Result<Response, NoMemory>
+        requires { IsTrue (is_at_or_below (Self.path_of self.old) canon.now.path) }
+        ensures handles { IfOk result (λ response. (entries : List Entry)
+            × conduct.Handles (record {
+              context = self.old;
+              request = request_of message.now canon.now moment words;
+              entries = entries;
+              response = response;
+              after = self.new;
+            })
+            × (journal.new ≡ noting entries journal.old)) }
+        ensures status { IfOk result (λ response. IsStatusCode response.status) }
+        ensures moves { conduct.Moves self.old self.new };
+
+    /// Ends the sessions that have expired at the moment. It takes no memory but the journal's, and ends them also where that breaks.
+    fn expire(&mut self, alloc: Global, moment: u64, journal: &mut Journal)
+        ensures expires { journal.new.whole ≡ true
+            → (told : List Entry) × conduct.Expires self.old moment told self.new × (journal.new ≡ noting told journal.old) }
+        ensures moves { conduct.Moves self.old self.new };
+
+    ghost is_motion: { IsMotion conduct };
+}
+
+/// A source of random words.
+pub trait Words {
+    ghost draws: { Self → ℕ × ℕ → Self → Type 0 };
+
+    /// The next pair of words. It takes no memory.
+    fn pair(&mut self) -> (u64, u64)
+        ensures { draws self.old result self.new };
+}

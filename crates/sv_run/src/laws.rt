@@ -1,0 +1,68 @@
+//! The laws of runs, each the contract of a function that does nothing.
+
+ghost use Rattle.std.specs.Prelude.{◌≡◌};
+ghost use Rattle.sv_run.specs.Contexts.{theory_of};
+ghost use Rattle.sv_run.specs.Laws.{CallersLoggedIn, EndedReadingsStay, FeedingsMayBeCut, OrdersAreAlike, PiecesMayBeCut, PiecesMayComeInParts, RefusedEventsChangeNothing, RequestsEnterExactlyWhereAllowed, RunsJoin, RunsSplit};
+
+use crate::context::{Context, Words};
+use crate::limits::{LAST_MOMENT, MAX_CONNECTIONS};
+use sv_outcome::a_message_enters_exactly_by_an_open_verdict;
+
+/// The limits as numbers: definitions and code cite the constants, so that both would move with one.
+pub fn limits_are_as_stated()
+    ensures moment { LAST_MOMENT ≡ 253402300799 }
+    ensures connections { MAX_CONNECTIONS ≡ 1024 }
+{}
+
+/// Over every list of events, the journal tells the outcome of each message once, in order, and a request enters exactly where the combined
+/// constraints allow it.
+pub fn requests_enter_exactly_where_allowed<C: Context, W: Words>()
+    ensures { RequestsEnterExactlyWhereAllowed (theory_of C.path_of C.conduct W.draws) }
+{
+    a_message_enters_exactly_by_an_open_verdict();
+}
+
+/// Over every list of events, a session holds a caller only by a login that fits, which nothing has undone.
+pub fn callers_logged_in<C: Context, W: Words>()
+    ensures { CallersLoggedIn (theory_of C.path_of C.conduct W.draws) }
+{}
+
+/// A reading that has ended stays as it is, whatever follows.
+pub fn ended_readings_stay()
+    ensures { EndedReadingsStay }
+{}
+
+/// What is read of a piece is read of its two parts.
+pub fn feedings_may_be_cut()
+    ensures { FeedingsMayBeCut }
+{}
+
+/// A piece brings what its two parts bring at one moment: the same bytes, entries and state.
+pub fn pieces_may_be_cut<C: Context, W: Words>()
+    ensures { PiecesMayBeCut (theory_of C.path_of C.conduct W.draws) }
+{}
+
+/// A piece brings what its parts bring at one moment, however many they are.
+pub fn pieces_may_come_in_parts<C: Context, W: Words>()
+    ensures { PiecesMayComeInParts (theory_of C.path_of C.conduct W.draws) }
+{}
+
+/// Of a piece that completes no item and an event of another connection, neither of which raises the moment, either order brings the same.
+pub fn orders_are_alike<C: Context, W: Words>()
+    ensures { OrdersAreAlike (theory_of C.path_of C.conduct W.draws) }
+{}
+
+/// A refused event changes nothing, unless it wants memory.
+pub fn refused_events_change_nothing<C: Context, W: Words>()
+    ensures { RefusedEventsChangeNothing (theory_of C.path_of C.conduct W.draws) }
+{}
+
+/// Runs one behind another are a run.
+pub fn runs_join<C: Context, W: Words>()
+    ensures { RunsJoin (theory_of C.path_of C.conduct W.draws) }
+{}
+
+/// A run over two lists of events is one over the first, and then one over the second.
+pub fn runs_split<C: Context, W: Words>()
+    ensures { RunsSplit (theory_of C.path_of C.conduct W.draws) }
+{}

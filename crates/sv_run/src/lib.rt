@@ -1,0 +1,20 @@
+//! The run of a container: what each event brings, over contexts of which only their conduct is known, and what holds of every list of events.
+#![tactic(auto)]
+
+mod context;
+mod happening;
+mod laws;
+mod limits;
+mod reaction;
+mod step_fault;
+
+pub use context::{Context, Words};
+pub use happening::Happening;
+pub use laws::{
+    callers_logged_in, ended_readings_stay, feedings_may_be_cut, limits_are_as_stated,
+    orders_are_alike, pieces_may_be_cut, pieces_may_come_in_parts, refused_events_change_nothing,
+    requests_enter_exactly_where_allowed, runs_join, runs_split,
+};
+pub use limits::{LAST_MOMENT, MAX_CONNECTIONS};
+pub use reaction::Reaction;
+pub use step_fault::StepFault;
