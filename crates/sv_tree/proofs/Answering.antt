@@ -5,7 +5,7 @@ use Rattle.std.proofs.lemmas.List.{append-nil}
 use Rattle.sv_component.specs.Runs.{Record}
 use Rattle.sv_exchange.specs.Changing.{SetHeader, SetStatus, Write}
 use Rattle.sv_mapping.specs.declared.kind.Kind.TheVariants as kinds
-use Rattle.sv_tree.specs.Does.{◌>>=◌, ◌>>◌, becomes, gives, makes}
+use Rattle.sv_tree.specs.Does.{◌>>=◌, ◌>>◌, becomes, gives, makes, wants_memory}
 use Rattle.sv_tree.specs.Laws.{AnswersOnce, PageCalls}
 use Rattle.sv_tree.specs.Served as served
 use Rattle.sv_tree.specs.Served.{kept_field, plain_text, reset}
@@ -15,7 +15,7 @@ use Rattle.sv_tree.specs.Tree.{Tree}
 use Rattle.sv_tree.specs.declared.finished.Finished.{Finished}
 use Rattle.sv_tree.specs.declared.finished.Finished.TheVariants.{Done, Error, Failed}
 use Rattle.sv_tree.specs.declared.limits.TheConstants.{INTERNAL_SERVER_ERROR, MAX_NESTING}
-use Rattle.sv_tree.proofs.Doing.{chosen_then}
+use Rattle.sv_tree.proofs.Doing.{chosen_then, wants_then}
 use Rattle.sv_tree.proofs.Silence.{Silent, gives_silent, makes_silent, then_silent}
 use Rattle.sv_uri.specs.declared.path.Canon.{Canon}
 
@@ -65,8 +65,13 @@ module _ (site : Site) where
       → served.Shows site status kind x r y result → PageCalls site r
   shows_calls status kind x y r result h =
       let next = (λ (state : State). served.Pages site status (kept_field state.exchange.kept) (site.page status kind) state) in
-      chosen_then x.exchange.committed (gives tt) next x y r result
-      (λ _ none. inl none.0) (λ _ made. pages_calls status (kept_field x.exchange.kept) (site.page status kind) x y r result made) h
+      chosen_then x.exchange.committed (gives tt) (wants_memory >> next) x y r result
+      (λ _ none. inl none.0)
+      (λ _ made. elim (wants_then (λ _. next) x y r result made) [
+        | inl shown ↦ pages_calls status (kept_field x.exchange.kept) (site.page status kind) x y r result shown
+        | inr none ↦ inl none.0
+      ])
+      h
 
   settled_calls : (finished : Finished) (x y : State) (r : List Record) (result : Option (Unit {0})) → served.Settled site finished x r y result → PageCalls site r
   settled_calls Done x y r result h = inl h.0

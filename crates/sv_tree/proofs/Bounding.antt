@@ -5,7 +5,7 @@ use Rattle.sv_component.specs.Runs.{Record}
 use Rattle.sv_exchange.specs.Changing.{SetHeader, SetStatus, Write}
 use Rattle.sv_mapping.specs.declared.kind.Kind.{Kind}
 use Rattle.sv_mapping.specs.declared.kind.Kind.TheVariants as kinds
-use Rattle.sv_tree.specs.Does.{Does, ◌>>=◌, ◌>>◌, becomes, gives, makes}
+use Rattle.sv_tree.specs.Does.{Does, ◌>>=◌, ◌>>◌, becomes, gives, makes, wants_memory}
 use Rattle.sv_tree.specs.Laws.{AreWithin, RequestsAreBounded, count_all}
 use Rattle.sv_tree.specs.Served as served
 use Rattle.sv_tree.specs.Served.{Served, kept_field, plain_text, reset}
@@ -18,7 +18,7 @@ use Rattle.sv_tree.specs.declared.limits.TheConstants.{INTERNAL_SERVER_ERROR, MA
 use Rattle.sv_tree.proofs.Counting as counting
 use Rattle.sv_tree.proofs.Counting.{Counts, calls_are_counted}
 use Rattle.sv_tree.proofs.Doing.{chosen_then}
-use Rattle.sv_tree.proofs.Keeping.{Keeps, Steps, becomes_keeps, gives_keeps, makes_keeps, then_keeps}
+use Rattle.sv_tree.proofs.Keeping.{Keeps, Steps, becomes_keeps, gives_keeps, makes_keeps, then_keeps, wants_keeps}
 use Rattle.sv_tree.proofs.Nesting.{Nests, nests, nests_tree}
 use Rattle.sv_uri.specs.declared.path.Canon.{Canon}
 
@@ -59,8 +59,10 @@ module _ (site : Site) (Q : ℕ → State → List Record → State → Bool →
 
   shows_keep : (status : ℕ) (kind : Option (List ℕ)) → Keeps site Q room (served.Shows site status kind)
   shows_keep status kind =
-      unless_keeps (λ state. served.Pages site status (kept_field state.exchange.kept) (site.page status kind) state)
-      (λ x y r result h. pages_keep status (kept_field x.exchange.kept) (site.page status kind) x y r result h)
+      let next = (λ (state : State). served.Pages site status (kept_field state.exchange.kept) (site.page status kind) state) in
+      unless_keeps (wants_memory >> next)
+      (then_keeps site Q law room wants_memory (λ _. next) (wants_keeps site Q law room)
+      (λ _ x y r result h. pages_keep status (kept_field x.exchange.kept) (site.page status kind) x y r result h))
 
   settled_keeps : (finished : Finished) → Keeps site Q room (served.Settled site finished)
   settled_keeps Done = gives_keeps site Q law room tt

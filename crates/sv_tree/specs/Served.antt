@@ -4,7 +4,8 @@ use Rattle.std.specs.Prelude.{ℕ, List, [], ◌++◌, codes, decimal, Option, N
 use Rattle.sv_exchange.specs.Changing.{SetHeader, SetStatus, Write}
 use Rattle.sv_mapping.specs.declared.kind.Kind.{Kind}
 use Rattle.sv_mapping.specs.declared.kind.Kind.TheVariants as kinds
-use Rattle.sv_tree.specs.Does.{Does, ◌>>=◌, ◌>>◌, becomes, choose, gives, makes, sees}
+use Rattle.sv_tree.specs.Does.{Does, ◌>>=◌, ◌>>◌, becomes, choose, gives, makes, sees, wants_memory}
+use Rattle.sv_tree.specs.Endings.{keeps}
 use Rattle.sv_tree.specs.Site.{Site}
 use Rattle.sv_tree.specs.State.{Exchange, KeptError, KeptField, on_exchange}
 use Rattle.sv_tree.specs.Tree.{Tree}
@@ -63,7 +64,15 @@ module _ (site : Site) where
 
   -- the answer to an error, of that kind where it is a failure
   abbrev pub Shows : ℕ → Option (List ℕ) → Does (Unit {0})
-  Shows status kind = unless_committed (sees λ state. Pages status (kept_field state.exchange.kept) (site.page status kind))
+  Shows status kind = unless_committed do
+    wants_memory
+    sees λ state. Pages status (kept_field state.exchange.kept) (site.page status kind)
+
+  -- the answer to an error that no dispatch brought up: its text is the phrase of its status, and no servlet and no field go with it
+  abbrev pub ShowsError : ℕ → Option Canon → Does (Unit {0})
+  ShowsError status page = do
+    keeps record { status = status; text = phrase_of status; servlet = None; field = None }
+    Pages status None page
 
   abbrev pub Settled : Finished → Does (Unit {0})
   Settled Done = gives tt
