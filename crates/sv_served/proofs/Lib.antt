@@ -1,0 +1,3 @@
+pub mod ContextDeeds
+pub mod ExchangeDeeds
+mod Phrases

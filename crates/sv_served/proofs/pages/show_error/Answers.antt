@@ -1,0 +1,25 @@
+use Rattle.std.proofs.Common.{ℕ, List, None, ap}
+use Rattle.std.specs.Option.{option_copied}
+use Rattle.sv_dispatch.specs.Did.{seen}
+use Rattle.sv_exchange.specs.declared.kept_error.KeptError.{KeptError}
+use Rattle.sv_site.specs.Site.{site_of}
+use Rattle.sv_served.proofs.ContextDeeds.{error_not, error_so}
+use Rattle.sv_served.proofs.ExchangeDeeds.{keeps_not, keeps_so}
+use Rattle.sv_served.proofs.pages.show_error.Goals as goal
+
+abbrev said : ℕ → List ℕ → KeptError
+said its_status its_text = record { status = its_status; text = its_text; servlet = None; field = None }
+
+pub returns-in_default : goal.returns-in_default
+returns-in_default g c =
+    error_not g.S.Servlet.servlet_step g.F.Filter.filter_step g.L.Listener.listener_step (site_of c.args.site.now)
+    c.args.live.now c.args.live.now c.args.journal.now c.args.journal.now c.args.status (option_copied c.args.page) (said c.args.status c.phrase_of.result.now)
+    c.args.exchange.now c.keep_error.new.self (ap (said c.args.status) c.phrase_of.ensures)
+    (keeps_not (said c.args.status c.phrase_of.result.now) c.args.exchange.now c.keep_error.new.self c.in_default.ensures.refused)
+
+pub returns : goal.returns
+returns g c =
+    error_so g.S.Servlet.servlet_step g.F.Filter.filter_step g.L.Listener.listener_step (site_of c.args.site.now)
+    c.args.live.now c.show.new.live c.args.journal.now c.show.new.journal c.args.status (option_copied c.args.page) (said c.args.status c.phrase_of.result.now)
+    c.args.exchange.now c.keep_error.new.self (ap (said c.args.status) c.phrase_of.ensures) c.show.new.exchange (seen c.show.result)
+    (keeps_so (said c.args.status c.phrase_of.result.now) c.args.exchange.now c.keep_error.new.self c.in-Ok.ensures.kept) c.show.ensures

@@ -1,0 +1,32 @@
+use Rattle.std.proofs.Common.{Some, refl, sym, subst}
+use Rattle.sv_dispatch.specs.Did.{seen}
+use Rattle.sv_served.specs.ServedBy.{ServedBy}
+use Rattle.sv_site.specs.Site.{site_of}
+use Rattle.sv_tree.specs.Does.{gives}
+use Rattle.sv_tree.specs.Served.{Settled, Shows}
+use Rattle.sv_tree.specs.declared.limits.TheConstants.{INTERNAL_SERVER_ERROR}
+use Rattle.sv_served.proofs.ContextDeeds.{by_alone}
+use Rattle.sv_served.proofs.serving.settle.Goals as goal
+
+pub returns-in-Done : goal.returns-in-Done
+returns-in-Done g c =
+    subst (λ finished. ServedBy g.S.Servlet.servlet_step g.F.Filter.filter_step g.L.Listener.listener_step (Settled (site_of c.args.site.now) finished)
+    c.args.live.now c.args.exchange.now c.args.journal.now (Some tt) c.args.live.now c.args.exchange.now c.args.journal.now)
+    (sym c.in-Done.is)
+    (by_alone g.S.Servlet.servlet_step g.F.Filter.filter_step g.L.Listener.listener_step (gives tt)
+    c.args.live.now c.args.exchange.now c.args.exchange.now c.args.journal.now (Some tt) (λ standings. (refl, refl, refl)))
+
+pub returns-in-Error : goal.returns-in-Error
+returns-in-Error g c =
+    subst (λ finished. ServedBy g.S.Servlet.servlet_step g.F.Filter.filter_step g.L.Listener.listener_step (Settled (site_of c.args.site.now) finished)
+    c.args.live.now c.args.exchange.now c.args.journal.now (seen c.show_kept.result) c.show_kept.new.live c.show_kept.new.exchange c.show_kept.new.journal)
+    (sym c.in-Error.is) c.show_kept.ensures
+
+pub returns-in-Failed : goal.returns-in-Failed
+returns-in-Failed g c =
+    subst (λ finished. ServedBy g.S.Servlet.servlet_step g.F.Filter.filter_step g.L.Listener.listener_step (Settled (site_of c.args.site.now) finished)
+    c.args.live.now c.args.exchange.now c.args.journal.now (seen c.show_kept-in-Failed.result) c.show_kept-in-Failed.new.live c.show_kept-in-Failed.new.exchange c.show_kept-in-Failed.new.journal)
+    (sym c.in-Failed.is)
+    (subst (λ kind. ServedBy g.S.Servlet.servlet_step g.F.Filter.filter_step g.L.Listener.listener_step (Shows (site_of c.args.site.now) INTERNAL_SERVER_ERROR (Some kind))
+    c.args.live.now c.args.exchange.now c.args.journal.now (seen c.show_kept-in-Failed.result) c.show_kept-in-Failed.new.live c.show_kept-in-Failed.new.exchange c.show_kept-in-Failed.new.journal)
+    c.as_str.ensures c.show_kept-in-Failed.ensures)

@@ -1,0 +1,25 @@
+-- What is done to answer a request over a started context.
+use Rattle.std.specs.Prelude.{List, [], Option}
+use Rattle.sv_component.specs.Call.{Call}
+use Rattle.sv_component.specs.Runs.{Record, Runs}
+use Rattle.sv_component.specs.declared.standing.Standing.{Standing}
+use Rattle.sv_dispatch.specs.Running.{state_of}
+use Rattle.sv_exchange.specs.State as exchanges
+use Rattle.sv_journal.specs.Journal.{JournalState}
+use Rattle.sv_lifecycle.specs.Standing.{LiveState, live_world}
+use Rattle.sv_lifecycle.specs.World.{HasSameCounts}
+use Rattle.sv_tree.specs.Does.{Does}
+
+-- it is done with an exchange alone, however the servlets stand, and without a call
+abbrev pub Alone : {A : Type 0} → Does A → exchanges.State → exchanges.State → Option A → Type 0
+Alone does before after result =
+    (its_standings : List Standing)
+    → does (record { exchange = before; standings = its_standings }) [] (record { exchange = after; standings = its_standings }) result
+
+module _ {S F L : Type 0} (servlet_step : S → Call → S → Type 0) (filter_step : F → Call → F → Type 0) (listener_step : L → Call → L → Type 0) where
+  -- these calls were made and noted, by them it is done, and no component came or went; what memory ended has no result
+  pub record ServedBy {A : Type 0} (does : Does A) (live : LiveState S F L) (exchange : exchanges.State) (noted : JournalState) (result : Option A) (live_after : LiveState S F L) (exchange_after : exchanges.State) (noted_after : JournalState) : Type 0 where
+    pub made : List Record
+    pub does_so : does (state_of live exchange) made (state_of live_after exchange_after) result
+    pub runs : Runs servlet_step filter_step listener_step (live_world live noted) made (live_world live_after noted_after)
+    pub counts : HasSameCounts live.parts live_after.parts
