@@ -1,0 +1,7 @@
+//! Tests of readers and writers: tables of streams in memory that give and take little at once, and fail at each call in turn.
+#![tactic(auto)]
+
+#[cfg(test)]
+mod lines;
+#[cfg(test)]
+mod writes;
