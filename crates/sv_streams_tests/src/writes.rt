@@ -19,7 +19,11 @@ impl Asks for Writes {
         let is_written = write_all(&mut stream, text.as_slice()).is_ok();
         let mut told = Draft::new(alloc);
         told.add_bytes(stream.written());
-        told.add(if is_written { " | written | " } else { " | failed | " });
+        told.add(if is_written {
+            " | written | "
+        } else {
+            " | failed | "
+        });
         told.add_shown(&stream.calls());
         told.add_to(answer)
     }
