@@ -26,11 +26,6 @@ tell_progress() {
     done
 }
 
-# The lines of crates.txt on the crates $@.
-lines_of() {
-    grep -E "^($(IFS='|'; echo "$*"))( [^:]*)?:" "$top/crates.txt"
-}
-
 # Brings the crates $@ into the copy, so that it holds these and what it held.
 bring() {
     cp -a "${@/#/$top/crates/}" "$copy/crates" && lines_of "$@" >> "$copy/crates.txt"
