@@ -49,7 +49,10 @@ impl Connections {
         self.inboxes.contains_key(&number)
     }
 
-    /// A connection is known from now on. After `NoMemory` nothing has changed.
+    /// A connection is known from now on.
+    ///
+    /// # Errors
+    /// `NoMemory` where a growth was refused: nothing is said of the connections then, and their container is stopped.
     pub fn open(&mut self, number: u64) -> Result<(), NoMemory>
         requires { (connections_of self.old).held number ≡ None }
         ensures { IfOk result (λ _. connections_of self.new ≡ opened number (connections_of self.old)) }
@@ -67,6 +70,9 @@ impl Connections {
     }
 
     /// Reads a piece of a connection: the items that it completes, in order.
+    ///
+    /// # Errors
+    /// `NoMemory` where a growth was refused: nothing is said of the connections then, and their container is stopped.
     pub fn feed(&mut self, number: u64, piece: &[u8]) -> Result<Vec<Item>, NoMemory>
         requires { IsSome ((connections_of self.old).held number) }
         ensures { IfOk result (λ items. FeedsOne (connections_of self.old) number piece.now items.items (connections_of self.new)) }
