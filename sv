@@ -39,10 +39,10 @@ prove_in_turn() {
     done
 }
 
-# Proves the crates $@ in the copy. The last two stand on all others and wait for them: with a process a crate they would leave
+# Proves the crates $@ in the copy. The last three stand on all others and wait for them: with a process a crate they would leave
 # the other processors idle.
 prove() {
-    local below=("${@:1:$#-2}") last=("${@:$#-1}")
+    local below=("${@:1:$#-3}") last=("${@:$#-2}")
     cd "$copy" && bring "${below[@]}" && rt all check --jobs "$(jobs)" && bring "${last[@]}" && prove_in_turn "${last[@]}"
 }
 

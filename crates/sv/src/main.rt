@@ -5,9 +5,12 @@ mod program_fault;
 
 use program_fault::ProgramFault;
 use std::process::ExitCode;
+use std::net::Net;
 use std::rt::{Env, Files};
+use std::time::Clock;
 use std::{env, io};
-use sv_program::{Command, CommandFault, Disk};
+use sv_commands::Command;
+use sv_program::{CommandFault, Disk};
 
 fn main(rt: HostRuntime) -> ExitCode {
     match run(&rt) {
@@ -21,7 +24,7 @@ fn main(rt: HostRuntime) -> ExitCode {
 }
 
 /// Runs the command that the arguments name. Arguments that cannot be read name none.
-fn run<R: Env + Files + Input + Print + AllocGlobal>(rt: &R) -> Result<(), ProgramFault> {
+fn run<R: Env + Files + Net + Clock + Input + Print + AllocGlobal + Clone + Drop>(rt: &R) -> Result<(), ProgramFault> {
     let Ok(arguments) = env::args(rt) else {
         return Err(ProgramFault::Usage);
     };
@@ -33,6 +36,7 @@ fn run<R: Env + Files + Input + Print + AllocGlobal>(rt: &R) -> Result<(), Progr
     command.run(
         rt.alloc(),
         &mut Disk::new(rt),
+        rt,
         rt.reader(),
         &mut io::writer(rt),
     )?;

@@ -1,12 +1,12 @@
 //! Security constraints, and the decision on a request.
 
-use crate::measure::Work;
 use crate::patterns::{PATHS, numbered_patterns};
 use std::alloc::Global;
 use sv_constraints::{
     Auth, Collection, Constraint, Decision, Methods, Rules, Transport, decide_plain,
 };
 use sv_mapping::Pattern;
+use sv_measure::Work;
 use sv_realm::Caller;
 use sv_text::{Listed, Text};
 
@@ -21,23 +21,33 @@ pub struct Deciding {
 impl Deciding {
     /// So many constraints of so many patterns, for GET and POST and two roles.
     pub fn new(alloc: Global, count: u32, patterns: u32) -> Option<Deciding> {
+        let caller = caller(alloc)?;
+        let declared = two_texts(alloc, "clerk", "manager")?;
+        let constraints = constraints(alloc, count, patterns)?;
+        let rules = Rules {
+            declared,
+            deny_uncovered: true,
+        };
         Some(Deciding {
-            constraints: constraints(alloc, count, patterns)?,
-            rules: Rules {
-                declared: two_texts(alloc, "clerk", "manager")?,
-                deny_uncovered: true,
-            },
-            caller: Caller {
-                number: 0,
-                name: Text::copy_of(alloc, "ann").ok()?,
-                roles: two_texts(alloc, "guest", "manager")?,
-            },
+            constraints,
+            rules,
+            caller,
         })
     }
 }
 
+fn caller(alloc: Global) -> Option<Caller> {
+    let name = Text::copy_of(alloc, "ann").ok()?;
+    let roles = two_texts(alloc, "guest", "manager")?;
+    Some(Caller {
+        number: 0,
+        name,
+        roles,
+    })
+}
+
 impl Work for Deciding {
-    fn round(&self, place: usize) -> Option<usize> {
+    fn round(&mut self, place: usize) -> Option<usize> {
         let decision = decide_plain(
             self.constraints.as_slice(),
             &self.rules,
@@ -57,13 +67,17 @@ fn constraints(alloc: Global, count: u32, patterns: u32) -> Option<Vec<Constrain
     let mut constraints = Vec::new(alloc);
     for number in 0..count {
         let from = number.saturating_mul(patterns);
-        let listed = numbered_patterns(alloc, from, from.saturating_add(patterns))?;
-        let methods = Methods::Only(two_texts(alloc, "GET", "POST")?);
-        constraints
-            .push(constraint(alloc, from, listed, methods)?)
-            .ok()?;
+        let one = numbered_constraint(alloc, from, from.saturating_add(patterns))?;
+        constraints.push(one).ok()?;
     }
     Some(constraints)
+}
+
+/// A constraint on the patterns of these numbers.
+fn numbered_constraint(alloc: Global, from: u32, until: u32) -> Option<Constraint> {
+    let methods = Methods::Only(two_texts(alloc, "GET", "POST")?);
+    let listed = numbered_patterns(alloc, from, until)?;
+    constraint(alloc, from, listed, methods)
 }
 
 /// A constraint for two roles.
@@ -73,6 +87,7 @@ pub fn constraint(
     patterns: Vec<Pattern>,
     methods: Methods,
 ) -> Option<Constraint> {
+    let roles = two_texts(alloc, "clerk", "manager")?;
     let mut collections = Vec::new(alloc);
     let collection = Collection {
         patterns: Listed::from_vec(patterns),
@@ -82,7 +97,7 @@ pub fn constraint(
     Some(Constraint {
         number: u64::from(number),
         collections: Listed::from_vec(collections),
-        auth: Auth::Roles(two_texts(alloc, "clerk", "manager")?),
+        auth: Auth::Roles(roles),
         transport: Transport::Absent,
     })
 }

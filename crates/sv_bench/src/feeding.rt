@@ -2,8 +2,8 @@
 
 ghost use Rattle.std.specs.Prelude.{◌<◌};
 
-use crate::measure::Work;
 use std::alloc::Global;
+use sv_measure::Work;
 use sv_wire::Inbox;
 
 /// Feeding a stream to an inbox in pieces of a size.
@@ -16,7 +16,7 @@ pub struct Feeding<'a> {
 }
 
 impl Work for Feeding<'_> {
-    fn round(&self, place: usize) -> Option<usize> {
+    fn round(&mut self, place: usize) -> Option<usize> {
         let mut inbox = Inbox::new(self.alloc);
         let mut items = place;
         for piece in self.stream.chunks(self.piece) {
@@ -34,7 +34,7 @@ pub struct Copying<'a> {
 }
 
 impl Work for Copying<'_> {
-    fn round(&self, place: usize) -> Option<usize> {
+    fn round(&mut self, place: usize) -> Option<usize> {
         let copy = self.stream.to_vec(self.alloc).ok()?;
         Some(place.wrapping_add(copy.len()))
     }

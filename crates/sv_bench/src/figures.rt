@@ -5,12 +5,11 @@ ghost use Rattle.std.specs.Prelude.{◌<◌};
 use crate::bodies::chunked_request;
 use crate::constraints::Deciding;
 use crate::feeding::{Copying, Feeding};
-use crate::heads::HEAD;
 use crate::paths::{Reading, TARGETS};
 use crate::patterns::{Matching, numbered_patterns, numbered_texts};
-use crate::report::{Rounds, report, report_bound, report_bytes};
 use std::rt::Clock;
 use std::time::Duration;
+use sv_measure::{HEAD, Rounds, report, report_bound, report_bytes};
 
 /// A head that comes byte by byte may take so many times as long as in one piece.
 const MOST_TIMES: u32 = 30;
@@ -29,46 +28,39 @@ const PIECES: [(&str, usize); 4] = [
     ("feed of it whole", 2_000_000),
 ];
 
-/// Rounds of quick work.
-pub fn quick(figures: bool) -> Rounds {
-    Rounds {
-        count: if figures { 10_000 } else { 100 },
-        figures,
-    }
-}
-
-/// Rounds of work that takes milliseconds.
-fn slow(figures: bool) -> Rounds {
-    Rounds {
-        count: if figures { 20 } else { 1 },
-        figures,
-    }
-}
-
 /// The canonical path of a target.
-pub fn path<R: Clock + Print + AllocGlobal>(rt: &R, figures: bool) -> Option<()> {
-    let reading = Reading { alloc: rt.alloc() };
-    report(rt, quick(figures), "canon", &reading, TARGETS[0].as_bytes())?;
-    Some(())
+pub fn path<R: Clock + Print + AllocGlobal>(rt: &R, figures: bool) -> Option<Duration> {
+    let mut reading = Reading { alloc: rt.alloc() };
+    report(
+        rt,
+        Rounds::quick(figures),
+        "canon",
+        &mut reading,
+        TARGETS[0].as_bytes(),
+    )
 }
 
 /// The best match among a hundred patterns, beside a loop over their texts.
-pub fn patterns<R: Clock + Print + AllocGlobal>(rt: &R, figures: bool) -> Option<()> {
-    let matching = Matching {
-        patterns: numbered_patterns(rt.alloc(), 0, 100)?,
-    };
+pub fn patterns<R: Clock + Print + AllocGlobal>(rt: &R, figures: bool) -> Option<Duration> {
     let texts = numbered_texts(rt.alloc(), 100)?;
+    let patterns = numbered_patterns(rt.alloc(), 0, 100)?;
+    let mut matching = Matching { patterns };
     let name = "best of 100 patterns";
-    report(rt, quick(figures), name, &matching, texts.as_bytes())?;
-    Some(())
+    report(
+        rt,
+        Rounds::quick(figures),
+        name,
+        &mut matching,
+        texts.as_bytes(),
+    )
 }
 
 /// The decision by a hundred constraints, and by as many as there may be, each with as many patterns.
-pub fn constraints<R: Clock + Print + AllocGlobal>(rt: &R, figures: bool) -> Option<()> {
+pub fn constraints<R: Clock + Print + AllocGlobal>(rt: &R, figures: bool) -> Option<Duration> {
     let name = "decide_plain of 100 constraints";
-    deciding(rt, quick(figures), name, 100, 1)?;
+    deciding(rt, Rounds::quick(figures), name, 100, 1)?;
     let name = "decide_plain of 1000 constraints of 64 patterns";
-    deciding(rt, slow(figures), name, 1000, 64)
+    deciding(rt, Rounds::slow(figures), name, 1000, 64)
 }
 
 /// The decision by so many constraints of so many patterns, beside a loop over the texts of their patterns.
@@ -78,17 +70,21 @@ fn deciding<R: Clock + Print + AllocGlobal>(
     name: &str,
     count: u32,
     patterns: u32,
-) -> Option<()> {
-    let deciding = Deciding::new(rt.alloc(), count, patterns)?;
+) -> Option<Duration> {
     let texts = numbered_texts(rt.alloc(), count.saturating_mul(patterns))?;
-    report(rt, rounds, name, &deciding, texts.as_bytes())?;
-    Some(())
+    let mut deciding = Deciding::new(rt.alloc(), count, patterns)?;
+    report(rt, rounds, name, &mut deciding, texts.as_bytes())
 }
 
 /// A head in one piece and byte by byte.
 pub fn head<R: Clock + Print + AllocGlobal>(rt: &R, figures: bool) -> Option<()> {
-    let whole = report_feeding(rt, quick(figures), "feed of a 600-byte head", HEAD.len())?;
-    let single = report_feeding(rt, quick(figures), "feed of it byte by byte", 1)?;
+    let whole = report_feeding(
+        rt,
+        Rounds::quick(figures),
+        "feed of a 600-byte head",
+        HEAD.len(),
+    )?;
+    let single = report_feeding(rt, Rounds::quick(figures), "feed of it byte by byte", 1)?;
     report_bound(
         rt,
         figures,
@@ -107,23 +103,29 @@ fn report_feeding<R: Clock + Print + AllocGlobal>(
 ) -> Option<Duration>
     requires { 0 < piece }
 {
-    let feeding = Feeding {
+    let mut feeding = Feeding {
         alloc: rt.alloc(),
         stream: HEAD.as_bytes(),
         piece,
     };
-    report(rt, rounds, name, &feeding, HEAD.as_bytes())
+    report(rt, rounds, name, &mut feeding, HEAD.as_bytes())
 }
 
 /// A chunked body in pieces of several sizes beside a copy of it.
 pub fn body<R: Clock + Print + AllocGlobal>(rt: &R, figures: bool) -> Option<()> {
     let stream = chunked_request(rt.alloc())?;
-    let copying = Copying {
+    let mut copying = Copying {
         alloc: rt.alloc(),
         stream: stream.as_slice(),
     };
     let name = "copy of a chunked body of 1 MiB";
-    let copy = report_bytes(rt, slow(figures), name, &copying, stream.as_slice())?;
+    let copy = report_bytes(
+        rt,
+        Rounds::slow(figures),
+        name,
+        &mut copying,
+        stream.as_slice(),
+    )?;
     let (fastest, slowest) = pieces(rt, figures, stream.as_slice())?;
     let name = "the slowest beside the fastest";
     report_bound(rt, figures, name, slowest, fastest, MOST_TIMES_THE_FASTEST)?;
@@ -145,12 +147,12 @@ fn pieces<R: Clock + Print + AllocGlobal>(
 ) -> Option<(Duration, Duration)> {
     let (mut fastest, mut slowest) = (Duration::MAX, Duration::ZERO);
     for (name, piece) in PIECES {
-        let feeding = Feeding {
+        let mut feeding = Feeding {
             alloc: rt.alloc(),
             stream,
             piece,
         };
-        let time = report_bytes(rt, slow(figures), name, &feeding, stream)?;
+        let time = report_bytes(rt, Rounds::slow(figures), name, &mut feeding, stream)?;
         fastest = fastest.min(time);
         slowest = slowest.max(time);
     }

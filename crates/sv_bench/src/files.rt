@@ -1,13 +1,11 @@
 //! Look-ups of files, folders and welcome files among few and among as many as a context may have.
 
-use crate::figures::quick;
-use crate::measure::Work;
-use crate::report::{Rounds, report, report_bound};
 use std::alloc::Global;
 use std::rt::Clock;
 use std::time::Duration;
 use sv_files::{File, FileAnswer, Files};
 use sv_mapping::Kind;
+use sv_measure::{Rounds, Work, report, report_bound};
 use sv_text::{Bytes, NoMemory, Text};
 
 /// Few files.
@@ -25,11 +23,15 @@ const FEWER: u32 = 1_000;
 /// To take ten times as many files may take so many times as long, which is what sorting them would take.
 const MOST_TIMES_TAKEN: u32 = 14;
 
-/// What is asked for in the folder of a file, by what follows the folder's path: its file, the folder itself, its welcome file.
-const ASKED: [(&str, &str); 3] = [
-    ("a file", "/page.html"),
-    ("a folder", ""),
-    ("a welcome file", "/"),
+/// What is asked for in the folder of a file among few and among many, by what follows the folder's path: its file, the folder itself, its
+/// welcome file.
+const ASKED: [([&str; 2], &str); 3] = [
+    (["a file among 10", "a file among 10000"], "/page.html"),
+    (["a folder among 10", "a folder among 10000"], ""),
+    (
+        ["a welcome file among 10", "a welcome file among 10000"],
+        "/",
+    ),
 ];
 
 /// Asking the file servlet for the same thing in four folders.
@@ -43,13 +45,9 @@ struct Looking {
 
 impl Looking {
     fn new(alloc: Global, count: u32, behind: &str) -> Option<Looking> {
-        let files = Files::from_list(alloc, numbered_files(alloc, count).ok()?).ok()?;
-        let mut paths = Vec::new(alloc);
-        for number in [0, count / 3, count / 2, count.saturating_sub(1)] {
-            paths.push(numbered_path(alloc, number, behind).ok()?).ok()?;
-        }
-        let mut welcome = Vec::new(alloc);
-        welcome.push(Text::copy_of(alloc, "page.html").ok()?).ok()?;
+        let paths = four_paths(alloc, count, behind).ok()?;
+        let welcome = welcome(alloc).ok()?;
+        let files = files_of(alloc, count)?;
         Some(Looking {
             alloc,
             files,
@@ -59,8 +57,28 @@ impl Looking {
     }
 }
 
+/// The paths of four of so many folders, with what follows them.
+fn four_paths(alloc: Global, count: u32, behind: &str) -> Result<Vec<Text>, NoMemory> {
+    let mut paths = Vec::new(alloc);
+    for number in [0, count / 3, count / 2, count.saturating_sub(1)] {
+        paths.push(numbered_path(alloc, number, behind)?)?;
+    }
+    Ok(paths)
+}
+
+fn welcome(alloc: Global) -> Result<Vec<Text>, NoMemory> {
+    let mut welcome = Vec::new(alloc);
+    welcome.push(Text::copy_of(alloc, "page.html")?)?;
+    Ok(welcome)
+}
+
+fn files_of(alloc: Global, count: u32) -> Option<Files> {
+    let files = numbered_files(alloc, count).ok()?;
+    Files::from_list(alloc, files).ok()
+}
+
 impl Work for Looking {
-    fn round(&self, place: usize) -> Option<usize> {
+    fn round(&mut self, place: usize) -> Option<usize> {
         let path = self.paths.get(place % 4)?.as_str();
         let welcome = self.welcome.as_slice();
         let answer = self
@@ -89,9 +107,8 @@ struct Taking {
 }
 
 impl Work for Taking {
-    fn round(&self, _place: usize) -> Option<usize> {
-        let files = numbered_files(self.alloc, self.count).ok()?;
-        Some(Files::from_list(self.alloc, files).ok()?.list().len())
+    fn round(&mut self, _place: usize) -> Option<usize> {
+        Some(files_of(self.alloc, self.count)?.list().len())
     }
 }
 
@@ -114,13 +131,10 @@ fn numbered_path(alloc: Global, number: u32, behind: &str) -> Result<Text, NoMem
 
 /// What each look-up costs among few files and among many, and what it costs to take them.
 pub fn files<R: Clock + Print + AllocGlobal>(rt: &R, figures: bool) -> Option<()> {
-    for (name, behind) in ASKED {
-        look_ups(rt, figures, name, behind)?;
+    for (names, behind) in ASKED {
+        look_ups(rt, figures, names, behind)?;
     }
-    let rounds = Rounds {
-        count: if figures { 20 } else { 1 },
-        figures,
-    };
+    let rounds = Rounds::slow(figures);
     let fewer = taken(rt, rounds, "list of 1,000 files", FEWER)?;
     let many = taken(rt, rounds, "list of 10,000 files", MANY)?;
     let name = "10,000 files beside 1,000";
@@ -130,11 +144,11 @@ pub fn files<R: Clock + Print + AllocGlobal>(rt: &R, figures: bool) -> Option<()
 fn look_ups<R: Clock + Print + AllocGlobal>(
     rt: &R,
     figures: bool,
-    name: &str,
+    names: [&str; 2],
     behind: &str,
 ) -> Option<()> {
-    let few = looked_up(rt, figures, name, behind, FEW)?;
-    let many = looked_up(rt, figures, name, behind, MANY)?;
+    let few = looked_up(rt, figures, names[0], behind, FEW)?;
+    let many = looked_up(rt, figures, names[1], behind, MANY)?;
     report_bound(
         rt,
         figures,
@@ -152,13 +166,12 @@ fn looked_up<R: Clock + Print + AllocGlobal>(
     behind: &str,
     count: u32,
 ) -> Option<Duration> {
-    let looking = Looking::new(rt.alloc(), count, behind)?;
-    let name = format!(in rt.alloc(); "{name} among {count}").ok()?;
+    let mut looking = Looking::new(rt.alloc(), count, behind)?;
     report(
         rt,
-        quick(figures),
-        name.as_str(),
-        &looking,
+        Rounds::quick(figures),
+        name,
+        &mut looking,
         b"/part00000/page.html",
     )
 }
@@ -169,9 +182,9 @@ fn taken<R: Clock + Print + AllocGlobal>(
     name: &str,
     count: u32,
 ) -> Option<Duration> {
-    let taking = Taking {
+    let mut taking = Taking {
         alloc: rt.alloc(),
         count,
     };
-    report(rt, rounds, name, &taking, name.as_bytes())
+    report(rt, rounds, name, &mut taking, name.as_bytes())
 }

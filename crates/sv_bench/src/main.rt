@@ -4,18 +4,13 @@
 
 mod bodies;
 mod constraints;
-mod exchange_figures;
-mod exchanges;
 mod feeding;
 mod figures;
 mod files;
-mod heads;
-mod measure;
 mod paths;
 mod patterns;
 mod policies;
 mod policy_figures;
-mod report;
 mod sessions;
 
 use std::env;
@@ -38,7 +33,6 @@ fn run<R: Env + Clock + Print + AllocGlobal>(rt: &R) -> Option<()> {
     policy_figures::policy(rt, wanted)?;
     figures::head(rt, wanted)?;
     figures::body(rt, wanted)?;
-    exchange_figures::exchange(rt, wanted)?;
     sessions::sessions(rt, wanted)?;
     files::files(rt, wanted)
 }

@@ -1,7 +1,7 @@
 //! Request targets, read as canonical paths.
 
-use crate::measure::Work;
 use std::alloc::Global;
+use sv_measure::Work;
 use sv_uri::canon;
 
 /// Targets of equal length, which the rounds take in turn.
@@ -19,7 +19,7 @@ pub struct Reading {
 }
 
 impl Work for Reading {
-    fn round(&self, place: usize) -> Option<usize> {
+    fn round(&mut self, place: usize) -> Option<usize> {
         let canon = canon(self.alloc, TARGETS[place % 4].as_bytes()).ok()?;
         Some(canon.path.as_bytes().len())
     }

@@ -1,8 +1,8 @@
 //! URL patterns, and the best match among them.
 
-use crate::measure::Work;
 use std::alloc::Global;
 use sv_mapping::{Pattern, best};
+use sv_measure::Work;
 
 /// Paths whose best matches among a hundred patterns have four forms: a prefix, an extension, an exact pattern, none.
 pub const PATHS: [&str; 4] = [
@@ -19,7 +19,7 @@ pub struct Matching {
 }
 
 impl Work for Matching {
-    fn round(&self, place: usize) -> Option<usize> {
+    fn round(&mut self, place: usize) -> Option<usize> {
         let found = best(self.patterns.as_slice(), PATHS[place % 4]);
         Some(found.unwrap_or(place))
     }

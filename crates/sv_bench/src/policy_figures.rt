@@ -1,10 +1,9 @@
 //! The figures of a compiled policy.
 
-use crate::figures::quick;
 use crate::policies::{Compiled, Covered, Known};
-use crate::report::{report_bound, report_time};
 use std::rt::Clock;
 use std::time::Duration;
+use sv_measure::{Rounds, report_bound, report_time};
 
 /// A decision among a thousand times as many patterns may take so many times as long.
 const MOST_TIMES_FEW: u32 = 3;
@@ -28,10 +27,16 @@ pub fn policy<R: Clock + Print + AllocGlobal>(rt: &R, figures: bool) -> Option<(
         "decide by one of 6,000 patterns that names two methods at each",
     ];
     decisions(rt, figures, names, Covered::GetAndPost)?;
-    let known = Known::new(rt.alloc(), MANY)?;
-    let whole = report_time(rt, quick(figures), "look-up of the whole path", &known)?;
+    let whole = looked_up(rt, figures)?;
     let name = "a decision beside the look-up";
     report_bound(rt, figures, name, many, whole, MOST_TIMES_A_LOOK_UP)
+}
+
+/// The time of a look-up of a whole path among many.
+fn looked_up<R: Clock + Print + AllocGlobal>(rt: &R, figures: bool) -> Option<Duration> {
+    let mut known = Known::new(rt.alloc(), MANY)?;
+    let name = "look-up of the whole path";
+    report_time(rt, Rounds::quick(figures), name, &mut known)
 }
 
 /// Decisions among few patterns and among many: the time of the latter.
@@ -56,6 +61,6 @@ fn decided<R: Clock + Print + AllocGlobal>(
     count: u32,
     covered: Covered,
 ) -> Option<Duration> {
-    let compiled = Compiled::new(rt.alloc(), count, covered)?;
-    report_time(rt, quick(figures), name, &compiled)
+    let mut compiled = Compiled::new(rt.alloc(), count, covered)?;
+    report_time(rt, Rounds::quick(figures), name, &mut compiled)
 }

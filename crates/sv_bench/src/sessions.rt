@@ -1,11 +1,9 @@
 //! What the calls on the sessions of a context cost, with one session and with a thousand.
 
-ghost use Rattle.std.specs.Prelude.{◌<◌};
-
-use crate::measure::Work;
-use crate::report::{Rounds, report};
 use std::alloc::Global;
 use std::rt::Clock;
+use std::time::Duration;
+use sv_measure::{Rounds, Work, report_time};
 use sv_session::Sessions;
 use sv_text::Text;
 
@@ -32,7 +30,7 @@ impl Opening {
 }
 
 impl Work for Opening {
-    fn round(&self, place: usize) -> Option<usize> {
+    fn round(&mut self, place: usize) -> Option<usize> {
         let mut sessions = self.opened(place as u64)?;
         let mut found = place;
         for moment in 0..self.expiries {
@@ -69,13 +67,13 @@ impl Finding {
 }
 
 impl Work for Finding {
-    fn round(&self, place: usize) -> Option<usize> {
+    fn round(&mut self, place: usize) -> Option<usize> {
         let number = self.sessions.find(self.id.as_bytes())?;
         Some(place.wrapping_add(number as usize))
     }
 }
 
-/// `open`, `expire` and `find` with one session and with a thousand, beside a loop over the ids' bytes. The time of a line that names several calls is
+/// `open`, `expire` and `find` with one session and with a thousand. The time of a line that names several calls is
 /// that of all of them, the opening of the sessions included.
 pub fn sessions<R: Clock + Print + AllocGlobal>(rt: &R, figures: bool) -> Option<()> {
     let names = [
@@ -83,13 +81,14 @@ pub fn sessions<R: Clock + Print + AllocGlobal>(rt: &R, figures: bool) -> Option
         "the same with expire of none 100 times",
         "find of it",
     ];
-    of_sessions(rt, names, rounds(figures, 10_000), 1)?;
+    of_sessions(rt, names, Rounds::quick(figures), 1)?;
     let names = [
         "open of 1000 sessions",
         "the same with expire of none 100 times",
         "find of the last of them",
     ];
-    of_sessions(rt, names, rounds(figures, 20), 1000)
+    of_sessions(rt, names, Rounds::slow(figures), 1000)?;
+    Some(())
 }
 
 fn of_sessions<R: Clock + Print + AllocGlobal>(
@@ -97,27 +96,15 @@ fn of_sessions<R: Clock + Print + AllocGlobal>(
     names: [&str; 3],
     rounds: Rounds,
     count: usize,
-) -> Option<()> {
-    let alloc = rt.alloc();
-    let finding = Finding::new(alloc, count)?;
+) -> Option<Duration> {
     for (name, expiries) in [(names[0], 0), (names[1], 100)] {
-        let opening = Opening {
-            alloc,
+        let mut opening = Opening {
+            alloc: rt.alloc(),
             sessions: count,
             expiries,
         };
-        report(rt, rounds, name, &opening, finding.id.as_bytes())?;
+        report_time(rt, rounds, name, &mut opening)?;
     }
-    report(rt, rounds, names[2], &finding, finding.id.as_bytes())?;
-    Some(())
-}
-
-/// So many rounds, where figures are wanted.
-fn rounds(figures: bool, many: u32) -> Rounds
-    requires { 0 < many }
-{
-    Rounds {
-        count: if figures { many } else { 1 },
-        figures,
-    }
+    let mut finding = Finding::new(rt.alloc(), count)?;
+    report_time(rt, rounds, names[2], &mut finding)
 }

@@ -69,6 +69,8 @@ impl BodyReader {
 
     /// Reads a piece of the stream up to the end of the body, if it is there. Behind the end, a fault or want of memory the
     /// reader is as before the first byte of a body.
+    // Where a piece is a single byte, its price is that of the calls.
+    #[inline(always)]
     pub fn read(&mut self, piece: &[u8]) -> Result<Progress, NoMemory>
         ensures read { IfOk result (λ progress. ReadsOn self.old piece.now progress self.new) }
         ensures no_memory { OnErr result (self.new ≡ nothing_came self.old.framing) }

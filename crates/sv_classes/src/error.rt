@@ -1,5 +1,7 @@
 //! A servlet that answers an error.
 
+ghost use Rattle.std.specs.Prelude.{◌≡◌};
+
 use crate::parameter::number;
 use std::alloc::Global;
 use sv_component::{Config, Exchange, Init, Servlet, Step};
@@ -13,7 +15,9 @@ pub struct ErrorCode {
 
 impl ErrorCode {
     /// A servlet to be initialised.
-    pub fn new() -> ErrorCode {
+    pub fn new() -> ErrorCode
+        ensures { result ≡ record { code = 0 } }
+    {
         ErrorCode { code: 0 }
     }
 }

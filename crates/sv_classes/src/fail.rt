@@ -1,5 +1,7 @@
 //! A servlet that fails.
 
+ghost use Rattle.std.specs.Prelude.{◌≡◌, []};
+
 use crate::parameter::{keep_parameter, no_text};
 use std::alloc::Global;
 use sv_component::{Config, Exchange, Init, Servlet, Step};
@@ -13,7 +15,9 @@ pub struct Fail {
 
 impl Fail {
     /// A servlet to be initialised.
-    pub fn new(alloc: Global) -> Fail {
+    pub fn new(alloc: Global) -> Fail
+        ensures { result ≡ record { kind = [] } }
+    {
         Fail {
             kind: no_text(alloc),
         }

@@ -1,5 +1,7 @@
 //! A servlet that forwards.
 
+ghost use Rattle.std.specs.Prelude.{◌≡◌, []};
+
 use crate::parameter::{keep_parameter, no_text};
 use std::alloc::Global;
 use sv_component::{Config, Exchange, Init, Servlet, Step};
@@ -13,7 +15,9 @@ pub struct Go {
 
 impl Go {
     /// A servlet to be initialised.
-    pub fn new(alloc: Global) -> Go {
+    pub fn new(alloc: Global) -> Go
+        ensures { result ≡ record { path = [] } }
+    {
         Go {
             path: no_text(alloc),
         }

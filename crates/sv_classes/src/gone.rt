@@ -1,5 +1,7 @@
 //! A servlet that goes out of service.
 
+ghost use Rattle.std.specs.Prelude.{◌≡◌};
+
 use crate::parameter::number;
 use std::alloc::Global;
 use sv_component::{Config, Exchange, Init, Servlet, Step};
@@ -12,7 +14,9 @@ pub struct Gone {
 
 impl Gone {
     /// A servlet to be initialised.
-    pub fn new() -> Gone {
+    pub fn new() -> Gone
+        ensures { result ≡ record { seconds = None } }
+    {
         Gone { seconds: None }
     }
 }

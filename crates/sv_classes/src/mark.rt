@@ -1,5 +1,7 @@
 //! A filter that leaves its name.
 
+ghost use Rattle.std.specs.Prelude.{◌≡◌, []};
+
 use crate::plain::unless_refused;
 use std::alloc::Global;
 use sv_component::{Config, Exchange, Filter, Gate, Init};
@@ -13,7 +15,9 @@ pub struct Mark {
 
 impl Mark {
     /// A filter to be initialised.
-    pub fn new(alloc: Global) -> Mark {
+    pub fn new(alloc: Global) -> Mark
+        ensures { result ≡ record { name = [] } }
+    {
         Mark {
             name: Text::from_string(String::new(alloc)),
         }

@@ -1,5 +1,6 @@
 //! A servlet that includes.
 
+ghost use Rattle.std.specs.Prelude.{◌≡◌, []};
 ghost use Rattle.sv_exchange.specs.Changing.{Changes};
 
 use crate::parameter::{keep_parameter, no_text};
@@ -20,7 +21,9 @@ pub struct Nest {
 
 impl Nest {
     /// A servlet to be initialised.
-    pub fn new(alloc: Global) -> Nest {
+    pub fn new(alloc: Global) -> Nest
+        ensures { result ≡ record { path = []; calls = 0 } }
+    {
         Nest {
             path: no_text(alloc),
             calls: 0,

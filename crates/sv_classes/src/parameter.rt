@@ -1,5 +1,7 @@
 //! What components are told by their parameters.
 
+ghost use Rattle.std.specs.Prelude.{◌≡◌, []};
+
 use std::alloc::Global;
 use sv_component::{Config, Init};
 use sv_text::{NoMemory, Text};
@@ -21,7 +23,9 @@ pub(crate) fn keep_parameter(alloc: Global, config: &Config, name: &str, kept: &
 }
 
 /// An empty text.
-pub(crate) fn no_text(alloc: Global) -> Text {
+pub(crate) fn no_text(alloc: Global) -> Text
+    ensures { result ≡ [] }
+{
     Text::from_string(String::new(alloc))
 }
 

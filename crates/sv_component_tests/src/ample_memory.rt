@@ -24,16 +24,22 @@ impl Asks for Journals {
     const QUESTION: usize = 1;
 
     fn answer(&self, alloc: Global, row: &str, answer: &mut Vec<u8>) -> Result<(), NoMemory> {
-        let event = Event::copy_of(alloc, &Event::SessionCreated(3))?;
-        let journal = journal(alloc, &event, cell(row, 0) == "broken");
         let mut lines = Draft::new(alloc);
-        for entry in journal.entries() {
-            lines.add_shown(entry);
-            lines.add(". ");
+        match Event::copy_of(alloc, &Event::SessionCreated(3)) {
+            Ok(event) => add_lines(alloc, &event, cell(row, 0) == "broken", &mut lines),
+            Err(_) => lines.fail(),
         }
-        lines.add(if journal.whole() { "whole" } else { "broken" });
         lines.add_to(answer)
     }
+}
+
+fn add_lines(alloc: Global, event: &Event, breaks: bool, lines: &mut Draft) {
+    let journal = journal(alloc, event, breaks);
+    for entry in journal.entries() {
+        lines.add_shown(entry);
+        lines.add(". ");
+    }
+    lines.add(if journal.whole() { "whole" } else { "broken" });
 }
 
 fn journal(alloc: Global, event: &Event, breaks: bool) -> Journal {

@@ -2,19 +2,13 @@
 
 ghost use Rattle.std.specs.Prelude.{◌<◌, length, OnOk};
 
-use crate::requests::exchange;
 use std::alloc::Global;
 use sv_exchange::{Exchange, ExchangeFault};
 use sv_mapping::Kind;
-use sv_rows::unescaped_text;
-use sv_text::NoMemory;
 
-/// An exchange on which calls were made, which stand between semicolons, and what the last one answered.
-pub fn made(alloc: Global, calls: &str) -> Result<(Exchange, &'static str), NoMemory> {
-    let calls = unescaped_text(alloc, calls)?;
-    let mut exchange = exchange(alloc)?;
-    let done = make_all(alloc, &mut exchange, calls.as_str());
-    Ok((exchange, answered(done)))
+/// Makes calls on the exchange, which stand between semicolons, and tells what the last one answered.
+pub fn call_all(alloc: Global, exchange: &mut Exchange, calls: &str) -> &'static str {
+    answered(make_all(alloc, exchange, calls))
 }
 
 fn make_all(alloc: Global, exchange: &mut Exchange, calls: &str) -> Result<bool, ExchangeFault> {
@@ -35,8 +29,8 @@ fn make(
     rest: &str,
 ) -> Result<bool, ExchangeFault> {
     match name {
-        "enter" => Ok(enter(exchange, &place_of(rest))?),
-        "visit" => Ok(visit(exchange, &place_of(rest))?),
+        "enter" => enter(exchange, rest),
+        "visit" => visit(exchange, rest),
         "fill" => fill(alloc, exchange, rest.parse::<usize>().unwrap_or(0)),
         "clear" => Ok(clear(exchange)),
         "reset" => Ok(reset(exchange)),
@@ -91,60 +85,60 @@ fn answered(done: Result<bool, ExchangeFault>) -> &'static str {
     }
 }
 
-/// A dispatch that begins: its kind and its paths.
-#[derive(Drop)]
-struct Place {
-    kind: Kind,
-    path: &'static str,
-    servlet_path: &'static str,
-    path_info: Option<&'static str>,
-    query: Option<&'static str>,
-}
-
-/// The dispatch of a name: each kind has a path of its own, includes have two.
-fn place_of(name: &str) -> Place {
-    match name {
-        "REQUEST" => dispatch_to(Kind::Request, "/a/b", "/a", Some("/b"), Some("q=1")),
-        "FORWARD" => dispatch_to(Kind::Forward, "/f/x", "/f", Some("/x"), Some("f=1")),
-        "INCLUDE" => dispatch_to(Kind::Include, "/i", "/i", None, None),
-        "INFO" => dispatch_to(Kind::Include, "/j/y", "/j", Some("/y"), Some("j=1")),
-        _ => dispatch_to(Kind::Error, "/e", "/e", None, None),
-    }
-}
-
-fn dispatch_to(
-    kind: Kind,
-    path: &'static str,
-    servlet_path: &'static str,
-    path_info: Option<&'static str>,
-    query: Option<&'static str>,
-) -> Place {
-    Place {
-        kind,
-        path,
-        servlet_path,
-        path_info,
-        query,
-    }
-}
-
-/// Begins a dispatch.
-fn enter(exchange: &mut Exchange, place: &Place) -> Result<bool, NoMemory>
+/// Begins the dispatch of a name: each kind has a path of its own, includes have two.
+fn enter(exchange: &mut Exchange, name: &str) -> Result<bool, ExchangeFault>
     ensures { OnOk result (0 < length exchange.new.dispatches) }
 {
-    exchange.enter(
-        place.kind,
-        place.path,
-        place.servlet_path,
-        place.path_info,
-        place.query,
-    )?;
-    Ok(true)
+    match name {
+        "REQUEST" => begin(
+            exchange,
+            Kind::Request,
+            "/a/b",
+            "/a",
+            Some("/b"),
+            Some("q=1"),
+        ),
+        "FORWARD" => begin(
+            exchange,
+            Kind::Forward,
+            "/f/x",
+            "/f",
+            Some("/x"),
+            Some("f=1"),
+        ),
+        "INCLUDE" => begin(exchange, Kind::Include, "/i", "/i", None, None),
+        "INFO" => begin(
+            exchange,
+            Kind::Include,
+            "/j/y",
+            "/j",
+            Some("/y"),
+            Some("j=1"),
+        ),
+        _ => begin(exchange, Kind::Error, "/e", "/e", None, None),
+    }
+}
+
+/// Begins a dispatch to a path, which is that of the servlet and what stands behind it.
+fn begin(
+    exchange: &mut Exchange,
+    kind: Kind,
+    path: &str,
+    servlet_path: &str,
+    path_info: Option<&str>,
+    query: Option<&str>,
+) -> Result<bool, ExchangeFault>
+    ensures { OnOk result (0 < length exchange.new.dispatches) }
+{
+    match exchange.enter(kind, path, servlet_path, path_info, query) {
+        Ok(()) => Ok(true),
+        Err(_) => Err(ExchangeFault::NoMemory),
+    }
 }
 
 /// Begins a dispatch and ends it.
-fn visit(exchange: &mut Exchange, place: &Place) -> Result<bool, NoMemory> {
-    enter(exchange, place)?;
+fn visit(exchange: &mut Exchange, name: &str) -> Result<bool, ExchangeFault> {
+    enter(exchange, name)?;
     exchange.leave();
     Ok(true)
 }

@@ -1,11 +1,12 @@
 //! What changing calls do to an exchange.
 
-use crate::calls::made;
+use crate::runs::{Sees, add_seen};
 use std::alloc::Global;
 use sv_exchange::Exchange;
 use sv_head::Field;
 use sv_rows::{Asks, Draft, Strays, cell, hold};
 use sv_text::NoMemory;
+use sv_wire::Response;
 
 /// Calls, the answer to the last one, and the response: its status, its fields, its body.
 const STATUSES: &str = r#"
@@ -128,28 +129,39 @@ impl Asks for Changes {
     const QUESTION: usize = 1;
 
     fn answer(&self, alloc: Global, row: &str, answer: &mut Vec<u8>) -> Result<(), NoMemory> {
-        let mut outcome = Draft::new(alloc);
-        match made(alloc, cell(row, 0)) {
-            Ok((exchange, said)) => add_outcome(&mut outcome, said, exchange),
-            Err(_) => outcome.fail(),
-        }
-        outcome.add_to(answer)
+        add_seen(alloc, row, cell(row, 0), self, answer)
     }
 }
 
-fn add_outcome(outcome: &mut Draft, said: &str, exchange: Exchange) {
-    let (response, _sessions) = exchange.finish();
-    outcome.add(said);
-    outcome.add(" | ");
-    outcome.add_shown(&response.status);
-    outcome.add(" | ");
-    add_fields(outcome, response.fields.as_slice());
-    outcome.add(" | ");
-    add_body(outcome, response.body.as_slice());
+impl Sees for Changes {
+    fn add_exchange(
+        &self,
+        _alloc: Global,
+        _row: &str,
+        said: &str,
+        _exchange: &mut Exchange,
+        seen: &mut Draft,
+    ) {
+        seen.add(said);
+        seen.add(" | ");
+    }
+
+    fn add_response(&self, response: &Response, seen: &mut Draft) {
+        seen.add_shown(&response.status);
+        seen.add(" | ");
+        add_fields_and_body(seen, response);
+    }
+}
+
+/// Adds the fields and the body of a response.
+pub fn add_fields_and_body(text: &mut Draft, response: &Response) {
+    add_fields(text, response.fields.as_slice());
+    text.add(" | ");
+    add_body(text, response.body.as_slice());
 }
 
 /// Adds fields with commas between them.
-pub fn add_fields(text: &mut Draft, fields: &[Field]) {
+fn add_fields(text: &mut Draft, fields: &[Field]) {
     let mut front = "";
     for field in fields {
         text.add(front);
@@ -161,7 +173,7 @@ pub fn add_fields(text: &mut Draft, fields: &[Field]) {
 }
 
 /// Adds a body, or its length where that is more than a hundred bytes.
-pub fn add_body(text: &mut Draft, body: &[u8]) {
+fn add_body(text: &mut Draft, body: &[u8]) {
     if body.len() <= 100 {
         text.add_bytes(body);
     } else {

@@ -1,7 +1,7 @@
-//! The program's component classes, in boxes.
+//! The program's component classes, one servlet and one filter in boxes.
 
-use crate::calls::made;
-use crate::changes::{add_body, add_fields};
+use crate::changes::add_fields_and_body;
+use crate::runs::{Sees, add_seen};
 use std::alloc::Global;
 use sv_classes::{
     Bad, Bye, ErrorCode, Fail, Go, Gone, Halt, Keep, Log, Mark, Nest, Out, Paths, Who,
@@ -13,6 +13,7 @@ use sv_component::{
 use sv_journal::Answer;
 use sv_rows::{Asks, Draft, Strays, cell, hold, unescaped_text};
 use sv_text::{Listed, NoMemory, Text};
+use sv_wire::Response;
 
 /// A class, a component's name with its parameters, calls made before its own, and then: the answers to `init` and to `service` or
 /// `before`, the fields and the body of the response.
@@ -82,153 +83,139 @@ impl Asks for Classes {
     const QUESTION: usize = 3;
 
     fn answer(&self, alloc: Global, row: &str, answer: &mut Vec<u8>) -> Result<(), NoMemory> {
-        let mut told = Draft::new(alloc);
-        match (config(alloc, cell(row, 1)), made(alloc, cell(row, 2))) {
-            (Ok(config), Ok((exchange, _))) => {
-                add_calls(alloc, cell(row, 0), &config, exchange, &mut told);
-            }
-            _ => told.fail(),
-        }
-        told.add_to(answer)
+        add_seen(alloc, row, cell(row, 2), self, answer)
     }
 }
 
-/// Makes the calls of a component, and adds their answers and the response.
+impl Sees for Classes {
+    fn add_exchange(
+        &self,
+        alloc: Global,
+        row: &str,
+        _said: &str,
+        exchange: &mut Exchange,
+        seen: &mut Draft,
+    ) {
+        match config(alloc, cell(row, 1)) {
+            Ok(config) => add_calls(alloc, cell(row, 0), &config, exchange, seen),
+            Err(_) => seen.fail(),
+        }
+    }
+
+    fn add_response(&self, response: &Response, seen: &mut Draft) {
+        add_fields_and_body(seen, response);
+    }
+}
+
+/// Makes the calls of a component of that class, and adds their answers.
 fn add_calls(
     alloc: Global,
     class: &str,
     config: &Config,
-    mut exchange: Exchange,
+    exchange: &mut Exchange,
     told: &mut Draft,
 ) {
-    if add_answers(alloc, class, config, &mut exchange, told).is_err() {
-        told.fail();
+    match class {
+        "Halt" => halted(alloc, config, exchange, told),
+        "Mark" => filtered(alloc, Mark::new(alloc), config, exchange, told),
+        "Bad" => filtered(alloc, Bad::new(), config, exchange, told),
+        _ => add_calls_of_servlet(alloc, class, config, exchange, told),
     }
-    let (response, _sessions) = exchange.finish();
-    add_fields(told, response.fields.as_slice());
-    told.add(" | ");
-    add_body(told, response.body.as_slice());
 }
 
-fn add_answers(
+fn add_calls_of_servlet(
     alloc: Global,
     class: &str,
     config: &Config,
     exchange: &mut Exchange,
     told: &mut Draft,
-) -> Result<(), NoMemory> {
+) {
     match class {
-        "Halt" => filtered(alloc, Box::new(alloc, Halt::new())?, config, exchange, told),
-        "Mark" => filtered(
-            alloc,
-            Box::new(alloc, Mark::new(alloc))?,
-            config,
-            exchange,
-            told,
-        ),
-        "Bad" => filtered(alloc, Box::new(alloc, Bad::new())?, config, exchange, told),
-        _ => add_answers_of_servlet(alloc, class, config, exchange, told),
+        "Who" => asked_who(alloc, config, exchange, told),
+        "Paths" => served(alloc, Paths::new(), config, exchange, told),
+        "Nest" => served(alloc, Nest::new(alloc), config, exchange, told),
+        "Go" => served(alloc, Go::new(alloc), config, exchange, told),
+        "Fail" => served(alloc, Fail::new(alloc), config, exchange, told),
+        _ => add_calls_of_other(alloc, class, config, exchange, told),
     }
 }
 
-fn add_answers_of_servlet(
+fn add_calls_of_other(
     alloc: Global,
     class: &str,
     config: &Config,
     exchange: &mut Exchange,
     told: &mut Draft,
-) -> Result<(), NoMemory> {
+) {
     match class {
-        "Who" => served(alloc, Box::new(alloc, Who::new())?, config, exchange, told),
-        "Paths" => served(
-            alloc,
-            Box::new(alloc, Paths::new())?,
-            config,
-            exchange,
-            told,
-        ),
-        "Nest" => served(
-            alloc,
-            Box::new(alloc, Nest::new(alloc))?,
-            config,
-            exchange,
-            told,
-        ),
-        "Go" => served(
-            alloc,
-            Box::new(alloc, Go::new(alloc))?,
-            config,
-            exchange,
-            told,
-        ),
-        "Fail" => served(
-            alloc,
-            Box::new(alloc, Fail::new(alloc))?,
-            config,
-            exchange,
-            told,
-        ),
-        _ => add_answers_of_other(alloc, class, config, exchange, told),
+        "Err" => served(alloc, ErrorCode::new(), config, exchange, told),
+        "Gone" => served(alloc, Gone::new(), config, exchange, told),
+        "Keep" => served(alloc, Keep::new(), config, exchange, told),
+        "Bye" => served(alloc, Bye::new(), config, exchange, told),
+        _ => served(alloc, Out::new(), config, exchange, told),
     }
 }
 
-fn add_answers_of_other(
-    alloc: Global,
-    class: &str,
-    config: &Config,
-    exchange: &mut Exchange,
-    told: &mut Draft,
-) -> Result<(), NoMemory> {
-    match class {
-        "Err" => served(
-            alloc,
-            Box::new(alloc, ErrorCode::new())?,
-            config,
-            exchange,
-            told,
-        ),
-        "Gone" => served(alloc, Box::new(alloc, Gone::new())?, config, exchange, told),
-        "Keep" => served(alloc, Box::new(alloc, Keep::new())?, config, exchange, told),
-        "Bye" => served(alloc, Box::new(alloc, Bye::new())?, config, exchange, told),
-        _ => served(alloc, Box::new(alloc, Out::new())?, config, exchange, told),
+/// Makes the calls of a filter in a box.
+fn halted(alloc: Global, config: &Config, exchange: &mut Exchange, told: &mut Draft) {
+    match Box::new(alloc, Halt::new()) {
+        Ok(halt) => {
+            let filter: Box<dyn Filter> = halt;
+            filtered(alloc, filter, config, exchange, told);
+        }
+        Err(_) => told.fail(),
+    }
+}
+
+/// Makes the calls of a servlet in a box.
+fn asked_who(alloc: Global, config: &Config, exchange: &mut Exchange, told: &mut Draft) {
+    match Box::new(alloc, Who::new()) {
+        Ok(who) => {
+            let servlet: Box<dyn Servlet> = who;
+            served(alloc, servlet, config, exchange, told);
+        }
+        Err(_) => told.fail(),
     }
 }
 
 /// Makes the calls of a servlet.
-fn served(
+fn served<S: Servlet>(
     alloc: Global,
-    mut servlet: Box<dyn Servlet>,
+    mut servlet: S,
     config: &Config,
     exchange: &mut Exchange,
     told: &mut Draft,
-) -> Result<(), NoMemory> {
+) {
     let ready = servlet.init(alloc, config);
     let step = servlet.service(alloc, exchange, 0);
     servlet.destroy();
-    add_both(told, ready, &step_answer(alloc, &step)?);
-    Ok(())
+    add_both(told, ready, step_answer(alloc, &step));
 }
 
 /// Makes the calls of a filter.
-fn filtered(
+fn filtered<F: Filter>(
     alloc: Global,
-    mut filter: Box<dyn Filter>,
+    mut filter: F,
     config: &Config,
     exchange: &mut Exchange,
     told: &mut Draft,
-) -> Result<(), NoMemory> {
+) {
     let ready = filter.init(alloc, config);
     let gate = filter.before(alloc, exchange);
-    let left = filter.after(alloc, exchange);
+    if filter.after(alloc, exchange).is_err() {
+        told.fail();
+    }
     filter.destroy();
-    add_both(told, ready, &gate_answer(alloc, &gate)?);
-    left
+    add_both(told, ready, gate_answer(alloc, &gate));
 }
 
-fn add_both(told: &mut Draft, ready: Init, called: &Answer) {
+fn add_both(told: &mut Draft, ready: Init, called: Result<Answer, NoMemory>) {
     told.add_shown(&init_answer(ready));
     told.add(" | ");
-    told.add_shown(called);
+    match called {
+        Ok(called) => told.add_shown(&called),
+        Err(_) => told.fail(),
+    }
     told.add(" | ");
 }
 
@@ -245,13 +232,16 @@ fn config(alloc: Global, words: &str) -> Result<Config, NoMemory> {
 fn params(alloc: Global, words: &str) -> Result<Vec<Param>, NoMemory> {
     let mut params = Vec::new(alloc);
     for word in words.split_ascii_whitespace() {
-        let (name, value) = word.split_once('=').unwrap_or((word, ""));
-        params.push(Param {
-            name: Text::copy_of(alloc, name)?,
-            value: Text::copy_of(alloc, value)?,
-        })?;
+        params.push(param(alloc, word)?)?;
     }
     Ok(params)
+}
+
+fn param(alloc: Global, word: &str) -> Result<Param, NoMemory> {
+    let (name, value) = word.split_once('=').unwrap_or((word, ""));
+    let name = Text::copy_of(alloc, name)?;
+    let value = Text::copy_of(alloc, value)?;
+    Ok(Param { name, value })
 }
 
 /// The name of a parameter, and its value: `-` for none.

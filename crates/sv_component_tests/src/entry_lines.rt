@@ -2,6 +2,7 @@
 
 use crate::entries::{cause, entry};
 use std::alloc::Global;
+use sv_journal::Journal;
 use sv_rows::{Asks, Draft, Strays, cell, hold};
 use sv_text::NoMemory;
 
@@ -65,13 +66,18 @@ impl Asks for Lines {
 
     fn answer(&self, alloc: Global, row: &str, answer: &mut Vec<u8>) -> Result<(), NoMemory> {
         let mut line = Draft::new(alloc);
-        match entry(alloc, row) {
-            Ok(entry) => line.add_shown(&entry),
-            Err(_) => line.fail(),
-        }
-        line.add(".");
+        add_line(alloc, row, &mut line);
         line.add_to(answer)
     }
+}
+
+fn add_line(alloc: Global, row: &str, line: &mut Draft) {
+    let mut journal = Journal::new(alloc);
+    journal.note(entry(alloc, row));
+    for entry in journal.entries() {
+        line.add_shown(entry);
+    }
+    line.add(".");
 }
 
 /// A cause, its number.

@@ -17,3 +17,5 @@ mod entry_lines;
 mod readings;
 #[cfg(test)]
 mod requests;
+#[cfg(test)]
+mod runs;

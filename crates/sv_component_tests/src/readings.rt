@@ -1,11 +1,12 @@
 //! What reading calls tell of an exchange.
 
-use crate::calls::made;
+use crate::runs::{Sees, add_seen};
 use std::alloc::Global;
 use sv_exchange::Exchange;
 use sv_mapping::Kind;
 use sv_rows::{Asks, Draft, Strays, cell, hold};
 use sv_text::NoMemory;
+use sv_wire::Response;
 
 /// Calls, what is read behind them, and what it tells: `-` for nothing.
 const REQUESTS: &str = r#"
@@ -121,13 +122,23 @@ impl Asks for Readings {
     const QUESTION: usize = 2;
 
     fn answer(&self, alloc: Global, row: &str, answer: &mut Vec<u8>) -> Result<(), NoMemory> {
-        let mut reading = Draft::new(alloc);
-        match made(alloc, cell(row, 0)) {
-            Ok((exchange, said)) => add_reading(&mut reading, &exchange, said, cell(row, 1)),
-            Err(_) => reading.fail(),
-        }
-        reading.add_to(answer)
+        add_seen(alloc, row, cell(row, 0), self, answer)
     }
+}
+
+impl Sees for Readings {
+    fn add_exchange(
+        &self,
+        _alloc: Global,
+        row: &str,
+        said: &str,
+        exchange: &mut Exchange,
+        seen: &mut Draft,
+    ) {
+        add_reading(seen, exchange, said, cell(row, 1));
+    }
+
+    fn add_response(&self, _response: &Response, _seen: &mut Draft) {}
 }
 
 fn add_reading(reading: &mut Draft, exchange: &Exchange, said: &str, asked: &str) {

@@ -3,9 +3,7 @@
 use http::Method;
 use http_header::{HeaderName, HeaderValue};
 use std::alloc::Global;
-use sv_exchange::Exchange;
 use sv_head::Field;
-use sv_session::Sessions;
 use sv_text::{Bytes, Listed, NoMemory, Text};
 use sv_uri::path::Canon;
 use sv_wire::{Message, Target};
@@ -13,15 +11,18 @@ use sv_wire::{Message, Target};
 /// The fields of the request: a Host, two of one name and one without a value.
 const FIELDS: &str = "host:h,x-two:1,x-two:2,x-none:";
 
-/// An exchange of a GET of `/app/a/b?q=1` in the context `/app`, at the moment 7.
-pub fn exchange(alloc: Global) -> Result<Exchange, NoMemory> {
+/// What a client asks for.
+#[derive(Drop)]
+pub struct Request {
+    pub message: Message,
+    pub canon: Canon,
+}
+
+/// A GET of `/app/a/b?q=1`, where `/app` is the context.
+pub fn app_request(alloc: Global) -> Result<Request, NoMemory> {
     let message = message(alloc)?;
     let canon = canon(alloc)?;
-    let sessions = Sessions::new(alloc, 0, 0);
-    match Exchange::begin(alloc, &message, &canon, "/app", 7, (0, 0), None, sessions) {
-        Ok(exchange) => Ok(exchange),
-        Err(_) => Err(NoMemory),
-    }
+    Ok(Request { message, canon })
 }
 
 fn message(alloc: Global) -> Result<Message, NoMemory> {

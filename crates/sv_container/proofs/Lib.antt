@@ -1,2 +1,4 @@
-mod Contexts
-mod Feedings
+mod Deploying
+mod Mapping
+mod Moving
+mod Repeating

@@ -1,12 +1,21 @@
-//! The parts of a container: its connections, what refuses an event, the end of expired sessions, and what an event has brought so far.
+//! A container: started contexts behind connections, which takes events one by one (Jakarta Servlet 6.0; RFC 9112).
 #![tactic(auto)]
 
-mod connections;
-mod expiring;
-mod faults;
-mod output;
+mod container;
+mod events;
+mod explaining;
+mod laws;
+mod limits;
+mod new_fault;
+mod pushing;
+mod refusal;
+mod room;
+mod starting;
+mod stopping;
 
-pub use connections::Connections;
-pub use expiring::expire_all;
-pub use faults::{fault_of, moment_after};
-pub use output::Output;
+pub use container::Container;
+pub use laws::limits_are_as_stated;
+pub use limits::MAX_CONTEXTS;
+pub use new_fault::{NewCode, NewFault};
+pub use stopping::Shutdown;
+pub use sv_explain::{ExplainFault, Explanation, HiddenCause};

@@ -1,2 +1,7 @@
+pub mod Conducts
 pub mod Deployments
 pub mod Expiries
+pub mod Handlings
+pub mod Journals
+pub mod Responses
+pub mod Statuses

@@ -1,4 +1,10 @@
+pub mod Answered
+pub mod Conduct
 pub mod Deployment
 pub mod Expiry
+pub mod Forgetting
+pub mod Handled
 pub mod Laws
+pub mod Motion
+pub mod Responding
 pub mod State

@@ -115,7 +115,7 @@ fn without_patterns<S: Servlet, F: Filter, L: Listener>(
 }
 
 // No sessions yet, for a context of the descriptor.
-fn no_sessions(alloc: Global, descriptor: &Descriptor) -> Sessions
+pub(crate) fn no_sessions(alloc: Global, descriptor: &Descriptor) -> Sessions
     ensures { result ≡ no_sessions descriptor.now }
 {
     let minutes = descriptor.web_app().session.timeout;

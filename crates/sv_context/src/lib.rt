@@ -1,12 +1,17 @@
-//! One context: how it is deployed, ends its expired sessions, and is undeployed (Jakarta Servlet 6.0).
+//! One context: how it is deployed, handles messages, ends its expired sessions, and is undeployed (Jakarta Servlet 6.0).
 #![tactic(auto)]
 
+mod answering;
 mod context;
 mod deploying;
 mod deployment;
 mod expiring;
+mod forgetting;
+mod handling;
+mod hosted;
 mod laws;
 mod limits;
+mod policy;
 
 pub use context::Context;
 pub use deployment::{DeployFault, Deployment};

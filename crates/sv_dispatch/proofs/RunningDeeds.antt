@@ -22,8 +22,7 @@ use Rattle.sv_exchange.specs.declared.exchange_fault.ExchangeFault.TheVariants a
 use Rattle.sv_journal.specs.Journal.{JournalState}
 use Rattle.sv_lifecycle.specs.Calling.{CallsOnce, Enters, Leaves, Serves, StandsAsBefore}
 use Rattle.sv_lifecycle.specs.Standing.{LiveState, live_world, standing_at}
-use Rattle.sv_lifecycle.specs.World.{HasSameCounts}
-use Rattle.sv_lifecycle.specs.declared.parts.Parts.{Parts}
+use Rattle.sv_lifecycle.specs.declared.order.Place.{Place}
 use Rattle.sv_listeners.specs.Telling.{then_all}
 use Rattle.sv_text.specs.declared.no_memory.NoMemory.{NoMemory}
 use Rattle.sv_tree.specs.Does as does
@@ -125,22 +124,47 @@ ends_by : {A : Type 0} (x y : Option A) (value : A) → y ≡ x → (x ≡ Some 
 ends_by x y value e (inl some) = inl (e ∙ some)
 ends_by x y value e (inr none) = inr (e ∙ none)
 
-abbrev frame_of : GName → GName → GName → ℕ → ℕ → ℕ → Frame
-frame_of its_live its_exchange its_journal count others hearing =
-    record { servlets = count; filters = others; listeners = hearing; live = its_live; exchange = its_exchange; journal = its_journal }
+abbrev frame_of : GName → GName → GName → List ℕ → ℕ → ℕ → ℕ → List Place → Frame
+frame_of its_live its_exchange its_journal path count others hearing begun =
+    record {
+      context = path;
+      servlets = count;
+      filters = others;
+      listeners = hearing;
+      initialised = begun;
+      live = its_live;
+      exchange = its_exchange;
+      journal = its_journal;
+    }
 
--- no component came or went
-pub framed : {S F L : Type 0} (live exchange journal : GName) (before after : Parts S F L) → HasSameCounts before after
-    → frame_of live exchange journal (length after.servlets.items) (length after.filters.items) (length after.listeners.items)
-    ≡ frame_of live exchange journal (length before.servlets.items) (length before.filters.items) (length before.listeners.items)
+same_frame : (live exchange journal : GName) (path path' : List ℕ) (count count' others others' hearing hearing' : ℕ) (begun begun' : List Place)
+    → path' ≡ path → count' ≡ count → others' ≡ others → hearing' ≡ hearing → begun' ≡ begun
+    → frame_of live exchange journal path' count' others' hearing' begun' ≡ frame_of live exchange journal path count others hearing begun
+same_frame live exchange journal path path' count count' others others' hearing hearing' begun begun' paths counts filters listeners places =
+    ap₂ (λ frame places. frame places)
+    (ap₂ (λ frame listeners. frame listeners)
+    (ap₂ (λ frame filters. frame filters)
+    (ap₂ (frame_of live exchange journal) paths counts) filters) listeners) places
+
+-- what stands stays
+pub framed : {S F L : Type 0} (live exchange journal : GName) (before after : LiveState S F L) → StandsAsBefore before after
+    → frame_of live exchange journal after.context (length after.parts.servlets.items) (length after.parts.filters.items) (length after.parts.listeners.items) after.initialised
+    ≡ frame_of live exchange journal before.context (length before.parts.servlets.items) (length before.parts.filters.items) (length before.parts.listeners.items) before.initialised
 framed live exchange journal before after same =
-    ap₂ (λ frame listeners. frame listeners) (ap₂ (frame_of live exchange journal) same.servlets same.filters) same.listeners
+    same_frame live exchange journal before.context after.context (length before.parts.servlets.items) (length after.parts.servlets.items)
+    (length before.parts.filters.items) (length after.parts.filters.items) (length before.parts.listeners.items) (length after.parts.listeners.items)
+    before.initialised after.initialised same.context same.counts.servlets same.counts.filters same.counts.listeners same.initialised
 
-pub same_then : {S F L : Type 0} (before between after : Parts S F L) → HasSameCounts before between → HasSameCounts between after → HasSameCounts before after
-same_then before between after one two = record {
-  servlets = two.servlets ∙ one.servlets;
-  filters = two.filters ∙ one.filters;
-  listeners = two.listeners ∙ one.listeners;
+pub stands_then : {S F L : Type 0} (before between after : LiveState S F L) → StandsAsBefore before between → StandsAsBefore between after → StandsAsBefore before after
+stands_then before between after one two = record {
+  context = two.context ∙ one.context;
+  initialised = two.initialised ∙ one.initialised;
+  standings = two.standings ∙ one.standings;
+  counts = record {
+    servlets = two.counts.servlets ∙ one.counts.servlets;
+    filters = two.counts.filters ∙ one.counts.filters;
+    listeners = two.counts.listeners ∙ one.counts.listeners;
+  };
 }
 
 -- how a servlet stands, by either reading

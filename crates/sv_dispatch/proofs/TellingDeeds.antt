@@ -3,20 +3,9 @@ use Rattle.std.proofs.Common.{◌≡◌, ℕ, List, [], ◌∷◌, ◌++◌, dro
 use Rattle.std.specs.Prelude.{slice_get}
 use Rattle.sv_exchange.specs.State as exchanges
 use Rattle.sv_journal.specs.declared.event.Event.{Event}
-use Rattle.sv_lifecycle.specs.Calling.{StandsAsBefore}
-use Rattle.sv_lifecycle.specs.Standing.{LiveState}
 use Rattle.sv_listeners.specs.Telling.{told}
 use Rattle.sv_tree.specs.Asking.{without_events}
 use Rattle.sv_tree.specs.Telling.{all_told}
-use Rattle.sv_dispatch.proofs.RunningDeeds.{same_then}
-
-pub stands_then : {S F L : Type 0} (before between after : LiveState S F L) → StandsAsBefore before between → StandsAsBefore between after → StandsAsBefore before after
-stands_then before between after one two = record {
-  context = two.context ∙ one.context;
-  initialised = two.initialised ∙ one.initialised;
-  standings = two.standings ∙ one.standings;
-  counts = same_then before.parts between.parts after.parts one.counts two.counts;
-}
 
 first_of : (events : List Event) (event : Event) → Some event ≡ slice_get events 0 → events ≡ event ∷ drop 1 events
 first_of [] event e = cc

@@ -3,15 +3,18 @@ use Rattle.std.specs.Prelude.{◌≡◌, ℕ, List, ◌++◌, Option, Some, None
 use Rattle.std.specs.Borrow.{GName}
 use Rattle.sv_component.specs.Runs.{Record}
 use Rattle.sv_dispatch.specs.declared.filters.Passed.{Passed}
+use Rattle.sv_lifecycle.specs.declared.order.Place.{Place}
 use Rattle.sv_tree.specs.Does.{Does}
 use Rattle.sv_tree.specs.Filters.{Reached}
 use Rattle.sv_tree.specs.State.{State}
 
--- what no call changes: how many servlets, filters and listeners there are, and which values were lent
+-- what no call changes: the context, how many servlets, filters and listeners there are, what was initialised, and which values were lent
 pub record Frame : Type 0 where
+  pub context : List ℕ
   pub servlets : ℕ
   pub filters : ℕ
   pub listeners : ℕ
+  pub initialised : List Place
   pub live : GName
   pub exchange : GName
   pub journal : GName

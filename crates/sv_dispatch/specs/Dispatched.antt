@@ -14,8 +14,8 @@ use Rattle.sv_tree.specs.declared.limits.TheConstants.{MAX_NESTING}
 use Rattle.sv_uri.specs.declared.path.Canon.{Canon}
 
 module _ {S F L : Type 0} (servlet_step : S → Call → S → Type 0) (filter_step : F → Call → F → Type 0) (listener_step : L → Call → L → Type 0) where
-  -- these calls were made and noted, they are those of a dispatch of the kind to the path, and no servlet, filter or listener came or
-  -- went; a dispatch that memory ended has no result
+  -- these calls were made and noted, they are those of a dispatch of the kind to the path, no servlet, filter or listener came or went, and
+  -- what was initialised was; a dispatch that memory ended has no result
   pub record Dispatched (site : Site) (kind : Kind) (canon : Canon) (live : LiveState S F L) (exchange : exchanges.State) (noted : JournalState) (result : Option Finished) (live_after : LiveState S F L) (exchange_after : exchanges.State) (noted_after : JournalState) : Type 0 where
     pub made : List Record
     pub is_tree : Tree site MAX_NESTING kind canon (state_of live exchange) made (state_of live_after exchange_after) result
@@ -23,3 +23,5 @@ module _ {S F L : Type 0} (servlet_step : S → Call → S → Type 0) (filter_s
     pub servlets : length live_after.parts.servlets.items ≡ length live.parts.servlets.items
     pub filters : length live_after.parts.filters.items ≡ length live.parts.filters.items
     pub listeners : length live_after.parts.listeners.items ≡ length live.parts.listeners.items
+    pub context : live_after.context ≡ live.context
+    pub initialised : live_after.initialised ≡ live.initialised

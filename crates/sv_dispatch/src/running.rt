@@ -35,9 +35,11 @@ impl<S: Servlet, F: Filter, L: Listener> Machine for Running<'_, S, F, L> {
     ghost state = { λ m. state_of m.live.now m.exchange.now };
 
     ghost frame = { λ m. record {
+      context = m.live.now.context;
       servlets = length m.live.now.parts.servlets.items;
       filters = length m.live.now.parts.filters.items;
       listeners = length m.live.now.parts.listeners.items;
+      initialised = m.live.now.initialised;
       live = m.live.ghost_name;
       exchange = m.exchange.ghost_name;
       journal = m.journal.ghost_name;

@@ -7,7 +7,8 @@ use std::alloc::Global;
 use sv_dispatch::dispatch;
 use sv_exchange::{Exchange, KeptError};
 use sv_journal::Journal;
-use sv_rows::{Draft, cell};
+use sv_rows::Draft;
+use sv_served::{serve, show_error};
 use sv_session::Sessions;
 use sv_site::Site;
 use sv_text::NoMemory;
@@ -15,23 +16,42 @@ use sv_tree::Finished;
 use sv_uri::path::Canon;
 use sv_wire::Response;
 
-/// Writes the answers of a context to requests: for each the entries of its dispatch, its result with the error that is kept, the status
-/// with the fields and the cookie, and the body.
+/// What is asked of a context.
+#[derive(Clone, Copy)]
+pub enum Asking {
+    /// A dispatch alone.
+    Dispatched,
+    /// A dispatch, and the answer to the error in which it ends.
+    Answered,
+    /// The answer to an error of this status, without a dispatch.
+    Refused(u16),
+}
+
+/// Writes the answers of a context to requests: for each the entries of its dispatches, the result of a dispatch alone with the error that
+/// is kept, the status with the fields and the cookie, and the body.
 pub fn answer_all(
     alloc: Global,
     declared: &str,
     requests: &str,
+    asking: Asking,
     answer: &mut Vec<u8>,
 ) -> Result<(), NoMemory> {
     let mut told = Draft::new(alloc);
     match context(alloc, declared) {
-        Some(context) => ask_all(alloc, declared, context, requests, &mut told),
+        Some(context) => ask_all(alloc, declared, context, requests, asking, &mut told),
         None => told.add("no context"),
     }
     told.add_to(answer)
 }
 
-fn ask_all(alloc: Global, row: &str, context: TestContext, requests: &str, told: &mut Draft) {
+fn ask_all(
+    alloc: Global,
+    row: &str,
+    context: TestContext,
+    requests: &str,
+    asking: Asking,
+    told: &mut Draft,
+) {
     let TestContext {
         mut live,
         site,
@@ -44,7 +64,14 @@ fn ask_all(alloc: Global, row: &str, context: TestContext, requests: &str, told:
         let request = read_request(part.trim());
         sessions = match asked(alloc, row, request, sessions) {
             Some((canon, exchange)) => ask(
-                alloc, request, &canon, &mut live, &site, exchange, told,
+                alloc,
+                request,
+                &canon,
+                request.asking(asking),
+                &mut live,
+                &site,
+                exchange,
+                told,
             ),
             None => {
                 told.fail();
@@ -75,25 +102,26 @@ fn ask(
     alloc: Global,
     request: Request<'_>,
     canon: &Canon,
+    asking: Asking,
     live: &mut TestLive,
     site: &Site,
     mut exchange: Exchange,
     told: &mut Draft,
 ) -> Sessions {
     let mut journal = Journal::new(alloc);
-    match dispatched(
+    match answered(
         alloc,
         live,
         &mut exchange,
         site,
         request,
         canon,
+        asking,
         &mut journal,
     ) {
         Ok(finished) => {
             add_entries(told, alloc, &journal);
-            add_finished(told, &finished);
-            add_kept(told, exchange.kept());
+            add_result(told, finished.as_ref(), &exchange);
         }
         Err(_) => told.fail(),
     }
@@ -102,16 +130,18 @@ fn ask(
     sessions
 }
 
-/// Dispatches a request, where the context has the components of its descriptor, as it has since its start.
-fn dispatched(
+/// Dispatches a request, or answers it, where the context has the components of its descriptor, as it has since its start. The result is that
+/// of a dispatch alone.
+fn answered(
     alloc: Global,
     live: &mut TestLive,
     exchange: &mut Exchange,
     site: &Site,
     request: Request<'_>,
     canon: &Canon,
+    asking: Asking,
     journal: &mut Journal,
-) -> Result<Finished, NoMemory> {
+) -> Result<Option<Finished>, NoMemory> {
     let app = site.descriptor().web_app();
     if live.servlets() != app.servlets.as_slice().len()
         || live.filters() != app.filters.as_slice().len()
@@ -119,7 +149,19 @@ fn dispatched(
     {
         return Err(NoMemory);
     }
-    dispatch(alloc, live, exchange, site, request.kind, canon, journal)
+    let kind = request.kind;
+    match asking {
+        Asking::Dispatched => {
+            let finished = dispatch(alloc, live, exchange, site, kind, canon, journal)?;
+            return Ok(Some(finished));
+        }
+        Asking::Answered => serve(alloc, live, exchange, site, kind, canon, journal)?,
+        Asking::Refused(status) => {
+            let page = site.page(alloc, status, None)?;
+            show_error(alloc, live, exchange, site, status, page.as_ref(), journal)?;
+        }
+    }
+    Ok(None)
 }
 
 /// Adds the entries of a journal, each without its first two words, which are the same for all of a kind; more than forty are told by
@@ -141,6 +183,15 @@ fn add_entries(told: &mut Draft, alloc: Global, journal: &Journal) {
         }
     }
     told.add(" | ");
+}
+
+/// Adds the result of a dispatch alone, with the error that is kept.
+fn add_result(told: &mut Draft, finished: Option<&Finished>, exchange: &Exchange) {
+    if let Some(finished) = finished {
+        add_finished(told, finished);
+        add_kept(told, exchange.kept());
+        told.add(" | ");
+    }
 }
 
 fn add_finished(told: &mut Draft, finished: &Finished) {
@@ -183,7 +234,6 @@ fn name_of(kept: &KeptError) -> &str {
 }
 
 fn add_response(told: &mut Draft, response: &Response) {
-    told.add(" | ");
     told.add_shown(&response.status);
     for field in response.fields.as_slice() {
         told.add(", ");

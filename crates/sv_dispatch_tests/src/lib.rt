@@ -14,6 +14,8 @@ mod descriptors;
 #[cfg(test)]
 mod nesting;
 #[cfg(test)]
+mod pages;
+#[cfg(test)]
 mod requests;
 #[cfg(test)]
 mod rows;

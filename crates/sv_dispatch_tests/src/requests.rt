@@ -1,5 +1,6 @@
 //! Requests that a row makes.
 
+use crate::answers::Asking;
 use crate::words::{first_word, number_of};
 use http::Method;
 use http_header::{HeaderName, HeaderValue};
@@ -15,11 +16,12 @@ use sv_uri::path::Canon;
 use sv_wire::{Message, Target};
 
 /// A request: a method and a target in the context, and words: a moment behind `@`, the session that is held behind `#`, its caller behind
-/// `~`, the kind of its dispatch, and else the body of a form.
+/// `~`, the status of an error that it is answered by without a dispatch behind `!`, the kind of its dispatch, and else the body of a form.
 #[derive(Clone, Copy)]
 pub struct Request<'a> {
     pub target: &'a str,
     pub kind: Kind,
+    error: u16,
     method: &'a str,
     moment: u64,
     held: u64,
@@ -34,6 +36,7 @@ pub fn read_request(part: &str) -> Request<'_> {
     let mut request = Request {
         target,
         kind: Kind::Request,
+        error: 0,
         method,
         moment: 0,
         held: 0,
@@ -47,6 +50,14 @@ pub fn read_request(part: &str) -> Request<'_> {
 }
 
 impl<'a> Request<'a> {
+    /// What is asked by this request, where requests ask that.
+    pub fn asking(&self, asking: Asking) -> Asking {
+        match self.error {
+            0 => asking,
+            status => Asking::Refused(status),
+        }
+    }
+
     fn with(self, word: &'a str) -> Request<'a> {
         let mut request = self;
         if let Some(moment) = word.strip_prefix("@") {
@@ -55,6 +66,8 @@ impl<'a> Request<'a> {
             request.held = number_of(held);
         } else if let Some(caller) = word.strip_prefix("~") {
             request.caller = caller;
+        } else if let Some(status) = word.strip_prefix("!") {
+            request.error = status.parse::<u16>().unwrap_or(0);
         } else {
             return request.with_kind(word);
         }

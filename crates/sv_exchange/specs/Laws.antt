@@ -4,6 +4,7 @@ use Rattle.sv_exchange.specs.Changing.{Change, Changes, after_all}
 use Rattle.sv_exchange.specs.Dispatches.{is_within_include}
 use Rattle.sv_exchange.specs.Keeping.{SameHead, SameRequest}
 use Rattle.sv_exchange.specs.State.{State}
+use Rattle.sv_session.specs.Runs.{MovedByComponents}
 
 -- what changes is reached by a list of calls, and the other way round
 abbrev pub ChangesAreCalls : Type 0
@@ -16,3 +17,7 @@ ChangesKeepTheRequest = (before after : State) → Changes before after → Same
 -- within an include changing calls leave the status and the fields as they are (section 9.3)
 abbrev pub IncludesKeepTheHead : Type 0
 IncludesKeepTheHead = (before after : State) → Changes before after → is_within_include before ≡ true → SameHead before after
+
+-- changing calls move the sessions of the context by calls that components can bring about at the request's moment
+abbrev pub ChangesMoveTheSessions : Type 0
+ChangesMoveTheSessions = (before after : State) → Changes before after → MovedByComponents before.moment before.store after.store

@@ -1,6 +1,8 @@
 //! Laws over the definitions.
 
-ghost use Rattle.sv_exchange.specs.Laws.{ChangesAreCalls, ChangesKeepTheRequest, IncludesKeepTheHead};
+ghost use Rattle.sv_exchange.specs.Laws.{ChangesAreCalls, ChangesKeepTheRequest, ChangesMoveTheSessions, IncludesKeepTheHead};
+
+use sv_session::components_keep_the_sessions;
 
 /// The law that `Changes` says that a list of changing calls leads from the one exchange to the other.
 pub fn changes_are_calls()
@@ -17,3 +19,10 @@ pub fn changes_keep_the_request()
 pub fn includes_keep_the_head()
     ensures { IncludesKeepTheHead }
 {}
+
+/// The law that changing calls move the sessions of the context by calls of the request's moment, none of which enters a caller.
+pub fn changes_move_the_sessions()
+    ensures { ChangesMoveTheSessions }
+{
+    components_keep_the_sessions();
+}

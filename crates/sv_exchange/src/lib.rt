@@ -29,6 +29,8 @@ pub use exchange::Exchange;
 pub use exchange_fault::ExchangeFault;
 pub use held_session::HeldSession;
 pub use kept_error::{KeptError, KeptField};
-pub use laws::{changes_are_calls, changes_keep_the_request, includes_keep_the_head};
+pub use laws::{
+    changes_are_calls, changes_keep_the_request, changes_move_the_sessions, includes_keep_the_head,
+};
 pub use limits::{LEAST_STATUS, MAX_BODY_LEN, MAX_STATUS, NOT_MODIFIED, OK, RESET_CONTENT};
 pub use told_error::ToldError;

@@ -1,13 +1,14 @@
 //! The explanation of a request.
 
-ghost use Rattle.std.specs.Prelude.{◌≡◌, IsTrue};
+ghost use Rattle.std.specs.Prelude.{◌≡◌, IsTrue, map};
 ghost use Rattle.std.specs.Option.{option_copied, option_map};
 ghost use Rattle.sv_text.specs.Gives.{Gives, GivesAnswer};
 ghost use Rattle.sv_mapping.specs.Pattern.{is_at_or_below};
+ghost use Rattle.sv_explain.specs.Context.{policy};
 ghost use Rattle.sv_explain.specs.Explanation as spec;
 ghost use Rattle.sv_explain.specs.Fault.{explain_fault};
 
-use crate::context::{ContextPolicy, context_of};
+use crate::context::{ContextPolicy, HasPolicy, context_of};
 use crate::explanation::{Explanation, HiddenCause};
 use crate::fault::ExplainFault;
 use std::alloc::Global;
@@ -26,14 +27,16 @@ use sv_uri::fault::CanonFault;
 /// # Errors
 /// [`ExplainFault::BadMethod`] before anything is said of the target, [`ExplainFault::NoSuchUser`] where the target has a
 /// context and that context's realm does not have the user, and [`ExplainFault::NoMemory`].
-pub fn explain_parts(
+pub fn explain_request<C: HasPolicy>(
     alloc: Global,
-    contexts: &[ContextPolicy],
+    contexts: &[C],
     method: &str,
     target: &[u8],
     user: Option<&str>,
 ) -> Result<Explanation, ExplainFault>
-    ensures { Gives explain_fault result (spec.explanation contexts.now method.now target.now (option_copied user.entry)) }
+    ensures { Gives explain_fault result (spec.explanation
+        (map (λ context. policy (C.path_of context) (C.descriptor_of context) (C.users_of context)) contexts.now)
+        method.now target.now (option_copied user.entry)) }
 {
     if !is_token(method) {
         return Err(ExplainFault::BadMethod);
@@ -49,21 +52,38 @@ pub fn explain_parts(
     }
 }
 
-/// What would become of a request for a path that this context serves.
-fn explain_within(
+/// The same for contexts that are not deployed.
+///
+/// # Errors
+/// Those of [`explain_request`].
+pub fn explain_parts(
     alloc: Global,
-    context: &ContextPolicy,
+    contexts: &[ContextPolicy],
+    method: &str,
+    target: &[u8],
+    user: Option<&str>,
+) -> Result<Explanation, ExplainFault>
+    ensures { Gives explain_fault result (spec.explanation contexts.now method.now target.now (option_copied user.entry)) }
+{
+    explain_request(alloc, contexts, method, target, user)
+}
+
+/// What would become of a request for a path that this context serves.
+fn explain_within<C: HasPolicy>(
+    alloc: Global,
+    context: &C,
     method: &str,
     path: &str,
     user: Option<&str>,
 ) -> Result<Explanation, ExplainFault>
-    requires { IsTrue (is_at_or_below context.now.path path.now) }
-    ensures { Gives explain_fault result (spec.explanation_within context.now method.now path.now (option_copied user.entry)) }
+    requires { IsTrue (is_at_or_below (C.path_of context.now) path.now) }
+    ensures { Gives explain_fault result (spec.explanation_within
+        (policy (C.path_of context.now) (C.descriptor_of context.now) (C.users_of context.now)) method.now path.now (option_copied user.entry)) }
 {
-    let Some(caller) = caller_as(&context.realm, user) else {
+    let Some(caller) = caller_as(context.users(), user) else {
         return Err(ExplainFault::NoSuchUser);
     };
-    let path = path_within(context.path.as_str(), path);
+    let path = path_within(context.context_path(), path);
     if is_protected(path) {
         return Ok(Explanation::Hidden(HiddenCause::Protected));
     }
@@ -81,20 +101,21 @@ fn caller_as<'a>(realm: &'a Realm, user: Option<&str>) -> Option<Option<&'a Call
 }
 
 /// What the constraints of the context decide.
-fn decided(
+fn decided<C: HasPolicy>(
     alloc: Global,
-    context: &ContextPolicy,
+    context: &C,
     method: &str,
     path: &str,
     caller: Option<&Caller>,
 ) -> Result<Explanation, NoMemory>
-    ensures { GivesAnswer result (spec.decided context.now method.now path.now (option_copied caller.entry)) }
+    ensures { GivesAnswer result (spec.decided (policy (C.path_of context.now) (C.descriptor_of context.now) (C.users_of context.now))
+        method.now path.now (option_copied caller.entry)) }
 {
-    let web_app = context.descriptor.web_app();
+    let web_app = context.descriptor().web_app();
     let constraints = web_app.constraints.as_slice();
     let decision = decide_plain(constraints, &web_app.rules, method, path, caller);
     Ok(Explanation::Decided {
-        context: Text::copy_of(alloc, context.path.as_str())?,
+        context: Text::copy_of(alloc, context.context_path())?,
         path: Text::copy_of(alloc, path)?,
         decision: OwnedDecision::copy_of(alloc, decision)?,
     })

@@ -8,7 +8,7 @@ use std::error::Error;
 use std::fmt;
 use sv_text::NoMemory;
 
-/// Why [`explain_parts`](crate::explain_parts) gave no explanation. It is printed as its name.
+/// Why [`explain_request`](crate::explain_request) gave no explanation. It is printed as its name.
 #[derive(Clone, Copy, Debug)]
 pub enum ExplainFault {
     /// The method is no token (RFC 9110, section 5.6.2).

@@ -7,7 +7,7 @@ mod explain;
 mod explanation;
 mod fault;
 
-pub use context::ContextPolicy;
-pub use explain::explain_parts;
+pub use context::{ContextPolicy, HasPolicy};
+pub use explain::{explain_parts, explain_request};
 pub use explanation::{Explanation, HiddenCause};
 pub use fault::ExplainFault;

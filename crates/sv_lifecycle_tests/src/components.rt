@@ -71,20 +71,24 @@ pub fn parts(
     })
 }
 
-/// Components whose words are a name, with its number behind `=` and another answer than `Ready` behind `!`.
 fn named(alloc: Global, words: &str) -> Result<Vec<Named<Probe>>, NoMemory> {
     let mut all = Vec::new(alloc);
     for word in words.split_ascii_whitespace() {
-        let (word, answer) = word.split_once('!').unwrap_or((word, "Ready"));
-        let (name, _) = word.split_once('=').unwrap_or((word, ""));
-        all.push(Named {
-            name: Text::copy_of(alloc, name)?,
-            component: Probe {
-                answer: answer_of(answer),
-            },
-        })?;
+        all.push(named_probe(alloc, word)?)?;
     }
     Ok(all)
+}
+
+/// A component whose word is a name, with its number behind `=` and another answer than `Ready` behind `!`.
+fn named_probe(alloc: Global, word: &str) -> Result<Named<Probe>, NoMemory> {
+    let (word, answer) = word.split_once('!').unwrap_or((word, "Ready"));
+    let (name, _) = word.split_once('=').unwrap_or((word, ""));
+    let name = Text::copy_of(alloc, name)?;
+    let answer = answer_of(answer);
+    Ok(Named {
+        name,
+        component: Probe { answer },
+    })
 }
 
 fn answer_of(word: &str) -> Init {

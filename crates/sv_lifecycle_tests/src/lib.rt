@@ -10,4 +10,6 @@ mod descriptors;
 #[cfg(test)]
 mod entries;
 #[cfg(test)]
+mod lives;
+#[cfg(test)]
 mod starts;

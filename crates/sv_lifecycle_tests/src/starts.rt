@@ -1,13 +1,8 @@
 //! What starts call and tell, and how they end.
 
-use crate::components::{TestFault, TestLive, parts};
-use crate::descriptors::descriptor;
-use crate::entries::add_entries;
+use crate::lives::{Life, add_life};
 use std::alloc::Global;
-use sv_component::Standing;
-use sv_journal::Journal;
 use sv_rows::{Asks, Draft, Strays, cell, hold};
-use sv_session::Sessions;
 use sv_text::NoMemory;
 
 /// Servlets, some with a number, filters, and the listeners that are declared and handed in; then the fault with the parts that come back as
@@ -41,60 +36,24 @@ impl Asks for Starts {
     const QUESTION: usize = 4;
 
     fn answer(&self, alloc: Global, row: &str, answer: &mut Vec<u8>) -> Result<(), NoMemory> {
-        let mut journal = Journal::new(alloc);
+        let life = Life {
+            servlets: cell(row, 0),
+            filters: cell(row, 1),
+            declared: count(cell(row, 2)),
+            handed: count(cell(row, 3)),
+            calls: "",
+            attributes: "-",
+        };
         let mut told = Draft::new(alloc);
-        start(alloc, row, &mut journal, &mut told);
-        told.add(" | ");
-        add_entries(&mut told, alloc, &journal);
+        add_life(alloc, &life, &mut told);
         told.add_to(answer)
     }
 }
 
-fn start(alloc: Global, row: &str, journal: &mut Journal, told: &mut Draft) {
-    let (servlets, filters) = (cell(row, 0), cell(row, 1));
-    let Ok(handed) = parts(alloc, servlets, filters, count(row, 3)) else {
-        return told.fail();
-    };
-    let Some(descriptor) = descriptor(alloc, servlets, filters, count(row, 2)) else {
-        return told.fail();
-    };
-    match TestLive::start(alloc, "", handed, &descriptor, journal) {
-        Ok(live) => stop(alloc, live, journal, told),
-        Err(fault) => add_fault(told, &fault),
+fn count(word: &str) -> usize {
+    match word {
+        "1" => 1,
+        "2" => 2,
+        _ => 0,
     }
-}
-
-/// Adds how the servlets stand, and stops the context.
-fn stop(alloc: Global, live: TestLive, journal: &mut Journal, told: &mut Draft) {
-    for place in 0..live.servlets() {
-        told.add(if place == 0 { "" } else { " " });
-        told.add(word_of(live.standing(place)));
-    }
-    let mut sessions = Sessions::new(alloc, 0, 0);
-    let _parts = live.stop(alloc, &mut sessions, journal);
-}
-
-/// A standing as the rows write it.
-pub fn word_of(standing: Standing) -> &'static str {
-    match standing {
-        Standing::Serving => "Serving",
-        Standing::Gone => "Gone",
-        Standing::Away(_) => "Away",
-    }
-}
-
-fn add_fault(told: &mut Draft, fault: &TestFault) {
-    told.add_shown(&fault.code.number());
-    told.add(" ");
-    told.add_shown(&fault.code);
-    told.add(" ");
-    told.add_shown(&fault.parts.servlets.len());
-    told.add(" ");
-    told.add_shown(&fault.parts.filters.len());
-    told.add(" ");
-    told.add_shown(&fault.parts.listeners.len());
-}
-
-fn count(row: &str, place: usize) -> usize {
-    cell(row, place).parse::<usize>().unwrap_or(0)
 }

@@ -6,7 +6,7 @@ use Rattle.sv_program.specs.ConfigurationFiles.{ReadsServer}
 use Rattle.sv_program.specs.FileStore.{Giving}
 use Rattle.sv_program.specs.Policy.{EndsBy, FindsLine, IsLine, RunsPolicy}
 use Rattle.sv_program.specs.declared.command_fault.CommandFault.{CommandFault}
-use Rattle.sv_program.specs.declared.command_fault.CommandFault.TheVariants.{Input, Output, File, Descriptor, Users, User, Method, NoMemory}
+use Rattle.sv_program.specs.declared.command_fault.CommandFault.TheVariants.{Input, Output, File, Descriptor, Users, Class, Files, Start, Socket, Script, User, Method, NoMemory}
 use Rattle.sv_program.specs.declared.command_fault.CommandFault.TheVariants as command
 use Rattle.sv_program.specs.declared.question.Question.{Question}
 use Rattle.sv_program.proofs.Faults.{FaultsAreAsked, run_asked}
@@ -36,6 +36,11 @@ module _ {S : Type 0} (gives : Giving S) (question : Question) where
   ends (command.Server found) line old asked h = h
   ends (Descriptor context found) line old asked h = h
   ends (Users context found) line old asked h = h
+  ends (Class name) line old asked h = h
+  ends (Files context code) line old asked h = h
+  ends (Start code context) line old asked h = h
+  ends Socket line old asked h = h
+  ends (Script at) line old asked h = h
   ends User line old asked h = h
   ends Method line old asked h = h
   ends NoMemory line old asked h = tt

@@ -4,7 +4,7 @@ use Rattle.sv_program.specs.CommandFault.{command_fault}
 use Rattle.sv_program.specs.Configuration.{Step}
 use Rattle.sv_program.specs.Printed.{EndsBy, FindsText, Printing, Prints}
 use Rattle.sv_program.specs.declared.command_fault.CommandFault.{CommandFault}
-use Rattle.sv_program.specs.declared.command_fault.CommandFault.TheVariants.{Input, Output, File, Server, Descriptor, Users, User, Method, NoMemory}
+use Rattle.sv_program.specs.declared.command_fault.CommandFault.TheVariants.{Input, Output, File, Server, Descriptor, Users, Class, Files, Start, Socket, Script, User, Method, NoMemory}
 use Rattle.sv_program.proofs.Faults.{FaultsAreAsked}
 
 -- a fault that the text has ends the run
@@ -16,6 +16,11 @@ ends (File name) text old asked h = h
 ends (Server found) text old asked h = h
 ends (Descriptor context found) text old asked h = h
 ends (Users context found) text old asked h = h
+ends (Class name) text old asked h = h
+ends (Files context code) text old asked h = h
+ends (Start code context) text old asked h = h
+ends Socket text old asked h = h
+ends (Script at) text old asked h = h
 ends User text old asked h = h
 ends Method text old asked h = h
 ends NoMemory text old asked h = tt

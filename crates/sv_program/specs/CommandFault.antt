@@ -6,7 +6,7 @@ use Rattle.sv_schema.specs.Fault.{number}
 use Rattle.sv_schema.specs.declared.fault.DescriptorFault.{DescriptorFault}
 use Rattle.sv_uri.specs.ContextPath.{shown_context}
 use Rattle.sv_program.specs.declared.command_fault.CommandFault.{CommandFault}
-use Rattle.sv_program.specs.declared.command_fault.CommandFault.TheVariants.{Input, Output, File, Server, Descriptor, Users, User, Method, NoMemory}
+use Rattle.sv_program.specs.declared.command_fault.CommandFault.TheVariants.{Input, Output, File, Server, Descriptor, Users, Class, Files, Start, Socket, Script, User, Method, NoMemory}
 
 -- the key at which a configuration file is wrong, `-` where the whole text is
 abbrev pub key_text : List ℕ → List ℕ
@@ -24,11 +24,16 @@ fault_line (File name) = codes "sv: file " ++ name
 fault_line (Server fault) = codes "sv: server " ++ fault_text fault
 fault_line (Descriptor context fault) = codes "sv: descriptor " ++ shown_context context ++ codes " " ++ fault_text fault
 fault_line (Users context fault) = codes "sv: users " ++ shown_context context ++ codes " " ++ fault_text fault
+fault_line (Class name) = codes "sv: class " ++ name
+fault_line (Files context code) = codes "sv: files " ++ shown_context context ++ codes " " ++ decimal code
+fault_line (Start code context) = codes "sv: start " ++ decimal code ++ codes " " ++ shown_context context
+fault_line Socket = codes "sv: socket"
+fault_line (Script line) = codes "sv: script " ++ decimal line
 fault_line User = codes "sv: user"
 fault_line Method = codes "sv: method"
 fault_line NoMemory = codes "sv: no memory"
 
--- the exit status: 1 for a file, 2 for the arguments, 3 for want of memory
+-- the exit status: 1 for what the program stands on, 2 for what it is asked, 3 for want of memory
 abbrev pub status_of : CommandFault → ℕ
 status_of Input = 1
 status_of Output = 1
@@ -36,6 +41,11 @@ status_of (File name) = 1
 status_of (Server fault) = 1
 status_of (Descriptor context fault) = 1
 status_of (Users context fault) = 1
+status_of (Class name) = 1
+status_of (Files context code) = 1
+status_of (Start code context) = 1
+status_of Socket = 1
+status_of (Script line) = 2
 status_of User = 2
 status_of Method = 2
 status_of NoMemory = 3

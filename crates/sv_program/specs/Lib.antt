@@ -7,6 +7,5 @@ pub mod ConfigurationFiles
 pub mod ExamplePolicy
 pub mod FirstLine
 pub mod Policy
-pub mod Command
 pub mod Printed
 pub mod Uncovered

@@ -1,6 +1,6 @@
 //! Why a command ended early: its line on standard error and its exit status.
 
-ghost use Rattle.std.specs.Prelude.{◌≡◌, Some};
+ghost use Rattle.std.specs.Prelude.{◌≡◌, ◌++◌, Some};
 ghost use Rattle.sv_program.specs.CommandFault.{fault_line, fault_text, key_text, status_of};
 ghost use Rattle.sv_program.specs.FaultLine.{line_text, shown_text};
 
@@ -11,8 +11,8 @@ use sv_schema::DescriptorFault;
 use sv_text::{NoMemory, Text};
 use sv_uri::shown_context;
 
-/// Why a command ended early. Its text is the line that the program writes on standard error. Every fault but `Output`
-/// leaves standard output unwritten.
+/// Why a command ended early. Its text is the line that the program writes on standard error. The faults of a start, of a socket and of a
+/// script come when something may have been written on standard output, as `Output` does; every other leaves it unwritten.
 #[derive(Drop)]
 pub enum CommandFault {
     /// Standard input could not be read: `sv: file stdin`, status 1.
@@ -38,6 +38,29 @@ pub enum CommandFault {
         /// The first fault of the file.
         fault: DescriptorFault,
     },
+    /// The program has no class of the name for a component of its kind: `sv: class NAME`, status 1.
+    Class(Text),
+    /// The files of the context are refused: `sv: files CONTEXT CODE`, status 1.
+    Files {
+        /// The context path.
+        context: Text,
+        /// The number of the fault of the files, from 1 to 4.
+        code: u8,
+    },
+    /// The container does not start: `sv: start CODE CONTEXT`, status 1.
+    Start {
+        /// The number of the fault of the start, from 1 to 12.
+        code: u8,
+        /// The path of the context at which it stands.
+        context: Text,
+    },
+    /// A socket is not to be had, or fails: `sv: socket`, status 1.
+    Socket,
+    /// A line of a script cannot be read, or asks for what a container refuses: `sv: script LINE`, status 2.
+    Script {
+        /// The number of the line, from 1.
+        line: u64,
+    },
     /// The context has no user of the name: `sv: user`, status 2.
     User,
     /// The method is no token: `sv: method`, status 2.
@@ -57,8 +80,12 @@ impl CommandFault {
             | CommandFault::File(_)
             | CommandFault::Server(_)
             | CommandFault::Descriptor { .. }
-            | CommandFault::Users { .. } => 1,
-            CommandFault::User | CommandFault::Method => 2,
+            | CommandFault::Users { .. }
+            | CommandFault::Class(_)
+            | CommandFault::Files { .. }
+            | CommandFault::Start { .. }
+            | CommandFault::Socket => 1,
+            CommandFault::Script { .. } | CommandFault::User | CommandFault::Method => 2,
             CommandFault::NoMemory => 3,
         }
     }
@@ -80,25 +107,41 @@ impl CommandFault {
         match self {
             CommandFault::Input => plain("sv: file stdin"),
             CommandFault::Output => plain("sv: file stdout"),
-            CommandFault::File(name) => Line {
-                front: "sv: file ",
-                place: name.as_str(),
-                fault: None,
-            },
+            CommandFault::File(name) => named("sv: file ", name.as_str()),
             CommandFault::Server(fault) => Line {
                 front: "sv: server",
                 place: "",
-                fault: Some(numbered(fault)),
+                end: LineEnd::Shown(numbered(fault)),
             },
             CommandFault::Descriptor { context, fault } => Line {
                 front: "sv: descriptor ",
                 place: shown_context(context.as_str()),
-                fault: Some(numbered(fault)),
+                end: LineEnd::Shown(numbered(fault)),
             },
             CommandFault::Users { context, fault } => Line {
                 front: "sv: users ",
                 place: shown_context(context.as_str()),
-                fault: Some(numbered(fault)),
+                end: LineEnd::Shown(numbered(fault)),
+            },
+            CommandFault::Class(name) => named("sv: class ", name.as_str()),
+            CommandFault::Files { context, code } => Line {
+                front: "sv: files ",
+                place: shown_context(context.as_str()),
+                end: LineEnd::Number(u64::from(*code)),
+            },
+            CommandFault::Start { code, context } => Line {
+                front: "sv: start",
+                place: "",
+                end: LineEnd::Shown(Shown {
+                    code: *code,
+                    key: shown_context(context.as_str()),
+                }),
+            },
+            CommandFault::Socket => plain("sv: socket"),
+            CommandFault::Script { line } => Line {
+                front: "sv: script",
+                place: "",
+                end: LineEnd::Number(*line),
             },
             CommandFault::User => plain("sv: user"),
             CommandFault::Method => plain("sv: method"),
@@ -111,20 +154,37 @@ impl CommandFault {
 #[derive(Clone, Copy)]
 struct Line<'a> {
     front: &'static str,
-    /// The name of a file or the path of a context, which stands next.
+    /// The name of a file or a class, or the path of a context, which stands next.
     place: &'a str,
-    /// The fault of a configuration file, which stands last behind a blank.
-    fault: Option<Shown<'a>>,
+    /// What stands last.
+    end: LineEnd<'a>,
+}
+
+/// The end of a line on standard error.
+#[derive(Clone, Copy)]
+enum LineEnd<'a> {
+    Nothing,
+    /// A blank and a number.
+    Number(u64),
+    /// A blank, and a number with a word.
+    Shown(Shown<'a>),
 }
 
 /// The line that is this text.
 fn plain(text: &'static str) -> Line<'static>
     ensures { line_text result ≡ text.now }
 {
+    named(text, "")
+}
+
+/// The line of a text and a name behind it.
+fn named<'a>(front: &'static str, name: &'a str) -> Line<'a>
+    ensures { line_text result ≡ front.now ++ name.now }
+{
     Line {
-        front: text,
-        place: "",
-        fault: None,
+        front,
+        place: name,
+        end: LineEnd::Nothing,
     }
 }
 
@@ -132,14 +192,15 @@ impl fmt::Display for Line<'_> {
     ghost output = { λ line. Some (line_text line) };
 
     fn fmt<W: fmt::Write>(&self, f: &mut fmt::Formatter<W>) -> fmt::Result {
-        match &self.fault {
-            None => write!(f, "{}{}", self.front, self.place),
-            Some(fault) => write!(f, "{}{} {fault}", self.front, self.place),
+        match &self.end {
+            LineEnd::Nothing => write!(f, "{}{}", self.front, self.place),
+            LineEnd::Number(number) => write!(f, "{}{} {number}", self.front, self.place),
+            LineEnd::Shown(shown) => write!(f, "{}{} {shown}", self.front, self.place),
         }
     }
 }
 
-/// A fault of a configuration file: its number and its key.
+/// A number with a word: the fault of a configuration file with its key, or that of a start with its context.
 #[derive(Clone, Copy)]
 struct Shown<'a> {
     code: u8,

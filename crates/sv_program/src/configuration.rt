@@ -1,8 +1,9 @@
 //! The contexts of a server, by the texts of its files.
 
-ghost use Rattle.std.specs.Prelude.{Err};
+ghost use Rattle.std.specs.Prelude.{Err, IfOk};
 ghost use Rattle.std.specs.Option.{option_copied};
 ghost use Rattle.sv_text.specs.Gives.{Gives};
+ghost use Rattle.sv_settings.specs.Server.{IsWellFormedServer};
 ghost use Rattle.sv_program.specs.CommandFault.{command_fault};
 ghost use Rattle.sv_program.specs.Configuration as spec;
 ghost use Rattle.sv_program.specs.declared.command_fault.CommandFault.TheVariants.{File};
@@ -32,7 +33,8 @@ pub struct ContextTexts {
 /// # Errors
 /// [`CommandFault::File`] where the file could not be read, [`CommandFault::Server`], or [`CommandFault::NoMemory`].
 pub fn server_in(alloc: Global, name: &str, text: Option<&Text>) -> Result<Server, CommandFault>
-    ensures { Gives command_fault result (spec.server_in name.now (option_copied text.entry)) }
+    ensures gives { Gives command_fault result (spec.server_in name.now (option_copied text.entry)) }
+    ensures well_formed { IfOk result IsWellFormedServer }
 {
     let Some(text) = text else {
         return unread(alloc, name);
@@ -76,7 +78,10 @@ fn configured_context(alloc: Global, texts: &ContextTexts) -> Result<ContextPoli
 }
 
 /// The descriptor of a context.
-pub(crate) fn descriptor_in(alloc: Global, texts: &ContextTexts) -> Result<Descriptor, CommandFault>
+///
+/// # Errors
+/// [`CommandFault::File`] where its file could not be read, [`CommandFault::Descriptor`], or [`CommandFault::NoMemory`].
+pub fn descriptor_in(alloc: Global, texts: &ContextTexts) -> Result<Descriptor, CommandFault>
     ensures { Gives command_fault result (spec.descriptor_in texts.now) }
 {
     let Some(text) = &texts.descriptor else {
@@ -92,7 +97,11 @@ pub(crate) fn descriptor_in(alloc: Global, texts: &ContextTexts) -> Result<Descr
     }
 }
 
-fn realm_in(alloc: Global, texts: &ContextTexts) -> Result<Realm, CommandFault>
+/// The users of a context, none where it names no users file.
+///
+/// # Errors
+/// [`CommandFault::File`] where its file could not be read, [`CommandFault::Users`], or [`CommandFault::NoMemory`].
+pub fn realm_in(alloc: Global, texts: &ContextTexts) -> Result<Realm, CommandFault>
     ensures { Gives command_fault result (spec.users_in texts.now) }
 {
     let Some(name) = &texts.context.users else {

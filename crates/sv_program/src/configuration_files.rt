@@ -2,6 +2,7 @@
 
 ghost use Rattle.std.specs.Prelude.{IfOk};
 ghost use Rattle.std.specs.Path.{path_with_file_name};
+ghost use Rattle.sv_settings.specs.Server.{IsWellFormedServer};
 ghost use Rattle.sv_program.specs.ConfigurationFiles.{ReadsContext, ReadsContexts, ReadsNamed, ReadsServer};
 
 use crate::command_fault::CommandFault;
@@ -21,7 +22,8 @@ pub fn read_server_file<S: FileStore>(
     store: &mut S,
     config: &str,
 ) -> Result<Server, CommandFault>
-    ensures { ReadsServer S.gives_text config.now store.old result store.new }
+    ensures reads { ReadsServer S.gives_text config.now store.old result store.new }
+    ensures well_formed { IfOk result IsWellFormedServer }
 {
     let text = store.read_text(alloc, config)?;
     server_in(alloc, config, text.as_ref())

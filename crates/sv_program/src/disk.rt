@@ -22,6 +22,13 @@ impl<'a, F: Files> Disk<'a, F> {
     {
         Disk { files }
     }
+
+    /// The handle.
+    pub fn handle(&self) -> &'a F
+        ensures { result ≡ self.now.files }
+    {
+        self.files
+    }
 }
 
 impl<F: Files> FileStore for Disk<'_, F> {

@@ -1,7 +1,6 @@
 //! The commands of the program, over readers and writers.
 #![tactic(auto)]
 
-mod command;
 mod command_fault;
 mod configuration;
 mod configuration_files;
@@ -16,15 +15,15 @@ mod policy_command;
 mod question;
 mod uncovered_command;
 
-pub use command::Command;
 pub use command_fault::CommandFault;
-pub use configuration::{ContextTexts, configured_contexts, server_in};
+pub use configuration::{ContextTexts, configured_contexts, descriptor_in, realm_in, server_in};
 pub use configuration_files::{read_contexts, read_server_file};
 pub use disk::Disk;
 pub use file_store::FileStore;
-pub use first_command::{first, first_line};
+pub use first_command::{denies_uncovered, first, first_line};
 pub use laws::limits_are_as_stated;
 pub use limits::MAX_INPUT_BYTES;
+pub use output::{print_line, print_text};
 pub use policy_command::{policy, policy_line};
 pub use question::Question;
 pub use sv_constraints::{OwnedDecision, OwnedWhy};

@@ -235,7 +235,7 @@ module _ {Context Words : Type 0} (theory : Theory Context Words) (place number 
     came_run before after (happening ∷ happenings) (Err NoMemory ∷ answers) run runs =
         absurd (runs_on (stopped_stays theory run.0 after happenings answers run.2 run.1.stops) runs)
 
-pub callers_logged_in : {Context Words : Type 0} (theory : Theory Context Words) → CallersLoggedIn theory
+pub callers_logged_in : {Context Words : Type 0} (theory : Theory Context Words) → GivesCallersByLogin theory → CallersLoggedIn theory
 callers_logged_in theory lawful before after happenings answers place number caller run runs not_before holds =
     found (came_run theory place number caller lawful before after happenings answers run runs holds)
   where

@@ -122,7 +122,7 @@ module _ {Context Words : Type 0} (theory : Theory Context Words) (ends : EndsEx
       }
 
 module _ {Context Words : Type 0} (theory : Theory Context Words) where
-  pub pieces_may_be_cut : PiecesMayBeCut theory
+  pub pieces_may_be_cut : EndsExpired theory → PiecesMayBeCut theory
   pieces_may_be_cut ends before after number first second moment effect = (
     piece_in_parts theory ends before after number first second moment effect,
     parts_whole theory ends before after number first second moment effect,
@@ -164,7 +164,7 @@ module _ {Context Words : Type 0} (theory : Theory Context Words) where
           is_joined = refl;
         }
 
-  pub pieces_may_come_in_parts : PiecesMayComeInParts theory
+  pub pieces_may_come_in_parts : EndsExpired theory → PiecesMayComeInParts theory
   pieces_may_come_in_parts ends before after number first parts moment effect = (
     in_parts ends number moment before after first parts effect,
     λ found. subst (λ r. Accepts theory before (Piece number (first ++ text_of_parts parts) moment) r after) (sym found.2)

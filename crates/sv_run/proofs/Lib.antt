@@ -6,5 +6,6 @@ mod Feedings
 mod Joining
 mod Orders
 mod Outcomes
+pub mod Reactions
 mod Stepping
 mod Taking

@@ -181,7 +181,7 @@ module _ {Context Words : Type 0} (theory : Theory Context Words) where
               };
         }
 
-  pub orders_are_alike : OrdersAreAlike theory
+  pub orders_are_alike : EndsExpired theory → OrdersAreAlike theory
   orders_are_alike ends before after number bytes moment other journal one two apart piece_now other_now completes = (
     other_first ends before after number bytes moment other journal one two apart piece_now other_now completes,
     piece_first ends before after number bytes moment other journal one two apart piece_now other_now completes,

@@ -175,7 +175,7 @@ module _ {Context Words : Type 0} (theory : Theory Context Words) where
         (accepts_tells before run.0 happening effect run.1) (run_tells run.0 after happenings answers run.2)
     run_tells before after (happening ∷ happenings) (Err fault ∷ answers) run = run_tells run.0 after happenings answers run.2
 
-  pub requests_enter : EntersExactlyByAnOpenVerdict → RequestsEnterExactlyWhereAllowed theory
+  pub requests_enter : EntersExactlyByAnOpenVerdict → TellsOutcomes theory → RequestsEnterExactlyWhereAllowed theory
   requests_enter by_verdict outspoken before after happenings answers run =
       let tells = run_tells by_verdict outspoken before after happenings answers run in
       (tells.told, tells.enters)

@@ -9,7 +9,7 @@ use Rattle.sv_outcome.specs.Outcome.{outcome}
 use Rattle.sv_outcome.specs.declared.outcome.Outcome.{Outcome}
 use Rattle.sv_outcome.specs.declared.outcome.Outcome.TheVariants as outcomes
 use Rattle.sv_run.specs.Contexts.{Conduct, Handling, HasNoneExpired, Theory}
-use Rattle.sv_session.specs.Calls.{caller_of}
+use Rattle.sv_session.specs.Calls.{HoldsCaller}
 
 -- whether an entry says what became of a message; the others say what was called and what listeners heard
 abbrev pub is_outcome : Entry → Bool
@@ -75,9 +75,9 @@ module _ {Context Words : Type 0} (theory : Theory Context Words) where
     pub ends_silently : (context after : Context) (moment : ℕ) (told : List Entry)
         → theory.conduct.Expires context moment told after → filter is_outcome told ≡ []
 
-  -- the session of that number holds that caller
+  -- a session of that number holds that caller
   abbrev pub Holds : ℕ → ℕ → Context → Type 0
-  Holds number caller context = caller_of number (theory.conduct.sessions_of context) ≡ Some caller
+  Holds number caller context = HoldsCaller number caller (theory.conduct.sessions_of context)
 
   -- the request was a login on that session as that caller, whose name and password it sent
   pub record LogsIn (number caller : ℕ) (handling : Handling Context) : Type 0 where

@@ -11,7 +11,7 @@ use Rattle.sv_run.specs.Contexts.{Handling, Theory}
 use Rattle.sv_run.specs.Effect.{Answered, Deed, Effect, Handled, joined, joined_all}
 use Rattle.sv_run.specs.Events.{Accepts, Happening, Piece, Steps, connection_of, moment_after}
 use Rattle.sv_run.specs.Feeding.{Feeds}
-use Rattle.sv_run.specs.Lawful.{EndsExpired, GivesCallersByLogin, Holds, LogsIn, TellsOutcomes, entry_of, is_outcome}
+use Rattle.sv_run.specs.Lawful.{Holds, LogsIn, entry_of, is_outcome}
 use Rattle.sv_run.specs.Runs.{Answer, Run, deeds_of, journal_of}
 use Rattle.sv_run.specs.State.{State}
 use Rattle.sv_run.specs.declared.step_fault.StepFault.{StepFault}
@@ -75,14 +75,14 @@ module _ {Context Words : Type 0} (theory : Theory Context Words) where
   -- a piece brings what its two parts bring
   abbrev pub PiecesMayBeCut : Type 0
   PiecesMayBeCut =
-      EndsExpired theory → (before after : State Context Words) (number : ℕ) (first second : List ℕ) (moment : ℕ) (effect : Effect Context)
+      (before after : State Context Words) (number : ℕ) (first second : List ℕ) (moment : ℕ) (effect : Effect Context)
       → Accepts theory before (Piece number (first ++ second) moment) effect after
       ↔ AcceptsInParts before number first second moment effect after
 
   -- and what its parts bring, however many they are
   abbrev pub PiecesMayComeInParts : Type 0
   PiecesMayComeInParts =
-      EndsExpired theory → (before after : State Context Words) (number : ℕ) (first : List ℕ) (parts : List (List ℕ)) (moment : ℕ) (effect : Effect Context)
+      (before after : State Context Words) (number : ℕ) (first : List ℕ) (parts : List (List ℕ)) (moment : ℕ) (effect : Effect Context)
       → Accepts theory before (Piece number (first ++ text_of_parts parts) moment) effect after
       ↔ ((effects : List (Effect Context))
       × Run theory before (pieces_of number moment (first ∷ parts)) (map Ok effects) after × (effect ≡ joined_all effects))
@@ -107,7 +107,7 @@ module _ {Context Words : Type 0} (theory : Theory Context Words) where
   -- of a piece that completes no item and an event of another connection, neither of which raises the moment, either order brings the same
   abbrev pub OrdersAreAlike : Type 0
   OrdersAreAlike =
-      EndsExpired theory → (before after : State Context Words) (number : ℕ) (bytes : List ℕ) (moment : ℕ) (other : Happening) (journal : List Entry)
+      (before after : State Context Words) (number : ℕ) (bytes : List ℕ) (moment : ℕ) (other : Happening) (journal : List Entry)
       (one two : Effect Context)
       → connection_of other ≢ Some number
       → moment_after before.moment (Piece number bytes moment) ≡ before.moment → moment_after before.moment other ≡ before.moment
@@ -168,11 +168,11 @@ module _ {Context Words : Type 0} (theory : Theory Context Words) where
   -- constraints allow it
   abbrev pub RequestsEnterExactlyWhereAllowed : Type 0
   RequestsEnterExactlyWhereAllowed =
-      TellsOutcomes theory → (before after : State Context Words) (happenings : List Happening) (answers : List (Answer Context))
+      (before after : State Context Words) (happenings : List Happening) (answers : List (Answer Context))
       → Run theory before happenings answers after
       → (filter is_outcome (journal_of answers) ≡ map deed_entry (deeds_of answers)) × AllByRecursion EntersWhereAllowed (deeds_of answers)
 
-  -- whatever became of a message, the session of that number of the context at the place still holds the caller then
+  -- whatever became of a message, a session of that number of the context at the place still holds the caller then
   abbrev pub KeepsCaller : ℕ → ℕ → ℕ → Deed Context → Type 0
   KeepsCaller place number caller (Answered entry) = Unit {0}
   KeepsCaller place number caller (Handled other handling) = place ≡ other → Holds theory number caller handling.after
@@ -186,7 +186,7 @@ module _ {Context Words : Type 0} (theory : Theory Context Words) where
     pub logs_in : LogsIn theory number caller login
     pub stays : AllByRecursion (KeepsCaller place number caller) later
 
-  -- the session of that number of the context at the place holds the caller
+  -- a session of that number of the context at the place holds the caller
   pub record HoldsAt (place number caller : ℕ) (contexts : List Context) : Type 0 where
     pub context : Context
     pub there : slice_get contexts place ≡ Some context
@@ -195,7 +195,7 @@ module _ {Context Words : Type 0} (theory : Theory Context Words) where
   -- until memory is refused, a session holds a caller only by a login that fits, which nothing has undone
   abbrev pub CallersLoggedIn : Type 0
   CallersLoggedIn =
-      GivesCallersByLogin theory → (before after : State Context Words) (happenings : List Happening) (answers : List (Answer Context)) (place number caller : ℕ)
+      (before after : State Context Words) (happenings : List Happening) (answers : List (Answer Context)) (place number caller : ℕ)
       → Run theory before happenings answers after → after.stopped ≡ false
       → ¬ (HoldsAt place number caller before.world.contexts) → HoldsAt place number caller after.world.contexts
       → LoggedInBefore place number caller (deeds_of answers)

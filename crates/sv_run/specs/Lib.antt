@@ -7,6 +7,7 @@ pub mod Items
 pub mod Lawful
 pub mod Laws
 pub mod Messages
+pub mod Reacting
 pub mod Runs
 pub mod Seen
 pub mod State

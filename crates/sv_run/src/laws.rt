@@ -2,6 +2,7 @@
 
 ghost use Rattle.std.specs.Prelude.{◌≡◌};
 ghost use Rattle.sv_run.specs.Contexts.{theory_of};
+ghost use Rattle.sv_run.specs.Lawful.{EndsExpired, GivesCallersByLogin, TellsOutcomes};
 ghost use Rattle.sv_run.specs.Laws.{CallersLoggedIn, EndedReadingsStay, FeedingsMayBeCut, OrdersAreAlike, PiecesMayBeCut, PiecesMayComeInParts, RefusedEventsChangeNothing, RequestsEnterExactlyWhereAllowed, RunsJoin, RunsSplit};
 
 use crate::context::{Context, Words};
@@ -14,17 +15,18 @@ pub fn limits_are_as_stated()
     ensures connections { MAX_CONNECTIONS ≡ 1024 }
 {}
 
-/// Over every list of events, the journal tells the outcome of each message once, in order, and a request enters exactly where the combined
-/// constraints allow it.
+/// Where contexts tell the outcomes of their requests: over every list of events, the journal tells the outcome of each message once, in order,
+/// and a request enters exactly where the combined constraints allow it.
 pub fn requests_enter_exactly_where_allowed<C: Context, W: Words>()
-    ensures { RequestsEnterExactlyWhereAllowed (theory_of C.path_of C.conduct W.draws) }
+    ensures { TellsOutcomes (theory_of C.path_of C.conduct W.draws) → RequestsEnterExactlyWhereAllowed (theory_of C.path_of C.conduct W.draws) }
 {
     a_message_enters_exactly_by_an_open_verdict();
 }
 
-/// Over every list of events, a session holds a caller only by a login that fits, which nothing has undone.
+/// Where sessions get callers by logins alone: over every list of events, until memory is refused, a session holds a caller only by a login that
+/// fits, which nothing has undone.
 pub fn callers_logged_in<C: Context, W: Words>()
-    ensures { CallersLoggedIn (theory_of C.path_of C.conduct W.draws) }
+    ensures { GivesCallersByLogin (theory_of C.path_of C.conduct W.draws) → CallersLoggedIn (theory_of C.path_of C.conduct W.draws) }
 {}
 
 /// A reading that has ended stays as it is, whatever follows.
@@ -37,19 +39,21 @@ pub fn feedings_may_be_cut()
     ensures { FeedingsMayBeCut }
 {}
 
-/// A piece brings what its two parts bring at one moment: the same bytes, entries and state.
+/// Where sessions end when they have expired, and only then: a piece brings what its two parts bring at one moment, the same bytes, entries and
+/// state.
 pub fn pieces_may_be_cut<C: Context, W: Words>()
-    ensures { PiecesMayBeCut (theory_of C.path_of C.conduct W.draws) }
+    ensures { EndsExpired (theory_of C.path_of C.conduct W.draws) → PiecesMayBeCut (theory_of C.path_of C.conduct W.draws) }
 {}
 
-/// A piece brings what its parts bring at one moment, however many they are.
+/// Where sessions end when they have expired, and only then: a piece brings what its parts bring at one moment, however many they are.
 pub fn pieces_may_come_in_parts<C: Context, W: Words>()
-    ensures { PiecesMayComeInParts (theory_of C.path_of C.conduct W.draws) }
+    ensures { EndsExpired (theory_of C.path_of C.conduct W.draws) → PiecesMayComeInParts (theory_of C.path_of C.conduct W.draws) }
 {}
 
-/// Of a piece that completes no item and an event of another connection, neither of which raises the moment, either order brings the same.
+/// Where sessions end when they have expired, and only then: of a piece that completes no item and an event of another connection, neither of which
+/// raises the moment, either order brings the same.
 pub fn orders_are_alike<C: Context, W: Words>()
-    ensures { OrdersAreAlike (theory_of C.path_of C.conduct W.draws) }
+    ensures { EndsExpired (theory_of C.path_of C.conduct W.draws) → OrdersAreAlike (theory_of C.path_of C.conduct W.draws) }
 {}
 
 /// A refused event changes nothing, unless it wants memory.

@@ -6,6 +6,7 @@ mod happening;
 mod laws;
 mod limits;
 mod reaction;
+mod reactor;
 mod step_fault;
 
 pub use context::{Context, Words};
@@ -17,4 +18,5 @@ pub use laws::{
 };
 pub use limits::{LAST_MOMENT, MAX_CONNECTIONS};
 pub use reaction::Reaction;
+pub use reactor::{Reactor, reactions_are_a_run};
 pub use step_fault::StepFault;

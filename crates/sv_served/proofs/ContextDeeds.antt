@@ -34,6 +34,8 @@ module _ {S F L : Type 0} (ss : S → Call → S → Type 0) (fs : F → Call �
     does_so = did.is_tree;
     runs = did.runs;
     counts = record { servlets = did.servlets; filters = did.filters; listeners = did.listeners };
+    context = did.context;
+    initialised = did.initialised;
   }
 
   pub by_alone : {A : Type 0} (does : Does A) (live : LiveState S F L) (x y : exchanges.State) (noted : JournalState) (result : Option A)
@@ -44,6 +46,8 @@ module _ {S F L : Type 0} (ss : S → Call → S → Type 0) (fs : F → Call �
     does_so = did live.standings;
     runs = refl;
     counts = record { servlets = refl; filters = refl; listeners = refl };
+    context = refl;
+    initialised = refl;
   }
 
   module _ {A B : Type 0} (first : Does A) (next : A → Does B) (live live' : LiveState S F L) (x x' : exchanges.State) (noted noted' : JournalState) where
@@ -68,16 +72,32 @@ module _ {S F L : Type 0} (ss : S → Call → S → Type 0) (fs : F → Call �
         filters = two.counts.filters ∙ one.counts.filters;
         listeners = two.counts.listeners ∙ one.counts.listeners;
       };
+      context = two.context ∙ one.context;
+      initialised = two.initialised ∙ one.initialised;
     }
 
     pub by_not : ServedBy ss fs ls first live x noted None live' x' noted' → ServedBy ss fs ls (first >>= next) live x noted None live' x' noted'
-    by_not one = record { made = one.made; does_so = inr (one.does_so, refl); runs = one.runs; counts = one.counts }
+    by_not one = record {
+      made = one.made;
+      does_so = inr (one.does_so, refl);
+      runs = one.runs;
+      counts = one.counts;
+      context = one.context;
+      initialised = one.initialised;
+    }
 
   -- by what was done, this was done too
   pub by_so : {A B : Type 0} (one : Does A) (other : Does B) (live live' : LiveState S F L) (x x' : exchanges.State) (noted noted' : JournalState) (result : Option A) (value : Option B)
       → ((made : List Record) → one (state_of live x) made (state_of live' x') result → other (state_of live x) made (state_of live' x') value)
       → ServedBy ss fs ls one live x noted result live' x' noted' → ServedBy ss fs ls other live x noted value live' x' noted'
-  by_so one other live live' x x' noted noted' result value h did = record { made = did.made; does_so = h did.made did.does_so; runs = did.runs; counts = did.counts }
+  by_so one other live live' x x' noted noted' result value h did = record {
+    made = did.made;
+    does_so = h did.made did.does_so;
+    runs = did.runs;
+    counts = did.counts;
+    context = did.context;
+    initialised = did.initialised;
+  }
 
   module _ (site : Site) (live live' : LiveState S F L) (noted noted' : JournalState) where
     module _ (status : ℕ) (field : Option KeptField) (page : Canon) (x y : exchanges.State) where

@@ -1,8 +1,10 @@
 mod AttributeLemmas
+mod CallerLemmas
 mod ExpiryLemmas
 mod FirstLemmas
 mod IdLemmas
 mod LiveIdLemmas
+mod MoveLemmas
 mod OrderLemmas
 mod RunLemmas
 mod StoreLemmas

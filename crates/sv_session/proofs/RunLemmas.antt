@@ -17,7 +17,7 @@ use Rattle.sv_session.specs.Store.{IsOrderly, Session, Store, is_numbered}
 use Rattle.sv_session.proofs.OrderLemmas.{rise_above, rise_changed, rise_push, rise_without}
 
 -- what holds of the one and of the other holds where either may stand
-where_either : {A : Type 0} (P : A → Type 0) (faults : List SessionFault) (done refused : A) → P done → P refused → P (unless faults done refused)
+pub where_either : {A : Type 0} (P : A → Type 0) (faults : List SessionFault) (done refused : A) → P done → P refused → P (unless faults done refused)
 where_either P [] done refused here there = here
 where_either P (fault ∷ faults) done refused here there = there
 
@@ -68,7 +68,7 @@ touched_now number now interval (x ∷ xs) session found = elim (cases_Bool (is_
   | inr fails ↦ touched_now number now interval xs session (rw (fails, fails) at found)
 ]
 
-none_changed : (test place : Session → Bool) (change : Session → Session) → ((session : Session) → test session ≡ false → test (change session) ≡ false)
+pub none_changed : (test place : Session → Bool) (change : Session → Session) → ((session : Session) → test session ≡ false → test (change session) ≡ false)
     → (sessions : List Session) → list_any test sessions ≡ false → list_any test (on_first place change sessions) ≡ false
 none_changed test place change keeps [] none = refl
 none_changed test place change keeps (x ∷ xs) none =
@@ -78,7 +78,7 @@ none_changed test place change keeps (x ∷ xs) none =
       | inr fails ↦ rw fails (or_from (test x) (list_any test (on_first place change xs)) parts.0 (none_changed test place change keeps xs parts.1))
     ]
 
-none_without : (test place : Session → Bool) (sessions : List Session) → list_any test sessions ≡ false → list_any test (without_first place sessions) ≡ false
+pub none_without : (test place : Session → Bool) (sessions : List Session) → list_any test sessions ≡ false → list_any test (without_first place sessions) ≡ false
 none_without test place [] none = refl
 none_without test place (x ∷ xs) none =
     let parts = or_parts (test x) (list_any test xs) none in
@@ -87,7 +87,7 @@ none_without test place (x ∷ xs) none =
       | inr fails ↦ rw fails (or_from (test x) (list_any test (without_first place xs)) parts.0 (none_without test place xs parts.1))
     ]
 
-none_pushed : (test : Session → Bool) (sessions : List Session) (last : Session) → test last ≡ false → list_any test sessions ≡ false
+pub none_pushed : (test : Session → Bool) (sessions : List Session) (last : Session) → test last ≡ false → list_any test sessions ≡ false
     → list_any test (sessions ++ last ∷ []) ≡ false
 none_pushed test sessions last new none = list_any-append test sessions (last ∷ []) ∙ or_from (list_any test sessions) _ none (or_from (test last) false new refl)
 

@@ -1,6 +1,6 @@
 -- Jakarta Servlet 6.0, chapter 7: what each call on the sessions of a context answers and leaves.
-use Rattle.std.specs.Prelude.{◌≡◌, ℕ, ◌+◌, ◌∷◌, Bool, ◌||◌, ◌&&◌, not, ◌==◌, nat_lt, nat_le, List, [], ◌++◌, length, map, min, Option, None, Some, is_none, slice_get}
-use Rattle.std.specs.List.{reduce}
+use Rattle.std.specs.Prelude.{◌≡◌, ℕ, ◌+◌, ◌∷◌, Bool, true, false, ◌||◌, ◌&&◌, not, ◌==◌, nat_lt, nat_le, List, [], ◌++◌, length, map, min, Option, None, Some, is_none, slice_get}
+use Rattle.std.specs.List.{list_any, reduce}
 use Rattle.std.specs.Option.{option_map, option_map_or, option_and_then}
 use Rattle.sv_text.specs.Faults.{when}
 use Rattle.sv_session.specs.declared.attribute.Attribute.{Attribute}
@@ -66,6 +66,13 @@ caller_of number store = option_and_then (λ session. session.caller) (numbered 
 
 abbrev pub saved_of : ℕ → Store → Option (List ℕ)
 saved_of number store = option_and_then (λ session. session.saved) (numbered number store)
+
+-- there is a session of the number that holds the caller
+abbrev pub is_held_by : ℕ → ℕ → Session → Bool
+is_held_by number caller session = session.number == number && option_map_or (λ own. own == caller) session.caller false
+
+abbrev pub HoldsCaller : ℕ → ℕ → Store → Type 0
+HoldsCaller number caller store = list_any (is_held_by number caller) store.sessions ≡ true
 
 -- its attributes
 abbrev pub is_too_large : List ℕ → List ℕ → List Attribute → Bool

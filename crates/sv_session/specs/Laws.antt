@@ -1,11 +1,11 @@
 -- Jakarta Servlet 6.0, chapter 7: the laws of the calls on the sessions of a context.
-use Rattle.std.specs.Prelude.{◌≡◌, ◌≢◌, ◌↔◌, ◌<◌, ℕ, false, List, [], ◌∷◌, length, Some, None, map}
+use Rattle.std.specs.Prelude.{◌≡◌, ◌≢◌, ◌↔◌, ◌⊎◌, ◌<◌, ℕ, false, List, [], ◌∷◌, length, Some, None, map}
 use Rattle.std.specs.List.{AllPairs}
 use Rattle.sv_session.specs.declared.ended_session.EndedSession.{EndedSession}
 use Rattle.sv_session.specs.declared.session_fault.SessionFault.TheVariants.{SerialSpent}
-use Rattle.sv_session.specs.Calls.{ended, expiring, opening_faults, renaming_faults, session_opened, touched}
+use Rattle.sv_session.specs.Calls.{HoldsCaller, caller_of, ended, expiring, opening_faults, renaming_faults, session_opened, touched}
 use Rattle.sv_session.specs.Expiry.{HasNoneExpired, by_deadline, expired, has_expired, unexpired}
-use Rattle.sv_session.specs.Runs.{Call, Expires, IsAt, ids_given, left_after, left_by}
+use Rattle.sv_session.specs.Runs.{Call, EnterCaller, Expires, IsAt, MovedByComponents, ids_given, left_after, left_by}
 use Rattle.sv_session.specs.Store.{IsOrderly, Session, Store, empty_store, number_of, numbered}
 
 -- of the ids that a context gives no two are the same, whatever is called
@@ -55,3 +55,28 @@ ExpiryEndsTheExpired = (now : ℕ) (before after : Store) (sessions : List Ended
 -- and at the same moment again it ends none
 abbrev pub ExpiryEndsNoneAgain : Type 0
 ExpiryEndsNoneAgain = (now : ℕ) (before after : Store) (sessions : List EndedSession) → Expires now before sessions after → expiring now after ≡ None
+
+-- no call but the entering of a caller gives a session one
+abbrev pub CallersAreEntered : Type 0
+CallersAreEntered = (call : Call) (store : Store) (number caller : ℕ) → HoldsCaller number caller (left_by call store)
+    → HoldsCaller number caller store ⊎ (call ≡ EnterCaller number (Some caller))
+
+-- where there is order, it is the session that is found by its number
+abbrev pub HoldersAreFound : Type 0
+HoldersAreFound = (store : Store) → IsOrderly store → (number caller : ℕ) → HoldsCaller number caller store ↔ (caller_of number store ≡ Some caller)
+
+-- what components do one after another, they do together
+abbrev pub MovesJoin : Type 0
+MovesJoin = (now : ℕ) (before between after : Store)
+    → MovedByComponents now before between → MovedByComponents now between after → MovedByComponents now before after
+
+-- whatever components do at a moment, order stays, none has expired at it where none had, and each caller was there before
+abbrev pub MovesLeaveOrder : Type 0
+MovesLeaveOrder = (now : ℕ) (before after : Store) → MovedByComponents now before after → IsOrderly before → IsOrderly after
+
+abbrev pub MovesLeaveNoneExpired : Type 0
+MovesLeaveNoneExpired = (now : ℕ) (before after : Store) → MovedByComponents now before after → HasNoneExpired now before → HasNoneExpired now after
+
+abbrev pub MovesGiveNoCaller : Type 0
+MovesGiveNoCaller = (now : ℕ) (before after : Store) → MovedByComponents now before after
+    → (number caller : ℕ) → HoldsCaller number caller after → HoldsCaller number caller before

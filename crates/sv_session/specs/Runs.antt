@@ -1,5 +1,6 @@
 -- Jakarta Servlet 6.0, chapter 7: what calls that are made one after another give and leave.
 use Rattle.std.specs.Prelude.{◌≡◌, ℕ, ◌+◌, List, [], ◌∷◌, ◌++◌, Option, Some, None}
+use Rattle.std.specs.List.{AllByRecursion}
 use Rattle.sv_session.specs.declared.ended_session.EndedSession.{EndedSession}
 use Rattle.sv_session.specs.declared.session_fault.SessionFault.{SessionFault}
 use Rattle.sv_session.specs.Calls.{expiring, left_by_expiry, opened, opening_faults, renamed, renaming_faults, setting_faults, touched, with_attribute, with_caller, with_saved, without, without_attribute}
@@ -58,6 +59,19 @@ abbrev pub IsAt : ℕ → Call → Type 0
 IsAt now (Open words moment) = moment ≡ now
 IsAt now (Touch number moment) = moment ≡ now
 IsAt now call = Unit {0}
+
+-- the call enters no caller; one that takes a caller out may stand
+abbrev pub EntersNone : Call → Type 0
+EntersNone (EnterCaller number (Some caller)) = ⊥
+EntersNone call = Unit {0}
+
+-- a call that a component can bring about at a moment
+abbrev pub IsOfComponent : ℕ → Call → Type 0
+IsOfComponent now call = IsAt now call × EntersNone call
+
+-- the sessions are moved by such calls alone
+abbrev pub MovedByComponents : ℕ → Store → Store → Type 0
+MovedByComponents now before after = (calls : List Call) × AllByRecursion (IsOfComponent now) calls × (after ≡ left_after calls before)
 
 -- `expire` called at one moment until it ends none: what ended, in order, and what is left
 abbrev pub Expires : ℕ → Store → List EndedSession → Store → Type 0

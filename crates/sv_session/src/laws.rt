@@ -2,13 +2,19 @@
 
 ghost use Rattle.std.specs.Prelude.{◌≡◌};
 ghost use Rattle.sv_session.specs.Laws.{
+  CallersAreEntered,
   CallsLeaveNoneExpired,
   CallsLeaveOrder,
   EmptyIsOrderly,
   ExpiryEndsNoneAgain,
   ExpiryEndsTheExpired,
   ExpiryEndsWhereNoneHasExpired,
+  HoldersAreFound,
   IdNamesItsSession,
+  MovesGiveNoCaller,
+  MovesJoin,
+  MovesLeaveNoneExpired,
+  MovesLeaveOrder,
   NoIdIsGivenTwice,
   NoneFollowsTheGreatest,
   OpenedHasNotExpired,
@@ -63,4 +69,20 @@ pub fn expiry_ends_exactly_the_expired_sessions()
     ensures none { ExpiryEndsWhereNoneHasExpired }
     ensures all { ExpiryEndsTheExpired }
     ensures again { ExpiryEndsNoneAgain }
+{}
+
+/// No call but the entering of a caller gives a session one. In an orderly store the session that holds a caller is the one that is found by its
+/// number, and so [`Sessions::caller`](crate::Sessions::caller) tells of it.
+pub fn callers_are_entered()
+    ensures entered { CallersAreEntered }
+    ensures found { HoldersAreFound }
+{}
+
+/// Whatever components do to the sessions at a moment, order stays, no session has expired at it where none had before, and each caller was there
+/// before; and what is done one after another is done together.
+pub fn components_keep_the_sessions()
+    ensures joins { MovesJoin }
+    ensures order { MovesLeaveOrder }
+    ensures unexpired { MovesLeaveNoneExpired }
+    ensures callers { MovesGiveNoCaller }
 {}

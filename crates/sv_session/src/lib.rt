@@ -14,8 +14,8 @@ mod sessions;
 pub use attribute::Attribute;
 pub use ended_session::EndedSession;
 pub use laws::{
-    an_accessed_session_has_not_expired, an_id_names_its_session,
-    expiry_ends_exactly_the_expired_sessions, limits_are_as_stated,
+    an_accessed_session_has_not_expired, an_id_names_its_session, callers_are_entered,
+    components_keep_the_sessions, expiry_ends_exactly_the_expired_sessions, limits_are_as_stated,
     no_call_leaves_an_expired_session, no_id_is_given_twice, no_serial_follows_the_greatest,
     sessions_stay_in_order,
 };

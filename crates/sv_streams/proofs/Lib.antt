@@ -1,3 +1,4 @@
+pub mod CallJoins
 mod CallLemmas
 mod LineLemmas
 mod ProgressLemmas

@@ -1,8 +1,8 @@
 -- How far the reads for a line have come.
-use Rattle.std.proofs.Common.{◌≡◌, ℕ, ◌+◌, ◌-◌, ◌<◌, ◌≤◌, Bool, true, false, ◌||◌, eqb, List, [], ◌∷◌, ◌++◌, Some, None, Ok, Err, Option, refl, subst, sym, ap, ◌∙◌, inl, inr, append_assoc, append-nil, length, arith}
+use Rattle.std.proofs.Common.{◌≡◌, ℕ, ◌+◌, ◌-◌, ◌*◌, ◌<◌, ◌≤◌, Bool, true, false, ◌||◌, eqb, List, [], ◌∷◌, ◌++◌, Some, None, Ok, Err, Option, refl, subst, sym, ap, ◌∙◌, inl, inr, append_assoc, append-nil, length, length-append, arith}
 use Rattle.std.proofs.lemmas.Bool.{ne_eqb, or_parts}
 use Rattle.sv_streams.specs.Calls.{AreMade, Call, Gave, Making, ReadFailed, bytes_given, bytes_taken, failures, given, is_end, is_failure, is_read, meets_end, reads, taken}
-use Rattle.sv_streams.specs.Lines.{AreReads, LinesState, NextLine, has_line_feed, max_reads, unread}
+use Rattle.sv_streams.specs.Lines.{AreReads, LinesState, NextLine, has_line_feed, max_reads, piece_bytes, unread}
 use Rattle.sv_streams.specs.LineSteps.{LastLine, ReadsOnce, TakesLine}
 use Rattle.sv_streams.specs.declared.lines_fault.LinesFault.{LinesFault}
 use Rattle.sv_streams.specs.declared.lines_fault.LinesFault.TheVariants as fault
@@ -41,6 +41,7 @@ pub record IsRead (call : Call) (failed : ℕ) : Type 0 where
   pub takes : bytes_taken call ≡ []
   pub counts : is_read call ≡ 1
   pub fails : is_failure call ≡ failed
+  pub fits : length (bytes_given call) ≤ piece_bytes
 
 once_more : (start state next : LinesState) (calls : List Call) (call : Call) (failed : ℕ)
     → AreReads start calls 0 state → state.ended ≡ false → IsRead call failed → next.reads ≡ state.reads + 1 → state.reads < max_reads → next.ended ≡ is_end call
@@ -53,6 +54,10 @@ once_more start state next calls call failed are open_yet read counted below end
     let counted_yet : state.reads ≡ start.reads + reads calls = are.counted in
     let fails : is_failure call ≡ failed = read.fails in
     let counts : is_read call ≡ 1 = read.counts in
+    let fits : length (bytes_given call) ≤ 8192 = read.fits in
+    let measured_yet : length (given calls) ≤ 8192 * reads calls = are.measured in
+    let given_now : length (given (calls ++ call ∷ [])) ≡ length (given calls) + length (bytes_given call) =
+    ap length (given_more calls call) ∙ length-append (given calls) (bytes_given call) in
     record {
       reads_alone = taken_more calls call ∙ ap (λ bytes. bytes ++ bytes_taken call) are.reads_alone ∙ read.takes;
       failed = omega arith;
@@ -60,6 +65,7 @@ once_more start state next calls call failed are open_yet read counted below end
       within = λ within. omega arith;
       ended = ended ∙ sym (end_more calls call parts.1) ∙ ap (λ b. b || meets_end (calls ++ call ∷ [])) (sym parts.0);
       none_behind = λ was. cc (was, parts.0);
+      measured = omega arith;
     }
 
 -- nothing was read
@@ -72,6 +78,7 @@ as_much start state after calls failed are counted ended =
       within = λ within. let yet : state.reads ≤ max_reads = are.within within in omega arith;
       ended = ended ∙ are.ended;
       none_behind = are.none_behind;
+      measured = are.measured;
     }
 
 -- the reads that were made so far for a line
@@ -92,6 +99,7 @@ no_progress makes first start = record {
     within = λ within. within;
     ended = sym (or_false start.ended);
     none_behind = λ ended. refl;
+    measured = omega arith;
   };
   text = append-nil (unread start);
 }
@@ -113,7 +121,7 @@ piece_read makes first source after start state moved next p moves open_yet read
       calls = p.calls ++ call ∷ [];
       made = one_more makes first source after p.calls call p.made read.0;
       are = once_more start moved next p.calls call 0 (as_much start state moved p.calls 0 p.are moves.3.0 moves.3.1) open_yet
-          (record { takes = refl; counts = refl; fails = refl }) (ap (λ (s : LinesState). s.reads) read.2) read.1 (ap (λ (s : LinesState). s.ended) read.2 ∙ sym (empty_end next.ahead));
+          (record { takes = refl; counts = refl; fails = refl; fits = read.3 }) (ap (λ (s : LinesState). s.reads) read.2) read.1 (ap (λ (s : LinesState). s.ended) read.2 ∙ sym (empty_end next.ahead));
       text = ap (λ bytes. unread start ++ bytes) (given_more p.calls call)
           ∙ sym (append_assoc (unread start) (given p.calls) next.ahead)
           ∙ ap (λ text. text ++ next.ahead) (p.text ∙ sym moves.0 ∙ line_alone moved moves.1)
@@ -170,7 +178,7 @@ none_read makes first source source_after start state moved after fault.ReadFail
   p.calls ++ ReadFailed ∷ [],
   one_more makes first source source_after p.calls ReadFailed p.made made,
   once_more start moved after p.calls ReadFailed 1 (as_much start state moved p.calls 0 p.are moves.3.0 moves.3.1) open_yet
-      (record { takes = refl; counts = refl; fails = refl }) (ap (λ (s : LinesState). s.reads) is) below (ap (λ (s : LinesState). s.ended) is ∙ open_yet),
+      (record { takes = refl; counts = refl; fails = refl; fits = omega arith }) (ap (λ (s : LinesState). s.reads) is) below (ap (λ (s : LinesState). s.ended) is ∙ open_yet),
   (ap unread is ∙ moves.0 ∙ sym still, ap has_line_feed still ∙ moves.2),
 )
   where

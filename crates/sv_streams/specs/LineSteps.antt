@@ -2,7 +2,7 @@
 use Rattle.std.specs.Prelude.{◌≡◌, ℕ, ◌+◌, ◌<◌, ◌≤◌, ◌==◌, false, List, [], ◌∷◌, ◌++◌, length, take, drop, Option, Some, None, Result, Ok, Err}
 use Rattle.sv_streams.specs.Calls.{Call, Making}
 use Rattle.sv_streams.specs.Calls as calls
-use Rattle.sv_streams.specs.Lines.{IsFirstLine, LinesState, has_line_feed, max_reads, unread}
+use Rattle.sv_streams.specs.Lines.{IsFirstLine, LinesState, has_line_feed, max_reads, piece_bytes, unread}
 use Rattle.sv_streams.specs.declared.lines_fault.LinesFault.{LinesFault}
 use Rattle.sv_streams.specs.declared.lines_fault.LinesFault.TheVariants.{ReadFailed, TooManyReads, NoMemory}
 
@@ -35,6 +35,7 @@ abbrev pub ReadsOnce : {S : Type 0} → Making S → S → LinesState → Result
 ReadsOnce makes source before (Ok done) source_after after =
     makes source (calls.Gave after.ahead) source_after × (before.reads < max_reads)
     × (after ≡ record { line = before.line; ahead = after.ahead; reads = before.reads + 1; ended = length after.ahead == 0 })
+    × (length after.ahead ≤ piece_bytes)
 ReadsOnce makes source before (Err ReadFailed) source_after after =
     makes source calls.ReadFailed source_after × (before.reads < max_reads) × (after ≡ record before { reads = before.reads + 1 })
 ReadsOnce makes source before (Err TooManyReads) source_after after = (source_after ≡ source) × (after ≡ before) × (max_reads ≤ before.reads)
@@ -42,7 +43,7 @@ ReadsOnce makes source before (Err NoMemory) source_after after = (source_after 
 
 -- one read was made, and these bytes came
 abbrev pub Refills : {S : Type 0} → Making S → S → Result (Unit {0}) LinesFault → S → List ℕ → Type 0
-Refills makes source (Ok done) source_after bytes = makes source (calls.Gave bytes) source_after
+Refills makes source (Ok done) source_after bytes = makes source (calls.Gave bytes) source_after × (length bytes ≤ piece_bytes)
 Refills makes source (Err ReadFailed) source_after bytes = makes source calls.ReadFailed source_after × (bytes ≡ [])
 Refills makes source (Err TooManyReads) source_after bytes = ⊥
 Refills makes source (Err NoMemory) source_after bytes = (source_after ≡ source) × (bytes ≡ [])

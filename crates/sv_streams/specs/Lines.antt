@@ -1,5 +1,5 @@
 -- The lines of what is read.
-use Rattle.std.specs.Prelude.{◌≡◌, ◌⊎◌, ℕ, ◌+◌, ◌<◌, ◌≤◌, ◌==◌, ◌||◌, Bool, true, false, List, [], ◌∷◌, ◌++◌, length, Option, Some, None, Result, Ok, Err}
+use Rattle.std.specs.Prelude.{◌≡◌, ◌⊎◌, ℕ, ◌+◌, ◌*◌, ◌<◌, ◌≤◌, ◌==◌, ◌||◌, Bool, true, false, List, [], ◌∷◌, ◌++◌, length, Option, Some, None, Result, Ok, Err}
 use Rattle.std.specs.List.{list_any}
 use Rattle.sv_streams.specs.Calls.{AreMade, Call, Making, failures, given, meets_end, reads, taken}
 use Rattle.sv_streams.specs.declared.lines_fault.LinesFault.{LinesFault}
@@ -8,6 +8,10 @@ use Rattle.sv_streams.specs.declared.lines_fault.LinesFault.TheVariants.{ReadFai
 -- as many reads are made at most
 abbrev pub max_reads : ℕ
 max_reads = 1000000
+
+-- as many bytes does a read give at most
+abbrev pub piece_bytes : ℕ
+piece_bytes = 8192
 
 -- what a reader of lines holds: the line under way, the bytes behind it that were read and not yet looked at, how many reads were made,
 -- and whether a read has met the end
@@ -49,7 +53,7 @@ abbrev pub failed : {A : Type 0} → Result A LinesFault → ℕ
 failed (Err ReadFailed) = 1
 failed other = 0
 
--- reads alone were made, of which so many failed, none after the end, and not too many in all
+-- reads alone were made, of which so many failed, none after the end, and not too many in all, and none of them gave too much
 pub record AreReads (before : LinesState) (calls : List Call) (failures_made : ℕ) (after : LinesState) : Type 0 where
   pub reads_alone : taken calls ≡ []
   pub failed : failures calls ≡ failures_made
@@ -57,6 +61,7 @@ pub record AreReads (before : LinesState) (calls : List Call) (failures_made : �
   pub within : before.reads ≤ max_reads → after.reads ≤ max_reads
   pub ended : after.ended ≡ (before.ended || meets_end calls)
   pub none_behind : before.ended ≡ true → calls ≡ []
+  pub measured : length (given calls) ≤ piece_bytes * reads calls
 
 -- the calls that were made for a line, and the answer
 abbrev pub NextLine : {S : Type 0} → Making S → S → LinesState → Result (Option (List ℕ)) LinesFault → S → LinesState → Type 0

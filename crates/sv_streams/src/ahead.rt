@@ -1,6 +1,6 @@
 //! What was read ahead.
 
-ghost use Rattle.std.specs.Prelude.{◌≡◌, ◌<◌, [], length, vec_items, OnErr};
+ghost use Rattle.std.specs.Prelude.{◌≡◌, ◌<◌, ◌≤◌, [], length, vec_items, OnErr};
 ghost use Rattle.sv_streams.specs.Calls.{read_result};
 
 use crate::lines_fault::LinesFault;
@@ -85,6 +85,7 @@ fn read_piece<S: Source>(source: &mut S, piece: &mut Vec<u8>) -> Result<(), Read
     requires { 0 < length (vec_items piece.old) }
     ensures made { S.makes source.old (read_result result (vec_items piece.new)) source.new }
     ensures nothing { OnErr result (vec_items piece.new ≡ []) }
+    ensures within { length (vec_items piece.new) ≤ length (vec_items piece.old) }
 {
     match source.read(piece.as_mut_slice()) {
         Ok(count) => {

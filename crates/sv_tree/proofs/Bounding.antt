@@ -6,11 +6,12 @@ use Rattle.sv_exchange.specs.Changing.{SetHeader, SetStatus, Write}
 use Rattle.sv_mapping.specs.declared.kind.Kind.{Kind}
 use Rattle.sv_mapping.specs.declared.kind.Kind.TheVariants as kinds
 use Rattle.sv_tree.specs.Does.{Does, ◌>>=◌, ◌>>◌, becomes, gives, makes, wants_memory}
+use Rattle.sv_tree.specs.Endings.{keeps}
 use Rattle.sv_tree.specs.Laws.{AreWithin, RequestsAreBounded, count_all}
 use Rattle.sv_tree.specs.Served as served
 use Rattle.sv_tree.specs.Served.{Served, kept_field, plain_text, reset}
 use Rattle.sv_tree.specs.Site.{Site}
-use Rattle.sv_tree.specs.State.{KeptField, State, on_exchange}
+use Rattle.sv_tree.specs.State.{KeptError, KeptField, State, on_exchange}
 use Rattle.sv_tree.specs.Tree.{Tree}
 use Rattle.sv_tree.specs.declared.finished.Finished.{Finished}
 use Rattle.sv_tree.specs.declared.finished.Finished.TheVariants.{Done, Error, Failed}
@@ -18,9 +19,10 @@ use Rattle.sv_tree.specs.declared.limits.TheConstants.{INTERNAL_SERVER_ERROR, MA
 use Rattle.sv_tree.proofs.Counting as counting
 use Rattle.sv_tree.proofs.Counting.{Counts, calls_are_counted}
 use Rattle.sv_tree.proofs.Doing.{chosen_then}
-use Rattle.sv_tree.proofs.Keeping.{Keeps, Steps, becomes_keeps, gives_keeps, makes_keeps, then_keeps, wants_keeps}
+use Rattle.sv_tree.proofs.Keeping.{Keeps, Steps, becomes_keeps, gives_keeps, keeps_keeps, makes_keeps, then_keeps, wants_keeps}
 use Rattle.sv_tree.proofs.Nesting.{Nests, nests, nests_tree}
 use Rattle.sv_uri.specs.declared.path.Canon.{Canon}
+use Rattle.sv_wire.specs.ResponseText.{phrase_of}
 
 module _ (site : Site) (Q : ℕ → State → List Record → State → Bool → Type 0) (law : Steps site Q) (room : ℕ)
     (resets : (x : State) → Q room x [] (on_exchange reset x) true)
@@ -72,6 +74,11 @@ module _ (site : Site) (Q : ℕ → State → List Record → State → Bool →
   pub served_keeps : (kind : Kind) (canon : Canon) → Keeps site Q room (Served site kind canon)
   served_keeps kind canon =
       then_keeps site Q law room (Tree site MAX_NESTING kind canon) (served.Settled site) (trees kind canon) settled_keeps
+
+  pub error_keeps : (status : ℕ) (page : Option Canon) → Keeps site Q room (served.ShowsError site status page)
+  error_keeps status page =
+      let kept : KeptError = record { status = status; text = phrase_of status; servlet = None; field = None } in
+      then_keeps site Q law room (keeps kept) (λ _. served.Pages site status None page) (keeps_keeps site Q law room kept) (λ _. pages_keep status None page)
 
 pub requests_are_bounded : (site : Site) → RequestsAreBounded site
 requests_are_bounded site kind canon x y r result fresh outermost h =

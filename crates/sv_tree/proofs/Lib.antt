@@ -11,6 +11,7 @@ pub mod Forwarding
 pub mod Hearing
 pub mod Including
 pub mod Keeping
+pub mod Moving
 pub mod Nesting
 pub mod Serving
 pub mod Silence

@@ -5,14 +5,20 @@ use Rattle.sv_component.specs.Call.{Destroyed, Entered, Left, Serviced}
 use Rattle.sv_component.specs.Runs.{Record, OfFilter, OfListener, OfServlet}
 use Rattle.sv_component.specs.declared.answers.Gate.TheVariants as gates
 use Rattle.sv_component.specs.declared.answers.Step.TheVariants as steps
+use Rattle.sv_exchange.specs.Changing.{Change}
 use Rattle.sv_exchange.specs.Dispatches.{client_in, is_include_kind, is_within_include}
 use Rattle.sv_journal.specs.declared.event.Event.{Event}
 use Rattle.sv_mapping.specs.declared.kind.Kind.{Kind}
 use Rattle.sv_mapping.specs.declared.kind.Kind.TheVariants as kinds
-use Rattle.sv_tree.specs.Served.{Served}
+use Rattle.sv_session.specs.Calls.{HoldsCaller, caller_of}
+use Rattle.sv_session.specs.Expiry.{HasNoneExpired}
+use Rattle.sv_session.specs.Store.{IsOrderly}
+use Rattle.sv_tree.specs.Does.{gives, makes}
+use Rattle.sv_tree.specs.Moving.{IsMoved, MovesSessions}
+use Rattle.sv_tree.specs.Served.{Served, ShowsError}
 use Rattle.sv_tree.specs.Site.{Site, paths_in}
 use Rattle.sv_tree.specs.State.{Exchange, KeptError, State, Standing, Serving, Gone, Away, moment_after, standing_at}
-use Rattle.sv_tree.specs.Telling.{all_told}
+use Rattle.sv_tree.specs.Telling.{all_told, hears}
 use Rattle.sv_tree.specs.Tree.{Tree}
 use Rattle.sv_tree.specs.declared.finished.Finished.{Finished}
 use Rattle.sv_tree.specs.declared.finished.Finished.TheVariants.{Done, Error, Failed}
@@ -257,3 +263,35 @@ TellingsFollow site =
     (room : ℕ) (kind : Kind) (canon : Canon) (before after : State) (calls : List Record) (result : Option Finished)
     → Tree site room kind canon before calls after result
     → calls ≡ flat_map (told_behind site) (filter (λ made. not (is_of_listener made)) calls)
+
+-- dispatches, and answers with their error pages, move the sessions as components may
+abbrev pub AnswersMoveSessions : Site → Type 0
+AnswersMoveSessions site =
+    ((room : ℕ) (kind : Kind) (canon : Canon) → MovesSessions (Tree site room kind canon))
+    × ((kind : Kind) (canon : Canon) → MovesSessions (Served site kind canon))
+    × ((status : ℕ) (page : Option Canon) → MovesSessions (ShowsError site status page))
+
+-- so do the steps of the container's own
+abbrev pub StepsMoveSessions : Type 0
+StepsMoveSessions =
+    MovesSessions {A = Unit {0}} (gives tt)
+    × ((change : Change) → MovesSessions (makes change))
+    × ((listeners : ℕ) (event : Event) → MovesSessions (hears listeners event))
+
+-- and so does what is done one behind the other
+abbrev pub MovesJoin : Type 0
+MovesJoin = (before between after : Exchange) → IsMoved before between → IsMoved between after → IsMoved before after
+
+-- where the sessions are so moved, none has expired where none had before, and none has a caller that it had not before
+abbrev pub MovedLeaveNoneExpired : Type 0
+MovedLeaveNoneExpired = (before after : Exchange) → IsMoved before after
+    → HasNoneExpired before.moment before.store → HasNoneExpired after.moment after.store
+
+abbrev pub MovedGiveNoCaller : Type 0
+MovedGiveNoCaller = (before after : Exchange) → IsMoved before after
+    → (number caller : ℕ) → HoldsCaller number caller after.store → HoldsCaller number caller before.store
+
+abbrev pub MovedFindNoCaller : Type 0
+MovedFindNoCaller = (before after : Exchange) → IsMoved before after → IsOrderly before.store
+    → IsOrderly after.store
+    × ((number caller : ℕ) → caller_of number after.store ≡ Some caller → caller_of number before.store ≡ Some caller)

@@ -5,6 +5,7 @@ pub mod Faults
 pub mod Files
 pub mod Filters
 pub mod Laws
+pub mod Moving
 pub mod Served
 pub mod Site
 pub mod State

@@ -1,9 +1,12 @@
 //! The laws of dispatches, each the contract of a function that does nothing.
 
 ghost use Rattle.std.specs.Prelude.{◌≡◌, ◌-◌, ◌^◌};
-ghost use Rattle.sv_tree.specs.Laws.{AnswersOnce, CallsAreCounted, CallsDecide, DispatchesEnd, DispatchesNest, EndingsAreKept, EventsAreTold, FiltersAreClosed, ForwardsBeginEmpty, IncludesEndInNoError, IncludesKeep, OnlyServingAreCalled, RequestsAreBounded, TellingsFollow};
+ghost use Rattle.sv_tree.specs.Laws.{AnswersMoveSessions, AnswersOnce, CallsAreCounted, CallsDecide, DispatchesEnd, DispatchesNest, EndingsAreKept, EventsAreTold, FiltersAreClosed, ForwardsBeginEmpty, IncludesEndInNoError, IncludesKeep, MovedFindNoCaller, MovedGiveNoCaller, MovedLeaveNoneExpired, MovesJoin, OnlyServingAreCalled, RequestsAreBounded, StepsMoveSessions, TellingsFollow};
 ghost use Rattle.sv_tree.specs.Site.{Site};
 ghost use Rattle.sv_tree.specs.declared.limits.TheConstants.{FOUND, INTERNAL_SERVER_ERROR, LAST_MOMENT, LEAST_ERROR, MAX_CALLS, MAX_ERROR, MAX_NESTING, METHOD_NOT_ALLOWED, NOT_FOUND, SERVICE_UNAVAILABLE};
+
+use sv_exchange::{changes_are_calls, changes_move_the_sessions};
+use sv_session::{callers_are_entered, components_keep_the_sessions};
 
 /// A dispatch is decided by its calls: what it leaves, and how it ends.
 pub fn calls_decide()
@@ -74,6 +77,28 @@ pub fn events_are_told()
 pub fn tellings_follow()
     ensures { (site : Site) → TellingsFollow site }
 {}
+
+/// All that is done to answer a request, step by step and one step behind the other, leaves the moment as it is and moves the sessions as components
+/// may, to a result or to none where memory ended it.
+pub fn answers_move_the_sessions()
+    ensures answers { (site : Site) → AnswersMoveSessions site }
+    ensures steps { StepsMoveSessions }
+    ensures join { MovesJoin }
+{
+    changes_are_calls();
+    changes_move_the_sessions();
+    components_keep_the_sessions();
+}
+
+/// Where the sessions are moved so, none has expired where none had before, and none has a caller that it had not before.
+pub fn moved_sessions_are_kept()
+    ensures unexpired { MovedLeaveNoneExpired }
+    ensures callers { MovedGiveNoCaller }
+    ensures found { MovedFindNoCaller }
+{
+    callers_are_entered();
+    components_keep_the_sessions();
+}
 
 /// The numbers of this crate: definitions and code cite the constants, so that both would move with one.
 pub fn limits_are_as_stated()

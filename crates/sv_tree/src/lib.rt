@@ -10,10 +10,10 @@ mod resource;
 pub use dispatch_fault::DispatchFault;
 pub use finished::Finished;
 pub use laws::{
-    answers_have_one_page, calls_are_counted, calls_decide, dispatches_end, dispatches_nest,
-    endings_are_kept, events_are_told, filters_are_closed, forwards_begin_empty,
-    includes_end_in_no_error, includes_keep, limits_are_as_stated, only_serving_are_called,
-    requests_are_bounded, tellings_follow,
+    answers_have_one_page, answers_move_the_sessions, calls_are_counted, calls_decide,
+    dispatches_end, dispatches_nest, endings_are_kept, events_are_told, filters_are_closed,
+    forwards_begin_empty, includes_end_in_no_error, includes_keep, limits_are_as_stated,
+    moved_sessions_are_kept, only_serving_are_called, requests_are_bounded, tellings_follow,
 };
 pub use limits::{
     FOUND, INTERNAL_SERVER_ERROR, LAST_MOMENT, LEAST_ERROR, MAX_CALLS, MAX_ERROR, MAX_NESTING,

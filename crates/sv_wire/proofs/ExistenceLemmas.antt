@@ -10,8 +10,8 @@ use Rattle.sv_body.proofs.ExistenceLemmas.{NotNone, some_body, ReadsBody_leaves}
 use Rattle.sv_body.proofs.LimitLemmas.{LeavesRest}
 use Rattle.sv_wire.specs.declared.item.Item.{Item}
 use Rattle.sv_wire.specs.declared.owed_head.OwedHead.{OwedHead}
-use Rattle.sv_wire.specs.declared.owed_head.Verdict.{Verdict}
-use Rattle.sv_wire.specs.declared.owed_head.Verdict.TheVariants.{Refused, Expecting, Accepted}
+use Rattle.sv_wire.specs.declared.owed_head.Judgement.{Judgement}
+use Rattle.sv_wire.specs.declared.owed_head.Judgement.TheVariants.{Refused, Expecting, Accepted}
 use Rattle.sv_wire.specs.declared.wire_fault.WireFault.TheVariants.{BadHead, HeadTooLarge}
 use Rattle.sv_wire.specs.Head.{judge}
 use Rattle.sv_wire.specs.Items.{is_last}
@@ -23,24 +23,24 @@ use Rattle.sv_wire.proofs.ReadsLemmas.{cut_holds}
 
 -- ---- each text begins with something
 
-some_verdict : (text : List ℕ) → NotNone ((verdict : Verdict) × ReadsHead text verdict)
-some_verdict text = by_lines (has_too_many_lines text)
+some_judgement : (text : List ℕ) → NotNone ((judgement : Judgement) × ReadsHead text judgement)
+some_judgement text = by_lines (has_too_many_lines text)
   where
-    by_lines : (t : Bool) → NotNone ((verdict : Verdict) × MatchBool t (verdict ≡ Refused HeadTooLarge) (IsJudged text verdict))
+    by_lines : (t : Bool) → NotNone ((judgement : Judgement) × MatchBool t (judgement ≡ Refused HeadTooLarge) (IsJudged text judgement))
     by_lines true none = none (Refused HeadTooLarge, refl)
     by_lines false none = none (Refused BadHead, inr ((λ head reads. none (judge head, inl (head, reads, refl))), refl))
 
 some_body_start : (owed : OwedHead) (text : List ℕ) → NotNone ((start : Start) × StartsBody owed text start)
 some_body_start owed text none = some_body owed.framing text (λ found. none (after_body owed found.0, (found.0, found.1, refl)))
 
-some_start_behind : (verdict : Verdict) (text : List ℕ) → NotNone ((start : Start) × StartsBehind verdict text start)
+some_start_behind : (judgement : Judgement) (text : List ℕ) → NotNone ((start : Start) × StartsBehind judgement text start)
 some_start_behind (Refused fault) text none = none (_, refl)
 some_start_behind (Expecting owed) text none = none (_, refl)
 some_start_behind (Accepted owed) text none = some_body_start owed text none
 
 some_start_at : (c : Cut) (text : List ℕ) → NotNone ((start : Start) × StartsAt c text start)
 some_start_at (Whole n) text none =
-    some_verdict (take n text) (λ found. some_start_behind found.0 (drop n text) (λ start. none (start.0, (found.0, found.1, start.1))))
+    some_judgement (take n text) (λ found. some_start_behind found.0 (drop n text) (λ start. none (start.0, (found.0, found.1, start.1))))
 some_start_at Endless text none = none (_, refl)
 some_start_at Unended text none = none (_, refl)
 
@@ -70,7 +70,7 @@ StartsBody_leaves : (owed : OwedHead) (text : List ℕ) (bound : ℕ) (start : S
 StartsBody_leaves owed text bound start below starts =
     subst (LeavesLess bound) (sym starts.2) (body_leaves owed text bound starts.0 below (ReadsBody_leaves owed.framing text starts.0 starts.1))
 
-StartsBehind_leaves : (verdict : Verdict) (text : List ℕ) (bound : ℕ) (start : Start) → 2 * length text + 1 < bound → StartsBehind verdict text start
+StartsBehind_leaves : (judgement : Judgement) (text : List ℕ) (bound : ℕ) (start : Start) → 2 * length text + 1 < bound → StartsBehind judgement text start
     → LeavesLess bound start
 StartsBehind_leaves (Refused fault) text bound start below starts = subst (LeavesLess bound) (sym starts) (omega (arith, below))
 StartsBehind_leaves (Expecting owed) text bound start below starts = subst (LeavesLess bound) (sym starts) below

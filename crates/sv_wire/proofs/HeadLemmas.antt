@@ -21,8 +21,8 @@ use Rattle.httparse.proofs.TrimLemmas.{AllPass-trim_ows}
 use Rattle.sv_head.specs.declared.field.Field.{Field as OwnField}
 use Rattle.sv_text.specs.Gives.{GivesAnswer}
 use Rattle.sv_text.specs.declared.NoMemory.{NoMemory}
-use Rattle.sv_wire.specs.declared.owed_head.Verdict.{Verdict}
-use Rattle.sv_wire.specs.declared.owed_head.Verdict.TheVariants.{Refused}
+use Rattle.sv_wire.specs.declared.owed_head.Judgement.{Judgement}
+use Rattle.sv_wire.specs.declared.owed_head.Judgement.TheVariants.{Refused}
 use Rattle.sv_wire.specs.declared.wire_fault.WireFault.TheVariants.{BadHead}
 use Rattle.sv_wire.specs.Head.{judge}
 use Rattle.sv_wire.specs.Reads.{IsNoHead, has_too_many_lines, ReadsHead}
@@ -190,12 +190,12 @@ no_head text headers r few finds part h reads = by_result r refl (finds h [] rea
     by_result (Ok Partial) is at = at
     by_result (Err e) is at = at
 
--- the verdict on a head that is read whole
-pub judged : (text : List ℕ) (h : RequestHead) (r : Result Verdict NoMemory) → has_too_many_lines text ≡ false
+-- the judgement on a head that is read whole
+pub judged : (text : List ℕ) (h : RequestHead) (r : Result Judgement NoMemory) → has_too_many_lines text ≡ false
     → ReadsRequest text h [] → GivesAnswer r (judge h) → IfOk r (ReadsHead text)
-judged text h (Ok verdict) few reads gives = MatchBool-from_false (has_too_many_lines text) _ _ few (inl (h, reads, gives))
+judged text h (Ok judgement) few reads gives = MatchBool-from_false (has_too_many_lines text) _ _ few (inl (h, reads, gives))
 judged text h (Err e) few reads gives = tt
 
--- the verdict on a text that is no head
+-- the judgement on a text that is no head
 pub refused : (text : List ℕ) → has_too_many_lines text ≡ false → IsNoHead text → ReadsHead text (Refused BadHead)
 refused text few none = MatchBool-from_false (has_too_many_lines text) _ _ few (inr (none, refl))

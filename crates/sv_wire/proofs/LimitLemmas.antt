@@ -21,11 +21,11 @@ use Rattle.sv_head.specs.TargetForm.{target_form}
 use Rattle.httparse.specs.Grammar.{RequestHead}
 use Rattle.sv_wire.specs.declared.limits.TheConstants.{MAX_HEAD_LEN}
 use Rattle.sv_wire.specs.declared.owed_head.OwedHead.{OwedHead}
-use Rattle.sv_wire.specs.declared.owed_head.Verdict.{Verdict}
-use Rattle.sv_wire.specs.declared.owed_head.Verdict.TheVariants.{Refused, Expecting, Accepted}
+use Rattle.sv_wire.specs.declared.owed_head.Judgement.{Judgement}
+use Rattle.sv_wire.specs.declared.owed_head.Judgement.TheVariants.{Refused, Expecting, Accepted}
 use Rattle.sv_wire.specs.declared.wire_fault.WireFault.{WireFault}
 use Rattle.sv_wire.specs.declared.wire_fault.WireFault.TheVariants.{BadHost, BadFraming, BodyTooLarge, BadExpect, BadTarget, HeadTooLarge}
-use Rattle.sv_wire.specs.Head.{accept, body_len, faults_of, framing_faults, framing_of, has_codings, is_unknown, is_unknown_expectation, judge, owed_head, verdict_of}
+use Rattle.sv_wire.specs.Head.{accept, body_len, faults_of, framing_faults, framing_of, has_codings, is_unknown, is_unknown_expectation, judge, owed_head, judgement_of}
 use Rattle.sv_wire.specs.Items.{is_last}
 use Rattle.sv_wire.specs.Laws.{IsWithinLimit, OwesWithinLimit, BodiesAreWithinTheLimit}
 use Rattle.sv_wire.specs.Reads.{IsJudged, has_too_many_lines, ReadsHead, cut_head, Start, gives, awaits, after_body, StartsBody, StartsBehind, StartsAt, text_of, Starts, Reads}
@@ -53,17 +53,17 @@ fits_by false test faults count none =
 framing_fits : (minor : ℕ) (fields : List Field) → framing_faults minor fields ≡ [] → FitsLimit (framing_of fields)
 framing_fits minor fields none = fits_by (has_codings fields) _ _ (body_len fields) none
 
--- the head that a verdict owes has a body within the limit
-abbrev OwesFit : Verdict → Type 0
+-- the head that a judgement owes has a body within the limit
+abbrev OwesFit : Judgement → Type 0
 OwesFit (Refused fault) = Unit {0}
 OwesFit (Expecting owed) = FitsLimit owed.framing
 OwesFit (Accepted owed) = FitsLimit owed.framing
 
-verdict_fits : (result : Result (Unit {0}) WireFault) (asked : Bool) (owed : OwedHead) → ((u : Unit {0}) → result ≡ Ok u → FitsLimit owed.framing)
-    → OwesFit (verdict_of result asked owed)
-verdict_fits (Err fault) asked owed fits = tt
-verdict_fits (Ok u) true owed fits = fits u refl
-verdict_fits (Ok u) false owed fits = fits u refl
+judgement_fits : (result : Result (Unit {0}) WireFault) (asked : Bool) (owed : OwedHead) → ((u : Unit {0}) → result ≡ Ok u → FitsLimit owed.framing)
+    → OwesFit (judgement_of result asked owed)
+judgement_fits (Err fault) asked owed fits = tt
+judgement_fits (Ok u) true owed fits = fits u refl
+judgement_fits (Ok u) false owed fits = fits u refl
 
 none_third : (a b c d : List WireFault) → a ++ b ++ c ++ d ≡ [] → c ≡ []
 none_third a b c d none = (none_of (a ++ b) c (none_of (a ++ b ++ c) d none).0).1
@@ -76,17 +76,17 @@ accepted_fits minor form fields u accepted =
 
 judged_fits : (head : RequestHead) → OwesFit (judge head)
 judged_fits head =
-    verdict_fits _ _ (owed_head (target_form head.method head.target) head (fields_of head))
+    judgement_fits _ _ (owed_head (target_form head.method head.target) head (fields_of head))
     (accepted_fits head.minor (target_form head.method head.target) (fields_of head))
 
-ReadsHead_fits : (text : List ℕ) (verdict : Verdict) → ReadsHead text verdict → OwesFit verdict
-ReadsHead_fits text verdict = by_lines (has_too_many_lines text)
+ReadsHead_fits : (text : List ℕ) (judgement : Judgement) → ReadsHead text judgement → OwesFit judgement
+ReadsHead_fits text judgement = by_lines (has_too_many_lines text)
   where
-    by_head : IsJudged text verdict → OwesFit verdict
+    by_head : IsJudged text judgement → OwesFit judgement
     by_head (inl found) = subst OwesFit (sym found.2) (judged_fits found.0)
     by_head (inr none) = subst OwesFit (sym none.1) tt
 
-    by_lines : (t : Bool) → MatchBool t (verdict ≡ Refused HeadTooLarge) (IsJudged text verdict) → OwesFit verdict
+    by_lines : (t : Bool) → MatchBool t (judgement ≡ Refused HeadTooLarge) (IsJudged text judgement) → OwesFit judgement
     by_lines true refused = subst OwesFit (sym refused) tt
     by_lines false judged = by_head judged
 
@@ -110,7 +110,7 @@ StartsBody_fits : (owed : OwedHead) (text : List ℕ) (start : Start) → FitsLi
 StartsBody_fits owed text start fits starts =
     subst (StartFits text) (sym starts.2) (after_body_fits owed text starts.0 (ReadsBody_keeps owed.framing text starts.0 fits starts.1))
 
-StartsBehind_fits : (verdict : Verdict) (text : List ℕ) (start : Start) → OwesFit verdict → StartsBehind verdict text start → StartFits text start
+StartsBehind_fits : (judgement : Judgement) (text : List ℕ) (start : Start) → OwesFit judgement → StartsBehind judgement text start → StartFits text start
 StartsBehind_fits (Refused fault) text start fits starts = subst (StartFits text) (sym starts) (tt, tt, omega arith)
 StartsBehind_fits (Expecting owed) text start fits starts = subst (StartFits text) (sym starts) (tt, fits, omega arith)
 StartsBehind_fits (Accepted owed) text start fits starts = StartsBody_fits owed text start fits starts

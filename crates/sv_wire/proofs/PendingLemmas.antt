@@ -17,8 +17,8 @@ use Rattle.sv_wire.specs.declared.item.Item.{Item}
 use Rattle.sv_wire.specs.declared.item.Item.TheVariants.{Continue, Refuse}
 use Rattle.sv_wire.specs.declared.limits.TheConstants.{MAX_HEAD_LEN}
 use Rattle.sv_wire.specs.declared.owed_head.OwedHead.{OwedHead}
-use Rattle.sv_wire.specs.declared.owed_head.Verdict.{Verdict}
-use Rattle.sv_wire.specs.declared.owed_head.Verdict.TheVariants.{Refused, Expecting, Accepted}
+use Rattle.sv_wire.specs.declared.owed_head.Judgement.{Judgement}
+use Rattle.sv_wire.specs.declared.owed_head.Judgement.TheVariants.{Refused, Expecting, Accepted}
 use Rattle.sv_wire.specs.declared.pending.Pending.{Pending}
 use Rattle.sv_wire.specs.declared.reading.Next.{Next}
 use Rattle.sv_wire.specs.declared.reading.Next.TheVariants.{Found, AwaitsHead, AwaitsBody}
@@ -129,18 +129,18 @@ cut_front text n is =
       first = λ k below. ap ends_head (front k (omega (arith, below))) ∙ found.first k below;
     }))
 
-module _ (stream : List ℕ) (start end : ℕ) (verdict : Verdict) (order : start ≤ end) (within : end ≤ length stream)
-    (head : IsHeadAt stream start end verdict) where
+module _ (stream : List ℕ) (start end : ℕ) (judgement : Judgement) (order : start ≤ end) (within : end ≤ length stream)
+    (head : IsHeadAt stream start end judgement) where
   rest_at : drop (end - start) (drop start stream) ≡ drop end stream
   rest_at = drop-drop (end - start) start stream ∙ ap (λ n. drop n stream) (omega (arith, order))
 
-  starts_at : (s : Start) → StartsBehind verdict (drop end stream) s → StartsNext None (drop start stream) s
+  starts_at : (s : Start) → StartsBehind judgement (drop end stream) s → StartsNext None (drop start stream) s
   starts_at s behind =
       subst (λ t. StartsAt (cut_head t) t s) (sym head.behind)
       (subst (λ c. StartsAt c (drop start stream) s) (sym head.whole)
-      (verdict, head.reads, subst (λ t. StartsBehind verdict t s) (sym rest_at) behind))
+      (judgement, head.reads, subst (λ t. StartsBehind judgement t s) (sym rest_at) behind))
 
-  pub head_refused : (fault : WireFault) → verdict ≡ Refused fault → ComesNext None stream start (Found (Refuse fault) None end)
+  pub head_refused : (fault : WireFault) → judgement ≡ Refused fault → ComesNext None stream start (Found (Refuse fault) None end)
   head_refused fault is = (
     order,
     within,
@@ -150,7 +150,7 @@ module _ (stream : List ℕ) (start end : ℕ) (verdict : Verdict) (order : star
         (subst (λ v. StartsBehind v (drop end stream) (gives (Refuse fault) None (drop end stream))) (sym is) refl),
   )
 
-  pub head_expecting : (owed : OwedHead) (pending : Pending) → verdict ≡ Expecting owed → Begins true [] owed pending
+  pub head_expecting : (owed : OwedHead) (pending : Pending) → judgement ≡ Expecting owed → Begins true [] owed pending
       → ComesNext None stream start (Found Continue (Some pending) end)
   head_expecting owed pending is begins = (
     order,
@@ -171,7 +171,7 @@ module _ (stream : List ℕ) (start end : ℕ) (verdict : Verdict) (order : star
       rest : rest_of (Some pending) ≡ []
       rest = ap (λ b. b ++ pending.reader.came) begins.bytes ∙ ap (λ (a : Awaited). a.came) begins.reader
 
-  module _ (owed : OwedHead) (pending : Pending) (is : verdict ≡ Accepted owed) (begins : Begins false (take (end - start) (drop start stream)) owed pending) where
+  module _ (owed : OwedHead) (pending : Pending) (is : judgement ≡ Accepted owed) (begins : Begins false (take (end - start) (drop start stream)) owed pending) where
     long : length (take (end - start) (drop start stream)) ≡ end - start
     long = omega (arith, order, within, length-take (end - start) (drop start stream), length-drop start stream)
 
@@ -256,16 +256,16 @@ module _ (stream head : List ℕ) (at start : ℕ) (within : at ≤ length strea
   pub same_drops : drop_empty_lines (drop start stream) ≡ drop_empty_lines (drop at stream)
   same_drops = no_empty_line ∙ head_at ∙ is
 
-  pub head_whole : (len : ℕ) (verdict : Verdict) → Whole len ≡ cut_head head → HoldsText head (Whole len) → ReadsHead (take len head) verdict
-      → IsHeadAt stream start (start + len) verdict
-  head_whole len verdict whole holds reads =
+  pub head_whole : (len : ℕ) (judgement : Judgement) → Whole len ≡ cut_head head → HoldsText head (Whole len) → ReadsHead (take len head) judgement
+      → IsHeadAt stream start (start + len) judgement
+  head_whole len judgement whole holds reads =
       let size : (start + len) - start ≡ len = omega arith in
       record {
         behind = no_empty_line;
         whole = ap cut_head head_at ∙ sym whole ∙ ap Whole (sym size);
         some = omega (arith, holds.0);
-        reads = subst (λ n. ReadsHead (take n (drop start stream)) verdict) (sym size)
-            (subst (λ t. ReadsHead (take len t) verdict) (sym head_at) reads);
+        reads = subst (λ n. ReadsHead (take n (drop start stream)) judgement) (sym size)
+            (subst (λ t. ReadsHead (take len t) judgement) (sym head_at) reads);
       }
 
   pub head_endless : Endless ≡ cut_head head → HoldsText head Endless → ComesNext None stream at (Found (Refuse HeadTooLarge) None (start + MAX_HEAD_LEN))

@@ -15,8 +15,8 @@ use Rattle.sv_wire.specs.declared.item.Item.{Item}
 use Rattle.sv_wire.specs.declared.item.Item.TheVariants.{Continue, Refuse}
 use Rattle.sv_wire.specs.declared.limits.TheConstants.{MAX_HEAD_LEN}
 use Rattle.sv_wire.specs.declared.owed_head.OwedHead.{OwedHead}
-use Rattle.sv_wire.specs.declared.owed_head.Verdict.{Verdict}
-use Rattle.sv_wire.specs.declared.owed_head.Verdict.TheVariants.{Refused, Expecting, Accepted}
+use Rattle.sv_wire.specs.declared.owed_head.Judgement.{Judgement}
+use Rattle.sv_wire.specs.declared.owed_head.Judgement.TheVariants.{Refused, Expecting, Accepted}
 use Rattle.sv_wire.specs.declared.wire_fault.WireFault.TheVariants.{HeadTooLarge}
 use Rattle.sv_wire.specs.EmptyLines.{drop_empty_lines}
 use Rattle.sv_wire.specs.Head.{ends_head, judge}
@@ -100,20 +100,20 @@ StartsBody-unique : (owed : OwedHead) (text : List ℕ) (start other : Start) �
 StartsBody-unique owed text start other a b =
     a.2 ∙ ap (after_body owed) (ReadsBody-unique owed.framing text a.0 b.0 a.1 b.1) ∙ sym b.2
 
-StartsBehind_more : (verdict : Verdict) (text more : List ℕ) (start : Start) → StartsBehind verdict text start
-    → Stays start (StartsBehind verdict (text ++ more) (start_more start more))
+StartsBehind_more : (judgement : Judgement) (text more : List ℕ) (start : Start) → StartsBehind judgement text start
+    → Stays start (StartsBehind judgement (text ++ more) (start_more start more))
 StartsBehind_more (Refused fault) text more start starts = inr (ap (λ s. start_more s more) starts)
 StartsBehind_more (Expecting owed) text more start starts = inr (ap (λ s. start_more s more) starts)
 StartsBehind_more (Accepted owed) text more start starts = StartsBody_more owed text more start starts
 
-StartsBehind_front : (verdict : Verdict) (text more : List ℕ) (start : Start) → StartsBehind verdict (text ++ more) start
-    → Fronts (StartsBehind verdict text) more start
+StartsBehind_front : (judgement : Judgement) (text more : List ℕ) (start : Start) → StartsBehind judgement (text ++ more) start
+    → Fronts (StartsBehind judgement text) more start
 StartsBehind_front (Refused fault) text more start starts = (gives (Refuse fault) None text, refl, inr starts)
 StartsBehind_front (Expecting owed) text more start starts = (gives Continue (Some owed) text, refl, inr starts)
 StartsBehind_front (Accepted owed) text more start starts = StartsBody_front owed text more start starts
 
-StartsBehind-unique : (verdict : Verdict) (text : List ℕ) (start other : Start) → StartsBehind verdict text start
-    → StartsBehind verdict text other → start ≡ other
+StartsBehind-unique : (judgement : Judgement) (text : List ℕ) (start other : Start) → StartsBehind judgement text start
+    → StartsBehind judgement text other → start ≡ other
 StartsBehind-unique (Refused fault) text start other a b = a ∙ sym b
 StartsBehind-unique (Expecting owed) text start other a b = a ∙ sym b
 StartsBehind-unique (Accepted owed) text start other a b = StartsBody-unique owed text start other a b
@@ -151,19 +151,19 @@ StartsAt_front Unended text more start holds starts = (awaits, refl, inl refl)
 
 -- ---- one start
 
-IsJudged-unique : (text : List ℕ) (verdict other : Verdict) → IsJudged text verdict → IsJudged text other → verdict ≡ other
-IsJudged-unique text verdict other (inl a) (inl b) = a.2 ∙ ap judge (request_unique text a.0 b.0 [] [] a.1 b.1).0 ∙ sym b.2
-IsJudged-unique text verdict other (inl a) (inr b) = absurd (b.0 a.0 a.1)
-IsJudged-unique text verdict other (inr a) (inl b) = absurd (a.0 b.0 b.1)
-IsJudged-unique text verdict other (inr a) (inr b) = a.1 ∙ sym b.1
+IsJudged-unique : (text : List ℕ) (judgement other : Judgement) → IsJudged text judgement → IsJudged text other → judgement ≡ other
+IsJudged-unique text judgement other (inl a) (inl b) = a.2 ∙ ap judge (request_unique text a.0 b.0 [] [] a.1 b.1).0 ∙ sym b.2
+IsJudged-unique text judgement other (inl a) (inr b) = absurd (b.0 a.0 a.1)
+IsJudged-unique text judgement other (inr a) (inl b) = absurd (a.0 b.0 b.1)
+IsJudged-unique text judgement other (inr a) (inr b) = a.1 ∙ sym b.1
 
-pub ReadsHead-unique : (text : List ℕ) (verdict other : Verdict) → ReadsHead text verdict → ReadsHead text other → verdict ≡ other
-ReadsHead-unique text verdict other = by_lines (has_too_many_lines text)
+pub ReadsHead-unique : (text : List ℕ) (judgement other : Judgement) → ReadsHead text judgement → ReadsHead text other → judgement ≡ other
+ReadsHead-unique text judgement other = by_lines (has_too_many_lines text)
   where
-    by_lines : (t : Bool) → MatchBool t (verdict ≡ Refused HeadTooLarge) (IsJudged text verdict)
-        → MatchBool t (other ≡ Refused HeadTooLarge) (IsJudged text other) → verdict ≡ other
+    by_lines : (t : Bool) → MatchBool t (judgement ≡ Refused HeadTooLarge) (IsJudged text judgement)
+        → MatchBool t (other ≡ Refused HeadTooLarge) (IsJudged text other) → judgement ≡ other
     by_lines true a b = a ∙ sym b
-    by_lines false a b = IsJudged-unique text verdict other a b
+    by_lines false a b = IsJudged-unique text judgement other a b
 
 StartsAt-unique : (c : Cut) (text : List ℕ) (start other : Start) → StartsAt c text start → StartsAt c text other → start ≡ other
 StartsAt-unique (Whole n) text start other a b =

@@ -1,4 +1,4 @@
--- The head of a request, and the one verdict on it (RFC 9112, sections 2.1, 3, 5 and 6).
+-- The head of a request, and the one judgement on it (RFC 9112, sections 2.1, 3, 5 and 6).
 use Rattle.std.specs.Prelude.{ℕ, Bool, true, false, ◌&&◌, ◌||◌, not, List, [], ◌∷◌, ◌++◌, ◌==◌, nat_eq, nat_lt, codes, if◌then◌else◌, Option, None, Some, is_none, Result, Ok, Err, ⊤}
 use Rattle.std.specs.List.{ends_with}
 use Rattle.httparse.specs.Ascii.{line_feed, carriage_return}
@@ -23,8 +23,8 @@ use Rattle.sv_wire.specs.declared.message.Target.{Target}
 use Rattle.sv_wire.specs.declared.message.Target.TheVariants.{Path}
 use Rattle.sv_wire.specs.declared.message.Target.TheVariants as targets
 use Rattle.sv_wire.specs.declared.owed_head.OwedHead.{OwedHead}
-use Rattle.sv_wire.specs.declared.owed_head.Verdict.{Verdict}
-use Rattle.sv_wire.specs.declared.owed_head.Verdict.TheVariants.{Refused, Expecting, Accepted}
+use Rattle.sv_wire.specs.declared.owed_head.Judgement.{Judgement}
+use Rattle.sv_wire.specs.declared.owed_head.Judgement.TheVariants.{Refused, Expecting, Accepted}
 use Rattle.sv_wire.specs.declared.wire_fault.WireFault.{WireFault}
 use Rattle.sv_wire.specs.declared.wire_fault.WireFault.TheVariants.{BadHost, BadFraming, UnknownCoding, BodyTooLarge, BadExpect, BadTarget}
 
@@ -126,16 +126,16 @@ owed_head form head fields = record {
 }
 
 -- the refusal for a fault, or else the head, whose body is asked for or not
-abbrev pub verdict_of : Result ⊤ WireFault → Bool → OwedHead → Verdict
-verdict_of (Err fault) asked owed = Refused fault
-verdict_of (Ok accepted) true owed = Expecting owed
-verdict_of (Ok accepted) false owed = Accepted owed
+abbrev pub judgement_of : Result ⊤ WireFault → Bool → OwedHead → Judgement
+judgement_of (Err fault) asked owed = Refused fault
+judgement_of (Ok accepted) true owed = Expecting owed
+judgement_of (Ok accepted) false owed = Accepted owed
 
--- the verdict on a head whose target has that form and whose fields are those
-abbrev pub verdict_on : TargetForm → RequestHead → List Field → Verdict
-verdict_on form head fields =
-    verdict_of (accept head.minor form fields) (awaits_continue head.minor fields) (owed_head form head fields)
+-- the judgement on a head whose target has that form and whose fields are those
+abbrev pub judgement_on : TargetForm → RequestHead → List Field → Judgement
+judgement_on form head fields =
+    judgement_of (accept head.minor form fields) (awaits_continue head.minor fields) (owed_head form head fields)
 
--- the verdict on a head
-abbrev pub judge : RequestHead → Verdict
-judge head = verdict_on (target_form head.method head.target) head (fields_of head)
+-- the judgement on a head
+abbrev pub judge : RequestHead → Judgement
+judge head = judgement_on (target_form head.method head.target) head (fields_of head)

@@ -4,7 +4,7 @@ use Rattle.sv_text.specs.declared.front.Cut.{Cut}
 use Rattle.sv_text.specs.declared.front.Cut.TheVariants.{Whole, Endless, Unended}
 use Rattle.sv_wire.specs.declared.limits.TheConstants.{MAX_HEAD_LEN}
 use Rattle.sv_wire.specs.declared.owed_head.OwedHead.{OwedHead}
-use Rattle.sv_wire.specs.declared.owed_head.Verdict.{Verdict}
+use Rattle.sv_wire.specs.declared.owed_head.Judgement.{Judgement}
 use Rattle.sv_wire.specs.declared.pending.Pending.{Pending}
 use Rattle.sv_wire.specs.declared.reading.Next.{Next}
 use Rattle.sv_wire.specs.declared.reading.Next.TheVariants.{Found, AwaitsHead, AwaitsBody}
@@ -42,12 +42,12 @@ ComesNext body stream at (AwaitsBody pending) =
     IsSound pending × (owed_by (Some pending) ≡ owed_by body)
     × (rest_of (Some pending) ≡ text_of (owed_by body) (rest_of body ++ drop at stream)) × StartsNext body (drop at stream) awaits
 
--- a head stands between the places, on which the verdict is that, and no empty line before it
-pub record IsHeadAt (stream : List ℕ) (start end : ℕ) (verdict : Verdict) : Type 0 where
+-- a head stands between the places, on which the judgement is that, and no empty line before it
+pub record IsHeadAt (stream : List ℕ) (start end : ℕ) (judgement : Judgement) : Type 0 where
   pub behind : drop_empty_lines (drop start stream) ≡ drop start stream
   pub whole : cut_head (drop start stream) ≡ Whole (end - start)
   pub some : start < end
-  pub reads : ReadsHead (take (end - start) (drop start stream)) verdict
+  pub reads : ReadsHead (take (end - start) (drop start stream)) judgement
 
 -- what is owed, and the bytes that no item holds, behind the items of a stream
 abbrev pub owed_behind : Rest → Option OwedHead

@@ -15,8 +15,8 @@ use Rattle.sv_wire.specs.declared.item.Item.TheVariants.{Continue, Message, Refu
 use Rattle.sv_wire.specs.declared.limits.TheConstants.{MAX_HEAD_LEN, MAX_FIELD_LINES}
 use Rattle.sv_wire.specs.declared.message.Message.{Message as MessageRecord}
 use Rattle.sv_wire.specs.declared.owed_head.OwedHead.{OwedHead}
-use Rattle.sv_wire.specs.declared.owed_head.Verdict.{Verdict}
-use Rattle.sv_wire.specs.declared.owed_head.Verdict.TheVariants.{Refused, Expecting, Accepted}
+use Rattle.sv_wire.specs.declared.owed_head.Judgement.{Judgement}
+use Rattle.sv_wire.specs.declared.owed_head.Judgement.TheVariants.{Refused, Expecting, Accepted}
 use Rattle.sv_wire.specs.declared.wire_fault.WireFault.TheVariants.{BadHead, HeadTooLarge}
 use Rattle.sv_wire.specs.EmptyLines.{drop_empty_lines}
 use Rattle.sv_wire.specs.Head.{ends_head, judge}
@@ -38,14 +38,14 @@ IsNoHead text = (head : RequestHead) → ¬ (ReadsRequest text head [])
 abbrev pub has_too_many_lines : List ℕ → Bool
 has_too_many_lines text = nat_lt (MAX_FIELD_LINES + 2) (count_by (λ b. b == line_feed) text)
 
--- the verdict on the text: that on the head that it holds, or the refusal of a text that holds none
-abbrev pub IsJudged : List ℕ → Verdict → Type 0
-IsJudged text verdict =
-    ((head : RequestHead) × ReadsRequest text head [] × (verdict ≡ judge head)) ⊎ (IsNoHead text × (verdict ≡ Refused BadHead))
+-- the judgement on the text: that on the head that it holds, or the refusal of a text that holds none
+abbrev pub IsJudged : List ℕ → Judgement → Type 0
+IsJudged text judgement =
+    ((head : RequestHead) × ReadsRequest text head [] × (judgement ≡ judge head)) ⊎ (IsNoHead text × (judgement ≡ Refused BadHead))
 
--- the verdict on the whole text of a head
-abbrev pub ReadsHead : List ℕ → Verdict → Type 0
-ReadsHead text verdict = MatchBool (has_too_many_lines text) (verdict ≡ Refused HeadTooLarge) (IsJudged text verdict)
+-- the judgement on the whole text of a head
+abbrev pub ReadsHead : List ℕ → Judgement → Type 0
+ReadsHead text judgement = MatchBool (has_too_many_lines text) (judgement ≡ Refused HeadTooLarge) (IsJudged text judgement)
 
 -- where the head that a text begins with ends
 abbrev pub cut_head : List ℕ → Cut
@@ -70,15 +70,15 @@ after_body owed (broken fault rest) = gives (item_of owed (Broken fault)) None r
 abbrev pub StartsBody : OwedHead → List ℕ → Start → Type 0
 StartsBody owed text start = (body : Body) × ReadsBody owed.framing text body × (start ≡ after_body owed body)
 
--- the text stands behind a head, on which the verdict is that
-abbrev pub StartsBehind : Verdict → List ℕ → Start → Type 0
+-- the text stands behind a head, on which the judgement is that
+abbrev pub StartsBehind : Judgement → List ℕ → Start → Type 0
 StartsBehind (Refused fault) text start = start ≡ gives (Refuse fault) None text
 StartsBehind (Expecting owed) text start = start ≡ gives Continue (Some owed) text
 StartsBehind (Accepted owed) text start = StartsBody owed text start
 
 -- the text begins with a head that ends there
 abbrev pub StartsAt : Cut → List ℕ → Start → Type 0
-StartsAt (Whole len) text start = (verdict : Verdict) × ReadsHead (take len text) verdict × StartsBehind verdict (drop len text) start
+StartsAt (Whole len) text start = (judgement : Judgement) × ReadsHead (take len text) judgement × StartsBehind judgement (drop len text) start
 StartsAt Endless text start = start ≡ gives (Refuse HeadTooLarge) None (drop MAX_HEAD_LEN text)
 StartsAt Unended text start = start ≡ awaits
 

@@ -1,4 +1,4 @@
-//! The head of a request, and the verdict on it.
+//! The head of a request, and the judgement on it.
 
 ghost use Rattle.std.specs.Prelude.{◌≡◌, ◌≤◌, length, map, All, IfOk, OnOk};
 ghost use Rattle.http_header.specs.Token.{IsToken};
@@ -13,7 +13,7 @@ ghost use Rattle.sv_wire.specs.Spans.{field_at, IsFieldAt, AreHeadSpans, ShowHea
 
 use crate::limits::{MAX_FIELD_LINES, MAX_HEAD_LEN};
 use crate::message::{Message, Target};
-use crate::owed_head::{OwedHead, Verdict, has_body};
+use crate::owed_head::{Judgement, OwedHead, has_body};
 use crate::wire_fault::WireFault;
 use http::Method;
 use http::method::MethodError;
@@ -28,21 +28,21 @@ use sv_head::{
 use sv_text::{Bytes, Listed, NoMemory};
 
 /// Reads the whole text of a head, which is no longer than a head may be.
-pub(crate) fn read_head(alloc: Global, text: &[u8]) -> Result<Verdict, NoMemory>
+pub(crate) fn read_head(alloc: Global, text: &[u8]) -> Result<Judgement, NoMemory>
     requires { length text.now ≤ MAX_HEAD_LEN }
     ensures { IfOk result (ReadsHead text.now) }
 {
     if has_too_many_lines(text) {
-        return Ok(Verdict::Refused(WireFault::HeadTooLarge));
+        return Ok(Judgement::Refused(WireFault::HeadTooLarge));
     }
     let mut spans = [EMPTY_HEADER_SPAN; MAX_FIELD_LINES];
     match parse_request(text, &mut spans) {
         Ok(Status::Complete(head)) if head.len == text.len() => {
             judge(alloc, text, &head, &spans[..head.headers])
         }
-        Ok(Status::Complete(_)) => Ok(Verdict::Refused(WireFault::BadHead)),
-        Ok(Status::Partial) => Ok(Verdict::Refused(WireFault::BadHead)),
-        Err(_) => Ok(Verdict::Refused(WireFault::BadHead)),
+        Ok(Status::Complete(_)) => Ok(Judgement::Refused(WireFault::BadHead)),
+        Ok(Status::Partial) => Ok(Judgement::Refused(WireFault::BadHead)),
+        Err(_) => Ok(Judgement::Refused(WireFault::BadHead)),
     }
 }
 
@@ -53,13 +53,13 @@ fn has_too_many_lines(text: &[u8]) -> bool
     text.iter().filter(|b| **b == b'\n').count() > MAX_FIELD_LINES + 2
 }
 
-/// The verdict on a head that `httparse` has read.
+/// The judgement on a head that `httparse` has read.
 fn judge(
     alloc: Global,
     text: &[u8],
     head: &RequestSpans,
     spans: &[HeaderSpan],
-) -> Result<Verdict, NoMemory>
+) -> Result<Judgement, NoMemory>
     requires { AreHeadSpans text.now spans.now head.now }
     ensures { (whole : RequestHead) → ShowHead text.now spans.now head.now whole
         → GivesAnswer result (judge whole) }
@@ -69,7 +69,7 @@ fn judge(
     let target = head.path.of(text);
     let form = target_form(method, target);
     if let Err(fault) = accept(head.version, form, &fields) {
-        return Ok(Verdict::Refused(fault));
+        return Ok(Judgement::Refused(fault));
     }
     let framing = framing_of(&fields);
     let keep = keeps(head.version, &fields);
@@ -85,9 +85,9 @@ fn judge(
     };
     let owed = OwedHead { message, framing };
     Ok(if is_asked {
-        Verdict::Expecting(owed)
+        Judgement::Expecting(owed)
     } else {
-        Verdict::Accepted(owed)
+        Judgement::Accepted(owed)
     })
 }
 

@@ -1,4 +1,4 @@
-//! A head whose body is awaited, and the verdict on a head.
+//! A head whose body is awaited, and the judgement on a head.
 
 ghost use Rattle.std.specs.Prelude.{◌≡◌};
 ghost use Rattle.sv_wire.specs.Head.{has_body};
@@ -14,9 +14,9 @@ pub struct OwedHead {
     pub framing: Framing,
 }
 
-/// The verdict on a head.
+/// The judgement on a head.
 #[derive(Drop)]
-pub(crate) enum Verdict {
+pub(crate) enum Judgement {
     Refused(WireFault),
     /// It asks for `100 Continue` before its body is sent.
     Expecting(OwedHead),

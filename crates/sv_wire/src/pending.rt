@@ -70,6 +70,8 @@ impl PendingBox {
     }
 
     /// Reads a piece up to the end of the body, if it is there.
+    // Where a piece is a single byte, its price is that of the calls.
+    #[inline(always)]
     pub(crate) fn read(&mut self, piece: &[u8]) -> Result<Progress, NoMemory>
         ensures { IfOk result (λ progress. ReadsPiece self.old piece.now progress self.new) }
     {

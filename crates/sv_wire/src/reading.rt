@@ -12,7 +12,7 @@ use crate::empty_lines::behind_empty_lines;
 use crate::head::read_head;
 use crate::item::Item;
 use crate::limits::MAX_HEAD_LEN;
-use crate::owed_head::Verdict;
+use crate::owed_head::Judgement;
 use crate::pending::PendingBox;
 use crate::wire_fault::WireFault;
 use std::alloc::Global;
@@ -131,26 +131,26 @@ fn next_in_head(alloc: Global, stream: &[u8], at: usize, from: usize) -> Result<
     }
 }
 
-/// Reads what stands behind a head, which begins and ends at those places, by the verdict on it.
+/// Reads what stands behind a head, which begins and ends at those places, by the judgement on it.
 fn next_behind(
     alloc: Global,
-    verdict: Verdict,
+    judgement: Judgement,
     stream: &[u8],
     start: usize,
     end: usize,
 ) -> Result<Next, NoMemory>
     requires order { start ≤ end }
     requires within { end ≤ length stream.now }
-    requires head { IsHeadAt stream.now start end verdict }
+    requires head { IsHeadAt stream.now start end judgement }
     ensures { IfOk result (ComesNext None stream.now start) }
 {
-    match verdict {
-        Verdict::Refused(fault) => Ok(Next::Found(Item::Refuse(fault), None, end)),
-        Verdict::Expecting(owed) => {
+    match judgement {
+        Judgement::Refused(fault) => Ok(Next::Found(Item::Refuse(fault), None, end)),
+        Judgement::Expecting(owed) => {
             let pending = PendingBox::asked(alloc, owed)?;
             Ok(Next::Found(Item::Continue, Some(pending), end))
         }
-        Verdict::Accepted(owed) => {
+        Judgement::Accepted(owed) => {
             let pending = PendingBox::behind(alloc, owed, &stream[start..end])?;
             next_in_body(pending, stream, end)
         }

@@ -11,4 +11,6 @@ returns-clause-made g c = record {
   servlets = ap (λ frame. frame.servlets) c.dispatch_by.ensures.stays;
   filters = ap (λ frame. frame.filters) c.dispatch_by.ensures.stays;
   listeners = ap (λ frame. frame.listeners) c.dispatch_by.ensures.stays;
+  context = ap (λ frame. frame.context) c.dispatch_by.ensures.stays;
+  initialised = ap (λ frame. frame.initialised) c.dispatch_by.ensures.stays;
 }

@@ -4,7 +4,8 @@ use Rattle.sv_lifecycle.proofs.SessionEnds.{doing_all, doing_more}
 use Rattle.sv_lifecycle.specs.Standing.{live_world}
 use Rattle.sv_listeners.specs.Telling.{then_all, told}
 use Rattle.sv_tree.specs.Telling.{all_told}
-use Rattle.sv_dispatch.proofs.TellingDeeds.{is_without, none_told, stands_then, still_without, taken}
+use Rattle.sv_dispatch.proofs.TellingDeeds.{is_without, none_told, still_without, taken}
+use Rattle.sv_dispatch.proofs.RunningDeeds.{stands_then}
 use Rattle.sv_dispatch.proofs.telling.tell_events.Goals as goal
 
 pub loop-event-preserved : goal.loop-event-preserved

@@ -4,7 +4,7 @@ use Rattle.sv_component.specs.Call.{Entered}
 use Rattle.sv_component.specs.Runs.{OfFilter}
 use Rattle.sv_tree.specs.Telling.{all_told}
 use Rattle.std.proofs.Common.{◌∷◌, length}
-use Rattle.sv_dispatch.proofs.RunningDeeds.{asked_before, call_noted, framed, same_then}
+use Rattle.sv_dispatch.proofs.RunningDeeds.{asked_before, call_noted, framed, stands_then}
 use Rattle.sv_dispatch.proofs.running.RunningMachine.before.Goals as goal
 
 pub returns : goal.returns
@@ -21,6 +21,6 @@ returns g c =
       runs = λ from done so_far. call_noted g.S.Servlet.servlet_step g.F.Filter.filter_step g.L.Listener.listener_step live c.before-gate.new.self c.tell_events.new.live
           m.journal.now c.before-gate.new.journal c.tell_events.new.journal m.exchange.now c.before-gate.new.exchange c.tell_events.new.exchange
           call c.before-gate.ensures.enters.calls c.tell_events.ensures.made (live_world from.live.now from.journal.now) done so_far;
-      stays = framed m.live.ghost_name m.exchange.ghost_name m.journal.ghost_name live.parts c.tell_events.new.live.parts
-          (same_then live.parts c.before-gate.new.self.parts c.tell_events.new.live.parts c.before-gate.ensures.enters.calls.stands.counts c.tell_events.ensures.stands.counts);
+      stays = framed m.live.ghost_name m.exchange.ghost_name m.journal.ghost_name live c.tell_events.new.live
+          (stands_then live c.before-gate.new.self c.tell_events.new.live c.before-gate.ensures.enters.calls.stands c.tell_events.ensures.stands);
     }

@@ -4,7 +4,7 @@ use Rattle.sv_component.specs.Call.{Serviced}
 use Rattle.sv_component.specs.Runs.{OfServlet}
 use Rattle.sv_tree.specs.Telling.{all_told}
 use Rattle.std.proofs.Common.{◌∷◌, length}
-use Rattle.sv_dispatch.proofs.RunningDeeds.{asked_service, call_noted, framed, here_by_place, same_then}
+use Rattle.sv_dispatch.proofs.RunningDeeds.{asked_service, call_noted, framed, here_by_place, stands_then}
 use Rattle.sv_dispatch.proofs.running.RunningMachine.service.Goals as goal
 
 pub service-step-requires-clause-not_gone : goal.service-step-requires-clause-not_gone
@@ -24,6 +24,6 @@ returns g c =
       runs = λ from done so_far. call_noted g.S.Servlet.servlet_step g.F.Filter.filter_step g.L.Listener.listener_step live c.service-step.new.self c.tell_events.new.live
           m.journal.now c.service-step.new.journal c.tell_events.new.journal m.exchange.now c.service-step.new.exchange c.tell_events.new.exchange
           call c.service-step.ensures.serves.calls c.tell_events.ensures.made (live_world from.live.now from.journal.now) done so_far;
-      stays = framed m.live.ghost_name m.exchange.ghost_name m.journal.ghost_name live.parts c.tell_events.new.live.parts
-          (same_then live.parts c.service-step.new.self.parts c.tell_events.new.live.parts c.service-step.ensures.serves.calls.stands.counts c.tell_events.ensures.stands.counts);
+      stays = framed m.live.ghost_name m.exchange.ghost_name m.journal.ghost_name live c.tell_events.new.live
+          (stands_then live c.service-step.new.self c.tell_events.new.live c.service-step.ensures.serves.calls.stands c.tell_events.ensures.stands);
     }

@@ -1,0 +1,5 @@
+pub mod ClassFault
+pub mod FilterClasses
+pub mod ListenerClasses
+pub mod Parts
+pub mod ServletClasses

@@ -1,0 +1,45 @@
+-- The command `replay`: a script over the container of a server.
+use Rattle.std.specs.Prelude.{◌≡◌, ℕ, List, Result, Ok, Err}
+use Rattle.sv_application.specs.declared.program_filter.ProgramFilter.{ProgramFilter}
+use Rattle.sv_application.specs.declared.program_listener.ProgramListener.{ProgramListener}
+use Rattle.sv_application.specs.declared.program_servlet.ProgramServlet.{ProgramServlet}
+use Rattle.sv_component.specs.Call.{Call}
+use Rattle.sv_container.specs.NewCode.{code_number}
+use Rattle.sv_deployments.specs.Configuration.{FindsConfiguration}
+use Rattle.sv_deployments.specs.Folders.{FolderGiving}
+use Rattle.sv_deployments.specs.declared.configuration.Configuration.{Configuration}
+use Rattle.sv_program.specs.FileStore.{Giving}
+use Rattle.sv_program.specs.declared.command_fault.CommandFault.{CommandFault}
+use Rattle.sv_program.specs.declared.command_fault.CommandFault.TheVariants as fault
+use Rattle.sv_server.specs.Script.{RunsScript}
+use Rattle.sv_server.specs.declared.run_fault.RunFault.{RunFault}
+use Rattle.sv_server.specs.declared.run_fault.RunFault.TheVariants as run
+use Rattle.sv_streams.specs.Calls.{Making}
+
+-- the command's fault by that of the run
+abbrev pub fault_of : RunFault → CommandFault
+fault_of (run.Script line) = fault.Script line
+fault_of (run.Start code context) = fault.Start (code_number code) context
+fault_of run.Output = fault.Output
+fault_of run.NoMemory = fault.NoMemory
+fault_of run.Connection = fault.Socket
+
+abbrev pub ended : Result (Unit {0}) RunFault → Result (Unit {0}) CommandFault
+ended (Ok done) = Ok done
+ended (Err found) = Err (fault_of found)
+
+module _ {I O : Type 0} (servlet_step : ProgramServlet → Call → ProgramServlet → Type 0) (filter_step : ProgramFilter → Call → ProgramFilter → Type 0)
+    (listener_step : ProgramListener → Call → ProgramListener → Type 0) (gives : Making I) (takes : Making O) where
+  -- a fault of the files is told, and nothing is read or written; without one, what they configure runs the script
+  abbrev pub GoesOn : Result Configuration CommandFault → I → O → Result (Unit {0}) CommandFault → I → O → Type 0
+  GoesOn (Ok configuration) script output result script_after output_after =
+      (ending : Result (Unit {0}) RunFault)
+      × RunsScript servlet_step filter_step listener_step gives takes configuration.deployments.items script output ending script_after output_after
+      × (result ≡ ended ending)
+  GoesOn (Err found) script output result script_after output_after = (result ≡ Err found) × (script_after ≡ script) × (output_after ≡ output)
+
+  -- the script is run by what the store gives
+  abbrev pub RunsReplay : {S : Type 0} → Giving S → FolderGiving S → List ℕ → S → I → O → Result (Unit {0}) CommandFault → S → I → O → Type 0
+  RunsReplay gives_text gives_files config before script output result after script_after output_after =
+      (found : Result Configuration CommandFault) × FindsConfiguration gives_text gives_files config found before after
+      × GoesOn found script output result script_after output_after

@@ -1,0 +1,14 @@
+//! The commands that the program's arguments name.
+#![tactic(auto)]
+
+mod command;
+mod count;
+mod replay_command;
+mod service;
+mod texts;
+
+pub use command::Command;
+pub use count::Count;
+pub use replay_command::replay;
+pub use service::Service;
+pub use texts::{HELP, VERSION};

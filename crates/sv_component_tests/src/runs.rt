@@ -1,0 +1,77 @@
+//! Calls on an exchange, and what a table sees behind them.
+
+use crate::calls::call_all;
+use crate::requests::{Request, app_request};
+use std::alloc::Global;
+use sv_exchange::Exchange;
+use sv_rows::{Draft, unescaped_text};
+use sv_session::Sessions;
+use sv_text::NoMemory;
+use sv_wire::Response;
+
+/// What a table looks at behind the calls of a row.
+pub trait Sees {
+    /// Adds what is seen of the exchange. `said` is what the last call answered.
+    fn add_exchange(
+        &self,
+        alloc: Global,
+        row: &str,
+        said: &str,
+        exchange: &mut Exchange,
+        seen: &mut Draft,
+    );
+
+    /// Adds what is seen of its response.
+    fn add_response(&self, response: &Response, seen: &mut Draft);
+}
+
+/// Makes calls on an exchange, which stand between semicolons, and adds what is seen behind them.
+pub fn add_seen<S: Sees>(
+    alloc: Global,
+    row: &str,
+    calls: &str,
+    sees: &S,
+    answer: &mut Vec<u8>,
+) -> Result<(), NoMemory> {
+    let calls = unescaped_text(alloc, calls)?;
+    let mut seen = Draft::new(alloc);
+    ask(alloc, row, calls.as_str(), sees, &mut seen);
+    seen.add_to(answer)
+}
+
+fn ask<S: Sees>(alloc: Global, row: &str, calls: &str, sees: &S, seen: &mut Draft) {
+    match app_request(alloc) {
+        Ok(request) => begin(alloc, row, calls, &request, sees, seen),
+        Err(_) => seen.fail(),
+    }
+}
+
+fn begin<S: Sees>(
+    alloc: Global,
+    row: &str,
+    calls: &str,
+    request: &Request,
+    sees: &S,
+    seen: &mut Draft,
+) {
+    let (message, canon) = (&request.message, &request.canon);
+    let sessions = Sessions::new(alloc, 0, 0);
+    match Exchange::begin(alloc, message, canon, "/app", 7, (0, 0), None, sessions) {
+        Ok(exchange) => run(alloc, row, calls, exchange, sees, seen),
+        Err(_) => seen.fail(),
+    }
+}
+
+fn run<S: Sees>(
+    alloc: Global,
+    row: &str,
+    calls: &str,
+    mut exchange: Exchange,
+    sees: &S,
+    seen: &mut Draft,
+) {
+    let said = call_all(alloc, &mut exchange, calls);
+    sees.add_exchange(alloc, row, said, &mut exchange, seen);
+    let (response, _sessions) = exchange.finish();
+    sees.add_response(&response, seen);
+}

@@ -1,0 +1,5 @@
+mod Admitting
+mod Answers
+mod OurContexts
+mod Outcomes
+mod Starting

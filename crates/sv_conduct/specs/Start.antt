@@ -1,0 +1,20 @@
+-- Runs that begin with contexts that were just deployed (Jakarta Servlet 6.0, chapter 7).
+use Rattle.std.specs.Prelude.{◌≡◌, ℕ, false, List, []}
+use Rattle.std.specs.List.{AllByRecursion}
+use Rattle.sv_run.specs.Contexts.{Theory}
+use Rattle.sv_run.specs.Events.{Happening}
+use Rattle.sv_run.specs.Laws.{HoldsAt, LoggedInBefore}
+use Rattle.sv_run.specs.Runs.{Answer, Run, deeds_of}
+use Rattle.sv_run.specs.State.{State}
+
+module _ {Context Words : Type 0} (theory : Theory Context Words) where
+  -- there is no session
+  abbrev pub HaveNoSessions : List Context → Type 0
+  HaveNoSessions contexts = AllByRecursion (λ context. (theory.conduct.sessions_of context).sessions ≡ []) contexts
+
+  -- in a run that begins without sessions one holds a caller only by a login that fits, which nothing has undone, until memory is refused
+  abbrev pub CallersLoggedInSinceTheStart : Type 0
+  CallersLoggedInSinceTheStart =
+      (before after : State Context Words) (happenings : List Happening) (answers : List (Answer Context)) (place number caller : ℕ)
+      → HaveNoSessions before.world.contexts → Run theory before happenings answers after → after.stopped ≡ false
+      → HoldsAt theory place number caller after.world.contexts → LoggedInBefore theory place number caller (deeds_of answers)

@@ -1,0 +1,62 @@
+//! The laws of runs, of a container with our contexts.
+
+ghost use Rattle.sv_conduct.specs.Start.{CallersLoggedInSinceTheStart};
+ghost use Rattle.sv_conduct.specs.Theory.{theory};
+ghost use Rattle.sv_run.specs.Laws.{CallersLoggedIn, OrdersAreAlike, PiecesMayBeCut, PiecesMayComeInParts, RequestsEnterExactlyWhereAllowed};
+
+use crate::contexts::{
+    callers_come_by_login, contexts_end_expired_sessions, contexts_tell_outcomes,
+};
+use sv_component::{Filter, Listener, Servlet};
+use sv_context::Context;
+use sv_run::Words;
+
+/// Over every list of events, the journal tells the outcome of each message once, in order, and a request enters exactly where the combined
+/// constraints allow it (Jakarta Servlet 6.0, section 13.8).
+pub fn requests_enter_exactly_where_allowed<S: Servlet, F: Filter, L: Listener, W: Words>()
+    ensures { RequestsEnterExactlyWhereAllowed (theory S.servlet_step F.filter_step L.listener_step W.draws) }
+{
+    contexts_tell_outcomes::<S, F, L, W>();
+    sv_run::requests_enter_exactly_where_allowed::<Context<S, F, L>, W>();
+}
+
+/// Over every list of events, until memory is refused, a session holds a caller only by a login that fits, which nothing has undone (Jakarta
+/// Servlet 6.0, section 13.6.3).
+pub fn callers_logged_in<S: Servlet, F: Filter, L: Listener, W: Words>()
+    ensures { CallersLoggedIn (theory S.servlet_step F.filter_step L.listener_step W.draws) }
+{
+    callers_come_by_login::<S, F, L, W>();
+    sv_run::callers_logged_in::<Context<S, F, L>, W>();
+}
+
+/// The same of a run that begins without sessions, as one of contexts that were just deployed does
+/// ([`sessions_of_contexts_stay_in_order`](crate::sessions_of_contexts_stay_in_order)): whoever is logged in has logged in.
+pub fn callers_logged_in_since_the_start<S: Servlet, F: Filter, L: Listener, W: Words>()
+    ensures { CallersLoggedInSinceTheStart (theory S.servlet_step F.filter_step L.listener_step W.draws) }
+{
+    callers_logged_in::<S, F, L, W>();
+}
+
+/// A piece brings what its two parts bring at one moment: the same bytes, entries and state.
+pub fn pieces_may_be_cut<S: Servlet, F: Filter, L: Listener, W: Words>()
+    ensures { PiecesMayBeCut (theory S.servlet_step F.filter_step L.listener_step W.draws) }
+{
+    contexts_end_expired_sessions::<S, F, L, W>();
+    sv_run::pieces_may_be_cut::<Context<S, F, L>, W>();
+}
+
+/// A piece brings what its parts bring at one moment, however many they are.
+pub fn pieces_may_come_in_parts<S: Servlet, F: Filter, L: Listener, W: Words>()
+    ensures { PiecesMayComeInParts (theory S.servlet_step F.filter_step L.listener_step W.draws) }
+{
+    contexts_end_expired_sessions::<S, F, L, W>();
+    sv_run::pieces_may_come_in_parts::<Context<S, F, L>, W>();
+}
+
+/// Of a piece that completes no item and an event of another connection, neither of which raises the moment, either order brings the same.
+pub fn orders_are_alike<S: Servlet, F: Filter, L: Listener, W: Words>()
+    ensures { OrdersAreAlike (theory S.servlet_step F.filter_step L.listener_step W.draws) }
+{
+    contexts_end_expired_sessions::<S, F, L, W>();
+    sv_run::orders_are_alike::<Context<S, F, L>, W>();
+}

@@ -1,0 +1,4 @@
+mod Bytes
+mod CourseLemmas
+mod TalkLemmas
+mod TurnLemmas

@@ -1,0 +1,4 @@
+pub mod Connection
+pub mod Laws
+pub mod TurnSteps
+pub mod Turns

@@ -1,0 +1,15 @@
+//! One connection over anything that takes the events of a container: its reads and writes, and the events that they are.
+#![tactic(auto)]
+
+mod connection;
+mod laws;
+mod limits;
+mod over;
+mod turn;
+
+pub use connection::run_connection;
+pub use laws::{
+    limits_are_as_stated, pieces_are_what_is_read, the_end_has_a_cause, what_is_sent_is_written,
+};
+pub use limits::MAX_READS;
+pub use over::Over;

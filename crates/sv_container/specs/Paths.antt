@@ -1,0 +1,33 @@
+-- The context paths of a container, which differ (Jakarta Servlet 6.0, section 12.1).
+use Rattle.std.specs.Prelude.{◌≡◌, ℕ, ◌≤◌, true, false, List, [], ◌∷◌, ◌++◌, length, map, slice_get, Some}
+use Rattle.sv_container.specs.declared.limits.TheConstants.{MAX_CONTEXTS}
+use Rattle.sv_container.specs.declared.new_fault.NewCode.{NewCode}
+use Rattle.sv_container.specs.declared.new_fault.NewCode.TheVariants.{DuplicateContext, TooManyContexts, PartsMismatch, InitFailed, NoMemory}
+use Rattle.sv_context.specs.declared.deployment.Deployment.{Deployment}
+use Rattle.sv_schema.specs.Names.{repeats}
+use Rattle.sv_schema.specs.Table.{is_among}
+
+abbrev pub paths_of : {S F L : Type 0} → List (Deployment S F L) → List (List ℕ)
+paths_of deployments = map (λ deployment. deployment.path) deployments
+
+-- the first path of a list that an earlier one is, too
+pub record IsRepeatedFirst (paths : List (List ℕ)) (path : List ℕ) : Type 0 where
+  pub front : List (List ℕ)
+  pub rest : List (List ℕ)
+  pub are : paths ≡ front ++ path ∷ rest
+  pub differ : repeats front ≡ false
+  pub repeated : is_among front path ≡ true
+
+-- paths that the contexts of a container may have
+pub record ArePermitted (paths : List (List ℕ)) : Type 0 where
+  pub differ : repeats paths ≡ false
+  pub few : length paths ≤ MAX_CONTEXTS
+
+-- what a code says of context paths with which nothing starts, and of the path that goes with it: one that is there twice comes before one past
+-- the limit
+abbrev pub Forbids : NewCode → List (List ℕ) → List ℕ → Type 0
+Forbids DuplicateContext paths path = IsRepeatedFirst paths path
+Forbids TooManyContexts paths path = (repeats paths ≡ false) × (slice_get paths MAX_CONTEXTS ≡ Some path)
+Forbids NoMemory paths path = path ≡ []
+Forbids PartsMismatch paths path = ⊥
+Forbids InitFailed paths path = ⊥

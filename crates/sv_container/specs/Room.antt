@@ -1,0 +1,20 @@
+-- The room that a start takes before its first call.
+use Rattle.std.specs.Prelude.{◌≡◌, ℕ, ◌≤◌, List, [], length, vec_capacity}
+use Rattle.sv_container.specs.Paths.{paths_of}
+use Rattle.sv_container.specs.declared.room.Room.{Room}
+use Rattle.sv_context.specs.declared.deployment.Deployment.{Deployment}
+
+module _ {S F L : Type 0} where
+  -- room for what so many contexts are made into, of which nothing is there yet
+  pub record HasRoomToStop (count : ℕ) (room : Room S F L) : Type 0 where
+    pub back : room.back.items ≡ []
+    pub back_room : count ≤ vec_capacity room.back
+    pub parts : room.parts.items ≡ []
+    pub parts_room : count ≤ vec_capacity room.parts
+
+  -- room for the contexts of the deployments, and a copy of each context path
+  pub record IsReady (deployments : List (Deployment S F L)) (room : Room S F L) : Type 0 where
+    pub paths : room.paths.items ≡ paths_of deployments
+    pub contexts : room.contexts.items ≡ []
+    pub contexts_room : length deployments ≤ vec_capacity room.contexts
+    pub stop : HasRoomToStop (length deployments) room

@@ -1,0 +1,28 @@
+-- The stop of a container (Jakarta Servlet 6.0, sections 2.3.4, 6.2.1 and 11.3.4).
+use Rattle.std.specs.Prelude.{◌≡◌, Bool, true, false, List, map}
+use Rattle.sv_component.specs.Call.{Call}
+use Rattle.sv_container.specs.Deploying.{UndeploysAll}
+use Rattle.sv_context.specs.Forgetting.{without_sessions}
+use Rattle.sv_context.specs.State.{ContextState}
+use Rattle.sv_context.specs.declared.deployment.Deployment.{Deployment}
+use Rattle.sv_journal.specs.Journal.{JournalState, broken, new_journal}
+use Rattle.sv_lifecycle.specs.declared.parts.Parts.{Parts}
+use Rattle.sv_run.specs.State.{State}
+
+-- after an event that wanted memory, nothing is told of sessions
+abbrev pub contexts_to_stop : {S F L : Type 0} → Bool → List (ContextState S F L) → List (ContextState S F L)
+contexts_to_stop true contexts = map without_sessions contexts
+contexts_to_stop false contexts = contexts
+
+-- nor is anything noted
+abbrev pub journal_to_stop : Bool → JournalState
+journal_to_stop true = broken new_journal
+journal_to_stop false = new_journal
+
+module _ {S F L : Type 0} (servlet_step : S → Call → S → Type 0) (filter_step : F → Call → F → Type 0) (listener_step : L → Call → L → Type 0) where
+  -- the contexts stop in the order of their list, and their components are handed back
+  pub record ShutsDown {W : Type 0} (state : State (ContextState S F L) W) (parts : List (Parts S F L)) (journal : JournalState) : Type 0 where
+    pub back : List (Deployment S F L)
+    pub undeploys : UndeploysAll servlet_step filter_step listener_step
+        (contexts_to_stop state.stopped state.world.contexts) (journal_to_stop state.stopped) back journal
+    pub are : parts ≡ map (λ deployment. deployment.parts) back

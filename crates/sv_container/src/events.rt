@@ -1,0 +1,33 @@
+//! The events of a container.
+
+ghost use Rattle.sv_container.specs.Container.{state_of, theory};
+ghost use Rattle.sv_host.specs.Host.{StepsSo};
+ghost use Rattle.sv_run.specs.Seen.{happening_of};
+
+use crate::container::Container;
+use sv_component::{Filter, Listener, Servlet};
+use sv_run::{Happening, Reaction, Reactor, StepFault, Words};
+
+impl<S: Servlet, F: Filter, L: Listener, W: Words> Container<S, F, L, W> {
+    /// Takes an event: the moment is raised, the sessions that have expired end, and then it happens (RFC 9112, section 9; Jakarta Servlet
+    /// 6.0, section 7.5).
+    ///
+    /// # Errors
+    /// [`StepFault`], the first that stands. After one other than `NoMemory` nothing has changed. After `NoMemory` what the event brought is
+    /// lost, the components were moved by some of the calls, each further event is refused as `Stopped`, and the container can be shut down.
+    pub fn step(&mut self, happening: Happening) -> Result<Reaction, StepFault>
+        ensures { StepsSo (theory S.servlet_step F.filter_step L.listener_step W.draws)
+            (state_of self.old) (happening_of happening.entry) result (state_of self.new) }
+    {
+        self.host.step(happening)
+    }
+}
+
+impl<S: Servlet, F: Filter, L: Listener, W: Words> Reactor for Container<S, F, L, W> {
+    ghost steps = { λ before happening result after.
+        StepsSo (theory S.servlet_step F.filter_step L.listener_step W.draws) (state_of before) happening result (state_of after) };
+
+    fn step(&mut self, happening: Happening) -> Result<Reaction, StepFault> {
+        Container::<S, F, L, W>::step(self, happening)
+    }
+}

@@ -1,0 +1,30 @@
+//! What would become of a request to a container.
+
+ghost use Rattle.std.specs.Option.{option_copied};
+ghost use Rattle.sv_container.specs.Container.{state_of};
+ghost use Rattle.sv_container.specs.Explaining.{explanation_of};
+ghost use Rattle.sv_explain.specs.Fault.{explain_fault};
+ghost use Rattle.sv_text.specs.Gives.{Gives};
+
+use crate::container::Container;
+use sv_explain::{ExplainFault, Explanation, explain_request};
+
+impl<S, F, L, W> Container<S, F, L, W> {
+    /// What would become of a request with this method and this target, from the named user of its context or without a caller (Jakarta
+    /// Servlet 6.0, sections 3.5, 10.5, 12.1 and 13.8). Nothing is called, and nothing changes. A password is not asked for. The target is
+    /// read as a path with an optional query, and a method may have any length.
+    ///
+    /// # Errors
+    /// [`ExplainFault::BadMethod`] before anything is said of the target, [`ExplainFault::NoSuchUser`] where the target has a context and that
+    /// context's users lack the named one, and [`ExplainFault::NoMemory`].
+    pub fn explain(
+        &self,
+        method: &str,
+        target: &[u8],
+        user: Option<&str>,
+    ) -> Result<Explanation, ExplainFault>
+        ensures { Gives explain_fault result (explanation_of (state_of self.now).world.contexts method.now target.now (option_copied user.entry)) }
+    {
+        explain_request(self.alloc, self.host.contexts(), method, target, user)
+    }
+}

@@ -1,0 +1,76 @@
+//! Why a container did not start.
+
+ghost use Rattle.std.specs.Prelude.{◌≡◌, Some};
+ghost use Rattle.sv_container.specs.NewCode.{code_name, code_number, code_of};
+
+use std::fmt;
+use sv_context::Deployment;
+use sv_lifecycle::StartCode;
+use sv_text::Text;
+
+/// Why a container did not start: the first cause that stands. It is printed as its name.
+#[derive(Clone, Copy, Debug, PartialEq, Eq)]
+pub enum NewCode {
+    /// A context path is there twice. Nothing was called.
+    DuplicateContext = 1,
+    /// There are more than [`MAX_CONTEXTS`](crate::MAX_CONTEXTS) deployments. Nothing was called.
+    TooManyContexts = 2,
+    /// The components of a context are not those of its descriptor. The contexts before it are stopped.
+    PartsMismatch = 11,
+    /// A component's `init` failed. Its context is stopped, and those before it.
+    InitFailed = 12,
+    /// There was no memory: nothing was called, or one context did not start for it, and it is stopped with those before it.
+    NoMemory = 13,
+}
+
+/// A container that did not start.
+#[derive(Drop)]
+pub struct NewFault<S, F, L> {
+    /// Why it did not start.
+    pub code: NewCode,
+    /// The context path that goes with the code: the first that repeats an earlier one, the first past the limit, or that of the context
+    /// that did not start. Want of memory names none.
+    pub context: Text,
+    /// All that was handed in, in its order, the components as the calls left them.
+    pub deployments: Vec<Deployment<S, F, L>>,
+}
+
+impl NewCode {
+    /// The number of the code.
+    pub fn number(self) -> u8
+        ensures { result ≡ code_number self }
+    {
+        match self {
+            NewCode::DuplicateContext => 1,
+            NewCode::TooManyContexts => 2,
+            NewCode::PartsMismatch => 11,
+            NewCode::InitFailed => 12,
+            NewCode::NoMemory => 13,
+        }
+    }
+
+    // The code of a container one of whose contexts does not start.
+    pub(crate) fn of_start(code: StartCode) -> NewCode
+        ensures { result ≡ code_of code }
+    {
+        match code {
+            StartCode::PartsMismatch => NewCode::PartsMismatch,
+            StartCode::InitFailed => NewCode::InitFailed,
+            StartCode::NoMemory => NewCode::NoMemory,
+        }
+    }
+}
+
+impl fmt::Display for NewCode {
+    ghost output = { λ code. Some (code_name code) };
+
+    fn fmt<W: fmt::Write>(&self, f: &mut fmt::Formatter<W>) -> fmt::Result {
+        f.write_str(match self {
+            NewCode::DuplicateContext => "DuplicateContext",
+            NewCode::TooManyContexts => "TooManyContexts",
+            NewCode::PartsMismatch => "PartsMismatch",
+            NewCode::InitFailed => "InitFailed",
+            NewCode::NoMemory => "NoMemory",
+        })
+    }
+}

@@ -1,0 +1,117 @@
+-- What runs see of a context, by what its calls do.
+use Rattle.std.proofs.Common.{◌≡◌, ℕ, true, inl, inr, List, [], ◌∷◌, Option, None, Some, Result, Ok, Err, refl, ap, ◌∙◌, length}
+use Rattle.std.specs.Prelude.{IfOk}
+use Rattle.sv_admission.specs.Asked.{Asked}
+use Rattle.sv_component.proofs.Running.{runs_grown, runs_join}
+use Rattle.sv_component.specs.Call.{Call}
+use Rattle.sv_component.specs.Runs.{Runs}
+use Rattle.sv_dispatch.specs.Did.{seen}
+use Rattle.sv_exchange.specs.State as exchanges
+use Rattle.sv_journal.specs.Journal.{JournalState, new_journal, with_entry}
+use Rattle.sv_journal.specs.declared.entry.Entry.{Entry}
+use Rattle.sv_listeners.specs.Telling.{then_all}
+use Rattle.sv_run.specs.Contexts.{Request}
+use Rattle.sv_run.specs.Effect.{noting, whole}
+use Rattle.sv_text.specs.declared.no_memory.NoMemory.{NoMemory}
+use Rattle.sv_wire.specs.declared.response.Response.{Response}
+use Rattle.sv_context.specs.Conduct.{IsMoved, asked_of, conduct, unnoted}
+use Rattle.sv_context.specs.Expiry.{Expires, ends_told}
+use Rattle.sv_context.specs.Handled.{Answers, Handles, IsAnswered, admitted}
+use Rattle.sv_context.specs.State.{ContextState, world_of}
+use Rattle.sv_context.proofs.Journals.{NotesSo, noting_more, runs_note, runs_unnoted}
+
+module _ {S F L : Type 0} (ss : S → Call → S → Type 0) (fs : F → Call → F → Type 0) (ls : L → Call → L → Type 0) where
+  -- what is answered moves the components
+  answered_moves : (asked : Asked) (before after : ContextState S F L) (noted noted' : JournalState) (exchange : exchanges.State) (result : Option (Unit {0}))
+      → IsAnswered ss fs ls asked before noted exchange result after noted' → IsMoved ss fs ls before after
+  answered_moves asked before after noted noted' exchange result did = record {
+    made = did.made;
+    runs = runs_unnoted ss fs ls (world_of before (with_entry (admitted before asked).entry noted)) did.made (world_of after noted') did.runs;
+    stays = did.stays;
+  }
+
+  uncalled_moves : (before after : ContextState S F L) → after ≡ record before { store = after.store } → IsMoved ss fs ls before after
+  unfolding Runs
+  uncalled_moves before after same = record {
+    made = [];
+    runs = ap (λ context. world_of context unnoted) same;
+    stays = record {
+      content = ap (λ context. context.content) same;
+      users = ap (λ context. context.users) same;
+      servlets = ap (λ context. length context.servlets) same;
+      filters = ap (λ context. length context.filters) same;
+      listeners = ap (λ context. length context.listeners) same;
+      initialised = ap (λ context. context.initialised) same;
+    };
+  }
+
+  pub handling_moves : (asked : Asked) (before after : ContextState S F L) (noted noted' : JournalState) (response : Option Response)
+      → Handles ss fs ls asked before noted response after noted' → IsMoved ss fs ls before after
+  handling_moves asked before after noted noted' (Some response) did =
+      answered_moves asked before after noted noted' did.exchange (Some tt) did.is_answered
+  handling_moves asked before after noted noted' None (inl did) = uncalled_moves before after did.stays
+  handling_moves asked before after noted noted' None (inr did) = answered_moves asked before after noted noted' did.0 None did.1
+
+  -- what an answer notes, and the same from a new journal on
+  pub handling_notes : (asked : Asked) (before after : ContextState S F L) (noted noted' : JournalState) (response : Response)
+      → Answers ss fs ls asked before noted response after noted'
+      → (entries : List Entry) × Answers ss fs ls asked before new_journal response after (whole entries) × (noted' ≡ noting entries noted)
+  handling_notes asked before after noted noted' response did =
+      let entry = (admitted before asked).entry in
+      let notes : NotesSo ss fs ls (world_of before (with_entry entry noted)) did.is_answered.made (world_of after noted') =
+      runs_note ss fs ls (world_of before (with_entry entry noted)) did.is_answered.made (world_of after noted') did.is_answered.runs did.whole in (
+        entry ∷ notes.entries,
+        record {
+          exchange = did.exchange;
+          is_answered = record {
+            made = did.is_answered.made;
+            answers = did.is_answered.answers;
+            runs = notes.elsewhere (with_entry entry new_journal) refl;
+            stays = did.is_answered.stays;
+          };
+          response_is = did.response_is;
+          store = did.store;
+          whole = refl;
+        },
+        notes.journal ∙ noting_more entry notes.entries noted,
+      )
+
+  -- an expiry moves the components
+  expiry_runs : (moment : ℕ) (before after : ContextState S F L) (noted noted' : JournalState) (did : Expires ss fs ls moment before noted after noted')
+      → Runs ss fs ls (world_of before noted) (ends_told did.ended (length before.listeners)) (world_of after noted')
+  expiry_runs moment before after noted noted' did =
+      runs_grown ss fs ls (world_of before noted) (world_of after noted') (then_all (ends_told did.ended (length before.listeners))) did.told
+
+  pub expiry_moves : (moment : ℕ) (before after : ContextState S F L) (noted noted' : JournalState) → Expires ss fs ls moment before noted after noted' → IsMoved ss fs ls before after
+  expiry_moves moment before after noted noted' did = record {
+    made = ends_told did.ended (length before.listeners);
+    runs = runs_unnoted ss fs ls (world_of before noted) (ends_told did.ended (length before.listeners)) (world_of after noted') (expiry_runs moment before after noted noted' did);
+    stays = did.stays;
+  }
+
+  -- what an expiry notes, and the same from a new journal on
+  pub expiry_notes : (moment : ℕ) (before after : ContextState S F L) (noted noted' : JournalState) → Expires ss fs ls moment before noted after noted' → noted'.whole ≡ true
+      → (told : List Entry) × Expires ss fs ls moment before new_journal after (whole told) × (noted' ≡ noting told noted)
+  expiry_notes moment before after noted noted' did is_whole =
+      let made = ends_told did.ended (length before.listeners) in
+      let notes : NotesSo ss fs ls (world_of before noted) made (world_of after noted') =
+      runs_note ss fs ls (world_of before noted) made (world_of after noted') (expiry_runs moment before after noted noted' did) is_whole in (
+        notes.entries,
+        record {
+          ended = did.ended;
+          ends = did.ends;
+          told = λ from done ran. runs_join ss fs ls from (world_of before new_journal) (world_of after (whole notes.entries)) done made ran (notes.elsewhere new_journal refl);
+          stays = did.stays;
+          standings = did.standings;
+        },
+        notes.journal,
+      )
+
+  -- what a request brings
+  pub hosted_handles : (request : Request) (before after : ContextState S F L) (noted noted' : JournalState) (result : Result Response NoMemory)
+      → Handles ss fs ls (asked_of before request) before noted (seen result) after noted'
+      → IfOk result (λ response. (entries : List Entry)
+      × (conduct ss fs ls).Handles (record { context = before; request = request; entries = entries; response = response; after = after })
+      × (noted' ≡ noting entries noted))
+  hosted_handles request before after noted noted' (Ok response) did = handling_notes (asked_of before request) before after noted noted' response did
+  hosted_handles request before after noted noted' (Err refusal) did = tt

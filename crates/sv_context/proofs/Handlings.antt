@@ -1,0 +1,139 @@
+-- What is done with a message, in parts.
+use Rattle.std.proofs.Common.{◌≡◌, ℕ, true, inl, inr, List, Option, None, Some, refl, sym, ◌∙◌, ap, ap₂, subst, arith}
+use Rattle.http.specs.StatusCode.{IsStatusCode}
+use Rattle.sv_admission.specs.Admission.{settled_in}
+use Rattle.sv_admission.specs.Asked.{Asked}
+use Rattle.sv_admission.specs.declared.admission.Admission.{Admission}
+use Rattle.sv_admission.specs.declared.answer.Answer.{Answer}
+use Rattle.sv_component.specs.Call.{Call}
+use Rattle.sv_component.specs.Runs.{Runs}
+use Rattle.sv_exchange.specs.Beginning.{begun, finished}
+use Rattle.sv_exchange.specs.State as exchanges
+use Rattle.sv_exchange.specs.declared.held_session.HeldSession.{HeldSession}
+use Rattle.sv_journal.specs.Journal.{JournalState, Takes, with_entry}
+use Rattle.sv_journal.specs.declared.entry.Entry.{Entry}
+use Rattle.sv_journal.specs.declared.event.Event.{Event}
+use Rattle.sv_lifecycle.specs.Standing.{LiveState, live_world}
+use Rattle.sv_realm.specs.declared.user.User.{User}
+use Rattle.sv_served.specs.ServedBy.{ServedBy}
+use Rattle.sv_session.specs.Store.{Store}
+use Rattle.sv_site.specs.Site.{Content, site_of}
+use Rattle.sv_tree.specs.Site.{Site}
+use Rattle.sv_uri.specs.declared.path.Canon.{Canon}
+use Rattle.sv_wire.specs.declared.message.Message.{Message}
+use Rattle.sv_wire.specs.declared.response.Response.{Response}
+use Rattle.sv_context.specs.Answered.{Answered}
+use Rattle.sv_context.specs.Handled.{Answers, CutShort, IsAnswered, admitted, exchange_begun, state_in}
+use Rattle.sv_context.specs.Responding.{RespondsNoted}
+use Rattle.sv_context.specs.State.{AreComponentsOf, ContextState, context_of, world_of}
+use Rattle.sv_context.proofs.Expiries.{world_same}
+use Rattle.sv_context.proofs.Journals.{taken}
+use Rattle.sv_context.proofs.Statuses.{answered_code}
+
+-- nothing was said yet of an exchange that was begun
+pub begun_code : (message : Message) (canon : Canon) (path : List ℕ) (moment : ℕ) (words : ℕ × ℕ) (held : Option HeldSession) (store : Store) (x : exchanges.State)
+    → x ≡ begun message canon path moment words held store → IsStatusCode x.status
+begun_code message canon path moment words held store x began = subst (λ (e : exchanges.State). IsStatusCode e.status) (sym began) (omega arith, omega arith)
+
+module _ {S F L : Type 0} (ss : S → Call → S → Type 0) (fs : F → Call → F → Type 0) (ls : L → Call → L → Type 0) where
+  -- an answer leaves the components of a content
+  answered_components : (content : Content) (site : Site) (canon : Canon) (event : Option Event) (answer : Answer) (live live' : LiveState S F L) (x x' : exchanges.State)
+      (noted noted' : JournalState) (result : Option (Unit {0}))
+      → ServedBy ss fs ls (Answered site canon event answer) live x noted result live' x' noted' → AreComponentsOf content live → AreComponentsOf content live'
+  answered_components content site canon event answer live live' x x' noted noted' result did components = record {
+    context = did.context ∙ components.context;
+    servlets = did.counts.servlets ∙ components.servlets;
+    filters = did.counts.filters ∙ components.filters;
+    listeners = did.counts.listeners ∙ components.listeners;
+  }
+
+  pub components_stay : (content : Content) (site : Site) (canon : Canon) (entry : Entry) (event : Option Event) (answer : Answer) (live live' : LiveState S F L) (x x' : exchanges.State)
+      (noted noted' : JournalState) (result : Option (Unit {0}))
+      → RespondsNoted ss fs ls site canon entry event answer live x noted result live' x' noted' → AreComponentsOf content live → AreComponentsOf content live'
+  components_stay content site canon entry event answer live live' x x' noted noted' result (inl ended) components = subst (AreComponentsOf content) (sym ended.1) components
+  components_stay content site canon entry event answer live live' x x' noted noted' result (inr did) components =
+      answered_components content site canon event answer live live' x x' (with_entry entry noted) noted' result did components
+
+  -- the message was noted, and its answer begun
+  pub noted_so : (site : Site) (canon : Canon) (entry : Entry) (event : Option Event) (answer : Answer) (live live' : LiveState S F L) (x x' : exchanges.State)
+      (noted between noted' : JournalState) (result : Option (Unit {0})) → Takes noted entry between → between.whole ≡ true
+      → ServedBy ss fs ls (Answered site canon event answer) live x between result live' x' noted'
+      → RespondsNoted ss fs ls site canon entry event answer live x noted result live' x' noted'
+  noted_so site canon entry event answer live live' x x' noted between noted' result takes is_whole did =
+      inr (subst (λ journal. ServedBy ss fs ls (Answered site canon event answer) live x journal result live' x' noted')
+      (taken noted between entry noted.whole refl takes is_whole) did)
+
+  -- the status of an answer is a status code
+  pub status_so : (site : Site) (canon : Canon) (entry : Entry) (event : Option Event) (answer : Answer) (live live' : LiveState S F L) (x x' : exchanges.State)
+      (noted noted' : JournalState) (response : Response)
+      → RespondsNoted ss fs ls site canon entry event answer live x noted (Some tt) live' x' noted' → IsStatusCode x.status → response ≡ finished x'
+      → IsStatusCode response.status
+  status_so site canon entry event answer live live' x x' noted noted' response (inl ended) code response_is = let no = ended.0 in cc
+  status_so site canon entry event answer live live' x x' noted noted' response (inr did) code response_is =
+      subst (λ (r : Response). IsStatusCode r.status) (sym response_is)
+      (answered_code site canon event answer (record { exchange = x; standings = live.standings }) (record { exchange = x'; standings = live'.standings })
+      did.made (Some tt) did.does_so code)
+
+  module _ (content : Content) (users : List User) (live : LiveState S F L) (store lent : Store) (asked : Asked) (admission : Admission) where
+    abbrev before : ContextState S F L
+    before = context_of content users live store
+
+    abbrev begun_with : exchanges.State
+    begun_with = begun asked.message asked.canon content.context_path asked.moment asked.words admission.session lent
+
+    module _ (components : AreComponentsOf content live) (is : admission ≡ admitted before asked) (settled : lent ≡ (settled_in content users asked store).store)
+        (x : exchanges.State) (began : x ≡ begun_with) (live' : LiveState S F L) (x' : exchanges.State) (store' : Store) (noted noted' : JournalState) where
+      abbrev after : ContextState S F L
+      after = context_of content users live' store'
+
+      begun_so : x ≡ exchange_begun before asked
+      begun_so =
+          began ∙ ap₂ (λ session store. begun asked.message asked.canon content.context_path asked.moment asked.words session store) (ap (λ a. a.session) is) settled
+
+      answered_so : (result : Option (Unit {0}))
+          → ServedBy ss fs ls (Answered (site_of content) asked.canon admission.event admission.answer) live x (with_entry admission.entry noted) result live' x' noted'
+          → IsAnswered ss fs ls asked before noted x' result after noted'
+      answered_so result did = record {
+        made = did.made;
+        answers =
+            subst (λ x. Answered (site_of content) asked.canon (admitted before asked).event (admitted before asked).answer (state_in before x) did.made (state_in after x') result) begun_so
+            (subst (λ (a : Admission). Answered (site_of content) asked.canon a.event a.answer (state_in before x) did.made (state_in after x') result) is did.does_so);
+        runs =
+            subst (λ (a : Admission). Runs ss fs ls (world_of before (with_entry a.entry noted)) did.made (world_of after noted')) is
+            (subst (λ world. Runs ss fs ls world did.made (world_of after noted')) (world_same content users live store (with_entry admission.entry noted) components)
+            (subst (λ world. Runs ss fs ls (live_world live (with_entry admission.entry noted)) did.made world)
+            (world_same content users live' store' noted'
+            (answered_components content (site_of content) asked.canon admission.event admission.answer live live' x x' (with_entry admission.entry noted) noted' result did components))
+            did.runs));
+        stays = record {
+          content = refl;
+          users = refl;
+          servlets = did.counts.servlets;
+          filters = did.counts.filters;
+          listeners = did.counts.listeners;
+          initialised = did.initialised;
+        };
+      }
+
+      -- memory ended it
+      pub cut_so : RespondsNoted ss fs ls (site_of content) asked.canon admission.entry admission.event admission.answer live x noted None live' x' noted'
+          → CutShort ss fs ls asked before noted after noted'
+      cut_so (inl ended) = inl record {
+        entry = inr (subst (λ (a : Admission). Takes noted a.entry noted') is ended.2);
+        stays = ap (λ (l : LiveState S F L). context_of content users l store') ended.1;
+      }
+      cut_so (inr did) = inr (x', answered_so None did)
+
+      -- there is a response
+      pub answers_so : (response : Response)
+          → RespondsNoted ss fs ls (site_of content) asked.canon admission.entry admission.event admission.answer live x noted (Some tt) live' x' noted'
+          → noted'.whole ≡ true → response ≡ finished x' → store' ≡ x'.store
+          → Answers ss fs ls asked before noted response after noted'
+      answers_so response (inl ended) is_whole response_is stored = let no = ended.0 in cc
+      answers_so response (inr did) is_whole response_is stored = record {
+        exchange = x';
+        is_answered = answered_so (Some tt) did;
+        response_is = response_is;
+        store = stored;
+        whole = is_whole;
+      }

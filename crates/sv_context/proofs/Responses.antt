@@ -1,0 +1,167 @@
+-- What is done to answer a message, in parts.
+use Rattle.std.specs.Prelude.{OnOk, codes, length, true}
+use Rattle.std.proofs.Common.{◌≡◌, ℕ, Bool, inl, inr, List, [], ◌++◌, Option, None, Some, Result, Ok, Err, refl, sym, ◌∙◌, ap, ap₂, subst}
+use Rattle.sv_admission.specs.declared.answer.Answer.{Answer}
+use Rattle.sv_admission.specs.declared.limits.TheConstants.{SEE_OTHER}
+use Rattle.sv_component.proofs.Running.{runs_grown}
+use Rattle.sv_component.specs.Call.{Call}
+use Rattle.sv_component.specs.Runs.{Grows, Record, Runs}
+use Rattle.sv_dispatch.proofs.RunningDeeds.{there_or_not}
+use Rattle.sv_dispatch.specs.Did.{seen}
+use Rattle.sv_dispatch.specs.Running.{made_seen}
+use Rattle.sv_exchange.specs.Changing as changing
+use Rattle.sv_exchange.specs.Changing.{Change, SetHeader, SetStatus, Write}
+use Rattle.sv_exchange.specs.State as exchanges
+use Rattle.sv_exchange.specs.declared.exchange_fault.ExchangeFault.{ExchangeFault}
+use Rattle.sv_journal.specs.Journal.{JournalState}
+use Rattle.sv_journal.specs.declared.event.Event.{Event}
+use Rattle.sv_journal.specs.declared.event.Event.TheVariants.{RequestDestroyed, RequestInitialized}
+use Rattle.sv_lifecycle.specs.Calling.{StandsAsBefore}
+use Rattle.sv_lifecycle.specs.Standing.{LiveState, live_world}
+use Rattle.sv_listeners.specs.Telling.{then_all, told}
+use Rattle.sv_served.proofs.ContextDeeds.{by_alone, by_not, by_then}
+use Rattle.sv_served.proofs.ExchangeDeeds.{alone_makes, alone_not, alone_then}
+use Rattle.sv_served.specs.ServedBy.{Alone, ServedBy}
+use Rattle.sv_text.specs.declared.no_memory.NoMemory.{NoMemory}
+use Rattle.sv_tree.specs.Does.{Does, ◌>>=◌, ◌>>◌, becomes, gives, makes}
+use Rattle.sv_tree.specs.Endings.{keeps}
+use Rattle.sv_tree.specs.Served.{Pages, Plain, Resets, ShowsError, plain_text, reset, sets}
+use Rattle.sv_tree.specs.Site.{Site}
+use Rattle.sv_tree.specs.State.{State, on_exchange}
+use Rattle.sv_tree.specs.Telling.{hears}
+use Rattle.sv_uri.specs.declared.path.Canon.{Canon}
+use Rattle.sv_wire.specs.ResponseText.{phrase_of}
+use Rattle.sv_context.specs.Answered.{Answered, Answers, Requested, SendsTo, Tells}
+
+-- without a call
+abbrev pub IsQuiet : {A : Type 0} → Does A → Type 0
+IsQuiet {A} does = (before : State) (calls : List Record) (after : State) (result : Option A) → does before calls after result → calls ≡ []
+
+quiet_then : {A B : Type 0} (first : Does A) (next : A → Does B) → IsQuiet first → ((value : A) → IsQuiet (next value)) → IsQuiet (first >>= next)
+quiet_then first next one two before calls after result (inl t) =
+    t.is_joined ∙ ap₂ (λ front back. front ++ back) (one before t.front t.between (Some t.given) t.begins) (two t.given t.between t.back after result t.goes_on)
+quiet_then first next one two before calls after result (inr t) = one before calls after None t.0
+
+quiet_makes : (change : Change) → IsQuiet (makes change)
+quiet_makes change before calls after result h = h.0
+
+quiet_resets : (status : ℕ) → IsQuiet (Resets status None)
+quiet_resets status =
+    quiet_then (becomes (on_exchange reset)) (λ _. makes (SetStatus status) >> sets None) (λ before calls after result h. h.0)
+    (λ _. quiet_then (makes (SetStatus status)) (λ _. sets None) (quiet_makes (SetStatus status)) (λ _ before calls after result h. h.0))
+
+quiet_plain : (status : ℕ) → IsQuiet (Plain status None)
+quiet_plain status =
+    let typed = SetHeader (codes "content-type") (codes "text/plain") in
+    let written = Write (plain_text status) in
+    quiet_then (Resets status None) (λ _. makes typed >> makes written) (quiet_resets status)
+    (λ _. quiet_then (makes typed) (λ _. makes written) (quiet_makes typed) (λ _. quiet_makes written))
+
+-- an error without a page is answered without a call
+pub quiet_error : (site : Site) (status : ℕ) → IsQuiet (ShowsError site status None)
+quiet_error site status =
+    quiet_then (keeps (record { status = status; text = phrase_of status; servlet = None; field = None })) (λ _. Pages site status None None)
+    (λ before calls after result h. h.0) (λ _. quiet_plain status)
+
+-- where nothing was noted, a whole journal is whole
+pub whole_stays : (result : Result (Unit {0}) NoMemory) (before after : JournalState) → before.whole ≡ true → after ≡ before → OnOk result (after.whole ≡ true)
+whole_stays (Ok done) before after is_whole same = ap (λ j. j.whole) same ∙ is_whole
+whole_stays (Err refusal) before after is_whole same = tt
+
+-- the client is sent elsewhere
+module _ (location : List ℕ) (x y : exchanges.State) (said : Result Bool ExchangeFault) (did : changing.Does (SetStatus SEE_OTHER) said x y) (made : Option (Unit {0})) (is : made ≡ made_seen said) where
+  stated : Alone (makes (SetStatus SEE_OTHER)) x y made
+  stated = subst (Alone (makes (SetStatus SEE_OTHER)) x y) (sym is) (alone_makes (SetStatus SEE_OTHER) x y said did)
+
+  pub sends_not : made ≡ None → Alone (SendsTo location) x y None
+  sends_not none =
+      alone_not (makes (SetStatus SEE_OTHER)) (λ _. makes (SetHeader (codes "location") location)) x y
+      (subst (Alone (makes (SetStatus SEE_OTHER)) x y) none stated)
+
+  pub sends_so : made ≡ Some tt → (z : exchanges.State) (then_said : Result Bool ExchangeFault) (result : Option (Unit {0}))
+      → changing.Does (SetHeader (codes "location") location) then_said y z → result ≡ made_seen then_said → Alone (SendsTo location) x z result
+  sends_so some z then_said result then_did then_is =
+      let located = SetHeader (codes "location") location in
+      alone_then (makes (SetStatus SEE_OTHER)) (λ _. makes located) x y z tt result
+      (subst (Alone (makes (SetStatus SEE_OTHER)) x y) some stated)
+      (subst (Alone (makes located) y z) (sym then_is) (alone_makes located y z then_said then_did))
+
+module _ {S F L : Type 0} (ss : S → Call → S → Type 0) (fs : F → Call → F → Type 0) (ls : L → Call → L → Type 0) where
+  -- the listeners hear an event
+  pub by_hearing : (live live' : LiveState S F L) (x : exchanges.State) (noted noted' : JournalState) (event : Event) (result : Result (Unit {0}) NoMemory)
+      → Grows ss fs ls (live_world live noted) (then_all (told event (length live.parts.listeners.items))) (live_world live' noted')
+      → StandsAsBefore live live'
+      → ServedBy ss fs ls (hears (length live.parts.listeners.items) event) live x noted (seen result) live' x noted'
+  by_hearing live live' x noted noted' event result made stands = record {
+    made = told event (length live.parts.listeners.items);
+    does_so = (refl, ap (λ its_standings. record { exchange = x; standings = its_standings }) stands.standings, there_or_not result);
+    runs = runs_grown ss fs ls (live_world live noted) (live_world live' noted') (then_all (told event (length live.parts.listeners.items))) made;
+    counts = stands.counts;
+    context = stands.context;
+    initialised = stands.initialised;
+  }
+
+  -- what is done without a call leaves the journal
+  pub journal_stays : {A : Type 0} (does : Does A) (live live' : LiveState S F L) (x x' : exchanges.State) (noted noted' : JournalState) (result : Option A)
+      → IsQuiet does → ServedBy ss fs ls does live x noted result live' x' noted' → noted' ≡ noted
+  unfolding Runs
+  journal_stays does live live' x x' noted noted' result quiet did =
+      let none : did.made ≡ [] = quiet _ did.made _ result did.does_so in
+      ap (λ w. w.journal) (subst (λ calls. Runs ss fs ls (live_world live noted) calls (live_world live' noted')) none did.runs)
+
+  -- a request, of which the listeners hear
+  module _ (site : Site) (dispatches : Does (Unit {0})) (live live' : LiveState S F L) (x : exchanges.State) (noted noted' : JournalState) (hearing : length live.parts.listeners.items ≡ site.listeners) where
+    -- what stands behind the first hearing
+    abbrev Dispatched : Does (Unit {0})
+    Dispatched = dispatches >> hears site.listeners RequestDestroyed
+
+    begins : (result : Option (Unit {0})) → ServedBy ss fs ls (hears (length live.parts.listeners.items) RequestInitialized) live x noted result live' x noted'
+        → ServedBy ss fs ls (hears site.listeners RequestInitialized) live x noted result live' x noted'
+    begins result heard = subst (λ count. ServedBy ss fs ls (hears count RequestInitialized) live x noted result live' x noted') hearing heard
+
+    pub requested_not : ServedBy ss fs ls (hears (length live.parts.listeners.items) RequestInitialized) live x noted None live' x noted'
+        → ServedBy ss fs ls (Requested site dispatches) live x noted None live' x noted'
+    requested_not heard = by_not ss fs ls (hears site.listeners RequestInitialized) (λ _. Dispatched) live live' x x noted noted' (begins None heard)
+
+    module _ (heard : ServedBy ss fs ls (hears (length live.parts.listeners.items) RequestInitialized) live x noted (Some tt) live' x noted')
+        (live'' : LiveState S F L) (x'' : exchanges.State) (noted'' : JournalState) where
+      pub requested_cut : ServedBy ss fs ls dispatches live' x noted' None live'' x'' noted'' → ServedBy ss fs ls (Requested site dispatches) live x noted None live'' x'' noted''
+      requested_cut did =
+          by_then ss fs ls (hears site.listeners RequestInitialized) (λ _. Dispatched) live live' x x noted noted' live'' x'' noted'' tt None (begins (Some tt) heard)
+          (by_not ss fs ls dispatches (λ _. hears site.listeners RequestDestroyed) live' live'' x x'' noted' noted'' did)
+
+      pub requested_so : (live''' : LiveState S F L) (noted''' : JournalState) (result : Option (Unit {0}))
+          → ServedBy ss fs ls dispatches live' x noted' (Some tt) live'' x'' noted''
+          → ServedBy ss fs ls (hears (length live''.parts.listeners.items) RequestDestroyed) live'' x'' noted'' result live''' x'' noted'''
+          → ServedBy ss fs ls (Requested site dispatches) live x noted result live''' x'' noted'''
+      requested_so live''' noted''' result did last =
+          by_then ss fs ls (hears site.listeners RequestInitialized) (λ _. Dispatched) live live' x x noted noted' live''' x'' noted''' tt result (begins (Some tt) heard)
+          (by_then ss fs ls dispatches (λ _. hears site.listeners RequestDestroyed) live' live'' x x'' noted' noted'' live''' x'' noted''' tt result did
+          (subst (λ count. ServedBy ss fs ls (hears count RequestDestroyed) live'' x'' noted'' result live''' x'' noted''')
+          (did.counts.listeners ∙ heard.counts.listeners ∙ hearing) last))
+
+  module _ (site : Site) (live live' : LiveState S F L) (x : exchanges.State) (noted noted' : JournalState) where
+    -- what the message did to its session
+    pub tells_none : (event : Option Event) → event ≡ None → ServedBy ss fs ls (Tells site event) live x noted (Some tt) live x noted
+    tells_none event none =
+        subst (λ event. ServedBy ss fs ls (Tells site event) live x noted (Some tt) live x noted) (sym none)
+        (by_alone ss fs ls (gives tt) live x x noted (Some tt) (λ standings. (refl, refl, refl)))
+
+    pub tells_some : (event : Option Event) (its_event : Event) (result : Option (Unit {0})) → event ≡ Some its_event → length live.parts.listeners.items ≡ site.listeners
+        → ServedBy ss fs ls (hears (length live.parts.listeners.items) its_event) live x noted result live' x noted'
+        → ServedBy ss fs ls (Tells site event) live x noted result live' x noted'
+    tells_some event its_event result some hearing heard =
+        subst (λ event. ServedBy ss fs ls (Tells site event) live x noted result live' x noted') (sym some)
+        (subst (λ count. ServedBy ss fs ls (hears count its_event) live x noted result live' x noted') hearing heard)
+
+    -- which is heard first
+    pub answered_not : (canon : Canon) (event : Option Event) (answer : Answer)
+        → ServedBy ss fs ls (Tells site event) live x noted None live' x noted' → ServedBy ss fs ls (Answered site canon event answer) live x noted None live' x noted'
+    answered_not canon event answer told_it = by_not ss fs ls (Tells site event) (λ _. Answers site canon answer) live live' x x noted noted' told_it
+
+    pub answered_so : (canon : Canon) (event : Option Event) (answer : Answer) (live'' : LiveState S F L) (x'' : exchanges.State) (noted'' : JournalState) (result : Option (Unit {0}))
+        → ServedBy ss fs ls (Tells site event) live x noted (Some tt) live' x noted'
+        → ServedBy ss fs ls (Answers site canon answer) live' x noted' result live'' x'' noted''
+        → ServedBy ss fs ls (Answered site canon event answer) live x noted result live'' x'' noted''
+    answered_so canon event answer live'' x'' noted'' result told_it answered =
+        by_then ss fs ls (Tells site event) (λ _. Answers site canon answer) live live' x x noted noted' live'' x'' noted'' tt result told_it answered

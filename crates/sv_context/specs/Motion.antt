@@ -1,0 +1,37 @@
+-- No calls move nothing, and calls behind calls are calls.
+use Rattle.std.proofs.Common.{[], ◌++◌, refl, ◌∙◌}
+use Rattle.sv_component.proofs.Running.{runs_join}
+use Rattle.sv_component.specs.Call.{Call}
+use Rattle.sv_component.specs.Runs.{Runs}
+use Rattle.sv_run.specs.Lawful.{IsMotion}
+use Rattle.sv_context.specs.Conduct.{IsMoved, conduct, unnoted}
+use Rattle.sv_context.specs.State.{ContextState, IsSameDeployment, world_of}
+
+same_deployment : {S F L : Type 0} (context : ContextState S F L) → IsSameDeployment context context
+same_deployment context = record { content = refl; users = refl; servlets = refl; filters = refl; listeners = refl; initialised = refl }
+
+deployment_then : {S F L : Type 0} (before between after : ContextState S F L) → IsSameDeployment before between → IsSameDeployment between after → IsSameDeployment before after
+deployment_then before between after one two = record {
+  content = two.content ∙ one.content;
+  users = two.users ∙ one.users;
+  servlets = two.servlets ∙ one.servlets;
+  filters = two.filters ∙ one.filters;
+  listeners = two.listeners ∙ one.listeners;
+  initialised = two.initialised ∙ one.initialised;
+}
+
+module _ {S F L : Type 0} (ss : S → Call → S → Type 0) (fs : F → Call → F → Type 0) (ls : L → Call → L → Type 0) where
+  -- no calls move nothing
+  stands : (context : ContextState S F L) → IsMoved ss fs ls context context
+  unfolding Runs
+  stands context = record { made = []; runs = refl; stays = same_deployment context }
+
+  goes_on : (before between after : ContextState S F L) → IsMoved ss fs ls before between → IsMoved ss fs ls between after → IsMoved ss fs ls before after
+  goes_on before between after one two = record {
+    made = one.made ++ two.made;
+    runs = runs_join ss fs ls (world_of before unnoted) (world_of between unnoted) (world_of after unnoted) one.made two.made one.runs two.runs;
+    stays = deployment_then before between after one.stays two.stays;
+  }
+
+  pub motion_by : IsMotion (conduct ss fs ls)
+  motion_by = record { stands = stands; goes_on = goes_on }

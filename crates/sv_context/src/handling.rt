@@ -1,0 +1,218 @@
+//! How a context handles a message.
+
+ghost use Rattle.std.specs.Prelude.{◌≡◌, IfOk, IsTrue, List, OnOk, true};
+ghost use Rattle.std.specs.Option.{option_copied};
+ghost use Rattle.http.specs.StatusCode.{IsStatusCode};
+ghost use Rattle.sv_admission.specs.Admission.{settled_in};
+ghost use Rattle.sv_admission.specs.Asked.{asked_by};
+ghost use Rattle.sv_context_path.specs.Within.{path_within};
+ghost use Rattle.sv_dispatch.specs.Did.{seen};
+ghost use Rattle.sv_mapping.specs.Pattern.{is_at_or_below};
+ghost use Rattle.sv_realm.specs.declared.user.User.{User};
+ghost use Rattle.sv_session.specs.Store.{Store};
+ghost use Rattle.sv_site.specs.Site.{site_of};
+ghost use Rattle.sv_text.specs.Gives.{GivesAnswer};
+ghost use Rattle.sv_context.specs.Handled.{Handles, admitted, within};
+ghost use Rattle.sv_context.specs.Responding.{RespondsNoted};
+ghost use Rattle.sv_context.specs.State.{AreComponentsOf, context_of};
+
+use crate::answering::respond;
+use crate::context::Context;
+use std::alloc::Global;
+use std::mem;
+use sv_admission::{Admission, Answer, admit};
+use sv_component::{Event, Exchange, Filter, Listener, Servlet};
+use sv_context_path::path_within;
+use sv_exchange::BeginFault;
+use sv_journal::{Entry, Journal};
+use sv_lifecycle::Live;
+use sv_realm::Realm;
+use sv_session::Sessions;
+use sv_site::Site;
+use sv_text::{NoMemory, Text};
+use sv_uri::path::Canon;
+use sv_wire::{Message, Response};
+
+impl<S: Servlet, F: Filter, L: Listener> Context<S, F, L> {
+    /// Handles a message whose target has that canonical path, which the context serves, at a moment in seconds since 1970, with the two random
+    /// words of the message: it is admitted, noted, and answered by the servlet or the file of its path, by a page, plainly, or by sending the
+    /// client elsewhere (Jakarta Servlet 6.0, sections 3.5, 10.9, 11.3 and 13.6.3). The sessions that have expired have ended before.
+    ///
+    /// # Errors
+    /// `NoMemory` where a growth was refused, a component wanted memory, or the journal is broken: the calls made so far were made. All that was
+    /// deployed is there then, and the context can be undeployed; nothing is said of its sessions.
+    pub fn handle(
+        &mut self,
+        alloc: Global,
+        message: &Message,
+        canon: &Canon,
+        moment: u64,
+        words: (u64, u64),
+        journal: &mut Journal,
+    ) -> Result<Response, NoMemory>
+        requires { IsTrue (is_at_or_below self.old.content.context_path canon.now.path) }
+        ensures handles { Handles S.servlet_step F.filter_step L.listener_step (asked_by message.now (within self.old canon.now) moment words)
+            self.old journal.old (seen result) self.new journal.new }
+        ensures status { IfOk result (λ response. IsStatusCode response.status) }
+    {
+        handle_in(
+            alloc,
+            &self.site,
+            &self.users,
+            &mut self.live,
+            &mut self.sessions,
+            message,
+            canon,
+            moment,
+            words,
+            journal,
+        )
+    }
+}
+
+// Handles a message in the parts of a context.
+fn handle_in<S: Servlet, F: Filter, L: Listener>(
+    alloc: Global,
+    site: &Site,
+    users: &Realm,
+    live: &mut Live<S, F, L>,
+    sessions: &mut Sessions,
+    message: &Message,
+    canon: &Canon,
+    moment: u64,
+    words: (u64, u64),
+    journal: &mut Journal,
+) -> Result<Response, NoMemory>
+    requires below { IsTrue (is_at_or_below site.now.context_path canon.now.path) }
+    requires components { AreComponentsOf site.now live.old }
+    ensures handles { Handles S.servlet_step F.filter_step L.listener_step
+        (asked_by message.now (within (context_of site.now users.now live.old sessions.old) canon.now) moment words)
+        (context_of site.now users.now live.old sessions.old) journal.old (seen result)
+        (context_of site.now users.now live.new sessions.new) journal.new }
+    ensures components { AreComponentsOf site.now live.new }
+    ensures status { IfOk result (λ response. IsStatusCode response.status) }
+{
+    if !journal.whole() {
+        return Err(NoMemory);
+    }
+    let Ok(canon) = within(alloc, site.context_path(), canon) else {
+        return Err(NoMemory);
+    };
+    let Ok(admission) = admit(alloc, site, users, message, &canon, moment, words, sessions) else {
+        return Err(NoMemory);
+    };
+    answer(
+        alloc, site, live, sessions, message, &canon, moment, words, admission, journal,
+    )
+}
+
+// The path in the context, with the query.
+fn within(alloc: Global, context_path: &str, canon: &Canon) -> Result<Canon, NoMemory>
+    requires { IsTrue (is_at_or_below context_path.now canon.now.path) }
+    ensures { GivesAnswer result (record canon.now { path = path_within context_path.now canon.now.path }) }
+{
+    let path = Text::copy_of(alloc, path_within(context_path, canon.path.as_str()))?;
+    let query = copied(alloc, &canon.query)?;
+    Ok(Canon { path, query })
+}
+
+fn copied(alloc: Global, text: &Option<Text>) -> Result<Option<Text>, NoMemory>
+    ensures { GivesAnswer result text.now }
+{
+    match text {
+        Some(text) => Ok(Some(Text::copy_of(alloc, text.as_str())?)),
+        None => Ok(None),
+    }
+}
+
+// Answers a message that was admitted. The sessions are lent to its exchange, and come back in every case.
+fn answer<S: Servlet, F: Filter, L: Listener>(
+    alloc: Global,
+    site: &Site,
+    live: &mut Live<S, F, L>,
+    sessions: &mut Sessions,
+    message: &Message,
+    canon: &Canon,
+    moment: u64,
+    words: (u64, u64),
+    admission: Admission,
+    journal: &mut Journal,
+) -> Result<Response, NoMemory>
+    requires components { AreComponentsOf site.now live.old }
+    requires whole { journal.old.whole ≡ true }
+    ensures handles { (users : List User) (store : Store)
+        → admission ≡ admitted (context_of site.now users live.old store) (asked_by message.now canon.now moment words)
+        → sessions.old ≡ (settled_in site.now users (asked_by message.now canon.now moment words) store).store
+        → Handles S.servlet_step F.filter_step L.listener_step (asked_by message.now canon.now moment words)
+        (context_of site.now users live.old store) journal.old (seen result) (context_of site.now users live.new sessions.new) journal.new }
+    ensures components { AreComponentsOf site.now live.new }
+    ensures status { IfOk result (λ response. IsStatusCode response.status) }
+{
+    let Admission {
+        entry,
+        answer,
+        session,
+        event,
+    } = admission;
+    let lent = mem::replace(sessions, Sessions::new(alloc, 0, 0));
+    let begun = Exchange::begin(
+        alloc,
+        message,
+        canon,
+        site.context_path(),
+        moment,
+        words,
+        session,
+        lent,
+    );
+    let mut exchange = match begun {
+        Ok(exchange) => exchange,
+        Err(BeginFault { sessions: back }) => {
+            *sessions = back;
+            return Err(NoMemory);
+        }
+    };
+    let done = respond_noted(
+        alloc,
+        live,
+        &mut exchange,
+        site,
+        canon,
+        entry,
+        event.as_ref(),
+        &answer,
+        journal,
+    );
+    let (response, back) = exchange.finish();
+    *sessions = back;
+    match done {
+        Ok(()) => Ok(response),
+        Err(refusal) => Err(refusal),
+    }
+}
+
+// Notes a message that was admitted, and answers it.
+fn respond_noted<S: Servlet, F: Filter, L: Listener>(
+    alloc: Global,
+    live: &mut Live<S, F, L>,
+    exchange: &mut Exchange,
+    site: &Site,
+    canon: &Canon,
+    entry: Entry,
+    event: Option<&Event>,
+    answer: &Answer,
+    journal: &mut Journal,
+) -> Result<(), NoMemory>
+    requires components { AreComponentsOf site.now live.old }
+    requires whole { journal.old.whole ≡ true }
+    ensures responds { RespondsNoted S.servlet_step F.filter_step L.listener_step (site_of site.now) canon.now entry (option_copied event.entry) answer.now
+        live.old exchange.old journal.old (seen result) live.new exchange.new journal.new }
+    ensures components { AreComponentsOf site.now live.new }
+    ensures whole { OnOk result (journal.new.whole ≡ true) }
+{
+    journal.note(Ok(entry));
+    if !journal.whole() {
+        return Err(NoMemory);
+    }
+    respond(alloc, live, exchange, site, canon, event, answer, journal)
+}

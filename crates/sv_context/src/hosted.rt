@@ -1,0 +1,43 @@
+//! A context as a container has it.
+
+use crate::context::Context;
+use std::alloc::Global;
+use sv_component::{Filter, Listener, Servlet};
+use sv_context_path::HasContextPath;
+use sv_journal::Journal;
+use sv_text::NoMemory;
+use sv_uri::path::Canon;
+use sv_wire::{Message, Response};
+
+impl<S, F, L> HasContextPath for Context<S, F, L> {
+    ghost path_of = { λ context. context.content.context_path };
+
+    fn context_path(&self) -> &str {
+        self.site.context_path()
+    }
+}
+
+impl<S: Servlet, F: Filter, L: Listener> sv_run::Context for Context<S, F, L> {
+    ghost use Rattle.sv_context.specs.Conduct.{conduct as conduct_by};
+    ghost use Rattle.sv_context.specs.Motion.{motion_by};
+
+    ghost conduct = { conduct_by S.servlet_step F.filter_step L.listener_step };
+
+    fn handle(
+        &mut self,
+        alloc: Global,
+        message: &Message,
+        canon: &Canon,
+        moment: u64,
+        words: (u64, u64),
+        journal: &mut Journal,
+    ) -> Result<Response, NoMemory> {
+        self.handle(alloc, message, canon, moment, words, journal)
+    }
+
+    fn expire(&mut self, alloc: Global, moment: u64, journal: &mut Journal) {
+        self.expire(alloc, moment, journal);
+    }
+
+    ghost is_motion = { motion_by S.servlet_step F.filter_step L.listener_step };
+}

@@ -1,0 +1,4 @@
+mod Ending
+mod Finding
+mod FolderReadings
+mod Steps

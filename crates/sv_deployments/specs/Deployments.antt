@@ -1,0 +1,59 @@
+-- What the contexts of a server are deployed with.
+use Rattle.std.specs.Prelude.{ℕ, List, map, Option, Ok, Err}
+use Rattle.sv_text.specs.Steps.{◌>>=◌}
+use Rattle.sv_application.specs.Parts.{Components, Made, components, components_of}
+use Rattle.sv_application.specs.declared.program_filter.ProgramFilter.{ProgramFilter}
+use Rattle.sv_application.specs.declared.program_listener.ProgramListener.{ProgramListener}
+use Rattle.sv_application.specs.declared.program_servlet.ProgramServlet.{ProgramServlet}
+use Rattle.sv_context.specs.declared.deployment.Deployment as context
+use Rattle.sv_descriptor.specs.declared.web_app.WebApp.{WebApp}
+use Rattle.sv_files.specs.declared.file.File.{File}
+use Rattle.sv_realm.specs.declared.user.User.{User}
+use Rattle.sv_program.specs.Configuration.{Step, descriptor_in, users_in}
+use Rattle.sv_program.specs.declared.command_fault.CommandFault.TheVariants as fault
+use Rattle.sv_program.specs.declared.configuration.ContextTexts.{ContextTexts}
+use Rattle.sv_deployments.specs.Files.{files_in}
+use Rattle.sv_deployments.specs.declared.folders.FoundContext.{FoundContext}
+
+-- what a context is deployed with, its components as lists
+pub record Deployed : Type 0 where
+  pub path : List ℕ
+  pub descriptor : WebApp
+  pub files : List File
+  pub users : List User
+  pub parts : Components
+
+abbrev pub ProgramDeployment : Type 0
+ProgramDeployment = context.Deployment ProgramServlet ProgramFilter ProgramListener
+
+abbrev pub deployment : ProgramDeployment → Deployed
+deployment given = record {
+  path = given.path;
+  descriptor = given.descriptor;
+  files = given.files;
+  users = given.users;
+  parts = components given.parts;
+}
+
+abbrev pub deployments : List ProgramDeployment → List Deployed
+deployments = map deployment
+
+-- the components, or the fault of the class that the program does not have
+abbrev pub known : Made Components → Step Components
+known (Ok made) = Ok made
+known (Err class) = Err (fault.Class class)
+
+abbrev pub components_in : WebApp → Step Components
+components_in app = known (components_of app)
+
+-- what a context with these texts and these files is deployed with: its faults are found in the order of its descriptor, users, files and classes
+abbrev pub deployment_for : ContextTexts → Option (List File) → Step Deployed
+deployment_for texts found = do
+  its_descriptor ← descriptor_in texts
+  its_users ← users_in texts
+  its_files ← files_in texts.context found
+  its_parts ← components_in its_descriptor
+  Ok (record { path = texts.context.path; descriptor = its_descriptor; files = its_files; users = its_users; parts = its_parts })
+
+abbrev pub deployment_of : FoundContext → Step Deployed
+deployment_of found = deployment_for found.texts found.files

@@ -1,0 +1,4 @@
+pub mod Configuration
+pub mod Deployments
+pub mod Files
+pub mod Folders

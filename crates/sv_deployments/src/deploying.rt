@@ -1,0 +1,130 @@
+//! What each context of a server is deployed with.
+
+ghost use Rattle.std.specs.Prelude.{◌≡◌, Err, MatchOption};
+ghost use Rattle.sv_text.specs.Gives.{Gives};
+ghost use Rattle.sv_files.specs.Fault.{list_fault};
+ghost use Rattle.sv_application.specs.Parts.{components, seen};
+ghost use Rattle.sv_program.specs.CommandFault.{command_fault};
+ghost use Rattle.sv_program.specs.Configuration.{each};
+ghost use Rattle.sv_deployments.specs.Deployments as spec;
+ghost use Rattle.sv_deployments.specs.Files.{files_fault, files_in, listed_files};
+
+use crate::folders::FoundContext;
+use std::alloc::Global;
+use sv_application::{ClassFault, ProgramFilter, ProgramListener, ProgramServlet, parts_of};
+use sv_context::Deployment;
+use sv_descriptor::Descriptor;
+use sv_files::{File, Files, FilesFault};
+use sv_lifecycle::Parts;
+use sv_program::{CommandFault, ContextTexts, descriptor_in, realm_in};
+use sv_settings::ContextEntry;
+use sv_text::{Listed, Text};
+
+/// What a context is deployed with whose components are of the program's own classes.
+pub type ProgramDeployment = Deployment<ProgramServlet, ProgramFilter, ProgramListener>;
+
+/// What the contexts are deployed with, in their order.
+///
+/// # Errors
+/// The first fault, of each context in turn that of its descriptor, its users, its files and its classes; or [`CommandFault::NoMemory`].
+pub(crate) fn deployments_in(
+    alloc: Global,
+    contexts: Listed<FoundContext>,
+) -> Result<Vec<ProgramDeployment>, CommandFault>
+    ensures { Gives command_fault (seen (λ made. spec.deployments made.items) result) (each spec.deployment_of contexts) }
+{
+    let mut deployments = Vec::new(alloc);
+    for context in contexts.into_vec() {
+        deployments.push(deployment_in(alloc, context)?)?;
+    }
+    Ok(deployments)
+}
+
+fn deployment_in(alloc: Global, context: FoundContext) -> Result<ProgramDeployment, CommandFault>
+    ensures { Gives command_fault (seen spec.deployment result) (spec.deployment_of context) }
+{
+    let FoundContext { texts, files } = context;
+    deployment_for(alloc, &texts, files)
+}
+
+// What a context with these texts and these files is deployed with.
+fn deployment_for(
+    alloc: Global,
+    texts: &ContextTexts,
+    files: Option<Listed<File>>,
+) -> Result<ProgramDeployment, CommandFault>
+    ensures { Gives command_fault (seen spec.deployment result) (spec.deployment_for texts.now files) }
+{
+    let path = Text::copy_of(alloc, texts.context.path.as_str())?;
+    let descriptor = descriptor_in(alloc, texts)?;
+    let users = realm_in(alloc, texts)?;
+    let files = files_in(alloc, &texts.context, files)?;
+    let parts = parts_in(alloc, &descriptor)?;
+    Ok(Deployment {
+        path,
+        descriptor,
+        files,
+        users,
+        parts,
+    })
+}
+
+// The static files of a context.
+fn files_in(
+    alloc: Global,
+    context: &ContextEntry,
+    files: Option<Listed<File>>,
+) -> Result<Files, CommandFault>
+    ensures { Gives command_fault result (files_in context.now files) }
+{
+    let files = listed_files(alloc, context.files.as_str(), files)?;
+    match Files::from_list(alloc, files.into_vec()) {
+        Ok(files) => Ok(files),
+        Err(fault) => refused(alloc, context, fault),
+    }
+}
+
+// The files in the folder of that name, none where there is no name.
+fn listed_files(
+    alloc: Global,
+    name: &str,
+    files: Option<Listed<File>>,
+) -> Result<Listed<File>, CommandFault>
+    ensures { Gives command_fault result (listed_files name.now files) }
+{
+    if name.is_empty() {
+        return Ok(Listed::from_vec(Vec::new(alloc)));
+    }
+    match files {
+        Some(files) => Ok(files),
+        None => Err(CommandFault::File(Text::copy_of(alloc, name)?)),
+    }
+}
+
+// Files that are refused, or that there is no memory for.
+fn refused<T>(alloc: Global, context: &ContextEntry, fault: FilesFault) -> Result<T, CommandFault>
+    ensures { MatchOption (list_fault fault) (result ≡ Err CommandFault.NoMemory)
+        (λ found. Gives command_fault result (Err (files_fault context.now.path found))) }
+{
+    if fault == FilesFault::NoMemory {
+        return Err(CommandFault::NoMemory);
+    }
+    Err(CommandFault::Files {
+        context: Text::copy_of(alloc, context.path.as_str())?,
+        code: fault as u8,
+    })
+}
+
+// The components of a context.
+fn parts_in(
+    alloc: Global,
+    descriptor: &Descriptor,
+) -> Result<Parts<ProgramServlet, ProgramFilter, ProgramListener>, CommandFault>
+    ensures { Gives command_fault (seen components result) (spec.components_in descriptor.now) }
+{
+    match parts_of(alloc, descriptor) {
+        Ok(parts) => Ok(parts),
+        Err(ClassFault::UnknownClass(class)) => Err(CommandFault::Class(class)),
+        Err(ClassFault::NoMemory) => Err(CommandFault::NoMemory),
+    }
+}

@@ -1,0 +1,106 @@
+//! The folders of the operating system. What they hold is known to no contract.
+
+use crate::folder_store::FolderStore;
+use std::alloc::Global;
+use std::fs::{DirEntry, read_dir};
+use std::io::{ErrorKind, Read};
+use std::rt::Files;
+use std::{fs, io};
+use sv_files::{File, MAX_FILE_BYTES};
+use sv_program::Disk;
+use sv_text::{Bytes, Listed, NoMemory, Text};
+
+impl<F: Files + AllocGlobal + Clone + Drop> FolderStore for Disk<'_, F> {
+    fn read_files(&mut self, alloc: Global, name: &str) -> Result<Option<Listed<File>>, NoMemory> {
+        let mut walk = Walk {
+            folder: name,
+            waiting: Vec::new(alloc),
+            files: Vec::new(alloc),
+        };
+        match walk.read_all(alloc, self.handle()) {
+            Ok(()) => Ok(Some(Listed::from_vec(walk.files))),
+            Err(error) if error.kind() == ErrorKind::OutOfMemory => Err(NoMemory),
+            Err(_) => Ok(None),
+        }
+    }
+}
+
+/// A walk through a folder and those below it. Paths are from the folder on; its own is empty.
+#[derive(Drop)]
+struct Walk<'a> {
+    folder: &'a str,
+    /// The paths of folders that are yet to be read.
+    waiting: Vec<String>,
+    files: Vec<File>,
+}
+
+impl Walk<'_> {
+    fn read_all<F: Files + AllocGlobal + Clone + Drop>(
+        &mut self,
+        alloc: Global,
+        files: &F,
+    ) -> io::Result<()> {
+        self.waiting.push(String::new(alloc))?;
+        for _ in 0..u64::MAX {
+            let Some(path) = self.waiting.pop() else {
+                return Ok(());
+            };
+            self.read_entries(alloc, files, path.as_str())?;
+        }
+        Err(io::Error::from(ErrorKind::Other))
+    }
+
+    // Reads the entries of the folder of this path.
+    fn read_entries<F: Files + AllocGlobal + Clone + Drop>(
+        &mut self,
+        alloc: Global,
+        files: &F,
+        path: &str,
+    ) -> io::Result<()> {
+        let folder = format!(in alloc; "{}{path}", self.folder)?;
+        for entry in read_dir(files, folder.as_str())? {
+            let entry = entry?;
+            let path = format!(in alloc; "{path}/{}", entry.file_name())?;
+            self.take(alloc, files, &entry, path)?;
+        }
+        Ok(())
+    }
+
+    // Takes an entry of this path: a folder is to be read, and a regular file is read.
+    fn take<F: Files + AllocGlobal + Clone + Drop>(
+        &mut self,
+        alloc: Global,
+        files: &F,
+        entry: &DirEntry<F>,
+        path: String,
+    ) -> io::Result<()> {
+        let kind = entry.file_type()?;
+        if kind.is_dir() {
+            self.waiting.push(path)?;
+            return Ok(());
+        }
+        if !kind.is_file() {
+            return Err(io::Error::from(ErrorKind::InvalidInput));
+        }
+        let bytes = read_bytes(alloc, files, entry)?;
+        self.files.push(File {
+            path: Text::from_string(path),
+            bytes,
+        })?;
+        Ok(())
+    }
+}
+
+// The bytes of a file, and not many more of them than it may have.
+fn read_bytes<F: Files + AllocGlobal + Clone + Drop>(
+    alloc: Global,
+    files: &F,
+    entry: &DirEntry<F>,
+) -> io::Result<Bytes> {
+    let mut bytes = Vec::new(alloc);
+    let limit = MAX_FILE_BYTES as u64 + 1;
+    fs::open(files, entry.path())?
+        .take(limit)
+        .read_to_end(&mut bytes)?;
+    Ok(Bytes::from_vec(bytes))
+}

@@ -1,0 +1,87 @@
+//! A store of files and folders in memory.
+
+use std::alloc::Global;
+use sv_deployments::FolderStore;
+use sv_files::File;
+use sv_program::FileStore;
+use sv_text::{Bytes, Listed, NoMemory, Text};
+
+/// The store of a server with a root context and the context `/two`.
+#[derive(Drop)]
+pub struct Store<'a> {
+    /// The name of a file or a folder that is not there.
+    pub missing: &'a str,
+    /// The class of the root context's servlet.
+    pub class: &'a str,
+    /// The class of the servlet of the other context.
+    pub other: &'a str,
+    /// The paths of the root context's static files, a blank between them.
+    pub files: &'a str,
+    /// The names that were asked for, each with a blank behind it.
+    pub asked: String,
+}
+
+const SERVER: &str = r#"
+port = 7
+seed = "0000000000000000000000000000000000000000000000000000000000000000"
+context = [
+    { path = "", descriptor = "root.toml", files = "files", users = "users.toml" },
+    { path = "/two", descriptor = "two.toml", files = "" },
+]
+"#;
+
+const USERS: &str = r#"
+[[user]]
+name = "ann"
+salt = "61"
+digest = "ba7816bf8f01cfea414140de5dae2223b00361a396177a9cb410ff61f20015ad"
+roles = ["a"]
+"#;
+
+impl Store<'_> {
+    // Notes a name, and whether it is there.
+    fn note(&mut self, name: &str) -> Result<bool, NoMemory> {
+        self.asked.push_str(name)?;
+        self.asked.push_str(" ")?;
+        Ok(name != self.missing)
+    }
+}
+
+impl FileStore for Store<'_> {
+    fn read_text(&mut self, alloc: Global, name: &str) -> Result<Option<Text>, NoMemory> {
+        if !self.note(name)? {
+            return Ok(None);
+        }
+        match name {
+            "in/server.toml" => Ok(Some(Text::copy_of(alloc, SERVER)?)),
+            "in/users.toml" => Ok(Some(Text::copy_of(alloc, USERS)?)),
+            "in/root.toml" => descriptor(alloc, self.class),
+            "in/two.toml" => descriptor(alloc, self.other),
+            _ => Ok(None),
+        }
+    }
+}
+
+impl FolderStore for Store<'_> {
+    fn read_files(&mut self, alloc: Global, name: &str) -> Result<Option<Listed<File>>, NoMemory> {
+        if !self.note(name)? {
+            return Ok(None);
+        }
+        let mut files = Vec::new(alloc);
+        for path in self.files.split(' ') {
+            files.push(File {
+                path: Text::copy_of(alloc, path)?,
+                bytes: Bytes::copy_of(alloc, path.as_bytes())?,
+            })?;
+        }
+        Ok(Some(Listed::from_vec(files)))
+    }
+}
+
+/// The descriptor of a servlet of that class.
+fn descriptor(alloc: Global, class: &str) -> Result<Option<Text>, NoMemory> {
+    let text = format!(in alloc;
+        "[[servlet]]\nservlet-name = \"s\"\nservlet-class = \"{class}\"\n"
+    )?;
+    Ok(Some(Text::from_string(text)))
+}

@@ -1,0 +1,82 @@
+-- What has been brought so far, with what comes behind it.
+use Rattle.std.proofs.Common.{◌≡◌, Bool, true, false, ◌||◌, List, [], refl, sym, ap, ◌∙◌, append_assoc, append-nil}
+use Rattle.sv_host.specs.Output.{Adds, reaction_of, then_brings}
+use Rattle.sv_host.specs.declared.output.Output.{Output}
+use Rattle.sv_journal.specs.Journal.{JournalState, new_journal}
+use Rattle.sv_journal.specs.declared.entry.Entry.{Entry}
+use Rattle.sv_run.specs.Effect.{Effect, closing, joined, nothing, noting, shown, telling}
+use Rattle.sv_run.specs.declared.reaction.Reaction.{Reaction}
+
+or-assoc : (a b c : Bool) → ((a || b) || c) ≡ (a || (b || c))
+or-assoc true b c = refl
+or-assoc false b c = refl
+
+pub or-at_false : (a : Bool) → (a || false) ≡ a
+or-at_false true = refl
+or-at_false false = refl
+
+pub or-true : (a : Bool) → true ≡ (a || true)
+or-true true = refl
+or-true false = refl
+
+module _ {Context : Type 0} where
+  pub joined-assoc : (a b c : Effect Context) → joined (joined a b) c ≡ joined a (joined b c)
+  joined-assoc a b c =
+      λ i. record {
+        sends = append_assoc a.sends b.sends c.sends i;
+        closes = or-assoc a.closes b.closes c.closes i;
+        journal = append_assoc a.journal b.journal c.journal i;
+        deeds = append_assoc a.deeds b.deeds c.deeds i;
+      }
+
+  pub joined-nothing : (a : Effect Context) → joined a nothing ≡ a
+  joined-nothing a =
+      λ i. record {
+        sends = append-nil a.sends i;
+        closes = or-at_false a.closes i;
+        journal = append-nil a.journal i;
+        deeds = append-nil a.deeds i;
+      }
+
+  brings_both : (reaction : Reaction) (first second : Effect Context)
+      → then_brings (then_brings reaction first) second ≡ then_brings reaction (joined first second)
+  brings_both reaction first second =
+      λ i. record {
+        sends = append_assoc reaction.sends first.sends second.sends i;
+        closes = or-assoc reaction.closes first.closes second.closes i;
+        journal = record reaction.journal { entries = append_assoc reaction.journal.entries first.journal second.journal i };
+      }
+
+  pub adds_on : (start reached next : Output) (front more : Effect Context)
+      → Adds start front reached → Adds reached more next → Adds start (joined front more) next
+  adds_on start reached next front more first later =
+      later ∙ ap (λ r. then_brings r more) first ∙ brings_both (reaction_of start) front more
+
+module _ (Context : Type 0) where
+  pub adds_nothing : (output : Output) → Adds output (nothing {Context = Context}) output
+  adds_nothing output =
+      λ i. record {
+        sends = sym (append-nil output.sends.items) i;
+        closes = sym (or-at_false output.closes) i;
+        journal = record output.journal { entries = sym (append-nil output.journal.entries) i };
+      }
+
+  pub adds_closing : (output : Output) → Adds output (closing {Context = Context}) (record output { closes = true })
+  adds_closing output =
+      λ i. record {
+        sends = sym (append-nil output.sends.items) i;
+        closes = or-true output.closes i;
+        journal = record output.journal { entries = sym (append-nil output.journal.entries) i };
+      }
+
+-- an event brings what was told, and then its effect
+pub brings_all : {Context : Type 0} (output : Output) (journal : JournalState) (told : List Entry) (effect : Effect Context) (end : Reaction)
+    → reaction_of output ≡ record { sends = []; closes = false; journal = new_journal } → journal ≡ noting told output.journal
+    → end ≡ then_brings (record (reaction_of output) { journal = journal }) effect → end ≡ shown (joined (telling told) effect)
+brings_all output journal told effect end is_new notes brings =
+    brings ∙ ap (λ r. then_brings r effect)
+    (λ i. record {
+      sends = ap (λ (r : Reaction). r.sends) is_new i;
+      closes = ap (λ (r : Reaction). r.closes) is_new i;
+      journal = (notes ∙ ap (λ (r : Reaction). noting told r.journal) is_new) i;
+    })

@@ -1,0 +1,127 @@
+-- Contexts that are moved one after another.
+use Rattle.std.proofs.Common.{◌≡◌, ℕ, zero, suc, ◌<◌, ◌≤◌, List, [], ◌∷◌, ◌++◌, length, slice_index_or, slice_set, refl, sym, ap, ◌∙◌, subst, arith, append-nil, append_assoc}
+use Rattle.std.proofs.lemmas.List.{with_items_is}
+use Rattle.std.specs.Vec.{with_items}
+use Rattle.std.specs.declared.vec.Vec.{Vec}
+use Rattle.sv_journal.specs.declared.entry.Entry.{Entry}
+use Rattle.sv_run.specs.Contexts.{Conduct}
+use Rattle.sv_run.specs.Events.{ExpiresAll, MovesAll}
+use Rattle.sv_run.specs.Lawful.{IsMotion}
+
+module _ {Context : Type 0} (conduct : Conduct Context) where
+  module _ (moment : ℕ) where
+    -- the expired sessions of the first so many contexts end
+    abbrev pub ExpiresTo : ℕ → List Context → List Entry → List Context → Type 0
+    ExpiresTo zero before told after = (told ≡ []) × (after ≡ before)
+    ExpiresTo (suc count) [] told after = (told ≡ []) × (after ≡ [])
+    ExpiresTo (suc count) (context ∷ contexts) told after =
+        (first : List Entry) × (later : List Entry) × (settled : Context) × (others : List Context)
+        × conduct.Expires context moment first settled × ExpiresTo count contexts later others
+        × (told ≡ first ++ later) × (after ≡ settled ∷ others)
+
+    pub expires_next : (count : ℕ) (before after : List Context) (told more : List Entry) (old new : Context)
+        → count < length after → old ≡ slice_index_or after count old → ExpiresTo count before told after → conduct.Expires old moment more new
+        → ExpiresTo (suc count) before (told ++ more) (slice_set after count new)
+    expires_next zero [] after told more old new within is so_far ends =
+        absurd (below (subst (λ (cs : List Context). 0 < length cs) so_far.1 within))
+      where
+        below : 0 < 0 → ⊥
+        below less = omega (arith, less)
+    expires_next zero (context ∷ contexts) after told more old new within is so_far ends = (
+      more,
+      [],
+      new,
+      contexts,
+      subst (λ c. conduct.Expires c moment more new) (is ∙ ap (λ cs. slice_index_or cs 0 old) so_far.1) ends,
+      (refl, refl),
+      ap (λ ts. ts ++ more) so_far.0 ∙ sym (append-nil more),
+      ap (λ cs. slice_set cs 0 new) so_far.1,
+    )
+    expires_next (suc count) [] after told more old new within is so_far ends =
+        absurd (below (subst (λ (cs : List Context). suc count < length cs) so_far.1 within))
+      where
+        below : suc count < 0 → ⊥
+        below less = omega (arith, less)
+    expires_next (suc count) (context ∷ contexts) after told more old new within is so_far ends = (
+      so_far.0,
+      so_far.1 ++ more,
+      so_far.2,
+      slice_set so_far.3 count new,
+      so_far.4,
+      expires_next count contexts so_far.3 so_far.1 more old new
+          (below (subst (λ (cs : List Context). suc count < length cs) so_far.7 within))
+          (is ∙ ap (λ cs. slice_index_or cs (suc count) old) so_far.7) so_far.5 ends,
+      ap (λ ts. ts ++ more) so_far.6 ∙ append_assoc so_far.0 so_far.1 more,
+      ap (λ cs. slice_set cs (suc count) new) so_far.7,
+    )
+      where
+        below : suc count < suc (length so_far.3) → count < length so_far.3
+        below less = omega (arith, less)
+
+    pub expires_whole : (count : ℕ) (before after : List Context) (told : List Entry) → length before ≤ count → ExpiresTo count before told after
+        → ExpiresAll conduct before moment told after
+    expires_whole zero [] after told past so_far = so_far
+    expires_whole zero (context ∷ contexts) after told past so_far = absurd (omega (arith, past))
+    expires_whole (suc count) [] after told past so_far = so_far
+    expires_whole (suc count) (context ∷ contexts) after told past so_far = (
+      so_far.0,
+      so_far.1,
+      so_far.2,
+      so_far.3,
+      so_far.4,
+      expires_whole count contexts so_far.3 so_far.1 (omega (arith, past)) so_far.5,
+      so_far.6,
+      so_far.7,
+    )
+
+  module _ (motion : IsMotion conduct) where
+    pub moves_none : (contexts : List Context) → MovesAll conduct contexts contexts
+    moves_none [] = refl
+    moves_none (context ∷ contexts) = (context, contexts, motion.stands context, moves_none contexts, refl)
+
+    pub moves_next : (count : ℕ) (before after : List Context) (old new : Context)
+        → count < length after → old ≡ slice_index_or after count old → MovesAll conduct before after → conduct.Moves old new
+        → MovesAll conduct before (slice_set after count new)
+    moves_next count [] after old new within is so_far moves =
+        absurd (below (subst (λ (cs : List Context). count < length cs) so_far within))
+      where
+        below : count < 0 → ⊥
+        below less = omega (arith, less)
+    moves_next zero (context ∷ contexts) after old new within is so_far moves = (
+      new,
+      so_far.1,
+      motion.goes_on context so_far.0 new so_far.2
+          (subst (λ c. conduct.Moves c new) (is ∙ ap (λ cs. slice_index_or cs 0 old) so_far.4) moves),
+      so_far.3,
+      ap (λ cs. slice_set cs 0 new) so_far.4,
+    )
+    moves_next (suc count) (context ∷ contexts) after old new within is so_far moves = (
+      so_far.0,
+      slice_set so_far.1 count new,
+      so_far.2,
+      moves_next count contexts so_far.1 old new
+          (below (subst (λ (cs : List Context). suc count < length cs) so_far.4 within))
+          (is ∙ ap (λ cs. slice_index_or cs (suc count) old) so_far.4) so_far.3 moves,
+      ap (λ cs. slice_set cs (suc count) new) so_far.4,
+    )
+      where
+        below : suc count < suc (length so_far.1) → count < length so_far.1
+        below less = omega (arith, less)
+
+    pub moves_join : (before between after : List Context) → MovesAll conduct before between → MovesAll conduct between after
+        → MovesAll conduct before after
+    moves_join [] between after first second = subst (λ (cs : List Context). MovesAll conduct cs after) first second
+    moves_join (context ∷ contexts) between after first second =
+        let later = subst (λ (cs : List Context). MovesAll conduct cs after) first.4 second in (
+          later.0,
+          later.1,
+          motion.goes_on context first.0 later.0 first.2 later.2,
+          moves_join contexts first.1 later.1 first.3 later.3,
+          later.4,
+        )
+
+    pub moves_through : {Z : Type 0} (held : Vec Context Z) (given between after : List Context) → length between ≡ held.len → given ≡ held.items
+        → MovesAll conduct given between → MovesAll conduct (with_items held between).items after → MovesAll conduct held.items after
+    moves_through held given between after all is first second =
+        moves_join held.items between after (subst (λ before. MovesAll conduct before between) is first)
+        (subst (λ middle. MovesAll conduct middle after) (with_items_is held between all) second)

@@ -1,0 +1,6 @@
+mod Adding
+mod Contexts
+mod Feedings
+mod Handling
+mod Happening
+mod Taking

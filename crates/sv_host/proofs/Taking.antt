@@ -1,0 +1,63 @@
+-- Items that are handled one after another.
+use Rattle.std.proofs.Common.{◌≡◌, ℕ, ◌+◌, ◌<◌, ◌≤◌, true, false, List, ◌∷◌, Result, Ok, Err, IfOk, length, drop, slice_index_or, refl, sym, ap, ◌∙◌, subst, drop-cons, add-one}
+use Rattle.std.proofs.lemmas.List.{drop_all}
+use Rattle.sv_host.proofs.Adding.{joined-assoc, joined-nothing}
+use Rattle.sv_host.specs.Output.{then_brings}
+use Rattle.sv_journal.specs.declared.entry.Entry.TheVariants.{Refused}
+use Rattle.sv_journal.specs.declared.refusal_cause.RefusalCause.TheVariants as causes
+use Rattle.sv_run.specs.Contexts.{Theory}
+use Rattle.sv_run.specs.Effect.{Effect, answered, joined, nothing, sending}
+use Rattle.sv_run.specs.Items.{IsTextAt, Takes, TakesItem, continue_text}
+use Rattle.sv_run.specs.Messages.{plain_response}
+use Rattle.sv_run.specs.State.{World}
+use Rattle.sv_run.specs.declared.reaction.Reaction.{Reaction}
+use Rattle.sv_wire.specs.WireFault.{fault_status}
+use Rattle.sv_wire.specs.declared.item.Item.{Item}
+use Rattle.sv_wire.specs.declared.item.Item.TheVariants.{Continue, Refuse}
+use Rattle.sv_wire.specs.declared.wire_fault.WireFault.{WireFault}
+
+module _ {C W : Type 0} (theory : Theory C W) (moment : ℕ) (all : List Item) where
+  -- whatever handles the rest handles all
+  abbrev pub TakesOn : World C W → Effect C → World C W → List Item → Type 0
+  TakesOn start front reached rest =
+      (later : Effect C) (after : World C W) → Takes theory moment rest reached later after → Takes theory moment all start (joined front later) after
+
+  pub goes_on : (start reached next : World C W) (front more : Effect C) (place : ℕ) (item : Item)
+      → place < length all → item ≡ slice_index_or all place item → TakesOn start front reached (drop place all)
+      → TakesItem theory moment item reached more next → TakesOn start (joined front more) next (drop (place + 1) all)
+  goes_on start reached next front more place item below is completes takes later after rest =
+      subst (λ r. Takes theory moment all start r after) (sym (joined-assoc front more later))
+      (completes (joined more later) after
+      (subst (λ left. Takes theory moment left reached (joined more later) after)
+      (sym (drop-cons all place item below ∙ ap (λ k. slice_index_or all place item ∷ drop k all) (sym (add-one place))))
+      (next, more, later, subst (λ at. TakesItem theory moment at reached more next) is takes, rest, refl)))
+
+  pub ends : (start reached : World C W) (front : Effect C) (place : ℕ) → length all ≤ place → TakesOn start front reached (drop place all)
+      → Takes theory moment all start front reached
+  ends start reached front place past completes =
+      subst (λ r. Takes theory moment all start r reached) (joined-nothing front)
+      (completes nothing reached (subst (λ left. Takes theory moment left reached nothing reached) (sym (drop_all place all past)) (refl, refl)))
+
+module _ {C W : Type 0} (theory : Theory C W) (moment : ℕ) where
+  -- the item is handled, and that is brought
+  abbrev pub TakesAndBrings : World C W → World C W → Reaction → Reaction → Item → Type 0
+  TakesAndBrings before after start end item = (effect : Effect C) × TakesItem theory moment item before effect after × (end ≡ then_brings start effect)
+
+  pub takes_as : {T E : Type 0} (result : Result T E) (before after : World C W) (start end : Reaction) (item same : Item) → item ≡ same
+      → IfOk result (λ _. TakesAndBrings before after start end same) → IfOk result (λ _. TakesAndBrings before after start end item)
+  takes_as result before after start end item same is takes =
+      subst (λ at. IfOk result (λ _. TakesAndBrings before after start end at)) (sym is) takes
+
+  pub takes_continue : {T E : Type 0} (result : Result T E) (world : World C W) (start end : Reaction)
+      → IfOk result (λ _. end ≡ then_brings start (sending {Context = C} continue_text))
+      → IfOk result (λ _. TakesAndBrings world world start end Continue)
+  takes_continue (Err fault) world start end brings = tt
+  takes_continue (Ok done) world start end brings = (sending continue_text, (refl, refl), brings)
+
+  pub takes_refusal : {T E : Type 0} (result : Result T E) (world : World C W) (start end : Reaction) (fault : WireFault)
+      → IfOk result (λ _. (text : List ℕ) × IsTextAt moment (plain_response (fault_status fault)) false false text
+      × (end ≡ then_brings start (answered {Context = C} (Refused (causes.Wire fault)) text true)))
+      → IfOk result (λ _. TakesAndBrings world world start end (Refuse fault))
+  takes_refusal (Err wanted) world start end fault brings = tt
+  takes_refusal (Ok done) world start end fault brings =
+      (answered (Refused (causes.Wire fault)) brings.0 true, (brings.0, brings.1, refl, refl), brings.2)

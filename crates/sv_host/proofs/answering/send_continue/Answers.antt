@@ -1,0 +1,14 @@
+use Rattle.std.proofs.Common.{sym, append-nil}
+use Rattle.sv_run.specs.Items.{continue_text}
+use Rattle.sv_host.proofs.Adding.{or-at_false}
+use Rattle.sv_host.proofs.answering.send_continue.Goals as goal
+
+pub returns : goal.returns
+unfolding continue_text
+returns g c =
+    let output = c.args.output.now in
+    λ i. record {
+      sends = c.in_ok-extend_from_slice.ensures.items i;
+      closes = sym (or-at_false output.closes) i;
+      journal = record output.journal { entries = sym (append-nil output.journal.entries) i };
+    }

@@ -1,0 +1,54 @@
+use Rattle.std.proofs.Common.{ap}
+use Rattle.sv_run.specs.Connections.{connections_of}
+use Rattle.sv_run.specs.Contexts.{theory_of}
+use Rattle.sv_run.specs.Effect.{closing, nothing}
+use Rattle.sv_run.specs.Seen.{happening_of}
+use Rattle.sv_host.proofs.Adding.{adds_closing, adds_nothing}
+use Rattle.sv_host.proofs.Contexts.{moves_none}
+use Rattle.sv_host.proofs.Happening.{ends, loses, opens_so, ticks}
+use Rattle.sv_host.specs.Host.{state_of}
+use Rattle.sv_host.proofs.host.Host.happen.Goals as goal
+
+pub returns-in-Opened-clause-moves : goal.returns-in-Opened-clause-moves
+returns-in-Opened-clause-moves g c = moves_none g.C.Context.conduct g.met.C.Context.is_motion c.args.self.now.contexts.items
+
+pub returns-in-Ended-clause-moves : goal.returns-in-Ended-clause-moves
+returns-in-Ended-clause-moves g c = moves_none g.C.Context.conduct g.met.C.Context.is_motion c.args.self.now.contexts.items
+
+pub returns-in-Lost-clause-moves : goal.returns-in-Lost-clause-moves
+returns-in-Lost-clause-moves g c = moves_none g.C.Context.conduct g.met.C.Context.is_motion c.args.self.now.contexts.items
+
+pub returns-in-Tick-clause-moves : goal.returns-in-Tick-clause-moves
+returns-in-Tick-clause-moves g c = moves_none g.C.Context.conduct g.met.C.Context.is_motion c.args.self.now.contexts.items
+
+pub returns-in-Opened-clause-happens : goal.returns-in-Opened-clause-happens
+returns-in-Opened-clause-happens g c =
+    let theory = theory_of g.C.HasContextPath.path_of g.C.Context.conduct g.W.Words.draws in
+    opens_so theory (state_of c.args.self.now) c.open.result (happening_of c.args.happening) c.in-Opened.connection (connections_of c.open.new.self)
+    c.args.output.now (ap happening_of c.in-Opened.is) c.open.ensures
+
+pub returns-in-Ended-clause-happens : goal.returns-in-Ended-clause-happens
+returns-in-Ended-clause-happens g c =
+    let theory = theory_of g.C.HasContextPath.path_of g.C.Context.conduct g.W.Words.draws in (
+      closing,
+      ends theory (state_of c.args.self.now) (happening_of c.args.happening) c.in-Ended.connection (connections_of c.forget.new.self)
+          (ap happening_of c.in-Ended.is) c.forget.ensures,
+      adds_closing g.row.C.Denot c.args.output.now,
+    )
+
+pub returns-in-Lost-clause-happens : goal.returns-in-Lost-clause-happens
+returns-in-Lost-clause-happens g c =
+    let theory = theory_of g.C.HasContextPath.path_of g.C.Context.conduct g.W.Words.draws in (
+      nothing,
+      loses theory (state_of c.args.self.now) (happening_of c.args.happening) c.in-Lost.connection (connections_of c.forget-in-Lost.new.self)
+          (ap happening_of c.in-Lost.is) c.forget-in-Lost.ensures,
+      adds_nothing g.row.C.Denot c.args.output.now,
+    )
+
+pub returns-in-Tick-clause-happens : goal.returns-in-Tick-clause-happens
+returns-in-Tick-clause-happens g c =
+    let theory = theory_of g.C.HasContextPath.path_of g.C.Context.conduct g.W.Words.draws in (
+      nothing,
+      ticks theory (state_of c.args.self.now) (happening_of c.args.happening) c.in-Tick.moment (ap happening_of c.in-Tick.is),
+      adds_nothing g.row.C.Denot c.args.output.now,
+    )

@@ -1,0 +1,38 @@
+use Rattle.std.proofs.Common.{◌≡◌, slice_index_or, ap}
+use Rattle.sv_run.specs.Contexts.{theory_of}
+use Rattle.sv_host.proofs.Contexts.{moves_next, moves_none}
+use Rattle.sv_host.proofs.Handling.{sent}
+use Rattle.sv_host.specs.Output.{reaction_of}
+use Rattle.sv_run.specs.declared.reaction.Reaction.{Reaction}
+use Rattle.sv_host.proofs.messages.handle_at.Goals as goal
+
+pub returns-in_err-response-clause-moves : goal.returns-in_err-response-clause-moves
+returns-in_err-response-clause-moves g c =
+    let conduct = g.C.Context.conduct in
+    let motion = g.met.C.Context.is_motion in
+    let before = c.args.contexts.now in
+    let old = slice_index_or before c.args.place c.index-contexts-place.result in
+    let is_old : old ≡ slice_index_or before c.args.place old = ap (λ d. slice_index_or before c.args.place d) c.index-contexts-place.is in
+    moves_next conduct motion c.args.place before before old c.handle.new.self c.requires.there is_old (moves_none conduct motion before) c.handle.ensures.moves
+
+pub returns-clause-moves : goal.returns-clause-moves
+returns-clause-moves g c =
+    let conduct = g.C.Context.conduct in
+    let motion = g.met.C.Context.is_motion in
+    let before = c.args.contexts.now in
+    let old = slice_index_or before c.args.place c.index-contexts-place.result in
+    let is_old : old ≡ slice_index_or before c.args.place old = ap (λ d. slice_index_or before c.args.place d) c.index-contexts-place.is in
+    moves_next conduct motion c.args.place before before old c.handle.new.self c.requires.there is_old (moves_none conduct motion before) c.handle.ensures.moves
+
+pub returns-clause-responds : goal.returns-clause-responds
+returns-clause-responds g c =
+    let theory = theory_of g.C.HasContextPath.path_of g.C.Context.conduct g.W.Words.draws in
+    let before = c.args.contexts.now in
+    let old = slice_index_or before c.args.place c.index-contexts-place.result in
+    let is_old : old ≡ slice_index_or before c.args.place old = ap (λ d. slice_index_or before c.args.place d) c.index-contexts-place.is in
+    let handled = c.in_ok-response.ensures.handles in
+    let start = reaction_of c.args.output.now in
+    let middle : Reaction = record start { journal = c.handle.new.journal } in
+    sent theory c.args.moment c.args.message.now c.args.words before start c.send.result c.args.place c.args.canon.now old c.handle.new.self
+    c.in_ok-response.response middle (reaction_of c.send.new.output) handled.0 c.requires.there is_old handled.1
+    (λ i. record start { journal = handled.2 i }) c.send.ensures

@@ -1,0 +1,50 @@
+use Rattle.std.proofs.Common.{sym}
+use Rattle.sv_journal.specs.declared.entry.Entry.TheVariants.{Refused}
+use Rattle.sv_journal.specs.declared.refusal_cause.RefusalCause.TheVariants as causes
+use Rattle.sv_run.specs.Contexts.{theory_of}
+use Rattle.sv_run.specs.Messages.{Itself, destination, empty_response, plain_response}
+use Rattle.sv_host.proofs.Contexts.{moves_none}
+use Rattle.sv_host.proofs.Handling.{answers_itself, at_fault, at_star, same_fault, sent_to}
+use Rattle.sv_host.specs.Output.{reaction_of}
+use Rattle.sv_host.proofs.messages.respond.Goals as goal
+
+pub returns-in_err-response-in-Err-Path-clause-moves : goal.returns-in_err-response-in-Err-Path-clause-moves
+returns-in_err-response-in-Err-Path-clause-moves g c = moves_none g.C.Context.conduct g.met.C.Context.is_motion c.args.contexts.now
+
+pub returns-in-Star-clause-moves : goal.returns-in-Star-clause-moves
+returns-in-Star-clause-moves g c = moves_none g.C.Context.conduct g.met.C.Context.is_motion c.args.contexts.now
+
+pub returns-in_ok-response-in-Err-Path-clause-moves : goal.returns-in_ok-response-in-Err-Path-clause-moves
+returns-in_ok-response-in-Err-Path-clause-moves g c = moves_none g.C.Context.conduct g.met.C.Context.is_motion c.args.contexts.now
+
+pub returns-in-Err-NoMemory-clause-moves : goal.returns-in-Err-NoMemory-clause-moves
+returns-in-Err-NoMemory-clause-moves g c = moves_none g.C.Context.conduct g.met.C.Context.is_motion c.args.contexts.now
+
+pub returns-in-Star-clause-responds : goal.returns-in-Star-clause-responds
+returns-in-Star-clause-responds g c =
+    let theory = theory_of g.C.HasContextPath.path_of g.C.Context.conduct g.W.Words.draws in
+    let before = c.args.contexts.now in
+    let message = c.args.message.now in
+    sent_to theory c.args.moment message c.args.words before (reaction_of c.args.output.now) c.answer_itself.result
+    (destination theory before message.target) (Itself (Refused causes.Star) empty_response) before
+    (reaction_of c.answer_itself.new.output) (at_star theory before message.target c.in-Star.is)
+    (answers_itself theory c.args.moment message c.args.words before (reaction_of c.args.output.now) c.answer_itself.result
+    (Refused causes.Star) c.empty_response-response.result empty_response (reaction_of c.answer_itself.new.output)
+    c.empty_response-response.ensures c.answer_itself.ensures)
+
+pub returns-in_ok-response-in-Err-Path-clause-responds : goal.returns-in_ok-response-in-Err-Path-clause-responds
+returns-in_ok-response-in-Err-Path-clause-responds g c =
+    let theory = theory_of g.C.HasContextPath.path_of g.C.Context.conduct g.W.Words.draws in
+    let before = c.args.contexts.now in
+    let message = c.args.message.now in
+    let reads = rw c.in-Err-Path.field-0-is at c.in-Err-Path.ensures in
+    sent_to theory c.args.moment message c.args.words before (reaction_of c.args.output.now) c.answer_itself-in-Err-Path.result
+    (destination theory before message.target) (Itself (Refused (causes.Path c.in-Err-Path.fault)) (plain_response 400)) before
+    (reaction_of c.answer_itself-in-Err-Path.new.output)
+    (at_fault theory before message.target c.in-Path.target c.as_slice.result.now c.in-Err-Path.fault c.in-Path.is c.as_slice.ensures reads)
+    (answers_itself theory c.args.moment message c.args.words before (reaction_of c.args.output.now) c.answer_itself-in-Err-Path.result
+    (Refused (causes.Path c.in-Err-Path.fault)) c.in_ok-response-in-Err-Path.response (plain_response 400)
+    (reaction_of c.answer_itself-in-Err-Path.new.output) c.in_ok-response-in-Err-Path.ensures
+    (same_fault theory c.args.moment message c.args.words before (reaction_of c.args.output.now) c.answer_itself-in-Err-Path.result
+    c.in_ok-response-in-Err-Path.response (reaction_of c.answer_itself-in-Err-Path.new.output) _ c.in-Err-Path.fault (sym c.in-Err-Path.fault-is)
+    c.answer_itself-in-Err-Path.ensures))

@@ -1,0 +1,36 @@
+use Rattle.std.proofs.Common.{sym, ap, ◌∙◌}
+use Rattle.sv_journal.specs.declared.entry.Entry.TheVariants.{Hidden}
+use Rattle.sv_journal.specs.declared.refusal_cause.RefusalCause.TheVariants as causes
+use Rattle.sv_run.specs.Contexts.{theory_of}
+use Rattle.sv_run.specs.Messages.{Itself, Within, destination_in, place_for, plain_response}
+use Rattle.sv_host.proofs.Contexts.{moves_none}
+use Rattle.sv_host.proofs.Handling.{answers_itself, sent_to}
+use Rattle.sv_host.specs.Output.{reaction_of}
+use Rattle.sv_host.proofs.messages.respond_at.Goals as goal
+
+pub returns-in_err-response-in-None-clause-moves : goal.returns-in_err-response-in-None-clause-moves
+returns-in_err-response-in-None-clause-moves g c = moves_none g.C.Context.conduct g.met.C.Context.is_motion c.args.contexts.now
+
+pub returns-in_ok-response-in-None-clause-moves : goal.returns-in_ok-response-in-None-clause-moves
+returns-in_ok-response-in-None-clause-moves g c = moves_none g.C.Context.conduct g.met.C.Context.is_motion c.args.contexts.now
+
+pub returns-in-Some-clause-responds : goal.returns-in-Some-clause-responds
+returns-in-Some-clause-responds g c =
+    let theory = theory_of g.C.HasContextPath.path_of g.C.Context.conduct g.W.Words.draws in
+    let before = c.args.contexts.now in
+    let canon = c.args.canon.now in
+    sent_to theory c.args.moment c.args.message.now c.args.words before (reaction_of c.args.output.now) c.handle_at.result
+    (destination_in canon (place_for theory before canon.path)) (Within c.in-Some.place canon) c.handle_at.new.contexts (reaction_of c.handle_at.new.output)
+    (ap (destination_in canon) (ap (place_for theory before) (sym c.as_str.ensures) ∙ sym c.context_place.ensures.chosen ∙ c.in-Some.is)) c.handle_at.ensures.responds
+
+pub returns-in_ok-response-in-None-clause-responds : goal.returns-in_ok-response-in-None-clause-responds
+returns-in_ok-response-in-None-clause-responds g c =
+    let theory = theory_of g.C.HasContextPath.path_of g.C.Context.conduct g.W.Words.draws in
+    let before = c.args.contexts.now in
+    let canon = c.args.canon.now in
+    sent_to theory c.args.moment c.args.message.now c.args.words before (reaction_of c.args.output.now) c.answer_itself.result
+    (destination_in canon (place_for theory before canon.path)) (Itself (Hidden causes.NoContext) (plain_response 404)) before
+    (reaction_of c.answer_itself.new.output) (ap (destination_in canon) (ap (place_for theory before) (sym c.as_str.ensures) ∙ sym c.context_place.ensures.chosen ∙ c.in-None.is))
+    (answers_itself theory c.args.moment c.args.message.now c.args.words before (reaction_of c.args.output.now) c.answer_itself.result
+    (Hidden causes.NoContext) c.in_ok-response-in-None.response (plain_response 404) (reaction_of c.answer_itself.new.output)
+    c.in_ok-response-in-None.ensures c.answer_itself.ensures)

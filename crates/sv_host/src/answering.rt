@@ -1,0 +1,163 @@
+//! The answers to messages.
+
+ghost use Rattle.std.specs.Prelude.{◌≡◌, ◌++◌, ◌||◌, ℕ, true, false, List, IfOk, bytes_eq, codes, not};
+ghost use Rattle.http.specs.StatusCode.{IsStatusCode};
+ghost use Rattle.sv_host.specs.Output.{Adds, reaction_of};
+ghost use Rattle.sv_journal.specs.Journal.{with_entry};
+ghost use Rattle.sv_journal.specs.declared.entry.Entry.TheVariants as entries;
+ghost use Rattle.sv_journal.specs.declared.refusal_cause.RefusalCause.TheVariants as causes;
+ghost use Rattle.sv_run.specs.Effect.{answered, sending};
+ghost use Rattle.sv_run.specs.Items.{IsAnswerTo, IsTextAt, continue_text};
+ghost use Rattle.sv_run.specs.Messages.{empty_response, plain_response};
+ghost use Rattle.sv_text.specs.Gives.{GivesAnswer};
+ghost use Rattle.sv_wire.specs.ResponseText.{phrase_of};
+ghost use Rattle.sv_wire.specs.WireFault.{fault_status};
+
+use crate::output::Output;
+use http::StatusCode;
+use std::alloc::Global;
+use sv_head::Field;
+use sv_journal::{Entry, RefusalCause};
+use sv_text::{Bytes, Listed, NoMemory};
+use sv_wire::{Message, Response, WireFault, write_response};
+
+const CONTINUE: &[u8] = b"HTTP/1.1 100 Continue\r\n\r\n";
+
+// A response without fields or a body.
+pub(crate) fn empty_response(alloc: Global) -> Response
+    ensures { result ≡ empty_response }
+{
+    Response {
+        status: 200,
+        fields: Listed::from_vec(Vec::new(alloc)),
+        cookie: None,
+        body: Bytes::from_vec(Vec::new(alloc)),
+    }
+}
+
+// The status and its phrase, as plain text.
+pub(crate) fn plain_response(alloc: Global, status: u16) -> Result<Response, NoMemory>
+    requires { IsStatusCode status }
+    ensures { GivesAnswer result (plain_response status) }
+{
+    let mut fields = Vec::new(alloc);
+    fields.push(Field::copy_of(alloc, b"content-type", b"text/plain")?)?;
+    Ok(Response {
+        status,
+        fields: Listed::from_vec(fields),
+        cookie: None,
+        body: Bytes::from_vec(plain_text(alloc, status)?),
+    })
+}
+
+// The status and its phrase, as a line.
+fn plain_text(alloc: Global, status: u16) -> Result<Vec<u8>, NoMemory>
+    requires { IsStatusCode status }
+    ensures { IfOk result (λ text. text.items ≡ (plain_response status).body) }
+{
+    let phrase = phrase_of(status);
+    Ok(format!(in alloc; "{status} {phrase}\n")?.into_bytes())
+}
+
+// The phrase of a status, empty where it has none.
+#[tactic(auto, unfolding(sv_wire::specs::ResponseText::phrase_of))]
+fn phrase_of(status: u16) -> &'static str
+    requires { IsStatusCode status }
+    ensures { result.now ≡ phrase_of status }
+{
+    let code = StatusCode::from_u16(status).unwrap();
+    code.canonical_reason().unwrap_or("")
+}
+
+// Says that a body may be sent.
+#[tactic(auto, unfolding(sv_run::specs::Items::continue_text))]
+pub(crate) fn send_continue<C>(output: &mut Output) -> Result<(), NoMemory>
+    ensures { IfOk result (λ _. Adds {Context = C} output.old (sending continue_text) output.new) }
+{
+    output.sends.extend_from_slice(CONTINUE)?;
+    Ok(())
+}
+
+// Sends the answer to a message, behind what was sent.
+pub(crate) fn send(
+    message: &Message,
+    response: &Response,
+    moment: u64,
+    output: &mut Output,
+) -> Result<(), NoMemory>
+    requires { IsStatusCode response.now.status }
+    ensures { IfOk result (λ _. (text : List ℕ) × IsAnswerTo message.now moment response.now text
+        × (reaction_of output.new ≡ record (reaction_of output.old) {
+          sends = output.old.sends.items ++ text;
+          closes = output.old.closes || not message.now.keep;
+        })) }
+{
+    write_response(
+        response,
+        is_head(message),
+        message.keep,
+        moment,
+        &mut output.sends,
+    )?;
+    output.closes = closes_behind(output.closes, message.keep);
+    Ok(())
+}
+
+// Whether the head alone is asked for.
+fn is_head(message: &Message) -> bool
+    ensures { result ≡ bytes_eq message.now.method (codes "HEAD") }
+{
+    message.method.as_str() == "HEAD"
+}
+
+// Whether the connection closes behind a message, where it closes already or the message does not keep it.
+fn closes_behind(closes: bool, keep: bool) -> bool
+    ensures { result ≡ (closes || not keep) }
+{
+    closes || !keep
+}
+
+// Answers a message that no context handles.
+pub(crate) fn answer_itself<C>(
+    message: &Message,
+    entry: Entry,
+    response: &Response,
+    moment: u64,
+    output: &mut Output,
+) -> Result<(), NoMemory>
+    requires { IsStatusCode response.now.status }
+    ensures { IfOk result (λ _. (text : List ℕ) × IsAnswerTo message.now moment response.now text
+        × Adds {Context = C} output.old (answered entry text (not message.now.keep)) output.new) }
+{
+    note(entry, output)?;
+    send(message, response, moment, output)
+}
+
+// Answers what was refused before it was a message. The connection closes.
+pub(crate) fn refuse<C>(
+    alloc: Global,
+    fault: WireFault,
+    moment: u64,
+    output: &mut Output,
+) -> Result<(), NoMemory>
+    ensures { IfOk result (λ _. (text : List ℕ) × IsTextAt moment (plain_response (fault_status fault)) false false text
+        × Adds {Context = C} output.old (answered (entries.Refused (causes.Wire fault)) text true) output.new) }
+{
+    note(Entry::Refused(RefusalCause::Wire(fault)), output)?;
+    let response = plain_response(alloc, fault.status())?;
+    write_response(&response, false, false, moment, &mut output.sends)?;
+    output.closes = true;
+    Ok(())
+}
+
+// Notes an entry.
+fn note(entry: Entry, output: &mut Output) -> Result<(), NoMemory>
+    ensures { IfOk result (λ _. reaction_of output.new ≡ record (reaction_of output.old) { journal = with_entry entry output.old.journal }) }
+{
+    output.journal.note(Ok(entry));
+    if output.journal.whole() {
+        Ok(())
+    } else {
+        Err(NoMemory)
+    }
+}

@@ -1,0 +1,176 @@
+//! Contexts behind connections.
+
+ghost use Rattle.std.specs.Prelude.{◌≡◌, None, IfOk, IsSome, false};
+ghost use Rattle.sv_host.specs.Host.{StepsSo, opening, state_of};
+ghost use Rattle.sv_host.specs.Output.{Adds};
+ghost use Rattle.sv_run.specs.Contexts.{theory_of};
+ghost use Rattle.sv_run.specs.Effect.{Effect, shown};
+ghost use Rattle.sv_run.specs.Events.{Accepts, Happens, MovesAll, TakesPiece, fault_of};
+ghost use Rattle.sv_run.specs.Seen.{happening_of};
+
+use crate::connections::Connections;
+use crate::expiring::expire_all;
+use crate::faults::{fault_of, moment_after};
+use crate::items::take_items;
+use crate::output::Output;
+use std::alloc::Global;
+use sv_run::{Context, Happening, Reaction, Reactor, StepFault, Words};
+use sv_text::NoMemory;
+
+/// Contexts behind connections, with a source of random words.
+#[derive(Drop)]
+pub struct Host<C, W> {
+    alloc: Global,
+    stopped: bool,
+    moment: u64,
+    contexts: Vec<C>,
+    words: W,
+    connections: Connections,
+}
+
+impl<C, W> Host<C, W> {
+    /// The contexts in their order, before any event: no connection is known, and the moment is 0. It takes no memory.
+    pub fn new(alloc: Global, contexts: Vec<C>, words: W) -> Host<C, W>
+        ensures { state_of result ≡ opening contexts.items words }
+    {
+        Host {
+            alloc,
+            stopped: false,
+            moment: 0,
+            contexts,
+            words,
+            connections: Connections::new(alloc),
+        }
+    }
+
+    /// Whether an event wanted memory.
+    pub fn is_stopped(&self) -> bool
+        ensures { result ≡ (state_of self.now).stopped }
+    {
+        self.stopped
+    }
+
+    /// The contexts in their order.
+    pub fn contexts(&self) -> &[C]
+        ensures { result.now ≡ (state_of self.now).world.contexts }
+    {
+        self.contexts.as_slice()
+    }
+}
+
+impl<C: Context, W: Words> Host<C, W> {
+    /// Takes an event: the moment is raised, the sessions that have expired end, and then it happens (RFC 9112, section 9; Jakarta Servlet
+    /// 6.0, section 7.5). A connection and a context are found as fast among many as among few, but for the comparison of context paths.
+    ///
+    /// # Errors
+    /// [`StepFault`], the first that stands. After one other than `NoMemory` nothing has changed, and after `NoMemory` each event is refused
+    /// as `Stopped`; what the event brought is lost then, and the contexts were moved by some of its calls.
+    pub fn step(&mut self, happening: Happening) -> Result<Reaction, StepFault>
+        ensures steps { StepsSo (theory_of C.path_of C.conduct W.draws) (state_of self.old) (happening_of happening.entry) result (state_of self.new) }
+        ensures moves { MovesAll C.conduct (state_of self.old).world.contexts (state_of self.new).world.contexts }
+    {
+        if self.stopped {
+            return Err(StepFault::Stopped);
+        }
+        if let Some(fault) = fault_of(&self.connections, happening) {
+            return Err(fault);
+        }
+        match self.accept(happening) {
+            Ok(reaction) => Ok(reaction),
+            Err(_) => {
+                self.stopped = true;
+                Err(StepFault::NoMemory)
+            }
+        }
+    }
+
+    // An event that nothing refuses but want of memory.
+    fn accept(&mut self, happening: Happening) -> Result<Reaction, NoMemory>
+        requires runs { (state_of self.old).stopped ≡ false }
+        requires fits { fault_of (state_of self.old).connections (happening_of happening) ≡ None }
+        ensures accepts { IfOk result (λ reaction. (effect : Effect C)
+            × Accepts (theory_of C.path_of C.conduct W.draws) (state_of self.old) (happening_of happening.entry) effect (state_of self.new)
+            × (reaction ≡ shown effect)) }
+        ensures moves { MovesAll C.conduct (state_of self.old).world.contexts (state_of self.new).world.contexts }
+    {
+        let mut output = Output::new(self.alloc);
+        self.moment = moment_after(self.moment, happening);
+        expire_all(
+            self.alloc,
+            self.contexts.as_mut_slice(),
+            self.moment,
+            &mut output.journal,
+        );
+        if !output.journal.whole() {
+            return Err(NoMemory);
+        }
+        self.happen(happening, &mut output)?;
+        Ok(output.into_reaction())
+    }
+
+    // The event itself, at its moment.
+    fn happen(&mut self, happening: Happening, output: &mut Output) -> Result<(), NoMemory>
+        requires { fault_of (state_of self.old).connections (happening_of happening) ≡ None }
+        ensures happens { IfOk result (λ _. (effect : Effect C)
+            × Happens (theory_of C.path_of C.conduct W.draws) (state_of self.old) (happening_of happening.entry) effect (state_of self.new)
+            × Adds output.old effect output.new) }
+        ensures moves { MovesAll C.conduct (state_of self.old).world.contexts (state_of self.new).world.contexts }
+    {
+        match happening {
+            Happening::Opened { connection } => self.connections.open(connection),
+            Happening::Piece {
+                connection,
+                bytes,
+                ..
+            } => self.take_piece(connection, bytes, output),
+            Happening::Ended { connection } => {
+                self.connections.forget(connection);
+                output.closes = true;
+                Ok(())
+            }
+            Happening::Lost { connection } => {
+                self.connections.forget(connection);
+                Ok(())
+            }
+            Happening::Tick { .. } => Ok(()),
+        }
+    }
+
+    // A piece of a connection: the items that it completes are handled.
+    fn take_piece(&mut self, number: u64, piece: &[u8], output: &mut Output) -> Result<(), NoMemory>
+        requires { IsSome ((state_of self.old).connections.held number) }
+        ensures takes { IfOk result (λ _. (effect : Effect C)
+            × TakesPiece (theory_of C.path_of C.conduct W.draws) (state_of self.old) number piece.now effect (state_of self.new)
+            × Adds output.old effect output.new) }
+        ensures moves { MovesAll C.conduct (state_of self.old).world.contexts (state_of self.new).world.contexts }
+    {
+        let items = self.connections.feed(number, piece)?;
+        take_items::<C, W>(
+            self.alloc,
+            self.contexts.as_mut_slice(),
+            &mut self.words,
+            self.moment,
+            &items,
+            output,
+        )
+    }
+}
+
+impl<C, W: Drop> Host<C, W> {
+    /// The contexts back, in their order. It takes no memory.
+    pub fn into_contexts(self) -> Vec<C>
+        ensures { result.items ≡ (state_of self).world.contexts }
+    {
+        let Host { contexts, .. } = self;
+        contexts
+    }
+}
+
+impl<C: Context, W: Words> Reactor for Host<C, W> {
+    ghost steps = { λ before happening result after.
+        StepsSo (theory_of C.path_of C.conduct W.draws) (state_of before) happening result (state_of after) };
+
+    fn step(&mut self, happening: Happening) -> Result<Reaction, StepFault> {
+        Host::<C, W>::step(self, happening)
+    }
+}

@@ -1,0 +1,60 @@
+//! The handling of what a stream says, in its order.
+
+ghost use Rattle.std.specs.Prelude.{IfOk};
+ghost use Rattle.sv_host.specs.Output.{Adds};
+ghost use Rattle.sv_run.specs.Contexts.{theory_of};
+ghost use Rattle.sv_run.specs.Effect.{Effect};
+ghost use Rattle.sv_run.specs.Events.{MovesAll};
+ghost use Rattle.sv_run.specs.Items.{Takes, TakesItem};
+ghost use Rattle.sv_run.specs.State.{world_of};
+
+use crate::answering::{refuse, send_continue};
+use crate::messages::take_message;
+use crate::output::Output;
+use std::alloc::Global;
+use sv_run::{Context, Words};
+use sv_text::NoMemory;
+use sv_wire::Item;
+
+// Handles an item.
+fn take_item<C: Context, W: Words>(
+    alloc: Global,
+    contexts: &mut [C],
+    words: &mut W,
+    moment: u64,
+    item: &Item,
+    output: &mut Output,
+) -> Result<(), NoMemory>
+    ensures takes { IfOk result (λ _. (effect : Effect C)
+        × TakesItem (theory_of C.path_of C.conduct W.draws) moment item.now (world_of contexts.old words.old) effect (world_of contexts.new words.new)
+        × Adds output.old effect output.new) }
+    ensures moves { MovesAll C.conduct contexts.old contexts.new }
+{
+    match item {
+        Item::Continue => send_continue::<C>(output),
+        Item::Message(message) => {
+            take_message::<C, W>(alloc, contexts, words, moment, message, output)
+        }
+        Item::Refuse(fault) => refuse::<C>(alloc, *fault, moment, output),
+    }
+}
+
+// Handles items in their order.
+pub(crate) fn take_items<C: Context, W: Words>(
+    alloc: Global,
+    contexts: &mut [C],
+    words: &mut W,
+    moment: u64,
+    items: &[Item],
+    output: &mut Output,
+) -> Result<(), NoMemory>
+    ensures takes { IfOk result (λ _. (effect : Effect C)
+        × Takes (theory_of C.path_of C.conduct W.draws) moment items.now (world_of contexts.old words.old) effect (world_of contexts.new words.new)
+        × Adds output.old effect output.new) }
+    ensures moves { MovesAll C.conduct contexts.old contexts.new }
+{
+    for item in items {
+        take_item::<C, W>(alloc, contexts, words, moment, item, output)?;
+    }
+    Ok(())
+}

@@ -1,0 +1,18 @@
+//! Contexts behind connections: what refuses an event, the end of expired sessions, the handling of what the streams say, and what an event
+//! brings.
+#![tactic(auto)]
+
+mod answering;
+mod connections;
+mod expiring;
+mod faults;
+mod host;
+mod items;
+mod messages;
+mod output;
+
+pub use connections::Connections;
+pub use expiring::expire_all;
+pub use faults::{fault_of, moment_after};
+pub use host::Host;
+pub use output::Output;

@@ -1,0 +1,136 @@
+//! The handling of messages: by the container itself, or by the context that a message is for.
+
+ghost use Rattle.std.specs.Prelude.{◌≡◌, ◌<◌, ℕ, IfOk, IsTrue, List, Some, length, slice_get};
+ghost use Rattle.sv_host.specs.Output.{Adds};
+ghost use Rattle.sv_mapping.specs.Pattern.{is_at_or_below};
+ghost use Rattle.sv_run.specs.Contexts.{theory_of};
+ghost use Rattle.sv_run.specs.Effect.{Effect};
+ghost use Rattle.sv_run.specs.Events.{MovesAll};
+ghost use Rattle.sv_run.specs.Items.{Responds, TakesMessage};
+ghost use Rattle.sv_run.specs.Messages.{Within, destination, destination_in, place_for};
+ghost use Rattle.sv_run.specs.State.{world_of};
+
+use crate::answering::{answer_itself, empty_response, plain_response, send};
+use crate::output::Output;
+use std::alloc::Global;
+use sv_context_path::context_place;
+use sv_journal::{Entry, RefusalCause};
+use sv_run::{Context, Words};
+use sv_text::NoMemory;
+use sv_uri::canon;
+use sv_uri::fault::CanonFault;
+use sv_uri::path::Canon;
+use sv_wire::{Message, Target};
+
+// Handles a message, which draws a pair of words whoever answers it.
+pub(crate) fn take_message<C: Context, W: Words>(
+    alloc: Global,
+    contexts: &mut [C],
+    words: &mut W,
+    moment: u64,
+    message: &Message,
+    output: &mut Output,
+) -> Result<(), NoMemory>
+    ensures takes { IfOk result (λ _. (effect : Effect C)
+        × TakesMessage (theory_of C.path_of C.conduct W.draws) moment message.now (world_of contexts.old words.old) effect (world_of contexts.new words.new)
+        × Adds output.old effect output.new) }
+    ensures moves { MovesAll C.conduct contexts.old contexts.new }
+{
+    let pair = words.pair();
+    respond::<C, W>(alloc, contexts, moment, message, pair, output)
+}
+
+// Answers a message, or has the context answer it that it is for.
+fn respond<C: Context, W: Words>(
+    alloc: Global,
+    contexts: &mut [C],
+    moment: u64,
+    message: &Message,
+    words: (u64, u64),
+    output: &mut Output,
+) -> Result<(), NoMemory>
+    ensures responds { IfOk result (λ _. (effect : Effect C)
+        × Responds (theory_of C.path_of C.conduct W.draws) moment (destination (theory_of C.path_of C.conduct W.draws) contexts.old message.now.target)
+        message.now words contexts.old effect contexts.new
+        × Adds output.old effect output.new) }
+    ensures moves { MovesAll C.conduct contexts.old contexts.new }
+{
+    match &message.target {
+        Target::Star => {
+            let response = empty_response(alloc);
+            let entry = Entry::Refused(RefusalCause::Star);
+            answer_itself::<C>(message, entry, &response, moment, output)
+        }
+        Target::Path(target) => match canon(alloc, target.as_slice()) {
+            Ok(canon) => {
+                respond_at::<C, W>(alloc, contexts, moment, message, &canon, words, output)
+            }
+            Err(CanonFault::Path(fault)) => {
+                let response = plain_response(alloc, 400)?;
+                let entry = Entry::Refused(RefusalCause::Path(fault));
+                answer_itself::<C>(message, entry, &response, moment, output)
+            }
+            Err(CanonFault::NoMemory) => Err(NoMemory),
+        },
+    }
+}
+
+// Answers a message whose target has that canonical path, or has the context answer it that serves the path.
+fn respond_at<C: Context, W: Words>(
+    alloc: Global,
+    contexts: &mut [C],
+    moment: u64,
+    message: &Message,
+    canon: &Canon,
+    words: (u64, u64),
+    output: &mut Output,
+) -> Result<(), NoMemory>
+    ensures responds { IfOk result (λ _. (effect : Effect C)
+        × Responds (theory_of C.path_of C.conduct W.draws) moment
+        (destination_in canon.now (place_for (theory_of C.path_of C.conduct W.draws) contexts.old canon.now.path))
+        message.now words contexts.old effect contexts.new
+        × Adds output.old effect output.new) }
+    ensures moves { MovesAll C.conduct contexts.old contexts.new }
+{
+    match context_place(contexts, canon.path.as_str()) {
+        Some(place) => {
+            handle_at::<C, W>(
+                alloc, contexts, place, moment, message, canon, words, output,
+            )
+        }
+        None => {
+            let response = plain_response(alloc, 404)?;
+            let entry = Entry::Hidden(RefusalCause::NoContext);
+            answer_itself::<C>(message, entry, &response, moment, output)
+        }
+    }
+}
+
+// Has the context at the place handle a message.
+fn handle_at<C: Context, W: Words>(
+    alloc: Global,
+    contexts: &mut [C],
+    place: usize,
+    moment: u64,
+    message: &Message,
+    canon: &Canon,
+    words: (u64, u64),
+    output: &mut Output,
+) -> Result<(), NoMemory>
+    requires there { place < length contexts.old }
+    requires serves { (context : C) → slice_get contexts.old place ≡ Some context → IsTrue (is_at_or_below (C.path_of context) canon.now.path) }
+    ensures responds { IfOk result (λ _. (effect : Effect C)
+        × Responds (theory_of C.path_of C.conduct W.draws) moment (Within place canon.now) message.now words contexts.old effect contexts.new
+        × Adds output.old effect output.new) }
+    ensures moves { MovesAll C.conduct contexts.old contexts.new }
+{
+    let response = contexts[place].handle(
+        alloc,
+        message,
+        canon,
+        moment,
+        words,
+        &mut output.journal,
+    )?;
+    send(message, &response, moment, output)
+}

@@ -1,0 +1,133 @@
+//! What takes events in place of a container.
+
+use std::alloc::Global;
+use sv_journal::{Entry, Journal, RefusalCause};
+use sv_rows::Draft;
+use sv_run::{Happening, Reaction, Reactor, StepFault};
+use sv_text::Bytes;
+
+/// Sends the bytes of each piece, with the moment behind them, in angle brackets, and notes each event. A piece of full stops alone is taken in
+/// silence and not noted. A piece that holds a star brings an entry, one that ends in an exclamation mark closes, and one that begins with a
+/// question mark is refused with the fault of the number behind it. The opening of connection 900 and such a number, the end of connection
+/// 910 and such a number, and the loss of connection 920 and such a number are refused so too.
+#[derive(Drop)]
+pub(crate) struct Echo {
+    alloc: Global,
+    pub noted: Draft,
+}
+
+impl Echo {
+    pub fn new(alloc: Global) -> Echo {
+        Echo {
+            alloc,
+            noted: Draft::new(alloc),
+        }
+    }
+
+    fn note(&mut self, event: &str, number: u64) {
+        if !self.noted.is_empty() {
+            self.noted.add(" ");
+        }
+        self.noted.add(event);
+        self.noted.add_shown(&number);
+    }
+
+    fn plain(&self, closes: bool) -> Reaction {
+        Reaction {
+            sends: Bytes::from_vec(Vec::new(self.alloc)),
+            closes,
+            journal: Journal::new(self.alloc),
+        }
+    }
+
+    // An event without bytes, which is refused where its number has a fault.
+    fn told(
+        &mut self,
+        event: &str,
+        number: u64,
+        fault: u64,
+        closes: bool,
+    ) -> Result<Reaction, StepFault> {
+        match fault_of(fault) {
+            Some(fault) => Err(fault),
+            None => {
+                self.note(event, number);
+                Ok(self.plain(closes))
+            }
+        }
+    }
+
+    fn piece(&mut self, connection: u64, bytes: &[u8], moment: u64) -> Result<Reaction, StepFault> {
+        if let Some(fault) = fault_in(bytes) {
+            return Err(fault);
+        }
+        if bytes.iter().all(|b| *b == b'.') {
+            return Ok(self.plain(false));
+        }
+        self.note("piece", connection);
+        let mut sends = Draft::new(self.alloc);
+        sends.add("<");
+        sends.add_bytes(bytes);
+        sends.add("@");
+        sends.add_shown(&moment);
+        sends.add(">");
+        let mut journal = Journal::new(self.alloc);
+        if bytes.iter().any(|b| *b == b'*') {
+            journal.note(Ok(Entry::Refused(RefusalCause::Star)));
+        }
+        match sends.finish() {
+            Ok(sends) => Ok(Reaction {
+                sends: Bytes::from_vec(sends),
+                closes: bytes.last() == Some(&b'!'),
+                journal,
+            }),
+            Err(_) => Err(StepFault::NoMemory),
+        }
+    }
+}
+
+impl Reactor for Echo {
+    ghost steps = { λ _ _ _ _. Unit {0} };
+
+    fn step(&mut self, happening: Happening) -> Result<Reaction, StepFault> {
+        match happening {
+            Happening::Opened { connection } => {
+                self.told("open", connection, connection.saturating_sub(900), false)
+            }
+            Happening::Piece {
+                connection,
+                bytes,
+                moment,
+            } => self.piece(connection, bytes, moment),
+            Happening::Ended { connection } => {
+                self.told("end", connection, connection.saturating_sub(910), true)
+            }
+            Happening::Lost { connection } => {
+                self.told("lost", connection, connection.saturating_sub(920), false)
+            }
+            Happening::Tick { moment } => self.told("tick", moment, 0, false),
+        }
+    }
+}
+
+// The fault of a number.
+fn fault_of(number: u64) -> Option<StepFault> {
+    match number {
+        1 => Some(StepFault::Stopped),
+        2 => Some(StepFault::BadConnection),
+        3 => Some(StepFault::TooManyConnections),
+        4 => Some(StepFault::NoMemory),
+        _ => None,
+    }
+}
+
+// The fault that a piece asks for.
+fn fault_in(bytes: &[u8]) -> Option<StepFault> {
+    let (mark, rest) = bytes.split_first()?;
+    let (digit, _) = rest.split_first()?;
+    if *mark == b'?' {
+        fault_of(u64::from(digit.saturating_sub(b'0')))
+    } else {
+        None
+    }
+}

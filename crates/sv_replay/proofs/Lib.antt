@@ -1,0 +1,4 @@
+mod LineLemmas
+mod PlayLemmas
+mod ProgressLemmas
+mod RunJoins

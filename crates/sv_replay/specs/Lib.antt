@@ -1,0 +1,6 @@
+pub mod Asked
+pub mod Laws
+pub mod Lines
+pub mod PlaySteps
+pub mod Replay
+pub mod ReplayFault

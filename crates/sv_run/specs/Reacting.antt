@@ -1,0 +1,40 @@
+-- What takes the events of a container one by one.
+use Rattle.std.specs.Prelude.{◌≡◌, List, [], ◌∷◌, map, Result, Ok, Err}
+use Rattle.sv_run.specs.Contexts.{Theory}
+use Rattle.sv_run.specs.Effect.{shown}
+use Rattle.sv_run.specs.Events.{Happening, Steps}
+use Rattle.sv_run.specs.Runs.{Answer, Run}
+use Rattle.sv_run.specs.State.{State}
+use Rattle.sv_run.specs.declared.reaction.Reaction.{Reaction}
+use Rattle.sv_run.specs.declared.step_fault.StepFault.{StepFault}
+
+-- how an event is taken: what takes it before, the event, what it brings or why it is refused, and what takes it after
+abbrev pub Reacting : Type 0 → Type 1
+Reacting R = R → Happening → Result Reaction StepFault → R → Type 0
+
+-- the events are taken one after another, each with its answer
+abbrev pub Reacts : {R : Type 0} → Reacting R → R → List Happening → List (Result Reaction StepFault) → R → Type 0
+Reacts steps before [] [] after = after ≡ before
+Reacts {R} steps before (happening ∷ happenings) (answer ∷ answers) after =
+    (between : R) × steps before happening answer between × Reacts steps between happenings answers after
+Reacts steps before [] (answer ∷ answers) after = ⊥
+Reacts steps before (happening ∷ happenings) [] after = ⊥
+
+-- what is seen of an answer
+abbrev pub answer_shown : {Context : Type 0} → Answer Context → Result Reaction StepFault
+answer_shown (Ok effect) = Ok (shown effect)
+answer_shown (Err fault) = Err fault
+
+module _ {R Context Words : Type 0} (steps : Reacting R) (theory : Theory Context Words) where
+  -- events are taken as the run of a container says, of which the reactions are what is seen
+  abbrev pub StepsLike : (R → State Context Words) → Type 0
+  StepsLike state_of =
+      (before after : R) (happening : Happening) (result : Result Reaction StepFault) → steps before happening result after
+      → (answer : Answer Context) × Steps theory (state_of before) happening answer (state_of after) × (result ≡ answer_shown answer)
+
+  -- where each event is taken so, events one after another are a run
+  abbrev pub ReactionsAreARun : Type 0
+  ReactionsAreARun =
+      (state_of : R → State Context Words) → StepsLike state_of
+      → (before after : R) (happenings : List Happening) (results : List (Result Reaction StepFault)) → Reacts steps before happenings results after
+      → (answers : List (Answer Context)) × Run theory (state_of before) happenings answers (state_of after) × (results ≡ map answer_shown answers)

@@ -1,0 +1,30 @@
+//! What takes the events of a container.
+
+ghost use Rattle.sv_run.specs.Contexts.{theory_of};
+ghost use Rattle.sv_run.specs.Reacting.{ReactionsAreARun};
+ghost use Rattle.sv_run.specs.Seen.{happening_of};
+
+use crate::context::{Context, Words};
+use crate::happening::Happening;
+use crate::reaction::Reaction;
+use crate::step_fault::StepFault;
+
+/// What takes the events of a container one by one, as a container does.
+pub trait Reactor {
+    ghost use Rattle.sv_run.specs.Reacting.{Reacting};
+
+    /// How an event is taken.
+    ghost steps: { Reacting Self };
+
+    /// Takes an event.
+    ///
+    /// # Errors
+    /// Why the event is refused, as [`StepFault`] says.
+    fn step(&mut self, happening: Happening) -> Result<Reaction, StepFault>
+        ensures { steps self.old (happening_of happening.entry) result self.new };
+}
+
+/// What takes each event as the run of a container says takes events one after another as a run.
+pub fn reactions_are_a_run<R: Reactor, C: Context, W: Words>()
+    ensures { ReactionsAreARun R.steps (theory_of C.path_of C.conduct W.draws) }
+{}

@@ -1,0 +1,2 @@
+pub mod ServeFault
+pub mod Serving

@@ -1,0 +1,26 @@
+//! What accepts connections.
+
+use sv_streams::{Sink, Source};
+
+/// An accept that gave no connection because it failed.
+#[derive(Clone, Copy, Debug, PartialEq, Eq)]
+pub struct AcceptFailed;
+
+/// What accepts connections one after another.
+pub trait Acceptor {
+    ghost use Rattle.std.specs.Prelude.{Result};
+    ghost use Rattle.sv_runs.specs.declared.acceptor.AcceptFailed.{AcceptFailed};
+
+    /// A connection's stream.
+    type Peer: Source + Sink + Drop;
+
+    /// What an accept is: what accepts before it, what it gave, and what accepts after it. Left out, an accept may give anything.
+    ghost accepts: { Self → Result Self.Peer AcceptFailed → Self → Type 0 } = { λ _ _ _. Unit {0} };
+
+    /// Accepts the next connection.
+    ///
+    /// # Errors
+    /// None could be accepted.
+    fn accept(&mut self) -> Result<Self::Peer, AcceptFailed>
+        ensures { accepts self.old result self.new };
+}

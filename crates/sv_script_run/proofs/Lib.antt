@@ -1,0 +1,2 @@
+mod Lawful
+mod WholeLemmas

@@ -1,0 +1,8 @@
+use Rattle.sv_serve.proofs.starting.start.Goals as goal
+
+pub returns : goal.returns
+returns g c = (
+  c.from_seed.result,
+  c.from_seed.ensures,
+  (c.new.new.journal, c.in-Err.fault, rw c.new-journal.ensures at c.in-Err.ensures, c.start_fault.ensures),
+)

@@ -1,0 +1,76 @@
+-- The start of a server's container.
+use Rattle.std.specs.Prelude.{◌≡◌, ℕ, List, Result, Ok, Err}
+use Rattle.rand_chacha.specs.ChaCha.{of_seed}
+use Rattle.sv_component.specs.Call.{Call}
+use Rattle.sv_application.specs.declared.program_filter.ProgramFilter.{ProgramFilter}
+use Rattle.sv_application.specs.declared.program_listener.ProgramListener.{ProgramListener}
+use Rattle.sv_application.specs.declared.program_servlet.ProgramServlet.{ProgramServlet}
+use Rattle.sv_container.specs.NewCode.{code_number}
+use Rattle.sv_container.specs.Starting.{Starts}
+use Rattle.sv_container.specs.declared.container.Container.{Container}
+use Rattle.sv_container.specs.declared.new_fault.NewCode.{NewCode}
+use Rattle.sv_container.specs.declared.new_fault.NewCode.TheVariants as code
+use Rattle.sv_container.specs.declared.new_fault.NewFault.{NewFault}
+use Rattle.sv_context.specs.declared.deployment.Deployment.{Deployment}
+use Rattle.sv_deployments.specs.Configuration.{FindsConfiguration}
+use Rattle.sv_deployments.specs.Folders.{FolderGiving}
+use Rattle.sv_deployments.specs.declared.configuration.Configuration.{Configuration}
+use Rattle.sv_journal.specs.Journal.{JournalState, new_journal}
+use Rattle.sv_program.specs.FileStore.{Giving}
+use Rattle.sv_program.specs.declared.command_fault.CommandFault.{CommandFault}
+use Rattle.sv_program.specs.declared.command_fault.CommandFault.TheVariants as fault
+use Rattle.sv_words.specs.declared.seeded_words.SeededWords.{SeededWords}
+use Rattle.sv_serve.specs.declared.starting.StartedServer.{StartedServer}
+
+-- the fault of a container that did not start, by its code and the context that goes with it
+abbrev pub start_fault : NewCode → List ℕ → CommandFault
+start_fault code.NoMemory context = fault.NoMemory
+start_fault code.DuplicateContext context = fault.Start (code_number code.DuplicateContext) context
+start_fault code.TooManyContexts context = fault.Start (code_number code.TooManyContexts) context
+start_fault code.PartsMismatch context = fault.Start (code_number code.PartsMismatch) context
+start_fault code.InitFailed context = fault.Start (code_number code.InitFailed) context
+
+-- the words of a seed, from the beginning of its key stream
+abbrev pub AreWordsOf : List ℕ → SeededWords → Type 0
+AreWordsOf seed words = words.generator ≡ of_seed seed
+
+module _ {S F L : Type 0} (servlet_step : S → Call → S → Type 0) (filter_step : F → Call → F → Type 0) (listener_step : L → Call → L → Type 0) where
+  -- a container starts with the deployments and the words of the seed, or its fault is told
+  abbrev pub StartsWith : List (Deployment S F L) → List ℕ → Result (Container S F L SeededWords) CommandFault → Type 0
+  StartsWith deployments seed (Ok container) =
+      (words : SeededWords) × AreWordsOf seed words
+      × ((journal : JournalState) × Starts servlet_step filter_step listener_step deployments words new_journal (Ok container) journal)
+  StartsWith deployments seed (Err fault) =
+      (words : SeededWords) × AreWordsOf seed words
+      × ((journal : JournalState) × (refusal : NewFault S F L)
+      × Starts servlet_step filter_step listener_step deployments words new_journal (Err refusal) journal
+      × (fault ≡ start_fault refusal.code refusal.context))
+
+module _ (servlet_step : ProgramServlet → Call → ProgramServlet → Type 0) (filter_step : ProgramFilter → Call → ProgramFilter → Type 0)
+    (listener_step : ProgramListener → Call → ProgramListener → Type 0) where
+  -- what is configured starts, or its fault is told
+  abbrev pub Begins : Configuration → Result StartedServer CommandFault → Type 0
+  Begins configuration (Ok started) =
+      StartsWith servlet_step filter_step listener_step configuration.deployments.items configuration.seed (Ok started.container) × (started.port ≡ configuration.port)
+  Begins configuration (Err fault) = StartsWith servlet_step filter_step listener_step configuration.deployments.items configuration.seed (Err fault)
+
+  -- a fault of the files is told; without one, what they configure starts
+  abbrev pub GoesOn : Result Configuration CommandFault → Result StartedServer CommandFault → Type 0
+  GoesOn (Ok configuration) result = Begins configuration result
+  GoesOn (Err fault) result = result ≡ Err fault
+
+  -- the server starts by what the store gives
+  abbrev pub StartsServer : {S : Type 0} → Giving S → FolderGiving S → List ℕ → S → Result StartedServer CommandFault → S → Type 0
+  StartsServer gives_text gives_files config before result after =
+      (found : Result Configuration CommandFault) × FindsConfiguration gives_text gives_files config found before after × GoesOn found result
+
+  -- where the server did not start, its fault is the command's, and nothing was written
+  abbrev pub UnlessStarted : {W : Type 0} → Result StartedServer CommandFault → Result (Unit {0}) CommandFault → W → W → Type 0
+  UnlessStarted (Ok started) result writer writer_after = Unit {0}
+  UnlessStarted (Err fault) result writer writer_after = (result ≡ Err fault) × (writer_after ≡ writer)
+
+  -- a command begins with the start of the server
+  abbrev pub BeginsWith : {S W : Type 0} → Giving S → FolderGiving S → List ℕ → S → W → Result (Unit {0}) CommandFault → S → W → Type 0
+  BeginsWith gives_text gives_files config before writer result after writer_after =
+      (begun : Result StartedServer CommandFault) × StartsServer gives_text gives_files config before begun after
+      × UnlessStarted begun result writer writer_after

@@ -1,0 +1,94 @@
+//! The command `selftest`: a server's container asked by the program itself.
+
+ghost use Rattle.sv_serve.specs.Starting.{BeginsWith};
+
+use crate::sockets::{fault_of, listen};
+use crate::starting::{StartedServer, start_server};
+use std::alloc::Global;
+use std::io;
+use std::io::{ErrorKind, Write};
+use std::net::{Net, OpenListener, TcpStream};
+use std::time::Clock;
+use sv_application::{ProgramFilter, ProgramListener, ProgramServlet};
+use sv_component::{Filter, Listener, Servlet};
+use sv_deployments::FolderStore;
+use sv_program::{CommandFault, FileStore};
+use sv_run::Reactor;
+use sv_runs::serve_connections;
+use sv_sockets::{READ_BYTES, SocketAcceptor, ask, first_line};
+use sv_streams::SystemClock;
+
+/// Starts the container of the server file, listens at its port on this machine, connects to it, asks for the root path by `HEAD`, serves that
+/// connection, shuts the container down, and writes the line `selftest ` with the first line of the answer behind it.
+///
+/// # Errors
+/// The first fault: those of [`start_server`]; then [`CommandFault::Socket`] or [`CommandFault::NoMemory`], when nothing was written; then
+/// [`CommandFault::Output`].
+pub fn self_test<S: FileStore + FolderStore, H: Net + Clock, W: Write>(
+    alloc: Global,
+    store: &mut S,
+    host: &H,
+    writer: &mut W,
+    config: &str,
+) -> Result<(), CommandFault>
+    ensures { BeginsWith ⟦<ProgramServlet as Servlet>⟧.servlet_step ⟦<ProgramFilter as Filter>⟧.filter_step ⟦<ProgramListener as Listener>⟧.listener_step
+        S.gives_text S.gives_files config.now store.old writer.old result store.new writer.new }
+{
+    let StartedServer {
+        port,
+        mut container,
+    } = match start_server(alloc, store, config) {
+        Ok(started) => started,
+        Err(fault) => return Err(fault),
+    };
+    let answer = own_answer(alloc, host, port, &mut container);
+    let _stopped = container.shutdown();
+    match print_answer(writer, answer?.as_slice()) {
+        Ok(()) => Ok(()),
+        Err(_) => Err(CommandFault::Output),
+    }
+}
+
+// The first line of the answer to the request of the self-test.
+fn own_answer<H: Net + Clock, R: Reactor>(
+    alloc: Global,
+    host: &H,
+    port: u16,
+    reactor: &mut R,
+) -> Result<Vec<u8>, CommandFault> {
+    let Ok(listener) = listen(host, port) else {
+        return Err(CommandFault::Socket);
+    };
+    let Ok(client) = connected(host, &listener) else {
+        return Err(CommandFault::Socket);
+    };
+    let mut acceptor = SocketAcceptor::new(&listener);
+    let mut clock = SystemClock::new(host);
+    let mut buffer = [0; READ_BYTES];
+    match serve_connections(reactor, &mut acceptor, &mut clock, 1, &mut buffer) {
+        Ok(()) => answered(alloc, client),
+        Err(fault) => Err(fault_of(fault)),
+    }
+}
+
+// A connection to the listener, on which the request is written.
+fn connected<H: Net>(host: &H, listener: &H::Listener) -> io::Result<H::Stream> {
+    let mut client = TcpStream::connect(host, listener.local_addr()?)?;
+    ask(&mut client)?;
+    Ok(client)
+}
+
+fn answered<T: io::Read + Drop>(alloc: Global, client: T) -> Result<Vec<u8>, CommandFault> {
+    match first_line(alloc, client) {
+        Ok(line) => Ok(line),
+        Err(error) if error.kind() == ErrorKind::OutOfMemory => Err(CommandFault::NoMemory),
+        Err(_) => Err(CommandFault::Socket),
+    }
+}
+
+fn print_answer<W: Write>(writer: &mut W, line: &[u8]) -> io::Result<()> {
+    writer.write_all(b"selftest ")?;
+    writer.write_all(line)?;
+    writer.write_all(b"\n")?;
+    writer.flush()
+}

@@ -1,0 +1,20 @@
+//! A port of this machine, and the faults of what listens there.
+
+use std::io;
+use std::net::{Ipv4Addr, Net, TcpListener};
+use sv_program::CommandFault;
+use sv_runs::ServeFault;
+
+/// Listens at the port for connections of this machine alone.
+pub(crate) fn listen<H: Net>(host: &H, port: u16) -> io::Result<H::Listener> {
+    TcpListener::bind(host, (Ipv4Addr::LOCALHOST, port))
+}
+
+/// The fault of a command by that of its connections.
+pub(crate) fn fault_of(fault: ServeFault) -> CommandFault {
+    match fault {
+        ServeFault::Connection => CommandFault::Socket,
+        ServeFault::NoMemory => CommandFault::NoMemory,
+        ServeFault::Output => CommandFault::Output,
+    }
+}

@@ -1,0 +1,3 @@
+pub mod RunFault
+pub mod Running
+pub mod Script

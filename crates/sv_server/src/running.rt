@@ -1,0 +1,34 @@
+//! A container that runs.
+
+ghost use Rattle.sv_container.specs.Container.{state_of};
+ghost use Rattle.sv_run.specs.Seen.{happening_of};
+ghost use Rattle.sv_server.specs.Running.{StepsOf, StopsOf};
+
+use sv_component::{Filter, Listener, Servlet};
+use sv_container::Container;
+use sv_journal::Journal;
+use sv_run::{Happening, Reaction, Reactor, StepFault, Words};
+use sv_script_run::Stops;
+
+/// A container that runs, and then stops.
+#[derive(Drop)]
+pub struct Running<S, F, L, W> {
+    /// The container.
+    pub container: Container<S, F, L, W>,
+}
+
+impl<S: Servlet, F: Filter, L: Listener, W: Words> Reactor for Running<S, F, L, W> {
+    ghost steps = { StepsOf S.servlet_step F.filter_step L.listener_step W.draws };
+
+    fn step(&mut self, happening: Happening) -> Result<Reaction, StepFault> {
+        self.container.step(happening)
+    }
+}
+
+impl<S: Servlet, F: Filter, L: Listener, W: Words + Drop> Stops for Running<S, F, L, W> {
+    ghost stops = { StopsOf S.servlet_step F.filter_step L.listener_step };
+
+    fn stop(self) -> Journal {
+        self.container.shutdown().journal
+    }
+}
