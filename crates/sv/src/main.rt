@@ -4,8 +4,8 @@
 mod program_fault;
 
 use program_fault::ProgramFault;
-use std::process::ExitCode;
 use std::net::Net;
+use std::process::ExitCode;
 use std::rt::{Env, Files};
 use std::time::Clock;
 use std::{env, io};
@@ -24,7 +24,9 @@ fn main(rt: HostRuntime) -> ExitCode {
 }
 
 /// Runs the command that the arguments name. Arguments that cannot be read name none.
-fn run<R: Env + Files + Net + Clock + Input + Print + AllocGlobal + Clone + Drop>(rt: &R) -> Result<(), ProgramFault> {
+fn run<R: Env + Files + Net + Clock + Input + Print + AllocGlobal + Clone + Drop>(
+    rt: &R,
+) -> Result<(), ProgramFault> {
     let Ok(arguments) = env::args(rt) else {
         return Err(ProgramFault::Usage);
     };
