@@ -5,6 +5,7 @@
 # ./sv release      does so, and makes it the released program.
 set -eu
 top=$(dirname "$(readlink -f "$0")")
+program=sv
 . "$top/tools/program"
 
 # How many crates are proved at once: one a processor, as far as the free memory reaches at 3 GiB each.

@@ -1,17 +1,21 @@
 -- The commands of the program.
 use Rattle.std.specs.Prelude.{◌≡◌, ℕ, List, [], ◌∷◌, Option, Result, Ok, Err, codes}
-use Rattle.std.specs.Io.KnownBytes.{Appends}
+use Rattle.sv_application.specs.declared.program_filter.ProgramFilter.{ProgramFilter}
+use Rattle.sv_application.specs.declared.program_listener.ProgramListener.{ProgramListener}
+use Rattle.sv_application.specs.declared.program_servlet.ProgramServlet.{ProgramServlet}
+use Rattle.sv_component.specs.Call.{Call}
 use Rattle.sv_program.specs.Arguments.{name_words}
 use Rattle.sv_program.specs.FileStore.{Giving}
 use Rattle.sv_program.specs.FirstLine.{first_options, RunsFirst}
-use Rattle.sv_program.specs.Policy.{question_words, RunsPolicy}
 use Rattle.sv_program.specs.Printed.{Prints}
 use Rattle.sv_program.specs.Uncovered.{AreLines}
 use Rattle.sv_program.specs.declared.command_fault.CommandFault.{CommandFault}
-use Rattle.sv_program.specs.declared.command_fault.CommandFault.TheVariants.{Output}
 use Rattle.sv_deployments.specs.Configuration.{FindsConfiguration}
 use Rattle.sv_deployments.specs.Folders.{FolderGiving}
 use Rattle.sv_deployments.specs.declared.configuration.Configuration.{Configuration}
+use Rattle.sv_commands.specs.Policy.{RunsPolicy}
+use Rattle.sv_commands.specs.Printed.{Shows}
+use Rattle.sv_commands.specs.Question.{question_words}
 use Rattle.sv_commands.specs.Service.{service_words}
 use Rattle.sv_commands.specs.declared.command.Command.{Command}
 use Rattle.sv_commands.specs.declared.command.Command.TheVariants.{First, Policy, Uncovered, Replay, Serve, SelfTest, Help, Version}
@@ -28,11 +32,6 @@ words_of (SelfTest config) = codes "selftest" ∷ name_words config
 words_of Help = codes "help" ∷ []
 words_of Version = codes "version" ∷ []
 
--- the text is added, or the output fails
-abbrev pub Shows : List ℕ → Result (Unit {0}) CommandFault → Option (List ℕ) → Option (List ℕ) → Type 0
-Shows text (Ok done) old new = Appends old new text
-Shows text (Err fault) old new = fault ≡ Output
-
 -- a fault of a server's files and folders, by what its store gives, is the command's
 abbrev pub EndsByFiles : Result Configuration CommandFault → Result (Unit {0}) CommandFault → Type 0
 EndsByFiles (Ok configuration) result = Unit {0}
@@ -42,21 +41,23 @@ abbrev pub ReadsFiles : {S : Type 0} → Giving S → FolderGiving S → List �
 ReadsFiles gives_text gives_files config result before after =
     (found : Result Configuration CommandFault) × FindsConfiguration gives_text gives_files config found before after × EndsByFiles found result
 
--- the command runs no container
-abbrev pub RunsNoContainer : Command → Type 0
-RunsNoContainer (Replay config) = ⊥
-RunsNoContainer (Serve service) = ⊥
-RunsNoContainer (SelfTest config) = ⊥
-RunsNoContainer other = Unit {0}
+-- the command sends no container an event
+abbrev pub ServesNothing : Command → Type 0
+ServesNothing (Replay config) = ⊥
+ServesNothing (Serve service) = ⊥
+ServesNothing (SelfTest config) = ⊥
+ServesNothing other = Unit {0}
 
--- what a run of the command answers, by what its store gives and its reader's known bytes, and adds to its writer's; what a container's run writes
--- is told by the contracts of `replay`, `serve` and `self_test`
-abbrev pub RunsCommand : {S : Type 0} → Giving S → FolderGiving S → Command → Result (Unit {0}) CommandFault → S → S → Option (List ℕ) → Option (List ℕ) → Option (List ℕ) → Type 0
-RunsCommand gives files (First deny_uncovered) result before after stream old new = (after ≡ before) × RunsFirst deny_uncovered result stream old new
-RunsCommand gives files (Policy question) result before after stream old new = RunsPolicy gives question result before after old new
-RunsCommand gives files (Uncovered config) result before after stream old new = Prints (AreLines gives config.now) result before after old new
-RunsCommand gives files (Replay config) result before after stream old new = ReadsFiles gives files config.now result before after
-RunsCommand gives files (Serve service) result before after stream old new = ReadsFiles gives files service.config.now result before after
-RunsCommand gives files (SelfTest config) result before after stream old new = ReadsFiles gives files config.now result before after
-RunsCommand gives files Help result before after stream old new = (after ≡ before) × Shows HELP.now result old new
-RunsCommand gives files Version result before after stream old new = (after ≡ before) × Shows VERSION.now result old new
+module _ (servlet_step : ProgramServlet → Call → ProgramServlet → Type 0) (filter_step : ProgramFilter → Call → ProgramFilter → Type 0)
+    (listener_step : ProgramListener → Call → ProgramListener → Type 0) where
+  -- what a run of the command answers, by what its store gives and its reader's known bytes, and adds to its writer's; what a container's events
+  -- write is told by the contracts of `replay`, `serve` and `self_test`
+  abbrev pub RunsCommand : {S : Type 0} → Giving S → FolderGiving S → Command → Result (Unit {0}) CommandFault → S → S → Option (List ℕ) → Option (List ℕ) → Option (List ℕ) → Type 0
+  RunsCommand gives files (First deny_uncovered) result before after stream old new = (after ≡ before) × RunsFirst deny_uncovered result stream old new
+  RunsCommand gives files (Policy question) result before after stream old new = RunsPolicy servlet_step filter_step listener_step gives files question result before after old new
+  RunsCommand gives files (Uncovered config) result before after stream old new = Prints (AreLines gives config.now) result before after old new
+  RunsCommand gives files (Replay config) result before after stream old new = ReadsFiles gives files config.now result before after
+  RunsCommand gives files (Serve service) result before after stream old new = ReadsFiles gives files service.config.now result before after
+  RunsCommand gives files (SelfTest config) result before after stream old new = ReadsFiles gives files config.now result before after
+  RunsCommand gives files Help result before after stream old new = (after ≡ before) × Shows HELP.now result old new
+  RunsCommand gives files Version result before after stream old new = (after ≡ before) × Shows VERSION.now result old new

@@ -2,8 +2,10 @@
 
 ghost use Rattle.std.specs.Prelude.{◌≡◌, ◌≢◌, [], IfErr, IfSome, IsSome, map, string_bytes};
 ghost use Rattle.sv_program.specs.Arguments.{Names, name_words};
-ghost use Rattle.sv_commands.specs.Command.{words_of, ReadsFiles, RunsCommand, RunsNoContainer};
+ghost use Rattle.sv_commands.specs.Command.{words_of, ReadsFiles, RunsCommand, ServesNothing};
 
+use crate::policy_command::policy;
+use crate::question::Question;
 use crate::replay_command::replay;
 use crate::service::Service;
 use crate::texts::{HELP, VERSION};
@@ -11,10 +13,10 @@ use std::alloc::Global;
 use std::io::{Read, Write};
 use std::net::Net;
 use std::time::Clock;
+use sv_application::{ProgramFilter, ProgramListener, ProgramServlet};
+use sv_component::{Filter, Listener, Servlet};
 use sv_deployments::FolderStore;
-use sv_program::{
-    CommandFault, FileStore, Question, denies_uncovered, first, policy, print_text, uncovered,
-};
+use sv_program::{CommandFault, FileStore, denies_uncovered, first, print_text, uncovered};
 use sv_serve::{self_test, serve};
 use sv_streams::{ReadSource, WriteSink};
 
@@ -26,7 +28,7 @@ pub enum Command<'a> {
         /// Whether uncovered methods are denied (Jakarta Servlet 6.0, section 13.8.4.2).
         deny_uncovered: bool,
     },
-    /// `policy CONFIG METHOD TARGET [USER]`: prints what would become of a request, by the configuration of a server.
+    /// `policy CONFIG METHOD TARGET [USER]`: prints what the container of a server says of a request.
     Policy(Question<'a>),
     /// `uncovered CONFIG`: prints which methods the constraints of a server's contexts leave uncovered.
     Uncovered {
@@ -98,8 +100,9 @@ impl<'a> Command<'a> {
         reader: R,
         writer: &mut W,
     ) -> Result<(), CommandFault>
-        ensures run { RunsCommand S.gives_text S.gives_files self.entry result store.old store.new (R.remaining reader) (W.contents writer.old) (W.contents writer.new) }
-        ensures untouched { RunsNoContainer self.entry → IfErr result (λ fault. fault ≢ CommandFault.Output → writer.new ≡ writer.old) }
+        ensures run { RunsCommand ⟦<ProgramServlet as Servlet>⟧.servlet_step ⟦<ProgramFilter as Filter>⟧.filter_step ⟦<ProgramListener as Listener>⟧.listener_step
+            S.gives_text S.gives_files self.entry result store.old store.new (R.remaining reader) (W.contents writer.old) (W.contents writer.new) }
+        ensures untouched { ServesNothing self.entry → IfErr result (λ fault. fault ≢ CommandFault.Output → writer.new ≡ writer.old) }
     {
         match self {
             Command::First { deny_uncovered } => first(alloc, reader, writer, deny_uncovered),

@@ -3,12 +3,16 @@
 
 mod command;
 mod count;
+mod policy_command;
+mod question;
 mod replay_command;
 mod service;
 mod texts;
 
 pub use command::Command;
 pub use count::Count;
+pub use policy_command::policy;
+pub use question::Question;
 pub use replay_command::replay;
 pub use service::Service;
 pub use texts::{HELP, VERSION};

@@ -17,8 +17,11 @@ sv selftest CONFIG
 sv help
     shows these lines
 sv version
-    tells the version
+    tells the version, and what proved it
 ";
 
-/// The program's name and version: what `version` prints.
-pub const VERSION: &str = "sv 0.1.0\n";
+/// The program's name and version, and the toolchain that proves it, as `rt version` names it: what `version` prints.
+pub const VERSION: &str = "\
+sv 0.1.0
+proved by rattle-kit-13b logic dac8208d650f15bf
+";

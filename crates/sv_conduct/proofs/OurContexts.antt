@@ -35,7 +35,7 @@ use Rattle.sv_conduct.proofs.Admitting.{IsLoginAs, left_by_admission, left_holds
 use Rattle.sv_conduct.proofs.Answers.{answered_moves}
 use Rattle.sv_conduct.proofs.Outcomes.{growth_is_silent, run_is_silent, same_entry}
 use Rattle.sv_conduct.specs.Order.{SessionsStayInOrder}
-use Rattle.sv_conduct.specs.Theory.{theory}
+use Rattle.sv_context.specs.Theory.{theory}
 
 -- that dispatches and the steps around them move the sessions as components may
 pub record Moves : Type 0 where

@@ -1,7 +1,7 @@
 //! What runs of a container want of its contexts, of ours.
 
 ghost use Rattle.sv_conduct.specs.Order.{SessionsStayInOrder};
-ghost use Rattle.sv_conduct.specs.Theory.{theory};
+ghost use Rattle.sv_context.specs.Theory.{theory};
 ghost use Rattle.sv_run.specs.Lawful.{EndsExpired, GivesCallersByLogin, TellsOutcomes};
 
 use sv_admission::no_admission_leaves_an_expired_session;

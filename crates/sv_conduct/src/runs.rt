@@ -1,7 +1,7 @@
 //! The laws of runs, of a container with our contexts.
 
 ghost use Rattle.sv_conduct.specs.Start.{CallersLoggedInSinceTheStart};
-ghost use Rattle.sv_conduct.specs.Theory.{theory};
+ghost use Rattle.sv_context.specs.Theory.{theory};
 ghost use Rattle.sv_run.specs.Laws.{CallersLoggedIn, OrdersAreAlike, PiecesMayBeCut, PiecesMayComeInParts, RequestsEnterExactlyWhereAllowed};
 
 use crate::contexts::{

@@ -3,11 +3,14 @@ use Rattle.std.proofs.Common.{◌≡◌, ℕ, suc, ◌<◌, ◌≤◌, List, [],
 use Rattle.std.proofs.lemmas.List.{length-map}
 use Rattle.sv_component.specs.Call.{Call}
 use Rattle.sv_container.specs.Deploying.{DeploysAll, UndeploysAll}
+use Rattle.sv_container.specs.Explaining.{ExplainsWhatWasDeployed, policies_of_contexts}
 use Rattle.sv_container.specs.Paths.{paths_of}
 use Rattle.sv_context.specs.Deployment.{Deploys, Undeploys, deployed}
 use Rattle.sv_context.specs.State.{ContextState}
 use Rattle.sv_context.specs.declared.deployment.DeployFault.{DeployFault}
 use Rattle.sv_context.specs.declared.deployment.Deployment.{Deployment}
+use Rattle.sv_explain.specs.Context.{policy}
+use Rattle.sv_explain.specs.declared.context.ContextPolicy.{ContextPolicy}
 use Rattle.sv_journal.specs.Journal.{JournalState}
 use Rattle.sv_lifecycle.specs.Standing.{LiveState}
 use Rattle.sv_lifecycle.specs.declared.start_fault.StartFault.{StartFault}
@@ -22,6 +25,17 @@ module _ {S F L : Type 0} where
       → path_in deployment.path (deployed deployment started) ≡ deployment.path
   path_started deployment (Ok live) = refl
   path_started deployment (Err fault) = refl
+
+  -- the policy of a context that may have been started
+  abbrev policy_in : ContextPolicy → Result (ContextState S F L) (DeployFault S F L) → ContextPolicy
+  policy_in other (Ok context) = policy context.content.context_path context.content.app context.users
+  policy_in other (Err fault) = other
+
+  policy_started : (deployment : Deployment S F L) (started : Result (LiveState S F L) (StartFault S F L))
+      → policy_in (policy deployment.path deployment.descriptor deployment.users) (deployed deployment started)
+      ≡ policy deployment.path deployment.descriptor deployment.users
+  policy_started deployment (Ok live) = refl
+  policy_started deployment (Err fault) = refl
 
 module _ {S F L : Type 0} (servlet_step : S → Call → S → Type 0) (filter_step : F → Call → F → Type 0) (listener_step : L → Call → L → Type 0) where
   -- one more context starts
@@ -86,6 +100,14 @@ module _ {S F L : Type 0} (servlet_step : S → Call → S → Type 0) (filter_s
       ap (map (λ context. context.content.context_path)) starts.5
       ∙ (λ i. (ap (path_in deployment.path) starts.3.is ∙ path_started deployment starts.3.started) i
       ∷ paths_stay deployments starts.2 after starts.1 starts.4 i)
+
+  -- contexts that start have the policies of the deployments
+  pub policies_stay : ExplainsWhatWasDeployed servlet_step filter_step listener_step
+  policies_stay [] before after contexts starts = ap policies_of_contexts starts.0
+  policies_stay (deployment ∷ deployments) before after contexts starts =
+      ap policies_of_contexts starts.5
+      ∙ (λ i. (ap (policy_in (policy deployment.path deployment.descriptor deployment.users)) starts.3.is ∙ policy_started deployment starts.3.started) i
+      ∷ policies_stay deployments starts.2 after starts.1 starts.4 i)
 
   pub contexts_count : (deployments : List (Deployment S F L)) (before after : JournalState) (contexts : List (ContextState S F L))
       → DeploysAll servlet_step filter_step listener_step deployments before contexts after → length contexts ≡ length deployments

@@ -1,6 +1,7 @@
 //! The events of a container.
 
-ghost use Rattle.sv_container.specs.Container.{state_of, theory};
+ghost use Rattle.sv_container.specs.Container.{state_of};
+ghost use Rattle.sv_context.specs.Theory.{theory};
 ghost use Rattle.sv_host.specs.Host.{StepsSo};
 ghost use Rattle.sv_run.specs.Seen.{happening_of};
 

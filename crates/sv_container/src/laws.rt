@@ -1,10 +1,17 @@
-//! The limits of this crate, as numbers.
+//! The laws of a container, each the contract of a function that does nothing.
 
 ghost use Rattle.std.specs.Prelude.{◌≡◌};
+ghost use Rattle.sv_container.specs.Explaining.{ExplainsWhatWasDeployed};
 
 use crate::limits::MAX_CONTEXTS;
+use sv_component::{Filter, Listener, Servlet};
 
 /// The limit as a number: definitions and code cite the constant, so that both would move with it.
 pub fn limits_are_as_stated()
     ensures { MAX_CONTEXTS ≡ 64 }
+{}
+
+/// Contexts that were started explain a request by what was deployed: their paths, descriptors and users.
+pub fn containers_explain_what_was_deployed<S: Servlet, F: Filter, L: Listener>()
+    ensures { ExplainsWhatWasDeployed S.servlet_step F.filter_step L.listener_step }
 {}

@@ -8,3 +8,4 @@ pub mod Laws
 pub mod Motion
 pub mod Responding
 pub mod State
+pub mod Theory

@@ -10,7 +10,6 @@ use Rattle.sv_settings.specs.Users.{users_of}
 use Rattle.sv_settings.specs.declared.server.Server.{Server}
 use Rattle.sv_descriptor.specs.Descriptor.{descriptor_of}
 use Rattle.sv_descriptor.specs.declared.web_app.WebApp.{WebApp}
-use Rattle.sv_explain.specs.declared.context.ContextPolicy.{ContextPolicy}
 use Rattle.sv_program.specs.declared.command_fault.CommandFault.{CommandFault}
 use Rattle.sv_program.specs.declared.command_fault.CommandFault.TheVariants as fault
 use Rattle.sv_program.specs.declared.configuration.ContextTexts.{ContextTexts}
@@ -55,12 +54,3 @@ users_named path (Some name) file = do
 
 abbrev pub users_in : ContextTexts → Step (List User)
 users_in texts = users_named texts.context.path texts.context.users texts.users
-
-abbrev pub configured_context : ContextTexts → Step ContextPolicy
-configured_context texts = do
-  its_descriptor ← descriptor_in texts
-  users ← users_in texts
-  Ok (record { path = texts.context.path; descriptor = its_descriptor; realm = users })
-
-abbrev pub configured_contexts : List ContextTexts → Step (List ContextPolicy)
-configured_contexts = each configured_context

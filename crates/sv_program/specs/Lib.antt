@@ -6,6 +6,5 @@ pub mod FileStore
 pub mod ConfigurationFiles
 pub mod ExamplePolicy
 pub mod FirstLine
-pub mod Policy
 pub mod Printed
 pub mod Uncovered

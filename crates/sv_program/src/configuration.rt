@@ -11,11 +11,10 @@ ghost use Rattle.sv_program.specs.declared.command_fault.CommandFault.TheVariant
 use crate::command_fault::CommandFault;
 use std::alloc::Global;
 use sv_descriptor::{Descriptor, read_descriptor};
-use sv_explain::ContextPolicy;
 use sv_realm::Realm;
 use sv_schema::ReadFault;
 use sv_settings::{ContextEntry, Server, read_server, read_users};
-use sv_text::{Listed, Text};
+use sv_text::Text;
 
 /// A context of a server file, with the texts of the files that it names.
 #[derive(Drop)]
@@ -44,37 +43,6 @@ pub fn server_in(alloc: Global, name: &str, text: Option<&Text>) -> Result<Serve
         Err(ReadFault::Fault(fault)) => Err(CommandFault::Server(fault)),
         Err(ReadFault::NoMemory) => Err(CommandFault::NoMemory),
     }
-}
-
-/// The contexts that the texts configure, in their order.
-///
-/// # Errors
-/// The first fault: of each context in turn [`CommandFault::File`] or [`CommandFault::Descriptor`], then
-/// [`CommandFault::File`] or [`CommandFault::Users`]; or [`CommandFault::NoMemory`].
-pub fn configured_contexts(
-    alloc: Global,
-    texts: &[ContextTexts],
-) -> Result<Listed<ContextPolicy>, CommandFault>
-    ensures { Gives command_fault result (spec.configured_contexts texts.now) }
-{
-    let mut contexts = Vec::with_capacity(alloc, texts.len())?;
-    for texts in texts {
-        contexts.push(configured_context(alloc, texts)?)?;
-    }
-    Ok(Listed::from_vec(contexts))
-}
-
-fn configured_context(alloc: Global, texts: &ContextTexts) -> Result<ContextPolicy, CommandFault>
-    ensures { Gives command_fault result (spec.configured_context texts.now) }
-{
-    let path = Text::copy_of(alloc, texts.context.path.as_str())?;
-    let descriptor = descriptor_in(alloc, texts)?;
-    let realm = realm_in(alloc, texts)?;
-    Ok(ContextPolicy {
-        path,
-        descriptor,
-        realm,
-    })
 }
 
 /// The descriptor of a context.

@@ -1,10 +1,8 @@
 //! Each call that may be refused memory, with memory at hand.
 
 use std::alloc::Global;
-use sv_program::{
-    CommandFault, ContextTexts, Question, configured_contexts, explain_parts, first_line,
-    policy_line, server_in,
-};
+use sv_explain::{ContextPolicy, explain_parts};
+use sv_program::{CommandFault, ContextTexts, descriptor_in, first_line, realm_in, server_in};
 use sv_text::Text;
 
 #[test]
@@ -13,19 +11,19 @@ fn the_first_request_of_no_input_is_none(rt: HostRuntime) -> Result<(), CommandF
     Ok(())
 }
 
-pub const SERVER: &str = r#"
+const SERVER: &str = r#"
 port = 0
 seed = "0000000000000000000000000000000000000000000000000000000000000000"
 context = [{ path = "", descriptor = "root.toml", files = "", users = "users.toml" }]
 "#;
 
-pub const DESCRIPTOR: &str = r#"
+const DESCRIPTOR: &str = r#"
 [[security-constraint]]
 web-resource-collection = [{ url-pattern = ["/admin/*"] }]
 auth-constraint = { role-name = ["a"] }
 "#;
 
-pub const USERS: &str = r#"
+const USERS: &str = r#"
 [[user]]
 name = "ann"
 salt = "61"
@@ -33,36 +31,22 @@ digest = "ba7816bf8f01cfea414140de5dae2223b00361a396177a9cb410ff61f20015ad"
 roles = ["a"]
 "#;
 
-pub const LINE: &str = "open context=/ path=/admin/x.txt pattern=/admin/* constraint=1 cause=Role";
-
-#[test]
-fn the_texts_of_files_explain_a_request(rt: HostRuntime) {
-    assert!(rt; matches!(line_of_texts(rt.alloc()), Some(line) if line.as_str() == LINE));
-}
+const LINE: &str = "open context=/ path=/admin/x.txt pattern=/admin/* constraint=1 cause=Role";
 
 #[test]
 fn the_parts_of_a_configuration_explain_a_request(rt: HostRuntime) {
     assert!(rt; matches!(line_of_parts(rt.alloc()), Some(line) if line.as_str() == LINE));
 }
 
-/// What the texts of the files say of a request.
-fn line_of_texts(alloc: Global) -> Option<Text> {
-    let question = Question {
-        config: "server.toml",
-        method: "GET",
-        target: "/admin/x.txt",
-        user: Some("ann"),
-    };
-    let texts = texts(alloc)?;
-    policy_line(alloc, &[texts], &question).ok()
-}
-
-/// What the parts of the configuration say of the request.
+/// What the parts that the texts of the files have say of a request.
 fn line_of_parts(alloc: Global) -> Option<String> {
     let texts = texts(alloc)?;
-    let contexts = configured_contexts(alloc, &[texts]).ok()?;
-    let target = b"/admin/x.txt";
-    let explained = explain_parts(alloc, contexts.as_slice(), "GET", target, Some("ann")).ok()?;
+    let context = ContextPolicy {
+        path: copied(alloc, texts.context.path.as_str())?,
+        descriptor: descriptor_in(alloc, &texts).ok()?,
+        realm: realm_in(alloc, &texts).ok()?,
+    };
+    let explained = explain_parts(alloc, &[context], "GET", b"/admin/x.txt", Some("ann")).ok()?;
     format!(in alloc; "{explained}").ok()
 }
 

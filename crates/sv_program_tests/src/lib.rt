@@ -5,5 +5,3 @@
 mod ample_memory;
 #[cfg(test)]
 mod broken_streams;
-#[cfg(test)]
-mod files_asked;

@@ -1,9 +1,10 @@
 -- A container that runs, and then stops.
 use Rattle.std.specs.Prelude.{ℕ, List}
 use Rattle.sv_component.specs.Call.{Call}
-use Rattle.sv_container.specs.Container.{state_of, theory}
+use Rattle.sv_container.specs.Container.{state_of}
 use Rattle.sv_container.specs.Stopping.{ShutsDown}
 use Rattle.sv_context.specs.State.{ContextState}
+use Rattle.sv_context.specs.Theory.{theory}
 use Rattle.sv_host.specs.Host.{StepsSo}
 use Rattle.sv_journal.specs.Journal.{JournalState}
 use Rattle.sv_lifecycle.specs.declared.parts.Parts.{Parts}

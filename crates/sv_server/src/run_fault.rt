@@ -3,6 +3,7 @@
 ghost use Rattle.std.specs.Prelude.{◌≡◌, Some};
 ghost use Rattle.sv_server.specs.RunFault as spec;
 
+use std::error::Error;
 use std::fmt;
 use sv_container::NewCode;
 use sv_replay::ReplayFault;
@@ -10,7 +11,7 @@ use sv_text::Text;
 use sv_uri::shown_context;
 
 /// Why a run of the server ended early. What was started is stopped. It is printed as the program names it.
-#[derive(Drop)]
+#[derive(Debug, Drop)]
 pub enum RunFault {
     /// The line of this number, counted from 1, cannot be read, or asks for an event that a container refuses, other than for memory. The text of
     /// the stop is written.
@@ -72,6 +73,8 @@ impl fmt::Display for RunFault {
         }
     }
 }
+
+impl Error for RunFault {}
 
 /// The fault of a run by that of the replay of its script.
 pub(crate) fn fault_of(fault: ReplayFault) -> RunFault

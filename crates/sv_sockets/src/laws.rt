@@ -6,7 +6,7 @@ use crate::limits::{MAX_ANSWER_BYTES, MAX_IDLE_SECONDS, READ_BYTES};
 
 /// The limits of this crate as numbers.
 pub fn limits_are_as_stated()
-    ensures idle { MAX_IDLE_SECONDS ≡ 30 }
+    ensures idle { MAX_IDLE_SECONDS ≡ 5 }
     ensures read { READ_BYTES ≡ 16384 }
     ensures answer { MAX_ANSWER_BYTES ≡ 8388608 }
 {}

@@ -1,6 +1,6 @@
 use Rattle.sv_conduct.proofs.Starting.{since_the_start}
 use Rattle.sv_conduct.proofs.runs.callers_logged_in_since_the_start.Goals as goal
-use Rattle.sv_conduct.specs.Theory.{theory}
+use Rattle.sv_context.specs.Theory.{theory}
 
 pub returns : goal.returns
 returns g c =

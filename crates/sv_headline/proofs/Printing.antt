@@ -1,0 +1,93 @@
+-- What a script prints, of our contexts.
+use Rattle.std.proofs.Common.{◌≡◌, ℕ, List, Result, Ok, Err, refl, ap, subst}
+use Rattle.sv_component.specs.Call.{Call}
+use Rattle.sv_container.specs.Starting.{Starts}
+use Rattle.sv_container.specs.declared.container.Container.{Container}
+use Rattle.sv_container.specs.declared.new_fault.NewCode.{NewCode}
+use Rattle.sv_container.specs.declared.new_fault.NewCode.TheVariants as code
+use Rattle.sv_container.specs.declared.new_fault.NewFault.{NewFault}
+use Rattle.sv_context.specs.Theory.{theory}
+use Rattle.sv_context.specs.declared.deployment.Deployment.{Deployment}
+use Rattle.sv_headline.specs.Headline.{IsWritten, PrintsALawfulRun, WhatAScriptPrintsIsLawful}
+use Rattle.sv_journal.specs.Journal.{JournalState, new_journal}
+use Rattle.sv_replay.specs.declared.fault.ReplayFault.{ReplayFault}
+use Rattle.sv_replay.specs.declared.fault.ReplayFault.TheVariants as replays
+use Rattle.sv_run.specs.Laws.{RequestsEnterExactlyWhereAllowed}
+use Rattle.sv_run.specs.Reacting.{StepsLike}
+use Rattle.sv_script.specs.Printed.{start_text}
+use Rattle.sv_script_run.specs.Laws as runs
+use Rattle.sv_script_run.specs.Whole.{PrintsOf}
+use Rattle.sv_server.specs.RunFault.{ended_by, fault_of}
+use Rattle.sv_server.specs.Running.{StepsOf, StopsOf, run_of}
+use Rattle.sv_server.specs.Script.{AreFresh, Follows, PrintsRefused, Refuses, draws, refused_by}
+use Rattle.sv_server.specs.declared.run_fault.RunFault.{RunFault}
+use Rattle.sv_streams.specs.Calls.{Making}
+use Rattle.sv_words.specs.declared.counted_words.CountedWords.{CountedWords}
+
+-- the replay was written where the run was
+replay_written : (ended : Result (Unit {0}) ReplayFault) → IsWritten (ended_by ended) → runs.IsWritten ended
+replay_written (Ok done) written = tt
+replay_written (Err (replays.Script line)) written = tt
+replay_written (Err replays.Output) written = written
+replay_written (Err replays.NoMemory) written = written
+
+module _ {O : Type 0} (takes : Making O) (context : List ℕ) (started : JournalState) (output output_after : O) where
+  -- where the start was refused, the run was not written to its end
+  printed_unwritten : (its_code : NewCode) (printed : Result (Unit {0}) ReplayFault) → PrintsOf takes start_text started output printed output_after
+      → IsWritten (refused_by its_code context printed) → ⊥
+  printed_unwritten its_code (Ok done) prints written = written
+  printed_unwritten its_code (Err (replays.Script line)) prints written = prints
+  printed_unwritten its_code (Err replays.Output) prints written = written
+  printed_unwritten its_code (Err replays.NoMemory) prints written = written
+
+  refused_unwritten : (its_code : NewCode) (result : Result (Unit {0}) RunFault) → PrintsRefused takes its_code context started output result output_after
+      → IsWritten result → ⊥
+  refused_unwritten its_code result refused written = printed_unwritten its_code refused.0 refused.1 (subst IsWritten refused.2 written)
+
+  unwritten : (its_code : NewCode) (result : Result (Unit {0}) RunFault) → Refuses takes its_code context started output result output_after
+      → IsWritten result → ⊥
+  unwritten code.NoMemory result refused written = subst IsWritten refused.0 written
+  unwritten code.DuplicateContext result refused written = refused_unwritten code.DuplicateContext result refused written
+  unwritten code.TooManyContexts result refused written = refused_unwritten code.TooManyContexts result refused written
+  unwritten code.PartsMismatch result refused written = refused_unwritten code.PartsMismatch result refused written
+  unwritten code.InitFailed result refused written = refused_unwritten code.InitFailed result refused written
+
+module _ {S F L I O : Type 0} (servlet_step : S → Call → S → Type 0) (filter_step : F → Call → F → Type 0) (listener_step : L → Call → L → Type 0) (gives : Making I)
+    (takes : Making O) where
+  -- a container takes its events as the run of its contexts says
+  like : StepsLike (StepsOf servlet_step filter_step listener_step draws) (theory servlet_step filter_step listener_step draws) run_of
+  like before after happening (Ok reaction) steps = (Ok steps.0, steps.1, ap Ok steps.2)
+  like before after happening (Err fault) steps = (Err fault, steps, refl)
+
+  module _ (enters : RequestsEnterExactlyWhereAllowed (theory servlet_step filter_step listener_step draws))
+      (one_text : runs.ARunWritesOneText (StepsOf servlet_step filter_step listener_step draws) (StopsOf servlet_step filter_step listener_step) gives takes)
+      (lawful : runs.AScriptIsALawfulRun (StepsOf servlet_step filter_step listener_step draws) (theory servlet_step filter_step listener_step draws))
+      (deployments : List (Deployment S F L)) (script script_after : I) (output output_after : O) (result : Result (Unit {0}) RunFault) where
+    followed : (words : CountedWords) → AreFresh words → (started : JournalState) (begun : Result (Container S F L CountedWords) (NewFault S F L))
+        → Starts servlet_step filter_step listener_step deployments words new_journal begun started
+        → Follows servlet_step filter_step listener_step gives takes begun started script output result script_after output_after
+        → IsWritten result → PrintsALawfulRun servlet_step filter_step listener_step gives takes deployments script output result script_after output_after
+    followed its_words fresh its_start (Ok its_container) starts follows written =
+        let one = one_text its_start (record { container = its_container }) script output follows.0 script_after output_after follows.1
+        (replay_written follows.0 (subst IsWritten follows.2 written)) in
+        record {
+          words = its_words;
+          are_fresh = fresh;
+          container = its_container;
+          started = its_start;
+          starts = starts;
+          ended = follows.0;
+          result_is = follows.2;
+          text = one;
+          run = lawful run_of like enters (record { container = its_container }) one.played one.plays;
+        }
+    followed its_words fresh its_start (Err fault) starts follows written =
+        absurd (unwritten takes fault.context its_start output output_after fault.code result follows.1 written)
+
+  pub prints : RequestsEnterExactlyWhereAllowed (theory servlet_step filter_step listener_step draws)
+      → runs.ARunWritesOneText (StepsOf servlet_step filter_step listener_step draws) (StopsOf servlet_step filter_step listener_step) gives takes
+      → runs.AScriptIsALawfulRun (StepsOf servlet_step filter_step listener_step draws) (theory servlet_step filter_step listener_step draws)
+      → WhatAScriptPrintsIsLawful servlet_step filter_step listener_step gives takes
+  prints enters one_text lawful deployments script output result script_after output_after ran written =
+      followed enters one_text lawful
+      deployments script script_after output output_after result ran.words ran.are_fresh ran.started ran.begun ran.starts ran.follows written

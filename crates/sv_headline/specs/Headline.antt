@@ -1,0 +1,50 @@
+-- What a script prints, from its bytes to those of the output (Jakarta Servlet 6.0, section 13.8).
+use Rattle.std.specs.Prelude.{◌≡◌, List, Result, Ok, Err}
+use Rattle.sv_component.specs.Call.{Call}
+use Rattle.sv_container.specs.Starting.{Starts}
+use Rattle.sv_container.specs.declared.container.Container.{Container}
+use Rattle.sv_context.specs.Theory.{theory}
+use Rattle.sv_context.specs.declared.deployment.Deployment.{Deployment}
+use Rattle.sv_journal.specs.Journal.{JournalState, new_journal}
+use Rattle.sv_replay.specs.declared.fault.ReplayFault.{ReplayFault}
+use Rattle.sv_script_run.specs.Laws.{IsLawfulRun, IsOneText}
+use Rattle.sv_server.specs.RunFault.{ended_by}
+use Rattle.sv_server.specs.Running.{StepsOf, StopsOf, run_of}
+use Rattle.sv_server.specs.Script.{AreFresh, RunsScript, draws}
+use Rattle.sv_server.specs.declared.run_fault.RunFault.{RunFault}
+use Rattle.sv_server.specs.declared.run_fault.RunFault.TheVariants.{Script, Start, Output, NoMemory, Connection}
+use Rattle.sv_streams.specs.Calls.{Making}
+use Rattle.sv_words.specs.declared.counted_words.CountedWords.{CountedWords}
+
+-- all was written: the run ended well, or a line of the script is to blame
+abbrev pub IsWritten : Result (Unit {0}) RunFault → Type 0
+IsWritten (Ok done) = Unit {0}
+IsWritten (Err (Script line)) = Unit {0}
+IsWritten (Err (Start code context)) = ⊥
+IsWritten (Err Output) = ⊥
+IsWritten (Err NoMemory) = ⊥
+IsWritten (Err Connection) = ⊥
+
+module _ {S F L I O : Type 0} (servlet_step : S → Call → S → Type 0) (filter_step : F → Call → F → Type 0) (listener_step : L → Call → L → Type 0) (gives : Making I)
+    (takes : Making O) where
+  -- a container started with the deployments; what was written is the text of its start, of the events that the script asks for, and of its stop; and
+  -- these events are a run in which a request enters exactly where the combined constraints allow it
+  pub record PrintsALawfulRun (deployments : List (Deployment S F L)) (script : I) (output : O) (result : Result (Unit {0}) RunFault) (script_after : I)
+      (output_after : O) : Type 0 where
+    pub words : CountedWords
+    pub are_fresh : AreFresh words
+    pub container : Container S F L CountedWords
+    pub started : JournalState
+    pub starts : Starts servlet_step filter_step listener_step deployments words new_journal (Ok container) started
+    pub ended : Result (Unit {0}) ReplayFault
+    pub result_is : result ≡ ended_by ended
+    pub text : IsOneText (StepsOf servlet_step filter_step listener_step draws) (StopsOf servlet_step filter_step listener_step) gives takes
+        started (record { container = container }) script output ended script_after output_after
+    pub run : IsLawfulRun (StepsOf servlet_step filter_step listener_step draws) (theory servlet_step filter_step listener_step draws)
+        run_of (record { container = container }) text.played
+
+  abbrev pub WhatAScriptPrintsIsLawful : Type 0
+  WhatAScriptPrintsIsLawful =
+      (deployments : List (Deployment S F L)) (script : I) (output : O) (result : Result (Unit {0}) RunFault) (script_after : I) (output_after : O)
+      → RunsScript servlet_step filter_step listener_step gives takes deployments script output result script_after output_after
+      → IsWritten result → PrintsALawfulRun deployments script output result script_after output_after
