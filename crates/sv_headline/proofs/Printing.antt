@@ -1,5 +1,5 @@
 -- What a script prints, of our contexts.
-use Rattle.std.proofs.Common.{◌≡◌, ℕ, List, Result, Ok, Err, refl, ap, subst}
+use Rattle.std.proofs.Common.{ℕ, List, Result, Ok, Err, refl, ap, subst}
 use Rattle.sv_component.specs.Call.{Call}
 use Rattle.sv_container.specs.Starting.{Starts}
 use Rattle.sv_container.specs.declared.container.Container.{Container}
@@ -17,7 +17,7 @@ use Rattle.sv_run.specs.Reacting.{StepsLike}
 use Rattle.sv_script.specs.Printed.{start_text}
 use Rattle.sv_script_run.specs.Laws as runs
 use Rattle.sv_script_run.specs.Whole.{PrintsOf}
-use Rattle.sv_server.specs.RunFault.{ended_by, fault_of}
+use Rattle.sv_server.specs.RunFault.{ended_by}
 use Rattle.sv_server.specs.Running.{StepsOf, StopsOf, run_of}
 use Rattle.sv_server.specs.Script.{AreFresh, Follows, PrintsRefused, Refuses, draws, refused_by}
 use Rattle.sv_server.specs.declared.run_fault.RunFault.{RunFault}
