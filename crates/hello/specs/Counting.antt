@@ -2,7 +2,7 @@
 use Rattle.std.specs.Prelude.{◌≡◌, ℕ, ◌+◌, ◌-◌, ◌^◌, min}
 use Rattle.sv_component.specs.Call.{Call, Serviced}
 
--- it rises by one with each request that is answered, up to the greatest number, and by nothing else
+-- it rises by one with each call of `service`, up to the greatest number, and by nothing else
 abbrev pub Counts : ℕ → Call → ℕ → Type 0
 Counts before (Serviced asked turn step answered) after = after ≡ min (before + 1) (2 ^ 64 - 1)
 Counts before call after = after ≡ before
