@@ -11,12 +11,13 @@ use crate::limits::{LEAST_STATUS, MAX_BODY_LEN, MAX_STATUS, NOT_MODIFIED, RESET_
 
 impl Exchange {
     ghost use Rattle.sv_exchange.specs.Dispatches.{is_within_include};
-    ghost use Rattle.sv_exchange.specs.Changing.{AddHeader, Changes, Does, Flush, SetAttribute, SetHeader, SetStatus, Write, has_room, is_free, is_open};
+    ghost use Rattle.sv_exchange.specs.Changing.{AddHeader, Changes, Does, Flush, SetAttribute, SetHeader, SetStatus, Write, answer, has_room, is_free, is_open};
 
     /// Sets the status. `Ok(false)` says that it is ignored: the response is committed, an include is under way, or the status is
     /// outside 200 to 599 or one of 205 and 304. No fault comes.
     pub fn set_status(&mut self, status: u16) -> Result<bool, ExchangeFault>
         ensures does { Does (SetStatus status) result self.old self.new }
+        ensures answered { result ≡ answer (SetStatus status) self.old }
         ensures reached { Changes self.old self.new }
     {
         self.do_set_status(status)
@@ -62,6 +63,7 @@ impl Exchange {
     /// fault comes.
     pub fn flush(&mut self) -> Result<bool, ExchangeFault>
         ensures does { Does Flush result self.old self.new }
+        ensures answered { result ≡ answer Flush self.old }
         ensures reached { Changes self.old self.new }
     {
         self.do_flush()
@@ -97,7 +99,8 @@ impl Exchange {
     }
 
     fn do_set_status(&mut self, status: u16) -> Result<bool, ExchangeFault>
-        ensures { Does (SetStatus status) result self.old self.new }
+        ensures does { Does (SetStatus status) result self.old self.new }
+        ensures answered { result ≡ answer (SetStatus status) self.old }
     {
         if self.is_open() && is_settable(status) {
             self.status = status;
@@ -154,7 +157,8 @@ impl Exchange {
     }
 
     fn do_flush(&mut self) -> Result<bool, ExchangeFault>
-        ensures { Does Flush result self.old self.new }
+        ensures does { Does Flush result self.old self.new }
+        ensures answered { result ≡ answer Flush self.old }
     {
         self.committed = true;
         Ok(true)

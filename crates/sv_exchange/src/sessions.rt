@@ -13,7 +13,7 @@ use sv_text::Text;
 use sv_wire::Cookie;
 
 impl Exchange {
-    ghost use Rattle.sv_exchange.specs.Changing.{Changes, Does, Logout, SessionEnd, SessionOpen, SessionRemove, SessionSet};
+    ghost use Rattle.sv_exchange.specs.Changing.{Changes, Does, Logout, SessionEnd, SessionOpen, SessionRemove, SessionSet, answer};
 
     /// Opens a session, whose cookie the response sets, and tells `SessionCreated`; nothing changes where the request has a session that
     /// lives (Jakarta Servlet 6.0, section 7.2). It is never ignored. The faults are `Committed`, `TooManySessions`, `SerialSpent` and
@@ -58,6 +58,7 @@ impl Exchange {
     /// section 13.3). It is never ignored, and no fault comes.
     pub fn logout(&mut self) -> Result<bool, ExchangeFault>
         ensures does { Does Logout result self.old self.new }
+        ensures answered { result ≡ answer Logout self.old }
         ensures reached { Changes self.old self.new }
     {
         self.do_logout()
@@ -133,7 +134,8 @@ impl Exchange {
     }
 
     fn do_logout(&mut self) -> Result<bool, ExchangeFault>
-        ensures { Does Logout result self.old self.new }
+        ensures does { Does Logout result self.old self.new }
+        ensures answered { result ≡ answer Logout self.old }
     {
         if self.caller.is_none() {
             return Ok(true);
