@@ -1,3 +1,4 @@
+mod Counting
 mod Deploying
 mod Mapping
 mod Moving

@@ -1,6 +1,6 @@
 //! How a container starts.
 
-ghost use Rattle.std.specs.Prelude.{◌≡◌, ◌+◌, ◌<◌, ◌≤◌, ℕ, List, [], ◌∷◌, ◌++◌, Err, Ok, MatchResult, length, map, slice_index_or, vec_capacity};
+ghost use Rattle.std.specs.Prelude.{◌≡◌, ◌+◌, ◌<◌, ◌≤◌, ℕ, List, [], ◌∷◌, ◌++◌, Err, Ok, IfOk, MatchResult, length, map, slice_index_or, vec_capacity};
 ghost use Rattle.sv_container.specs.Container.{state_of};
 ghost use Rattle.sv_container.specs.Deploying.{DeploysAll, UndeploysAll};
 ghost use Rattle.sv_container.specs.NewCode.{code_of, named_path};
@@ -23,10 +23,11 @@ use std::collections::VecDeque;
 use std::mem;
 use sv_component::{Filter, Listener, Servlet};
 use sv_context::{Context, DeployFault, Deployment};
+use sv_context_index::ContextIndex;
 use sv_host::Host;
 use sv_journal::Journal;
 use sv_lifecycle::StartCode;
-use sv_text::Text;
+use sv_text::{NoMemory, Text};
 
 impl<S: Servlet, F: Filter, L: Listener, W: Drop> Container<S, F, L, W> {
     /// Starts a container: the contexts are deployed in the order of their list (Jakarta Servlet 6.0, sections 2.3.1, 6.2.1 and 11.3.3).
@@ -44,11 +45,23 @@ impl<S: Servlet, F: Filter, L: Listener, W: Drop> Container<S, F, L, W> {
         if let Err(refusal) = permit(alloc, deployments.as_slice()) {
             return Err(refusal.of(deployments));
         }
-        match Room::for_all(alloc, deployments.as_slice()) {
-            Ok(room) => start(alloc, deployments, room, words, journal),
+        match prepare(alloc, deployments.as_slice()) {
+            Ok((room, index)) => start(alloc, deployments, room, index, words, journal),
             Err(_) => Err(Refusal::no_memory(alloc).of(deployments)),
         }
     }
+}
+
+// Room for the contexts of deployments, and the index of their paths.
+fn prepare<S: Servlet, F: Filter, L: Listener>(
+    alloc: Global,
+    deployments: &[Deployment<S, F, L>],
+) -> Result<(Room<S, F, L>, ContextIndex), NoMemory>
+    ensures { IfOk result (λ prepared. IsReady deployments.now prepared.0 × (prepared.1 ≡ paths_of deployments.now)) }
+{
+    let room = Room::for_all(alloc, deployments)?;
+    let index = ContextIndex::of(alloc, room.paths.as_slice())?;
+    Ok((room, index))
 }
 
 // Starts the contexts of deployments for which there is room.
@@ -56,23 +69,31 @@ fn start<S: Servlet, F: Filter, L: Listener, W: Drop>(
     alloc: Global,
     deployments: Vec<Deployment<S, F, L>>,
     room: Room<S, F, L>,
+    index: ContextIndex,
     words: W,
     journal: &mut Journal,
 ) -> Result<Container<S, F, L, W>, NewFault<S, F, L>>
     requires permitted { ArePermitted (paths_of deployments.items) }
     requires ready { IsReady deployments.items room }
+    requires indexed { index ≡ paths_of deployments.items }
     ensures { Starts S.servlet_step F.filter_step L.listener_step deployments.items words journal.old result journal.new }
 {
     let mut room = room;
     match deploy_all(alloc, deployments, &mut room, journal) {
-        Ok(()) => Ok(container_of(alloc, room, words)),
+        Ok(()) => Ok(container_of(alloc, room, index, words)),
         Err(fault) => Err(fault),
     }
 }
 
 // A container of started contexts.
-fn container_of<S, F, L, W>(alloc: Global, room: Room<S, F, L>, words: W) -> Container<S, F, L, W>
+fn container_of<S, F, L, W>(
+    alloc: Global,
+    room: Room<S, F, L>,
+    index: ContextIndex,
+    words: W,
+) -> Container<S, F, L, W>
     requires permitted { ArePermitted (map (λ context. context.content.context_path) room.contexts.items) }
+    requires indexed { index ≡ map (λ context. context.content.context_path) room.contexts.items }
     requires stop { HasRoomToStop (length room.contexts.items) room }
     ensures { state_of result ≡ opening room.contexts.items words }
 {
@@ -84,7 +105,7 @@ fn container_of<S, F, L, W>(alloc: Global, room: Room<S, F, L>, words: W) -> Con
     } = room;
     Container {
         alloc,
-        host: Host::new(alloc, contexts, words),
+        host: Host::new(alloc, contexts, index, words),
         back,
         parts,
     }

@@ -14,6 +14,7 @@ use std::alloc::Global;
 use std::collections::VecDeque;
 use sv_component::{Filter, Listener, Servlet};
 use sv_context::{Context, Deployment};
+use sv_context_path::HasContextPath;
 use sv_host::Host;
 use sv_journal::Journal;
 use sv_lifecycle::Parts;
@@ -49,7 +50,7 @@ impl<S: Servlet, F: Filter, L: Listener, W: Drop> Container<S, F, L, W> {
 }
 
 // The journal of a stop: a broken one where an event wanted memory.
-fn journal_to_stop<C, W>(alloc: Global, host: &Host<C, W>) -> Journal
+fn journal_to_stop<C: HasContextPath, W>(alloc: Global, host: &Host<C, W>) -> Journal
     ensures { result ≡ journal_to_stop (hosts.state_of host.now).stopped }
 {
     let mut journal = Journal::new(alloc);

@@ -1,9 +1,10 @@
--- No calls move nothing, and calls behind calls are calls.
-use Rattle.std.proofs.Common.{[], ◌++◌, refl, ◌∙◌}
+-- No calls move nothing, calls behind calls are calls, and no call moves a context to another path.
+use Rattle.std.proofs.Common.{[], ◌++◌, refl, ap, ◌∙◌}
 use Rattle.sv_component.proofs.Running.{runs_join}
 use Rattle.sv_component.specs.Call.{Call}
 use Rattle.sv_component.specs.Runs.{Runs}
-use Rattle.sv_run.specs.Lawful.{IsMotion}
+use Rattle.sv_run.specs.Lawful.{IsMotion, KeepsPath}
+use Rattle.sv_site.specs.Site.{Content}
 use Rattle.sv_context.specs.Conduct.{IsMoved, conduct, unnoted}
 use Rattle.sv_context.specs.State.{ContextState, IsSameDeployment, world_of}
 
@@ -35,3 +36,6 @@ module _ {S F L : Type 0} (ss : S → Call → S → Type 0) (fs : F → Call �
 
   pub motion_by : IsMotion (conduct ss fs ls)
   motion_by = record { stands = stands; goes_on = goes_on }
+
+  pub keeps_path_by : KeepsPath (λ (context : ContextState S F L). context.content.context_path) (conduct ss fs ls)
+  keeps_path_by before after moves = ap (λ (content : Content). content.context_path) moves.stays.content

@@ -19,7 +19,7 @@ impl<S, F, L> HasContextPath for Context<S, F, L> {
 
 impl<S: Servlet, F: Filter, L: Listener> sv_run::Context for Context<S, F, L> {
     ghost use Rattle.sv_context.specs.Conduct.{conduct as conduct_by};
-    ghost use Rattle.sv_context.specs.Motion.{motion_by};
+    ghost use Rattle.sv_context.specs.Motion.{keeps_path_by, motion_by};
 
     ghost conduct = { conduct_by S.servlet_step F.filter_step L.listener_step };
 
@@ -40,4 +40,6 @@ impl<S: Servlet, F: Filter, L: Listener> sv_run::Context for Context<S, F, L> {
     }
 
     ghost is_motion = { motion_by S.servlet_step F.filter_step L.listener_step };
+
+    ghost keeps_path = { keeps_path_by S.servlet_step F.filter_step L.listener_step };
 }

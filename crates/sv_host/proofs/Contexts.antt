@@ -1,12 +1,12 @@
 -- Contexts that are moved one after another.
-use Rattle.std.proofs.Common.{◌≡◌, ℕ, zero, suc, ◌<◌, ◌≤◌, List, [], ◌∷◌, ◌++◌, length, slice_index_or, slice_set, refl, sym, ap, ◌∙◌, subst, arith, append-nil, append_assoc}
+use Rattle.std.proofs.Common.{◌≡◌, ℕ, zero, suc, ◌<◌, ◌≤◌, List, [], ◌∷◌, ◌++◌, length, map, slice_index_or, slice_set, refl, sym, ap, ◌∙◌, subst, arith, append-nil, append_assoc}
 use Rattle.std.proofs.lemmas.List.{with_items_is}
 use Rattle.std.specs.Vec.{with_items}
 use Rattle.std.specs.declared.vec.Vec.{Vec}
 use Rattle.sv_journal.specs.declared.entry.Entry.{Entry}
 use Rattle.sv_run.specs.Contexts.{Conduct}
 use Rattle.sv_run.specs.Events.{ExpiresAll, MovesAll}
-use Rattle.sv_run.specs.Lawful.{IsMotion}
+use Rattle.sv_run.specs.Lawful.{IsMotion, KeepsPath}
 
 module _ {Context : Type 0} (conduct : Conduct Context) where
   module _ (moment : ℕ) where
@@ -120,8 +120,20 @@ module _ {Context : Type 0} (conduct : Conduct Context) where
           later.4,
         )
 
-    pub moves_through : {Z : Type 0} (held : Vec Context Z) (given between after : List Context) → length between ≡ held.len → given ≡ held.items
-        → MovesAll conduct given between → MovesAll conduct (with_items held between).items after → MovesAll conduct held.items after
-    moves_through held given between after all is first second =
-        moves_join held.items between after (subst (λ before. MovesAll conduct before between) is first)
-        (subst (λ middle. MovesAll conduct middle after) (with_items_is held between all) second)
+  -- each context keeps its path
+  pub paths_kept : (path_of : Context → List ℕ) → KeepsPath path_of conduct → (before after : List Context) → MovesAll conduct before after
+      → map path_of after ≡ map path_of before
+  paths_kept path_of keeps [] after moves = ap (map path_of) moves
+  paths_kept path_of keeps (context ∷ contexts) after moves =
+      ap (map path_of) moves.4
+      ∙ (λ i. keeps context moves.0 moves.2 i ∷ paths_kept path_of keeps contexts moves.1 moves.3 i)
+
+  -- so do those of a vector that was lent
+  module _ {Z : Type 0} (held : Vec Context Z) (given after : List Context) (all : length after ≡ held.len) (is : given ≡ held.items) where
+    pub moves_lent : MovesAll conduct given after → MovesAll conduct held.items (with_items held after).items
+    moves_lent moves =
+        subst (λ end. MovesAll conduct held.items end) (sym (with_items_is held after all)) (subst (λ start. MovesAll conduct start after) is moves)
+
+    pub index_kept : (path_of : Context → List ℕ) → KeepsPath path_of conduct → (index : List (List ℕ)) → index ≡ map path_of held.items
+        → MovesAll conduct given after → index ≡ map path_of (with_items held after).items
+    index_kept path_of keeps index known moves = known ∙ sym (paths_kept path_of keeps held.items (with_items held after).items (moves_lent moves))

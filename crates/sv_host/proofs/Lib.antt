@@ -3,4 +3,5 @@ mod Contexts
 mod Feedings
 mod Handling
 mod Happening
+mod Places
 mod Taking

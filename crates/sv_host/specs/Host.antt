@@ -13,7 +13,7 @@ abbrev pub state_of : {C W : Type 0} → Host C W → State C W
 state_of host =
     record {
       stopped = host.stopped;
-      world = world_of host.contexts.items host.words;
+      world = world_of host.contexts host.words;
       moment = host.moment;
       connections = connections_of host.connections;
     }

@@ -1,6 +1,6 @@
 //! Contexts behind connections.
 
-ghost use Rattle.std.specs.Prelude.{◌≡◌, None, IfOk, IsSome, false};
+ghost use Rattle.std.specs.Prelude.{◌≡◌, None, IfOk, IsSome, false, map};
 ghost use Rattle.sv_host.specs.Host.{StepsSo, opening, state_of};
 ghost use Rattle.sv_host.specs.Output.{Adds};
 ghost use Rattle.sv_run.specs.Contexts.{theory_of};
@@ -9,35 +9,39 @@ ghost use Rattle.sv_run.specs.Events.{Accepts, Happens, MovesAll, TakesPiece, fa
 ghost use Rattle.sv_run.specs.Seen.{happening_of};
 
 use crate::connections::Connections;
-use crate::expiring::expire_all;
 use crate::faults::{fault_of, moment_after};
+use crate::indexed::Indexed;
 use crate::items::take_items;
 use crate::output::Output;
 use std::alloc::Global;
+use sv_context_index::ContextIndex;
+use sv_context_path::HasContextPath;
 use sv_run::{Context, Happening, Reaction, Reactor, StepFault, Words};
 use sv_text::NoMemory;
 
 /// Contexts behind connections, with a source of random words.
 #[derive(Drop)]
-pub struct Host<C, W> {
+pub struct Host<C: HasContextPath, W> {
     alloc: Global,
     stopped: bool,
     moment: u64,
-    contexts: Vec<C>,
+    contexts: Indexed<C>,
     words: W,
     connections: Connections,
 }
 
-impl<C, W> Host<C, W> {
-    /// The contexts in their order, before any event: no connection is known, and the moment is 0. It takes no memory.
-    pub fn new(alloc: Global, contexts: Vec<C>, words: W) -> Host<C, W>
+impl<C: HasContextPath, W> Host<C, W> {
+    /// The contexts in their order, with the index of their paths, before any event: no connection is known, and the moment is 0. It takes no
+    /// memory.
+    pub fn new(alloc: Global, contexts: Vec<C>, index: ContextIndex, words: W) -> Host<C, W>
+        requires { index ≡ map C.path_of contexts.items }
         ensures { state_of result ≡ opening contexts.items words }
     {
         Host {
             alloc,
             stopped: false,
             moment: 0,
-            contexts,
+            contexts: Indexed::new(contexts, index),
             words,
             connections: Connections::new(alloc),
         }
@@ -60,7 +64,7 @@ impl<C, W> Host<C, W> {
 
 impl<C: Context, W: Words> Host<C, W> {
     /// Takes an event: the moment is raised, the sessions that have expired end, and then it happens (RFC 9112, section 9; Jakarta Servlet
-    /// 6.0, section 7.5). A connection and a context are found as fast among many as among few, but for the comparison of context paths.
+    /// 6.0, section 7.5). A connection and a context are found as fast among many as among few.
     ///
     /// # Errors
     /// [`StepFault`], the first that stands. After one other than `NoMemory` nothing has changed, and after `NoMemory` each event is refused
@@ -95,12 +99,8 @@ impl<C: Context, W: Words> Host<C, W> {
     {
         let mut output = Output::new(self.alloc);
         self.moment = moment_after(self.moment, happening);
-        expire_all(
-            self.alloc,
-            self.contexts.as_mut_slice(),
-            self.moment,
-            &mut output.journal,
-        );
+        self.contexts
+            .expire_all(self.alloc, self.moment, &mut output.journal);
         if !output.journal.whole() {
             return Err(NoMemory);
         }
@@ -147,7 +147,7 @@ impl<C: Context, W: Words> Host<C, W> {
         let items = self.connections.feed(number, piece)?;
         take_items::<C, W>(
             self.alloc,
-            self.contexts.as_mut_slice(),
+            &mut self.contexts,
             &mut self.words,
             self.moment,
             &items,
@@ -156,13 +156,13 @@ impl<C: Context, W: Words> Host<C, W> {
     }
 }
 
-impl<C, W: Drop> Host<C, W> {
+impl<C: HasContextPath, W: Drop> Host<C, W> {
     /// The contexts back, in their order. It takes no memory.
     pub fn into_contexts(self) -> Vec<C>
         ensures { result.items ≡ (state_of self).world.contexts }
     {
         let Host { contexts, .. } = self;
-        contexts
+        contexts.into_vec()
     }
 }
 

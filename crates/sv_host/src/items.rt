@@ -9,6 +9,7 @@ ghost use Rattle.sv_run.specs.Items.{Takes, TakesItem};
 ghost use Rattle.sv_run.specs.State.{world_of};
 
 use crate::answering::{refuse, send_continue};
+use crate::indexed::Indexed;
 use crate::messages::take_message;
 use crate::output::Output;
 use std::alloc::Global;
@@ -19,7 +20,7 @@ use sv_wire::Item;
 // Handles an item.
 fn take_item<C: Context, W: Words>(
     alloc: Global,
-    contexts: &mut [C],
+    contexts: &mut Indexed<C>,
     words: &mut W,
     moment: u64,
     item: &Item,
@@ -42,7 +43,7 @@ fn take_item<C: Context, W: Words>(
 // Handles items in their order.
 pub(crate) fn take_items<C: Context, W: Words>(
     alloc: Global,
-    contexts: &mut [C],
+    contexts: &mut Indexed<C>,
     words: &mut W,
     moment: u64,
     items: &[Item],

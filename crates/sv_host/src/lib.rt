@@ -7,9 +7,11 @@ mod connections;
 mod expiring;
 mod faults;
 mod host;
+mod indexed;
 mod items;
 mod messages;
 mod output;
+mod serving;
 
 pub use connections::Connections;
 pub use expiring::expire_all;

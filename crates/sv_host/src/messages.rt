@@ -1,19 +1,18 @@
 //! The handling of messages: by the container itself, or by the context that a message is for.
 
-ghost use Rattle.std.specs.Prelude.{◌≡◌, ◌<◌, ℕ, IfOk, IsTrue, List, Some, length, slice_get};
+ghost use Rattle.std.specs.Prelude.{IfOk};
 ghost use Rattle.sv_host.specs.Output.{Adds};
-ghost use Rattle.sv_mapping.specs.Pattern.{is_at_or_below};
 ghost use Rattle.sv_run.specs.Contexts.{theory_of};
 ghost use Rattle.sv_run.specs.Effect.{Effect};
 ghost use Rattle.sv_run.specs.Events.{MovesAll};
 ghost use Rattle.sv_run.specs.Items.{Responds, TakesMessage};
-ghost use Rattle.sv_run.specs.Messages.{Within, destination, destination_in, place_for};
+ghost use Rattle.sv_run.specs.Messages.{destination, destination_in, place_for};
 ghost use Rattle.sv_run.specs.State.{world_of};
 
-use crate::answering::{answer_itself, empty_response, plain_response, send};
+use crate::answering::{answer_itself, empty_response, plain_response};
+use crate::indexed::Indexed;
 use crate::output::Output;
 use std::alloc::Global;
-use sv_context_path::context_place;
 use sv_journal::{Entry, RefusalCause};
 use sv_run::{Context, Words};
 use sv_text::NoMemory;
@@ -25,7 +24,7 @@ use sv_wire::{Message, Target};
 // Handles a message, which draws a pair of words whoever answers it.
 pub(crate) fn take_message<C: Context, W: Words>(
     alloc: Global,
-    contexts: &mut [C],
+    contexts: &mut Indexed<C>,
     words: &mut W,
     moment: u64,
     message: &Message,
@@ -43,7 +42,7 @@ pub(crate) fn take_message<C: Context, W: Words>(
 // Answers a message, or has the context answer it that it is for.
 fn respond<C: Context, W: Words>(
     alloc: Global,
-    contexts: &mut [C],
+    contexts: &mut Indexed<C>,
     moment: u64,
     message: &Message,
     words: (u64, u64),
@@ -78,7 +77,7 @@ fn respond<C: Context, W: Words>(
 // Answers a message whose target has that canonical path, or has the context answer it that serves the path.
 fn respond_at<C: Context, W: Words>(
     alloc: Global,
-    contexts: &mut [C],
+    contexts: &mut Indexed<C>,
     moment: u64,
     message: &Message,
     canon: &Canon,
@@ -92,11 +91,9 @@ fn respond_at<C: Context, W: Words>(
         × Adds output.old effect output.new) }
     ensures moves { MovesAll C.conduct contexts.old contexts.new }
 {
-    match context_place(contexts, canon.path.as_str()) {
+    match contexts.place(canon.path.as_str()) {
         Some(place) => {
-            handle_at::<C, W>(
-                alloc, contexts, place, moment, message, canon, words, output,
-            )
+            contexts.handle_at::<W>(alloc, place, moment, message, canon, words, output)
         }
         None => {
             let response = plain_response(alloc, 404)?;
@@ -104,33 +101,4 @@ fn respond_at<C: Context, W: Words>(
             answer_itself::<C>(message, entry, &response, moment, output)
         }
     }
-}
-
-// Has the context at the place handle a message.
-fn handle_at<C: Context, W: Words>(
-    alloc: Global,
-    contexts: &mut [C],
-    place: usize,
-    moment: u64,
-    message: &Message,
-    canon: &Canon,
-    words: (u64, u64),
-    output: &mut Output,
-) -> Result<(), NoMemory>
-    requires there { place < length contexts.old }
-    requires serves { (context : C) → slice_get contexts.old place ≡ Some context → IsTrue (is_at_or_below (C.path_of context) canon.now.path) }
-    ensures responds { IfOk result (λ _. (effect : Effect C)
-        × Responds (theory_of C.path_of C.conduct W.draws) moment (Within place canon.now) message.now words contexts.old effect contexts.new
-        × Adds output.old effect output.new) }
-    ensures moves { MovesAll C.conduct contexts.old contexts.new }
-{
-    let response = contexts[place].handle(
-        alloc,
-        message,
-        canon,
-        moment,
-        words,
-        &mut output.journal,
-    )?;
-    send(message, &response, moment, output)
 }

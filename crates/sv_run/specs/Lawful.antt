@@ -36,6 +36,10 @@ pub record IsMotion {Context : Type 0} (conduct : Conduct Context) : Type 0 wher
   pub stands : (context : Context) → conduct.Moves context context
   pub goes_on : (before between after : Context) → conduct.Moves before between → conduct.Moves between after → conduct.Moves before after
 
+-- what is moved by calls keeps its context path
+abbrev pub KeepsPath : {Context : Type 0} → (Context → List ℕ) → Conduct Context → Type 0
+KeepsPath {Context} path_of conduct = (before after : Context) → conduct.Moves before after → path_of after ≡ path_of before
+
 module _ {Context Words : Type 0} (theory : Theory Context Words) where
   abbrev pub AreSettled : ℕ → List Context → Type 0
   AreSettled moment contexts = AllByRecursion (HasNoneExpired theory moment) contexts

@@ -6,7 +6,7 @@ ghost use Rattle.sv_journal.specs.declared.entry.Entry.{Entry};
 ghost use Rattle.sv_mapping.specs.Pattern.{is_at_or_below};
 ghost use Rattle.sv_run.specs.Contexts.{Conduct, request_of};
 ghost use Rattle.sv_run.specs.Effect.{noting};
-ghost use Rattle.sv_run.specs.Lawful.{IsMotion};
+ghost use Rattle.sv_run.specs.Lawful.{IsMotion, KeepsPath};
 
 use std::alloc::Global;
 use sv_context_path::HasContextPath;
@@ -52,6 +52,8 @@ pub trait Context: HasContextPath + Sized {
         ensures moves { conduct.Moves self.old self.new };
 
     ghost is_motion: { IsMotion conduct };
+
+    ghost keeps_path: { KeepsPath Self.path_of conduct };
 }
 
 /// A source of random words.

@@ -20,8 +20,8 @@ returns-in-Some-clause-responds g c =
     let before = c.args.contexts.now in
     let canon = c.args.canon.now in
     sent_to theory c.args.moment c.args.message.now c.args.words before (reaction_of c.args.output.now) c.handle_at.result
-    (destination_in canon (place_for theory before canon.path)) (Within c.in-Some.place canon) c.handle_at.new.contexts (reaction_of c.handle_at.new.output)
-    (ap (destination_in canon) (ap (place_for theory before) (sym c.as_str.ensures) ∙ sym c.context_place.ensures.chosen ∙ c.in-Some.is)) c.handle_at.ensures.responds
+    (destination_in canon (place_for theory before canon.path)) (Within c.in-Some.place canon) c.handle_at.new.self (reaction_of c.handle_at.new.output)
+    (ap (destination_in canon) (ap (place_for theory before) (sym c.as_str.ensures) ∙ sym c.place.ensures.chosen ∙ c.in-Some.is)) c.handle_at.ensures.responds
 
 pub returns-in_ok-response-in-None-clause-responds : goal.returns-in_ok-response-in-None-clause-responds
 returns-in_ok-response-in-None-clause-responds g c =
@@ -30,7 +30,7 @@ returns-in_ok-response-in-None-clause-responds g c =
     let canon = c.args.canon.now in
     sent_to theory c.args.moment c.args.message.now c.args.words before (reaction_of c.args.output.now) c.answer_itself.result
     (destination_in canon (place_for theory before canon.path)) (Itself (Hidden causes.NoContext) (plain_response 404)) before
-    (reaction_of c.answer_itself.new.output) (ap (destination_in canon) (ap (place_for theory before) (sym c.as_str.ensures) ∙ sym c.context_place.ensures.chosen ∙ c.in-None.is))
+    (reaction_of c.answer_itself.new.output) (ap (destination_in canon) (ap (place_for theory before) (sym c.as_str.ensures) ∙ sym c.place.ensures.chosen ∙ c.in-None.is))
     (answers_itself theory c.args.moment c.args.message.now c.args.words before (reaction_of c.args.output.now) c.answer_itself.result
     (Hidden causes.NoContext) c.in_ok-response-in-None.response (plain_response 404) (reaction_of c.answer_itself.new.output)
     c.in_ok-response-in-None.ensures c.answer_itself.ensures)

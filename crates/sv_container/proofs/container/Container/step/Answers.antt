@@ -6,8 +6,8 @@ use Rattle.sv_container.proofs.container.Container.step.Goals as goal
 pub invariant_of-self : goal.invariant_of-self
 invariant_of-self g c =
     let container = c.args.self.now in
-    let before = container.host.contexts.items in
-    let after = c.step.new.self.contexts.items in
+    let before = container.host.contexts in
+    let after = c.step.new.self.contexts in
     let paths = paths_kept g.S.Servlet.servlet_step g.F.Filter.filter_step g.L.Listener.listener_step before after c.step.ensures.moves in
     let count : length after ≡ length before =
     count_kept g.S.Servlet.servlet_step g.F.Filter.filter_step g.L.Listener.listener_step before after c.step.ensures.moves in record {

@@ -10,16 +10,16 @@ use Rattle.sv_host.specs.Host.{state_of}
 use Rattle.sv_host.proofs.host.Host.happen.Goals as goal
 
 pub returns-in-Opened-clause-moves : goal.returns-in-Opened-clause-moves
-returns-in-Opened-clause-moves g c = moves_none g.C.Context.conduct g.met.C.Context.is_motion c.args.self.now.contexts.items
+returns-in-Opened-clause-moves g c = moves_none g.C.Context.conduct g.met.C.Context.is_motion c.args.self.now.contexts
 
 pub returns-in-Ended-clause-moves : goal.returns-in-Ended-clause-moves
-returns-in-Ended-clause-moves g c = moves_none g.C.Context.conduct g.met.C.Context.is_motion c.args.self.now.contexts.items
+returns-in-Ended-clause-moves g c = moves_none g.C.Context.conduct g.met.C.Context.is_motion c.args.self.now.contexts
 
 pub returns-in-Lost-clause-moves : goal.returns-in-Lost-clause-moves
-returns-in-Lost-clause-moves g c = moves_none g.C.Context.conduct g.met.C.Context.is_motion c.args.self.now.contexts.items
+returns-in-Lost-clause-moves g c = moves_none g.C.Context.conduct g.met.C.Context.is_motion c.args.self.now.contexts
 
 pub returns-in-Tick-clause-moves : goal.returns-in-Tick-clause-moves
-returns-in-Tick-clause-moves g c = moves_none g.C.Context.conduct g.met.C.Context.is_motion c.args.self.now.contexts.items
+returns-in-Tick-clause-moves g c = moves_none g.C.Context.conduct g.met.C.Context.is_motion c.args.self.now.contexts
 
 pub returns-in-Opened-clause-happens : goal.returns-in-Opened-clause-happens
 returns-in-Opened-clause-happens g c =

@@ -4,7 +4,7 @@ use Rattle.sv_host.proofs.Contexts.{moves_next, moves_none}
 use Rattle.sv_host.proofs.Handling.{sent}
 use Rattle.sv_host.specs.Output.{reaction_of}
 use Rattle.sv_run.specs.declared.reaction.Reaction.{Reaction}
-use Rattle.sv_host.proofs.messages.handle_at.Goals as goal
+use Rattle.sv_host.proofs.serving.handle_at.Goals as goal
 
 pub returns-in_err-response-clause-moves : goal.returns-in_err-response-clause-moves
 returns-in_err-response-clause-moves g c =

@@ -1,0 +1,187 @@
+//! The deployments that a row names.
+
+use crate::counted::{Counted, Counts};
+use crate::descriptors::descriptor_text;
+use std::alloc::Global;
+use sv_application::{ProgramFilter, ProgramListener, ProgramServlet, parts_of};
+use sv_component::Named;
+use sv_context::Deployment;
+use sv_descriptor::{Descriptor, read_descriptor};
+use sv_files::Files;
+use sv_lifecycle::Parts;
+use sv_realm::{MAX_USERS, Realm};
+use sv_settings::read_users;
+use sv_text::{NoMemory, Text};
+
+/// What a context is deployed with, whose components are of the program's own classes, and counted.
+pub type TestDeployment = Deployment<
+    Counted<ProgramServlet>,
+    Counted<ProgramFilter>,
+    Counted<ProgramListener>,
+>;
+
+type TestParts = Parts<Counted<ProgramServlet>, Counted<ProgramFilter>, Counted<ProgramListener>>;
+
+/// The user of each context, who has the role a. The digest is SHA-256 of `abc` (FIPS 180-4, the one-block example).
+const USERS: &str = r#"
+[[user]]
+name = "ann"
+salt = "61"
+roles = ["a"]
+digest = "ba7816bf8f01cfea414140de5dae2223b00361a396177a9cb410ff61f20015ad"
+"#;
+
+/// The deployments of a cell, with a blank between them: `NAME@PATH` is the descriptor of that name at that path, and `*COUNT` so many contexts
+/// without components, at `/1` and on.
+pub fn deployments(
+    alloc: Global,
+    words: &str,
+    counts: &mut Counts,
+) -> Result<Vec<TestDeployment>, NoMemory> {
+    let mut made = Vec::new(alloc);
+    for word in words.split_ascii_whitespace() {
+        add(alloc, word, &mut made, counts)?;
+    }
+    Ok(made)
+}
+
+fn add(
+    alloc: Global,
+    word: &str,
+    made: &mut Vec<TestDeployment>,
+    counts: &mut Counts,
+) -> Result<(), NoMemory> {
+    match word.strip_prefix("*") {
+        Some(count) => add_many(alloc, count.parse::<u32>().unwrap_or(0), made, counts),
+        None => {
+            let (name, path) = word.split_once('@').unwrap_or((word, ""));
+            made.push(deployment(alloc, name, path, counts)?)?;
+            Ok(())
+        }
+    }
+}
+
+fn add_many(
+    alloc: Global,
+    count: u32,
+    made: &mut Vec<TestDeployment>,
+    counts: &mut Counts,
+) -> Result<(), NoMemory> {
+    for number in 0..count {
+        let path = format!(in alloc; "/{}", number.saturating_add(1))?;
+        made.push(deployment(alloc, "", path.as_str(), counts)?)?;
+    }
+    Ok(())
+}
+
+fn deployment(
+    alloc: Global,
+    name: &str,
+    path: &str,
+    counts: &mut Counts,
+) -> Result<TestDeployment, NoMemory> {
+    let descriptor = descriptor(alloc, name)?;
+    let parts = counted_parts(alloc, path, &descriptor, counts)?;
+    Ok(Deployment {
+        path: Text::copy_of(alloc, path)?,
+        descriptor,
+        files: files(alloc)?,
+        users: users(alloc)?,
+        parts,
+    })
+}
+
+fn descriptor(alloc: Global, name: &str) -> Result<Descriptor, NoMemory> {
+    match read_descriptor(alloc, descriptor_text(name)) {
+        Ok(descriptor) => Ok(descriptor),
+        Err(_) => Err(NoMemory),
+    }
+}
+
+fn files(alloc: Global) -> Result<Files, NoMemory> {
+    match Files::from_list(alloc, Vec::new(alloc)) {
+        Ok(files) => Ok(files),
+        Err(_) => Err(NoMemory),
+    }
+}
+
+fn users(alloc: Global) -> Result<Realm, NoMemory> {
+    let Ok(users) = read_users(alloc, USERS) else {
+        return Err(NoMemory);
+    };
+    if users.len() > MAX_USERS {
+        return Err(NoMemory);
+    }
+    Realm::from_users(alloc, users)
+}
+
+fn counted_parts(
+    alloc: Global,
+    path: &str,
+    descriptor: &Descriptor,
+    counts: &mut Counts,
+) -> Result<TestParts, NoMemory> {
+    match parts_of(alloc, descriptor) {
+        Ok(parts) => {
+            let Parts {
+                servlets,
+                filters,
+                listeners,
+            } = parts;
+            Ok(Parts {
+                servlets: counted_all(alloc, "servlet", path, servlets, counts)?,
+                filters: counted_all(alloc, "filter", path, filters, counts)?,
+                listeners: counted_listeners(alloc, path, listeners, counts)?,
+            })
+        }
+        Err(_) => Err(NoMemory),
+    }
+}
+
+fn counted_all<C: Drop>(
+    alloc: Global,
+    kind: &str,
+    path: &str,
+    components: Vec<Named<C>>,
+    counts: &mut Counts,
+) -> Result<Vec<Named<Counted<C>>>, NoMemory> {
+    let mut counted = Vec::new(alloc);
+    for named in components {
+        counted.push(counted_one(alloc, kind, path, named, counts)?)?;
+    }
+    Ok(counted)
+}
+
+fn counted_one<C: Drop>(
+    alloc: Global,
+    kind: &str,
+    path: &str,
+    named: Named<C>,
+    counts: &mut Counts,
+) -> Result<Named<Counted<C>>, NoMemory> {
+    let Named { name, component } = named;
+    let front = format!(in alloc; "called {} {kind} {name} ", shown(path))?;
+    let component = counts.counted(front, component)?;
+    Ok(Named { name, component })
+}
+
+fn counted_listeners<C: Drop>(
+    alloc: Global,
+    path: &str,
+    listeners: Vec<C>,
+    counts: &mut Counts,
+) -> Result<Vec<Counted<C>>, NoMemory> {
+    let mut counted = Vec::new(alloc);
+    let mut number = 0u32;
+    for listener in listeners {
+        number = number.saturating_add(1);
+        let front = format!(in alloc; "told {} {number} ", shown(path))?;
+        counted.push(counts.counted(front, listener)?)?;
+    }
+    Ok(counted)
+}
+
+/// A context path as it is shown.
+pub fn shown(path: &str) -> &str {
+    if path.is_empty() { "/" } else { path }
+}

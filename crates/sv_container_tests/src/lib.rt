@@ -1,0 +1,20 @@
+//! Tests of containers: what refuses a start, the events of connections, explanations, the runs of scripts, and the counts of calls. Memory is ample
+//! in them, so that a body which always wants memory (`always_no_memory`, the one wrong body that no contract refuses) fails at every row.
+#![tactic(auto)]
+
+#[cfg(test)]
+mod containers;
+#[cfg(test)]
+mod counted;
+#[cfg(test)]
+mod deployments;
+#[cfg(test)]
+mod descriptors;
+#[cfg(test)]
+mod events;
+#[cfg(test)]
+mod explanations;
+#[cfg(test)]
+mod scripts;
+#[cfg(test)]
+mod starts;

@@ -1,0 +1,3 @@
+mod Cuts
+mod Entered
+pub mod Choice

@@ -1,0 +1,8 @@
+//! The places of context paths, kept for look-ups (Jakarta Servlet 6.0, section 12.1).
+#![tactic(auto)]
+
+mod context_index;
+mod outer;
+mod places;
+
+pub use context_index::ContextIndex;

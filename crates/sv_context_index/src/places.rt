@@ -1,0 +1,73 @@
+//! The places of texts, and the search along the fronts of a path.
+
+ghost use Rattle.std.specs.Prelude.{◌≡◌, ◌≤◌, ℕ, List, [], ◌∷◌, ◌++◌, length, position, OnOk};
+ghost use Rattle.sv_context_index.specs.Places.{ArePlaces, place_of};
+ghost use Rattle.sv_context_path.specs.Chosen.{is_chosen};
+
+use crate::outer::outer;
+use std::alloc::Global;
+use std::collections::HashMap;
+use sv_text::NoMemory;
+
+/// The places of context paths, of equal ones the first, and the length of the longest: no longer front of a path is looked up.
+#[derive(Drop)]
+pub(crate) struct Places {
+    places: HashMap<String, usize>,
+    longest: usize,
+}
+
+impl Places {
+    /// No places.
+    pub(crate) fn new(alloc: Global) -> Places
+        ensures { ArePlaces result [] }
+    {
+        Places {
+            places: HashMap::new(alloc),
+            longest: 0,
+        }
+    }
+
+    /// Enters the path that stands at the place behind all others.
+    pub(crate) fn enter(&mut self, alloc: Global, path: &str, place: usize) -> Result<(), NoMemory>
+        ensures { (paths : List (List ℕ)) → ArePlaces self.old paths → place ≡ length paths → OnOk result (ArePlaces self.new (paths ++ path.now ∷ [])) }
+    {
+        self.longest = longer(self.longest, path.len());
+        if self.places.contains_key(path) {
+            return Ok(());
+        }
+        self.places.insert(String::from_str(alloc, path)?, place)?;
+        Ok(())
+    }
+
+    /// The place of this path.
+    fn place_of(&self, path: &str) -> Option<usize>
+        ensures { (paths : List (List ℕ)) → ArePlaces self.now paths → result ≡ place_of paths path.now }
+    {
+        if path.len() > self.longest {
+            return None;
+        }
+        self.places.get(path).copied()
+    }
+
+    /// The place of the context path that a path has, from the path itself outwards.
+    pub(crate) fn chosen(&self, path: &str) -> Option<usize>
+        ensures { (paths : List (List ℕ)) → ArePlaces self.now paths → result ≡ position (is_chosen paths path.now) paths }
+    {
+        let mut rest = Some(path);
+        while let Some(front) = rest {
+            if let Some(place) = self.place_of(front) {
+                return Some(place);
+            }
+            rest = outer(front);
+        }
+        None
+    }
+}
+
+// The greater of two lengths.
+fn longer(one: usize, other: usize) -> usize
+    ensures one { one ≤ result }
+    ensures other { other ≤ result }
+{
+    one.max(other)
+}

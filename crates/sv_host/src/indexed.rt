@@ -1,0 +1,117 @@
+//! Contexts that are found by their paths.
+
+ghost use Rattle.std.specs.Prelude.{◌≡◌, ◌<◌, ℕ, true, IfOk, IfSome, IsTrue, List, Some, length, map, position, slice_get};
+ghost use Rattle.sv_context_path.specs.Chosen.{is_chosen};
+ghost use Rattle.sv_host.specs.Output.{Adds};
+ghost use Rattle.sv_journal.specs.declared.entry.Entry.{Entry};
+ghost use Rattle.sv_mapping.specs.Pattern.{is_at_or_below};
+ghost use Rattle.sv_run.specs.Contexts.{theory_of};
+ghost use Rattle.sv_run.specs.Effect.{Effect, noting};
+ghost use Rattle.sv_run.specs.Events.{ExpiresAll, MovesAll};
+ghost use Rattle.sv_run.specs.Items.{Responds};
+ghost use Rattle.sv_run.specs.Messages.{Within};
+
+use crate::expiring::expire_all;
+use crate::output::Output;
+use crate::serving::handle_at;
+use std::alloc::Global;
+use std::marker::Model;
+use sv_context_index::ContextIndex;
+use sv_context_path::HasContextPath;
+use sv_journal::Journal;
+use sv_run::{Context, Words};
+use sv_text::NoMemory;
+use sv_uri::path::Canon;
+use sv_wire::Message;
+
+/// Contexts in their order, with an index of their paths. Contracts see their list.
+#[derive(Drop)]
+pub(crate) struct Indexed<C: HasContextPath> {
+    contexts: Vec<C>,
+    index: ContextIndex,
+}
+
+impl<C: HasContextPath> Model for Indexed<C> {
+    ghost use Rattle.std.specs.Prelude.{◌≡◌, List, map};
+
+    ghost Value = { List C };
+
+    ghost view = { λ indexed. indexed.contexts.items };
+
+    ghost invariant = { λ indexed. indexed.index ≡ map C.path_of indexed.contexts.items };
+}
+
+impl<C: HasContextPath> Indexed<C> {
+    /// The contexts in their order, with the index of their paths.
+    pub(crate) fn new(contexts: Vec<C>, index: ContextIndex) -> Indexed<C>
+        requires { index ≡ map C.path_of contexts.items }
+        ensures { result ≡ contexts.items }
+    {
+        Indexed { contexts, index }
+    }
+
+    /// The contexts in their order.
+    pub(crate) fn as_slice(&self) -> &[C]
+        ensures { result.now ≡ self.now }
+    {
+        self.contexts.as_slice()
+    }
+
+    /// The contexts back, in their order.
+    pub(crate) fn into_vec(self) -> Vec<C>
+        ensures { result.items ≡ self }
+    {
+        let Indexed { contexts, .. } = self;
+        contexts
+    }
+
+    /// The place of the context of a path, as [`context_place`](sv_context_path::context_place) finds it, as fast among many as among few.
+    pub(crate) fn place(&self, path: &str) -> Option<usize>
+        ensures chosen { result ≡ position (λ context. is_chosen (map C.path_of self.now) path.now (C.path_of context)) self.now }
+        ensures bound { IfSome result (λ place. place < length self.now) }
+        ensures above { IfSome result (λ place. (context : C) → slice_get self.now place ≡ Some context → IsTrue (is_at_or_below (C.path_of context) path.now)) }
+    {
+        self.index.place(path)
+    }
+}
+
+impl<C: Context> Indexed<C> {
+    /// Ends the sessions that have expired at the moment, context by context.
+    pub(crate) fn expire_all(&mut self, alloc: Global, moment: u64, journal: &mut Journal)
+        ensures expires { journal.new.whole ≡ true
+            → (told : List Entry) × ExpiresAll C.conduct self.old moment told self.new × (journal.new ≡ noting told journal.old) }
+        ensures moves { MovesAll C.conduct self.old self.new }
+    {
+        expire_all(alloc, self.contexts.as_mut_slice(), moment, journal);
+    }
+
+    /// Has the context at the place handle a message.
+    pub(crate) fn handle_at<W: Words>(
+        &mut self,
+        alloc: Global,
+        place: usize,
+        moment: u64,
+        message: &Message,
+        canon: &Canon,
+        words: (u64, u64),
+        output: &mut Output,
+    ) -> Result<(), NoMemory>
+        requires there { place < length self.old }
+        requires serves { (context : C) → slice_get self.old place ≡ Some context → IsTrue (is_at_or_below (C.path_of context) canon.now.path) }
+        ensures responds { IfOk result (λ _. (effect : Effect C)
+            × Responds (theory_of C.path_of C.conduct W.draws) moment (Within place canon.now) message.now words self.old effect self.new
+            × Adds output.old effect output.new) }
+        ensures moves { MovesAll C.conduct self.old self.new }
+    {
+        handle_at::<C, W>(
+            alloc,
+            self.contexts.as_mut_slice(),
+            place,
+            moment,
+            message,
+            canon,
+            words,
+            output,
+        )
+    }
+}

@@ -1,0 +1,47 @@
+//! The handling of a message by a context.
+
+ghost use Rattle.std.specs.Prelude.{◌≡◌, ◌<◌, IfOk, IsTrue, Some, length, slice_get};
+ghost use Rattle.sv_host.specs.Output.{Adds};
+ghost use Rattle.sv_mapping.specs.Pattern.{is_at_or_below};
+ghost use Rattle.sv_run.specs.Contexts.{theory_of};
+ghost use Rattle.sv_run.specs.Effect.{Effect};
+ghost use Rattle.sv_run.specs.Events.{MovesAll};
+ghost use Rattle.sv_run.specs.Items.{Responds};
+ghost use Rattle.sv_run.specs.Messages.{Within};
+
+use crate::answering::send;
+use crate::output::Output;
+use std::alloc::Global;
+use sv_run::{Context, Words};
+use sv_text::NoMemory;
+use sv_uri::path::Canon;
+use sv_wire::Message;
+
+// Has the context at the place handle a message.
+pub(crate) fn handle_at<C: Context, W: Words>(
+    alloc: Global,
+    contexts: &mut [C],
+    place: usize,
+    moment: u64,
+    message: &Message,
+    canon: &Canon,
+    words: (u64, u64),
+    output: &mut Output,
+) -> Result<(), NoMemory>
+    requires there { place < length contexts.old }
+    requires serves { (context : C) → slice_get contexts.old place ≡ Some context → IsTrue (is_at_or_below (C.path_of context) canon.now.path) }
+    ensures responds { IfOk result (λ _. (effect : Effect C)
+        × Responds (theory_of C.path_of C.conduct W.draws) moment (Within place canon.now) message.now words contexts.old effect contexts.new
+        × Adds output.old effect output.new) }
+    ensures moves { MovesAll C.conduct contexts.old contexts.new }
+{
+    let response = contexts[place].handle(
+        alloc,
+        message,
+        canon,
+        moment,
+        words,
+        &mut output.journal,
+    )?;
+    send(message, &response, moment, output)
+}
