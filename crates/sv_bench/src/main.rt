@@ -6,12 +6,10 @@ mod bodies;
 mod constraints;
 mod feeding;
 mod figures;
-mod files;
 mod paths;
 mod patterns;
 mod policies;
 mod policy_figures;
-mod sessions;
 
 use std::env;
 use std::process::ExitCode;
@@ -32,9 +30,7 @@ fn run<R: Env + Clock + Print + AllocGlobal>(rt: &R) -> Option<()> {
     figures::constraints(rt, wanted)?;
     policy_figures::policy(rt, wanted)?;
     figures::head(rt, wanted)?;
-    figures::body(rt, wanted)?;
-    sessions::sessions(rt, wanted)?;
-    files::files(rt, wanted)
+    figures::body(rt, wanted)
 }
 
 fn wants_figures<R: Env + AllocGlobal>(rt: &R) -> Option<bool> {

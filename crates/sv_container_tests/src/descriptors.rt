@@ -1,5 +1,7 @@
 //! The descriptors of the contexts that a row names.
 
+use sv_rows::{BAD, DEMO, TWO};
+
 /// The descriptor of that name; that of a context without components for any other name.
 pub fn descriptor_text(name: &str) -> &'static str {
     match name {
@@ -10,83 +12,6 @@ pub fn descriptor_text(name: &str) -> &'static str {
         _ => "",
     }
 }
-
-/// The root context of the demonstration.
-const DEMO: &str = r#"
-[[servlet]]
-servlet-name = "who"
-servlet-class = "Who"
-[[servlet]]
-servlet-name = "nest"
-servlet-class = "Nest"
-init-param = { path = "/nest" }
-[[servlet]]
-servlet-name = "go"
-servlet-class = "Go"
-init-param = { path = "/WEB-INF/page.html" }
-[[servlet]]
-servlet-name = "keep"
-servlet-class = "Keep"
-[[servlet-mapping]]
-servlet-name = "who"
-url-pattern = ["/who"]
-[[servlet-mapping]]
-servlet-name = "nest"
-url-pattern = ["/nest"]
-[[servlet-mapping]]
-servlet-name = "go"
-url-pattern = ["/go"]
-[[servlet-mapping]]
-servlet-name = "keep"
-url-pattern = ["/keep"]
-[[filter]]
-filter-name = "mark"
-filter-class = "Mark"
-[[filter-mapping]]
-filter-name = "mark"
-url-pattern = ["/*"]
-dispatcher = ["FORWARD"]
-[[listener]]
-listener-class = "Log"
-[[listener]]
-listener-class = "Log"
-[session-config]
-session-timeout = 1
-[[security-constraint]]
-web-resource-collection = [{ url-pattern = ["/admin/*"] }]
-auth-constraint = { role-name = ["a"] }
-[[security-role]]
-role-name = "a"
-[login-config]
-auth-method = "FORM"
-form-login-config = { form-login-page = "/login.html", form-error-page = "/error.html" }
-"#;
-
-/// The other context of the demonstration.
-const TWO: &str = r#"
-[[servlet]]
-servlet-name = "keep"
-servlet-class = "Keep"
-[[servlet-mapping]]
-servlet-name = "keep"
-url-pattern = ["/keep"]
-[session-config]
-session-timeout = 0
-"#;
-
-/// A context whose second filter fails to start.
-const BAD: &str = r#"
-[[filter]]
-filter-name = "f1"
-filter-class = "Mark"
-[[filter]]
-filter-name = "f2"
-filter-class = "Bad"
-[[listener]]
-listener-class = "Log"
-[[listener]]
-listener-class = "Log"
-"#;
 
 /// A context of one servlet and one listener.
 const WHO: &str = r#"

@@ -7,7 +7,7 @@ use Rattle.std.proofs.lemmas.Iterator.Adapters.{position_from-zero}
 use Rattle.std.proofs.lemmas.List.Quantifiers.{position-Some}
 use Rattle.std.proofs.lemmas.Option.{get_or_from_slice_get}
 use Rattle.std.proofs.lemmas.Slice.Eq.{bytes_eq-Decides}
-use Rattle.sv_context_index.proofs.Entered.{position_some}
+use Rattle.sv_text.proofs.FirstPlace.{position_some}
 use Rattle.sv_context_index.specs.Fronts.{serves}
 use Rattle.sv_context_index.specs.Places.{place_of}
 use Rattle.sv_context_path.proofs.Texts.{below_front}

@@ -1,4 +1,4 @@
-//! What exchanges, dispatches and look-ups cost. With the argument `figures` it prints nanoseconds, without it only what was measured. With the arguments
+//! What exchanges, dispatches, look-ups, sessions and files cost. With the argument `figures` it prints nanoseconds, without it only what was measured. With the arguments
 //! `exchanges N` it begins and finishes N exchanges and says that they were made, so that what they take can be counted from outside.
 #![tactic(auto)]
 
@@ -8,8 +8,10 @@ mod dispatch_figures;
 mod dispatches;
 mod exchange_figures;
 mod exchanges;
+mod files;
 mod lookup_figures;
 mod lookups;
+mod sessions;
 
 use std::env;
 use std::process::ExitCode;
@@ -46,7 +48,9 @@ fn measure<R: Clock + Print + AllocGlobal>(rt: &R, figures: bool) -> Option<()> 
     exchange_figures::exchange(rt, figures)?;
     dispatch_figures::dispatches(rt, figures)?;
     lookup_figures::contexts(rt, figures)?;
-    lookup_figures::connections(rt, figures)
+    lookup_figures::connections(rt, figures)?;
+    sessions::sessions(rt, figures)?;
+    files::files(rt, figures)
 }
 
 fn read_arguments<R: Env + AllocGlobal>(rt: &R) -> Option<Wanted> {

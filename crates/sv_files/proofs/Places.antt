@@ -1,56 +1,21 @@
 -- The places of files, one file after another.
-use Rattle.std.proofs.Common.{ℕ, ◌≡◌, ◌+◌, ◌<◌, Bool, true, false, ◌||◌, cond, List, [], ◌∷◌, ◌++◌, length, get_or, take, drop, take-append-drop, Option, Some, None, is_some, add-zero, zero-add, sym, refl, ap, subst, ◌∙◌, ⊎_elim, arith}
-use Rattle.std.specs.List.{list_any, position, position_from, slice_get}
+use Rattle.std.proofs.Common.{ℕ, ◌≡◌, ◌+◌, ◌<◌, Bool, true, false, ◌||◌, cond, List, [], ◌∷◌, ◌++◌, length, get_or, take, drop, take-append-drop, Option, Some, None, sym, refl, ap, subst, ◌∙◌, ⊎_elim}
+use Rattle.std.specs.List.{position, slice_get}
 use Rattle.std.specs.Option.{option_and_then, option_map, option_or}
 use Rattle.std.specs.Str.{bytes_eq}
 use Rattle.std.proofs.lemmas.Bool.{both_ways, cases_Bool, cond-true, cond-false, false_from_ne_true, or_cases, or_from, or_left, or_parts, or_right}
-use Rattle.std.proofs.lemmas.Iterator.Adapters.{position_from-zero}
 use Rattle.std.proofs.lemmas.List.{drop_more, take_more}
 use Rattle.std.proofs.lemmas.List.Folds.{list_any-append}
 use Rattle.std.proofs.lemmas.Option.{slice_get_read}
 use Rattle.std.proofs.lemmas.Slice.Eq.{bytes_eq-Decides}
 use Rattle.sv_mapping.proofs.FirstBest.{get-position}
+use Rattle.sv_text.proofs.FirstPlace.{none_is, or_none, position-push, position_some}
 use Rattle.sv_files.specs.Below.{lies_below}
 use Rattle.sv_files.specs.Fault.{repeats}
 use Rattle.sv_files.specs.Index.{IsIndexOf}
 use Rattle.sv_files.specs.Files.{file_at, is_file, is_folder}
 use Rattle.sv_files.specs.declared.file.File.{File}
 use Rattle.sv_files.specs.declared.index.Index.{Index}
-
--- ---- the first place at which a test passes
-module _ {X : Type 0} (t : X → Bool) where
-  from_push : (i : ℕ) (xs : List X) (x : X) → position_from t i (xs ++ x ∷ []) ≡ option_or (position_from t i xs) (cond (t x) (Some (i + length xs)) None)
-  from_push i [] x = rw add-zero refl
-  from_push i (y ∷ ys) x =
-      ⊎_elim
-      (λ e. rw e refl)
-      (λ e.
-      let further : i + 1 + length ys ≡ i + length (y ∷ ys) = omega arith in
-      cond-false _ _ _ e ∙ (from_push (i + 1) ys x
-      ∙ (ap (λ n. option_or (position_from t (i + 1) ys) (cond (t x) (Some n) None)) further
-      ∙ ap (λ o. option_or o (cond (t x) (Some (i + length (y ∷ ys))) None)) (sym (cond-false _ _ _ e)))))
-      (cases_Bool (t y))
-
-  from_some : (i : ℕ) (xs : List X) → is_some (position_from t i xs) ≡ list_any t xs
-  from_some i [] = refl
-  from_some i (x ∷ xs) = ⊎_elim (λ e. rw e refl) (λ e. rw e (from_some (i + 1) xs)) (cases_Bool (t x))
-
-  position-push : (xs : List X) (x : X) → position t (xs ++ x ∷ []) ≡ option_or (position t xs) (cond (t x) (Some (length xs)) None)
-  position-push xs x =
-      position_from-zero t (xs ++ x ∷ []) ∙ (from_push 0 xs x
-      ∙ (ap (λ n. option_or (position_from t 0 xs) (cond (t x) (Some n) None)) (zero-add (length xs))
-      ∙ ap (λ o. option_or o (cond (t x) (Some (length xs)) None)) (sym (position_from-zero t xs))))
-
-  pub position_some : (xs : List X) → is_some (position t xs) ≡ list_any t xs
-  position_some xs = ap is_some (position_from-zero t xs) ∙ from_some 0 xs
-
-none_is : {X : Type 0} (o : Option X) → is_some o ≡ false → o ≡ None
-none_is None e = refl
-none_is (Some x) e = cc
-
-or_none : {X : Type 0} (o : Option X) → option_or o None ≡ o
-or_none None = refl
-or_none (Some x) = refl
 
 -- ---- one file more, whose path is new
 pub place-more : (files : List File) (file : File) (place : ℕ) (path : List ℕ) (was now : Option ℕ) → place ≡ length files → is_file files file.path ≡ false → was ≡ position (λ f. bytes_eq f.path path) files → now ≡ cond (bytes_eq file.path path) (Some place) was → now ≡ position (λ f. bytes_eq f.path path) (files ++ file ∷ [])

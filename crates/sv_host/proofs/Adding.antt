@@ -4,40 +4,15 @@ use Rattle.sv_host.specs.Output.{Adds, reaction_of, then_brings}
 use Rattle.sv_host.specs.declared.output.Output.{Output}
 use Rattle.sv_journal.specs.Journal.{JournalState, new_journal}
 use Rattle.sv_journal.specs.declared.entry.Entry.{Entry}
+use Rattle.sv_run.proofs.Effects.{or-assoc, or-at_false}
 use Rattle.sv_run.specs.Effect.{Effect, closing, joined, nothing, noting, shown, telling}
 use Rattle.sv_run.specs.declared.reaction.Reaction.{Reaction}
-
-or-assoc : (a b c : Bool) → ((a || b) || c) ≡ (a || (b || c))
-or-assoc true b c = refl
-or-assoc false b c = refl
-
-pub or-at_false : (a : Bool) → (a || false) ≡ a
-or-at_false true = refl
-or-at_false false = refl
 
 pub or-true : (a : Bool) → true ≡ (a || true)
 or-true true = refl
 or-true false = refl
 
 module _ {Context : Type 0} where
-  pub joined-assoc : (a b c : Effect Context) → joined (joined a b) c ≡ joined a (joined b c)
-  joined-assoc a b c =
-      λ i. record {
-        sends = append_assoc a.sends b.sends c.sends i;
-        closes = or-assoc a.closes b.closes c.closes i;
-        journal = append_assoc a.journal b.journal c.journal i;
-        deeds = append_assoc a.deeds b.deeds c.deeds i;
-      }
-
-  pub joined-nothing : (a : Effect Context) → joined a nothing ≡ a
-  joined-nothing a =
-      λ i. record {
-        sends = append-nil a.sends i;
-        closes = or-at_false a.closes i;
-        journal = append-nil a.journal i;
-        deeds = append-nil a.deeds i;
-      }
-
   brings_both : (reaction : Reaction) (first second : Effect Context)
       → then_brings (then_brings reaction first) second ≡ then_brings reaction (joined first second)
   brings_both reaction first second =

@@ -1,7 +1,7 @@
 -- Items that are handled one after another.
 use Rattle.std.proofs.Common.{◌≡◌, ℕ, ◌+◌, ◌<◌, ◌≤◌, true, false, List, ◌∷◌, Result, Ok, Err, IfOk, length, drop, slice_index_or, refl, sym, ap, ◌∙◌, subst, drop-cons, add-one}
 use Rattle.std.proofs.lemmas.List.{drop_all}
-use Rattle.sv_host.proofs.Adding.{joined-assoc, joined-nothing}
+use Rattle.sv_run.proofs.Effects.{joined-assoc, joined-nothing}
 use Rattle.sv_host.specs.Output.{then_brings}
 use Rattle.sv_journal.specs.declared.entry.Entry.TheVariants.{Refused}
 use Rattle.sv_journal.specs.declared.refusal_cause.RefusalCause.TheVariants as causes

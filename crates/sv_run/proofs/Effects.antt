@@ -2,11 +2,11 @@
 use Rattle.std.proofs.Common.{◌≡◌, Bool, true, false, ◌||◌, refl, append_assoc, append-nil}
 use Rattle.sv_run.specs.Effect.{Effect, nothing, joined}
 
-or-assoc : (a b c : Bool) → ((a || b) || c) ≡ (a || (b || c))
+pub or-assoc : (a b c : Bool) → ((a || b) || c) ≡ (a || (b || c))
 or-assoc true b c = refl
 or-assoc false b c = refl
 
-or-at_false : (a : Bool) → (a || false) ≡ a
+pub or-at_false : (a : Bool) → (a || false) ≡ a
 or-at_false true = refl
 or-at_false false = refl
 

@@ -1,7 +1,7 @@
 mod Beside
 mod Callers
 mod Cuts
-mod Effects
+pub mod Effects
 mod Feedings
 mod Joining
 mod Orders

@@ -1,1 +1,3 @@
+pub mod FirstPlace
 pub mod FrontLemmas
+pub mod LastSlash

@@ -1,4 +1,5 @@
-use Rattle.sv_context_index.proofs.Cuts.{front-shorter, serves-cut, serves-none}
+use Rattle.sv_text.proofs.LastSlash.{front-shorter}
+use Rattle.sv_context_index.proofs.Cuts.{serves-cut, serves-none}
 use Rattle.sv_context_index.proofs.outer.outer.Goals as goal
 
 pub returns-in-Some-clause-serves : goal.returns-in-Some-clause-serves

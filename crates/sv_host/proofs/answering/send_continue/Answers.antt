@@ -1,6 +1,6 @@
 use Rattle.std.proofs.Common.{sym, append-nil}
 use Rattle.sv_run.specs.Items.{continue_text}
-use Rattle.sv_host.proofs.Adding.{or-at_false}
+use Rattle.sv_run.proofs.Effects.{or-at_false}
 use Rattle.sv_host.proofs.answering.send_continue.Goals as goal
 
 pub returns : goal.returns

@@ -8,7 +8,8 @@ use Rattle.sv_files.specs.Below.{lies_below}
 use Rattle.sv_files.specs.Files.{is_file, is_folder}
 use Rattle.sv_files.specs.declared.file.File.{File}
 use Rattle.sv_files.proofs.Folders.{folders_closed}
-use Rattle.sv_files.proofs.Places.{folder-more, place-more, position_some}
+use Rattle.sv_text.proofs.FirstPlace.{position_some}
+use Rattle.sv_files.proofs.Places.{folder-more, place-more}
 use Rattle.sv_files.proofs.index.Index.enter.Goals as goal
 
 pub returns-then-contains_key-clause-new : goal.returns-then-contains_key-clause-new
