@@ -4,6 +4,7 @@ use Rattle.std.specs.Option.{option_or}
 use Rattle.std.specs.Str.{bytes_eq}
 use Rattle.std.proofs.lemmas.Bool.{cases_Bool, cond-true, cond-false, false_from_ne_true}
 use Rattle.std.proofs.lemmas.Slice.Eq.{bytes_eq-Decides}
+use Rattle.sv_text.proofs.FirstPlace.{none_is, or_none, position-push}
 use Rattle.sv_context_index.specs.Places.{place_of}
 
 or_some : {X : Type 0} (o other : Option X) → is_some o ≡ true → option_or o other ≡ o
