@@ -1,4 +1,5 @@
 pub mod Covering
+pub mod Entries
 pub mod Laws
 pub mod Merged
 pub mod Table

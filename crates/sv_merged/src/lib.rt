@@ -3,6 +3,7 @@
 #![tactic(auto)]
 
 mod covering;
+mod entries;
 mod laws;
 mod merged;
 mod role_numbers;

@@ -1,59 +1,30 @@
 //! The merged table of a pattern.
 
-ghost use Rattle.std.specs.Prelude.{◌≡◌, ◌++◌, ◌∷◌, [], ℕ, List, IfOk, OnOk, map, Some, false};
-ghost use Rattle.std.specs.Option.{option_copied, option_map_or};
-ghost use Rattle.sv_constraints.specs.Covering.{covering, lists};
+ghost use Rattle.std.specs.Prelude.{◌≡◌, List, IfOk, map, Some};
+ghost use Rattle.std.specs.Option.{option_copied};
+ghost use Rattle.sv_constraints.specs.Covering.{covering};
 ghost use Rattle.sv_constraints.specs.Findings.{findings_of};
-ghost use Rattle.sv_merged.specs.Table.{HasEntries, IsTable, entry_in, entry_of};
-ghost use Rattle.sv_merged.specs.Uncovered.{IsRising, differ, is_bare, uncovered_methods};
+ghost use Rattle.sv_merged.specs.Table.{IsTable};
+ghost use Rattle.sv_merged.specs.Uncovered.{uncovered_methods};
 ghost use Rattle.sv_text.specs.Gives.{GivesAnswer};
 
-use crate::covering::named_methods;
-use crate::merged::Merged;
+use crate::entries::Entries;
 use std::alloc::Global;
-use std::collections::BTreeMap;
+use std::rc::Rc;
 use sv_constraints::{Constraint, Findings, Methods, Rules};
 use sv_mapping::Pattern;
 use sv_realm::Caller;
-use sv_text::{Listed, NoMemory, Text};
+use sv_text::NoMemory;
 
 /// What the constraints on a pattern come to: an entry for each method that one of them names there, and one rule for all
-/// other methods.
+/// other methods. Tables of several patterns may share their entries.
 #[derive(Drop)]
 pub struct Table {
     /// The pattern.
     pub pattern: Pattern,
-    /// Each entry stands in a box, since a map takes room for fifteen at once.
-    methods: BTreeMap<String, Box<Merged>>,
-    rest: Merged,
-}
-
-/// Sees that a method has an entry.
-fn enter(
-    methods: &mut BTreeMap<String, Box<Merged>>,
-    alloc: Global,
-    rules: &Rules,
-    members: &[&Constraint],
-    pattern: &str,
-    name: &str,
-) -> Result<(), NoMemory>
-    ensures { OnOk result ((names : List (List ℕ)) →
-        HasEntries rules.now (map (λ member. member.now) members.now) pattern.now (entry_in methods.old) names →
-        HasEntries rules.now (map (λ member. member.now) members.now) pattern.now (entry_in methods.new) (names ++ name.now ∷ [])) }
-{
-    if methods.contains_key(name) {
-        return Ok(());
-    }
-    let merged = Merged::gather(alloc, rules, members, pattern, Some(name))?;
-    methods.insert(String::from_str(alloc, name)?, Box::new(alloc, merged)?)?;
-    Ok(())
-}
-
-/// Whether just one of the two holds.
-fn differ(one: bool, other: bool) -> bool
-    ensures { result ≡ differ one other }
-{
-    if one { !other } else { other }
+    /// The number that the maker of the entries gave them, to know them again by.
+    pub mark: u64,
+    entries: Rc<Entries>,
 }
 
 impl Table {
@@ -65,33 +36,32 @@ impl Table {
         alloc: Global,
         rules: &Rules,
         pattern: Pattern,
+        mark: u64,
         members: &[&Constraint],
     ) -> Result<Table, NoMemory>
         ensures table { IfOk result (λ table. IsTable rules.now (map (λ member. member.now) members.now) table) }
         ensures pattern { IfOk result (λ table. table.pattern ≡ pattern) }
+        ensures mark { IfOk result (λ table. table.mark ≡ mark) }
     {
-        let text = pattern.text();
-        let mut methods = BTreeMap::new(alloc);
-        let names = named_methods(alloc, members, text)?;
-        for name in names.as_slice() {
-            enter(&mut methods, alloc, rules, members, text, *name)?;
-        }
-        let rest = Merged::gather(alloc, rules, members, text, None)?;
+        let entries = Entries::merge(alloc, rules, pattern.text(), members)?;
         Ok(Table {
             pattern,
-            methods,
-            rest,
+            mark,
+            entries: Rc::new(alloc, entries)?,
         })
     }
 
-    /// The entry of a method.
-    fn entry(&self, method: &str) -> &Merged
-        ensures { result.now ≡ entry_of self.now method.now }
+    /// A table of another pattern with the same entries, which both share.
+    pub fn sharing(&self, pattern: Pattern) -> Result<Table, NoMemory>
+        ensures entries { IfOk result (λ table. table.entries.value ≡ self.now.entries.value) }
+        ensures pattern { IfOk result (λ table. table.pattern ≡ pattern) }
+        ensures mark { IfOk result (λ table. table.mark ≡ self.now.mark) }
     {
-        match self.methods.get(method) {
-            Some(entry) => entry,
-            None => &self.rest,
-        }
+        Ok(Table {
+            pattern,
+            mark: self.mark,
+            entries: self.entries.clone()?,
+        })
     }
 
     /// What there is to find in the merged constraints that cover the method at the pattern, by one look-up by method, and
@@ -100,7 +70,7 @@ impl Table {
         ensures { (rules : Rules) (constraints : List Constraint) → IsTable rules constraints self.now →
             result ≡ findings_of rules (option_copied caller.entry) (covering constraints (Some self.now.pattern) method.now) }
     {
-        self.entry(method).findings(caller)
+        self.entries.of(method).findings(caller)
     }
 
     /// The methods that no constraint covers at the pattern: those that are listed, or all but those. The list rises by
@@ -109,26 +79,6 @@ impl Table {
         ensures { (rules : Rules) (constraints : List Constraint) → IsTable rules constraints self.now →
             GivesAnswer result (uncovered_methods constraints self.now.pattern) }
     {
-        let listed = self.exceptions(alloc)?;
-        if self.rest.is_bare() {
-            Ok(Methods::Except(listed))
-        } else {
-            Ok(Methods::Only(listed))
-        }
-    }
-
-    /// The named methods that are covered where the others are not, or the other way round.
-    fn exceptions(&self, alloc: Global) -> Result<Listed<Text>, NoMemory>
-        ensures rising { IfOk result (λ names. IsRising names) }
-        ensures names { IfOk result (λ names. (method : List ℕ) → lists names method ≡
-            option_map_or (λ entry. differ (is_bare entry) (is_bare self.now.rest)) (entry_in self.now.methods method) false) }
-    {
-        let mut names = Vec::new(alloc);
-        for (name, entry) in &self.methods {
-            if differ(entry.is_bare(), self.rest.is_bare()) {
-                names.push(Text::copy_of(alloc, name.as_str())?)?;
-            }
-        }
-        Ok(Listed::from_vec(names))
+        self.entries.uncovered(alloc)
     }
 }

@@ -1,5 +1,5 @@
 -- The table of the best pattern decides.
-use Rattle.std.proofs.Common.{subst, ◌≡◌, ℕ, List, [], ◌∷◌, map, refl, ap, sym, ◌∙◌, Option, Some, None}
+use Rattle.std.proofs.Common.{subst, ◌≡◌, ℕ, List, map, refl, ap, sym, ◌∙◌, Option, Some, None}
 use Rattle.std.specs.Prelude.{All, slice_get}
 use Rattle.std.specs.Option.{option_and_then, option_map}
 use Rattle.std.proofs.lemmas.Option.{get_or_from_slice_get, none-some, slice_get-map, slice_get_within}
@@ -16,6 +16,7 @@ use Rattle.sv_constraints.specs.Verdict.{verdict, verdict_at}
 use Rattle.sv_merged.specs.Table.{IsTable}
 use Rattle.sv_merged.specs.declared.table.Table.{Table}
 use Rattle.sv_policy.specs.Compiled.{AreCompiled}
+use Rattle.sv_policy.proofs.Whole.{seen_twice}
 use Rattle.sv_policy.specs.Patterns.{BestIsOfTexts}
 
 at_place : (tables : List Table) (place : Option ℕ) → option_and_then (λ at. slice_get (map (λ t. t.pattern) tables) at) place ≡ option_map (λ (t : Table). t.pattern) (option_and_then (λ at. slice_get tables at) place)
@@ -30,17 +31,13 @@ best_of_tables of_texts rules constraints tables path place found are looked is 
     ap (option_map (λ (t : Table). t.pattern)) is ∙ sym (at_place tables place) ∙ looked
     ∙ of_texts (map (λ t. t.pattern) tables) (all_patterns constraints) path are.texts
 
-all_at : (P : Table → Type 0) (tables : List Table) (k : ℕ) (table : Table) → All P tables → Some table ≡ slice_get tables k → P table
+pub all_at : (P : Table → Type 0) (tables : List Table) (k : ℕ) (table : Table) → All P tables → Some table ≡ slice_get tables k → P table
 all_at P tables k table all at = subst P (get_or_from_slice_get tables k table table (sym at)) (all k table (slice_get_within tables k table (sym at)))
 
 -- and the table is what the constraints come to
 pub whole_at : (rules : Rules) (constraints : List Constraint) (tables : List Table) (place : Option ℕ) (table : Table) → AreCompiled rules constraints tables → Some table ≡ option_and_then (λ at. slice_get tables at) place → IsTable rules constraints table
 whole_at rules constraints tables None table are at = absurd (none-some table (sym at))
 whole_at rules constraints tables (Some k) table are at = all_at (IsTable rules constraints) tables k table are.whole at
-
-seen_twice : {A B C : Type 0} (f : A → B) (g : B → C) (xs : List A) → map g (map f xs) ≡ map (λ x. g (f x)) xs
-seen_twice f g [] = refl
-seen_twice f g (x ∷ xs) = ap (λ rest. g (f x) ∷ rest) (seen_twice f g xs)
 
 -- what a look-up in the index of shared tables finds
 pub looked_up : {A : Type 0} → BestIsOfTexts → (value : A → Table) (rules : Rules) (constraints : List Constraint) (shared slice : List A) (index : List (List ℕ)) (path : List ℕ) (place : Option ℕ) (found : Option Table)

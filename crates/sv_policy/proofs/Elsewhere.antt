@@ -11,11 +11,12 @@ use Rattle.sv_constraints.specs.Covering.{all_patterns, covers, lists}
 use Rattle.sv_constraints.specs.declared.constraint.Constraint.{Constraint}
 use Rattle.sv_constraints.specs.declared.rules.Rules.{Rules}
 use Rattle.sv_merged.specs.Merged.{IsMerged}
-use Rattle.sv_merged.specs.Table.{IsTable, entry_of}
+use Rattle.sv_merged.specs.Entries.{entry_of}
+use Rattle.sv_merged.specs.Table.{IsTable}
 use Rattle.sv_merged.specs.declared.table.Table.{Table}
 use Rattle.sv_policy.proofs.Listed.{any_seen, covers_listed, different_lists, filter_within, listed_any, listed_by, some_filtered}
-use Rattle.sv_policy.proofs.Filing.{at_map, length_map}
-use Rattle.sv_policy.proofs.Whole.{all_none}
+use Rattle.sv_policy.proofs.Filing.{length_map}
+use Rattle.sv_policy.proofs.Whole.{all_none, seen_twice}
 use Rattle.sv_policy.specs.Compiled.{AreCompiled}
 use Rattle.sv_policy.specs.Patterns.{different, listed_in, lists_pattern}
 use Rattle.sv_policy.specs.Rebuilt.{AreSameElsewhere}
@@ -71,7 +72,7 @@ other_patterns patterns (table ∷ tables) =
 module _ (rules : Rules) (old new : List Constraint) (patterns : List (List ℕ)) (same : AreSameElsewhere old new patterns) where
   kept_table : (table : Table) → lists patterns table.pattern ≡ false → IsTable rules old table → IsTable rules new table
   kept_table table other is = λ method.
-      subst (λ covering. IsMerged rules covering (entry_of table method))
+      subst (λ covering. IsMerged rules covering (entry_of table.entries.value method))
       (sym (filter_within (λ c. covers c table.pattern method) (λ c. lists_pattern c table.pattern) (covers_listed table.pattern method) old)
       ∙ ap (filter (λ c. covers c table.pattern method)) (same table.pattern other)
       ∙ filter_within (λ c. covers c table.pattern method) (λ c. lists_pattern c table.pattern) (covers_listed table.pattern method) new)
@@ -117,10 +118,6 @@ module _ (rules : Rules) (old new : List Constraint) (patterns : List (List ℕ)
 pub same_once : (old new : List Constraint) (patterns : List (List ℕ)) → AreSameElsewhere old new patterns → AreSameElsewhere old new (different patterns)
 same_once old new patterns same = λ text absent. same text (sym (different_lists patterns text) ∙ absent)
 
-seen_twice : {A B C : Type 0} (f : A → B) (g : B → C) (xs : List A) → map g (map f xs) ≡ map (λ x. g (f x)) xs
-seen_twice f g [] = refl
-seen_twice f g (x ∷ xs) = ap (λ rest. g (f x) ∷ rest) (seen_twice f g xs)
-
 -- the kept tables are whole
 pub kept_whole : {A : Type 0} (value : A → Table) (rules : Rules) (old new : List Constraint) (patterns : List (List ℕ)) (tables kept : List A) → AreSameElsewhere old new patterns → AreCompiled rules old (map value tables)
     → map value kept ≡ filter (is_other patterns) (map value tables) → All (IsTable rules new) (map value kept)
@@ -137,10 +134,6 @@ all_whole value rules old new patterns tables kept after same compiled are texts
       ∙ ap (λ ps. ps ++ filter (lists (all_patterns new)) patterns) (sym (seen_twice value (λ t. t.pattern) kept) ∙ ap (map (λ t. t.pattern)) are))
       ∙ texts_after rules old new patterns same (map value tables) compiled.texts text;
 }
-
--- what holds of the items that f gives holds of f at each
-pub all_at_each : {A X : Type 0} (P : X → Type 0) (f : A → X) (xs : List A) → All P (map f xs) → All (λ x. P (f x)) xs
-all_at_each P f xs all = λ k d within. subst P (at_map f xs k d within) (all k (f d) (let same_length : length (map f xs) ≡ length xs = length_map f xs in omega (arith, within, same_length)))
 
 pub count_is : {A X : Type 0} (f : A → X) (xs : List A) (ys : List X) (count len : ℕ) → count ≡ len → length xs ≡ len → map f xs ≡ ys → count ≡ length ys
 count_is f xs ys count len counted is are = counted ∙ sym is ∙ sym (length_map f xs) ∙ ap length are

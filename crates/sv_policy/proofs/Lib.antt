@@ -9,3 +9,5 @@ pub mod Best
 pub mod Elsewhere
 pub mod Outcomes
 pub mod Grouped
+pub mod Alike
+pub mod Made

@@ -34,7 +34,7 @@ pub some_filtered : {X : Type 0} (test : X → Bool) (xs : List X) → not (leng
 some_filtered test [] = refl
 some_filtered test (x ∷ xs) = some_cons (test x) x (filter test xs) (list_any test xs) (some_filtered test xs)
 
-length_seen : {A X : Type 0} (f : A → X) (xs : List A) → length (map f xs) ≡ length xs
+pub length_seen : {A X : Type 0} (f : A → X) (xs : List A) → length (map f xs) ≡ length xs
 length_seen f [] = refl
 length_seen f (x ∷ xs) = let below : length (map f xs) ≡ length xs = length_seen f xs in grind (arith, below)
 

@@ -4,5 +4,6 @@ pub mod Edits
 pub mod Filed
 pub mod Gaps
 pub mod Groups
+pub mod Likeness
 pub mod Patterns
 pub mod Rebuilt

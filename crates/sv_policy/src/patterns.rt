@@ -24,7 +24,7 @@ pub fn copied(alloc: Global, pattern: &Pattern) -> Result<Pattern, NoMemory>
 }
 
 /// Whether a pattern with this text is among the patterns.
-fn lists_pattern(patterns: &[Pattern], text: &str) -> bool
+pub fn lists_pattern(patterns: &[Pattern], text: &str) -> bool
     ensures { result ≡ lists patterns.now text.now }
 {
     patterns.iter().any(|listed| listed.text() == text)

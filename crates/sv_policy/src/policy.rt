@@ -1,7 +1,7 @@
 //! A compiled policy.
 
-ghost use Rattle.std.specs.Prelude.{◌≡◌, ◌≤◌, ◌<◌, ◌+◌, IfOk, is_some, map, true, slice_get};
-ghost use Rattle.std.specs.Option.{option_and_then, option_copied};
+ghost use Rattle.std.specs.Prelude.{◌≡◌, ◌≤◌, ◌<◌, ◌+◌, IfOk, is_some, true};
+ghost use Rattle.std.specs.Option.{option_copied};
 ghost use Rattle.sv_constraints.specs.Covering.{all_patterns};
 ghost use Rattle.sv_constraints.specs.Decision.{seen};
 ghost use Rattle.sv_constraints.specs.Verdict.{verdict};
@@ -12,8 +12,10 @@ ghost use Rattle.sv_policy.specs.Gaps.{gaps};
 ghost use Rattle.sv_text.specs.Gives.{GivesAnswer};
 
 use crate::gap::Gap;
+use crate::grouped_tables::tables_of;
 use crate::laws::best_is_of_texts;
-use crate::tables::{index_of, tables_of};
+use crate::making::table_at;
+use crate::tables::index_of;
 use crate::uncovered::gaps_of;
 use std::alloc::Global;
 use std::marker::Model;
@@ -128,12 +130,4 @@ impl Policy {
             },
         }
     }
-}
-
-/// The table at a place.
-fn table_at(tables: &[Rc<Table>], place: Option<usize>) -> Option<&Table>
-    ensures { option_copied result ≡ option_and_then (λ at. slice_get (map (λ table. table.value) tables.now) at) place }
-{
-    let table = tables.get(place?)?;
-    Some(table)
 }

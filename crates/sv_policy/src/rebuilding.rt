@@ -7,8 +7,10 @@ ghost use Rattle.sv_policy.specs.Compiled.{AreCompiled};
 ghost use Rattle.sv_policy.specs.Patterns.{listed_in};
 ghost use Rattle.sv_policy.specs.Rebuilt.{AreSameElsewhere, IsRebuilt};
 
+use crate::listed_tables::push_tables;
+use crate::making::Making;
 use crate::patterns::{is_among, patterns_of};
-use crate::tables::{index_of, push_tables};
+use crate::tables::index_of;
 use std::alloc::Global;
 use std::rc::Rc;
 use std::slice;
@@ -101,12 +103,13 @@ fn rebuilt_around(
         IfOk result (IsRebuilt rules.now (front.now ++ back.now) edited.now) }
 {
     let patterns = patterns_of(alloc, edited)?;
-    let mut tables = others(alloc, tables, patterns.as_slice())?;
-    push_tables(&mut tables, alloc, rules, front, back, patterns.as_slice())?;
+    let tables = others(alloc, tables, patterns.as_slice())?;
+    let mut making = Making::beginning(alloc, tables)?;
+    push_tables(&mut making, alloc, rules, front, back, patterns.as_slice())?;
     Ok(Rebuilt {
-        index: index_of(alloc, tables.as_slice())?,
+        index: index_of(alloc, making.tables.as_slice())?,
         count: patterns.len(),
-        tables,
+        tables: making.tables,
     })
 }
 

@@ -1,0 +1,81 @@
+//! Patterns on which the same constraints stand in the same way.
+
+ghost use Rattle.std.specs.Prelude.{◌≡◌, map};
+ghost use Rattle.std.specs.List.{list_any};
+ghost use Rattle.sv_constraints.specs.Covering.{lists};
+ghost use Rattle.sv_merged.specs.Uncovered.{differ};
+ghost use Rattle.sv_policy.specs.Likeness.{are_alike, tells_apart};
+
+use crate::patterns::lists_pattern;
+use sv_constraints::{Collection, Constraint};
+
+/// An odd number of 64 bits, by which a mark is multiplied before a number is added to it.
+const MARK_FACTOR: u64 = 0x9E37_79B9_7F4A_7C15;
+
+/// Whether a collection lists just one of two patterns.
+fn lists_one(collection: &Collection, pattern: &str, other: &str) -> bool
+    ensures { result ≡ differ (lists collection.now.patterns pattern.now) (lists collection.now.patterns other.now) }
+{
+    if lists_pattern(collection.patterns.as_slice(), pattern) {
+        !lists_pattern(collection.patterns.as_slice(), other)
+    } else {
+        lists_pattern(collection.patterns.as_slice(), other)
+    }
+}
+
+/// Whether a collection of the constraint lists just one of two patterns.
+fn tells_apart(constraint: &Constraint, pattern: &str, other: &str) -> bool
+    ensures { result ≡ tells_apart constraint.now pattern.now other.now }
+{
+    constraint
+        .collections
+        .as_slice()
+        .iter()
+        .any(|collection| lists_one(collection, pattern, other))
+}
+
+/// Whether one of the constraints does so.
+fn are_told_apart(members: &[&Constraint], pattern: &str, other: &str) -> bool
+    ensures { result ≡ list_any (λ member. tells_apart member.now pattern.now other.now) members.now }
+{
+    members
+        .iter()
+        .any(|member| tells_apart(*member, pattern, other))
+}
+
+/// Whether the constraints that list a pattern are as many as those that list another, and none tells them apart: then the
+/// same constraints cover each method at both.
+pub fn are_alike(
+    members: &[&Constraint],
+    others: &[&Constraint],
+    pattern: &str,
+    other: &str,
+) -> bool
+    ensures { result ≡ are_alike (map (λ member. member.now) members.now) (map (λ member. member.now) others.now) pattern.now other.now }
+{
+    members.len() == others.len() && !are_told_apart(members, pattern, other)
+}
+
+/// A number that patterns have in common which the same collections of the same constraints list, and that others seldom have.
+pub fn mark_of(members: &[&Constraint], pattern: &str) -> u64 {
+    members
+        .iter()
+        .fold(1, |mark, member| marked(mark, *member, pattern))
+}
+
+/// The mark with one more constraint.
+fn marked(mark: u64, member: &Constraint, pattern: &str) -> u64 {
+    let mut mark = mixed(mark, member.number);
+    let mut place: u64 = 0;
+    for collection in member.collections.as_slice() {
+        if lists_pattern(collection.patterns.as_slice(), pattern) {
+            mark = mixed(mark, place);
+        }
+        place = place.saturating_add(1);
+    }
+    mark
+}
+
+fn mixed(mark: u64, number: u64) -> u64 {
+    mark.wrapping_mul(MARK_FACTOR).wrapping_add(number)
+}
