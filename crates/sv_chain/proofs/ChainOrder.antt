@@ -10,7 +10,7 @@ use Rattle.sv_descriptor.specs.declared.web_app.WebApp.{WebApp}
 use Rattle.sv_mapping.specs.declared.kind.Kind.{Kind}
 use Rattle.sv_chain.specs.FilterChain.{filter_chain, filter_place, filters_of, maps_path, maps_servlet, without_doubles}
 use Rattle.sv_chain.specs.Laws.{GoesBefore, is_mapping_of, stands}
-use Rattle.sv_chain.proofs.Chains.{others}
+use Rattle.sv_chain.proofs.Growing.{others}
 use Rattle.sv_chain.proofs.Membership.{stands-filters}
 
 -- where the first item that passes stands

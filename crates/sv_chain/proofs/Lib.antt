@@ -1,4 +1,6 @@
 mod ChainOrder
-mod Chains
+mod Growing
+mod Keeping
 mod Membership
 mod Named
+mod Walks

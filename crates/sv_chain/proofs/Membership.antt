@@ -9,7 +9,7 @@ use Rattle.sv_descriptor.specs.declared.web_app.WebApp.{WebApp}
 use Rattle.sv_mapping.specs.declared.kind.Kind.{Kind}
 use Rattle.sv_chain.specs.FilterChain.{filter_chain, filter_place, filters_of, maps_path, maps_servlet, without_doubles}
 use Rattle.sv_chain.specs.Laws.{is_mapping_of, leads_to, stands}
-use Rattle.sv_chain.proofs.Chains.{stands-others}
+use Rattle.sv_chain.proofs.Growing.{stands-others}
 
 -- each place stands once, and none is lost
 stands-once : (place : ℕ) (places : List ℕ) → stands place (without_doubles places) ≡ stands place places

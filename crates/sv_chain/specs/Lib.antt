@@ -1,2 +1,3 @@
 pub mod FilterChain
+pub mod Kept
 pub mod Laws

@@ -1,9 +1,18 @@
 //! Which filters a dispatch passes, and in which order (Jakarta Servlet 6.0, section 6.2).
 #![tactic(auto)]
 
+mod by_path;
 mod chain;
+mod chains;
+mod compiled;
 mod doubles;
+mod kept;
 pub mod laws;
+mod limits;
 mod mapping;
+mod shared;
 
 pub use chain::chain_plain;
+pub use chains::Chains;
+pub use limits::{MAX_KEPT_BYTES, MAX_KEPT_CHAINS};
+pub use shared::Chain;

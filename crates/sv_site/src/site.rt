@@ -10,7 +10,7 @@ ghost use Rattle.sv_descriptor.specs.Location.{is_location};
 ghost use Rattle.sv_descriptor.specs.WellFormed.{IsWellFormed};
 ghost use Rattle.sv_site.specs.Seen.{IsThere, chosen_seen, found_seen};
 ghost use Rattle.sv_site.specs.ServletMappings.{mappings_of};
-ghost use Rattle.sv_site.specs.Site.{site_of};
+ghost use Rattle.sv_site.specs.Site.{Content, site_of};
 ghost use Rattle.sv_tree.specs.Site as tree;
 
 use crate::chosen::Chosen;
@@ -18,7 +18,7 @@ use crate::file_found::{FileFound, answered};
 use crate::servlet_patterns::ServletPatterns;
 use std::alloc::Global;
 use std::marker::Model;
-use sv_chain::chain_plain;
+use sv_chain::{Chain, Chains};
 use sv_descriptor::{Descriptor, Kind};
 use sv_error_pages::page_for;
 use sv_files::Files;
@@ -36,6 +36,7 @@ pub struct Site {
     descriptor: Descriptor,
     files: Files,
     patterns: ServletPatterns,
+    chains: Chains,
 }
 
 impl Model for Site {
@@ -48,19 +49,21 @@ impl Model for Site {
 
     ghost view = { λ site. record { context_path = site.context_path; app = site.descriptor; files = site.files } };
 
-    ghost invariant = { λ site. (site.patterns ≡ mappings_of site.descriptor) × IsWellFormed site.descriptor };
+    ghost invariant = { λ site. (site.patterns ≡ mappings_of site.descriptor) × (site.chains ≡ site.descriptor) × IsWellFormed site.descriptor };
 }
 
 impl Site {
     /// A site of its parts, without taking memory. The context's path is empty for the root context, and the patterns are those of the
-    /// descriptor, which `ServletPatterns::of` gives.
+    /// descriptor, which `ServletPatterns::of` gives, as the chains are, which `Chains::compile` gives.
     pub fn new(
         context_path: Text,
         descriptor: Descriptor,
         files: Files,
         patterns: ServletPatterns,
+        chains: Chains,
     ) -> Site
         requires patterns { patterns ≡ mappings_of descriptor }
+        requires chains { chains ≡ descriptor }
         requires well_formed { IsWellFormed descriptor }
         ensures { result ≡ record { context_path = context_path; app = descriptor; files = files } }
     {
@@ -69,6 +72,7 @@ impl Site {
             descriptor,
             files,
             patterns,
+            chains,
         }
     }
 
@@ -113,27 +117,28 @@ impl Site {
     pub fn name_of(&self, resource: Resource) -> &str
         ensures { result.now ≡ tree.name_of (site_of self.now) resource }
     {
-        match resource {
-            Resource::Servlet(place) => self.servlet_name(place),
-            Resource::Files => "default",
-        }
+        name_in(&self.descriptor, resource)
     }
 
-    /// The filters that a dispatch of the kind to the path passes, by their places (section 6.2.4).
+    /// The filters that a dispatch of the kind to the path passes, by their places (section 6.2.4). What is kept of it for the next
+    /// such dispatch is no part of what contracts see.
     ///
     /// # Errors
-    /// `NoMemory` where a growth was refused.
+    /// `NoMemory` where a growth was refused that the chain needs.
     pub fn chain(
-        &self,
+        &mut self,
         alloc: Global,
         path: &str,
         resource: Resource,
         kind: Kind,
-    ) -> Result<Vec<usize>, NoMemory>
-        ensures chain { IfOk result (λ chain. chain.items ≡ (site_of self.now).chain path.now (tree.name_of (site_of self.now) resource) kind) }
-        ensures places { IfOk result (λ chain. All (λ place. place < length self.now.app.filters) chain.items) }
+    ) -> Result<Chain, NoMemory>
+        ensures chain { IfOk result (λ chain. chain ≡ (site_of self.old).chain path.now (tree.name_of (site_of self.old) resource) kind) }
+        ensures places { IfOk result (λ chain. All (λ place. place < length self.old.app.filters) chain) }
+        ensures stays { self.new ≡ self.old }
     {
-        chain_plain(alloc, &self.descriptor, path, self.name_of(resource), kind)
+        let descriptor = &self.descriptor;
+        let name = name_in(descriptor, resource);
+        self.chains.of(alloc, descriptor, path, name, kind)
     }
 
     /// What the file servlet has for a path with its query in a dispatch of the kind (sections 10.10 and 12.2). The price does not grow
@@ -177,14 +182,24 @@ impl Site {
             None => Ok(None),
         }
     }
+}
 
-    fn servlet_name(&self, place: usize) -> &str
-        ensures { result.now ≡ slice_index_or (servlet_names self.now.app) place [] }
-    {
-        match self.descriptor.web_app().servlets.as_slice().get(place) {
-            Some(servlet) => servlet.servlet_name.as_str(),
-            None => "",
-        }
+/// The name of who answers by the descriptor: that of the servlet, or `default`.
+fn name_in(descriptor: &Descriptor, resource: Resource) -> &str
+    ensures { (content : Content) → content.app ≡ descriptor.now → result.now ≡ tree.name_of (site_of content) resource }
+{
+    match resource {
+        Resource::Servlet(place) => servlet_name(descriptor, place),
+        Resource::Files => "default",
+    }
+}
+
+fn servlet_name(descriptor: &Descriptor, place: usize) -> &str
+    ensures { result.now ≡ slice_index_or (servlet_names descriptor.now) place [] }
+{
+    match descriptor.web_app().servlets.as_slice().get(place) {
+        Some(servlet) => servlet.servlet_name.as_str(),
+        None => "",
     }
 }
 

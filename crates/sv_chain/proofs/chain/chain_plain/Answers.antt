@@ -2,7 +2,7 @@ use Rattle.std.proofs.Common.{◌≡◌, ◌<◌, length, IfOk, rules}
 use Rattle.std.specs.List.{All}
 use Rattle.std.proofs.lemmas.Result.{IfOk-weaker}
 use Rattle.sv_chain.specs.FilterChain.{filter_chain}
-use Rattle.sv_chain.proofs.Chains.{chain_in}
+use Rattle.sv_chain.proofs.Growing.{chain_in}
 use Rattle.sv_chain.proofs.chain.chain_plain.Goals as goal
 
 pub returns-clause-places : goal.returns-clause-places

@@ -1,5 +1,5 @@
 use Rattle.std.proofs.Common.{sym, ◌∙◌}
-use Rattle.sv_chain.proofs.Chains.{doubles-new, doubles-old}
+use Rattle.sv_chain.proofs.Growing.{doubles-new, doubles-old}
 use Rattle.sv_chain.proofs.doubles.without_doubles.Goals as goal
 use Rattle.sv_chain.proofs.doubles.without_doubles.Goals.{then-not-contains+in_ok-push, else-not-contains}
 

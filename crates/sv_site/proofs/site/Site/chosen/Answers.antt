@@ -14,6 +14,6 @@ returns-clause-chosen c =
 pub returns-clause-declared : goal.returns-clause-declared
 returns-clause-declared c =
     let site = site_of c.args.self.now in
-    let formed = subst (λ content. IsWellFormed content.app) c.self.view_is c.self.invariant.1 in
+    let formed = subst (λ content. IsWellFormed content.app) c.self.view_is c.self.invariant.2 in
     let same : chosen_seen c.chosen.result ≡ chosen site c.args.path.now = c.chosen.ensures ∙ chosen-is site c.args.path.now c.self.inside.patterns (c.self.invariant.0 ∙ ap (λ content. mappings_of content.app) c.self.view_is) in
     subst (IsThere site) (sym (ap (λ its. its.resource) same)) (chosen-there c.args.self.now c.args.path.now formed)
