@@ -4,7 +4,7 @@ ghost use Rattle.std.specs.Prelude.{◌≡◌, Err};
 ghost use Rattle.sv_descriptor.specs.WellFormed.{IsWellFormed};
 ghost use Rattle.sv_journal.specs.Journal.{JournalState};
 ghost use Rattle.sv_site.specs.ServletMappings.{mappings_of};
-ghost use Rattle.sv_context.specs.Deployment.{Deploys, Undeploys, no_sessions};
+ghost use Rattle.sv_context.specs.Deployment.{Deploys, Undeploys, declared_policy, no_sessions};
 
 use crate::context::Context;
 use crate::deployment::{DeployFault, Deployment};
@@ -14,6 +14,7 @@ use sv_component::{Filter, Listener, Servlet};
 use sv_descriptor::Descriptor;
 use sv_journal::Journal;
 use sv_lifecycle::{Live, StartCode, StartFault, fits};
+use sv_policy::Policy;
 use sv_session::Sessions;
 use sv_site::{ServletPatterns, Site};
 
@@ -29,9 +30,11 @@ impl<S: Servlet, F: Filter, L: Listener> Context<S, F, L> {
     ) -> Result<Context<S, F, L>, DeployFault<S, F, L>>
         ensures { Deploys S.servlet_step F.filter_step L.listener_step deployment journal.old result journal.new }
     {
-        match ServletPatterns::of(alloc, &deployment.descriptor) {
-            Ok(patterns) => start(alloc, deployment, patterns, journal),
-            Err(_) => Err(without_patterns(deployment)),
+        let app = deployment.descriptor.web_app();
+        let policy = Policy::compile_copies(alloc, app.constraints.as_slice(), &app.rules);
+        match (ServletPatterns::of(alloc, &deployment.descriptor), policy) {
+            (Ok(patterns), Ok(policy)) => start(alloc, deployment, patterns, policy, journal),
+            _ => Err(without_tables(deployment)),
         }
     }
 
@@ -43,6 +46,7 @@ impl<S: Servlet, F: Filter, L: Listener> Context<S, F, L> {
         let Context {
             site,
             users,
+            policy: _,
             live,
             mut sessions,
         } = self;
@@ -58,14 +62,16 @@ impl<S: Servlet, F: Filter, L: Listener> Context<S, F, L> {
     }
 }
 
-// Starts the components of a deployment whose patterns are compiled.
+// Starts the components of a deployment whose patterns and constraints are compiled.
 fn start<S: Servlet, F: Filter, L: Listener>(
     alloc: Global,
     deployment: Deployment<S, F, L>,
     patterns: ServletPatterns,
+    policy: Policy,
     journal: &mut Journal,
 ) -> Result<Context<S, F, L>, DeployFault<S, F, L>>
     requires patterns { patterns ≡ mappings_of deployment.descriptor }
+    requires policy { policy ≡ declared_policy deployment.descriptor }
     requires well_formed { IsWellFormed deployment.descriptor }
     ensures { Deploys S.servlet_step F.filter_step L.listener_step deployment journal.old result journal.new }
 {
@@ -83,6 +89,7 @@ fn start<S: Servlet, F: Filter, L: Listener>(
             Ok(Context {
                 site,
                 users,
+                policy,
                 live,
                 sessions,
             })
@@ -100,8 +107,8 @@ fn start<S: Servlet, F: Filter, L: Listener>(
     }
 }
 
-// A deployment for whose patterns there was no memory, so that nothing was started.
-fn without_patterns<S: Servlet, F: Filter, L: Listener>(
+// A deployment for whose patterns or constraints there was no memory, so that nothing was started.
+fn without_tables<S: Servlet, F: Filter, L: Listener>(
     deployment: Deployment<S, F, L>,
 ) -> DeployFault<S, F, L>
     ensures { (journal : JournalState) → Deploys S.servlet_step F.filter_step L.listener_step deployment journal (Err result) journal }
