@@ -1,10 +1,13 @@
-//! Copies of constraints, of edits, and the policy of constraints that stay with their owner.
+//! Policies of constraints, and edits, that stay with their owner: what a policy keeps of them is copied.
 
 ghost use Rattle.std.specs.Prelude.{◌≡◌, IfOk};
 ghost use Rattle.sv_policy.specs.Compiled.{compiled};
+ghost use Rattle.sv_policy.specs.Edits.{GivesOutcome, append_outcome, edit_outcome};
 ghost use Rattle.sv_text.specs.Gives.{GivesAnswer};
 
 use crate::edit::{Edit, NewConstraint};
+use crate::edit_fault::EditFault;
+use crate::editing::{is_too_many, numbered};
 use crate::patterns::copied;
 use crate::policy::Policy;
 use std::alloc::Global;
@@ -28,20 +31,34 @@ impl Policy {
         let rules = copied_rules(alloc, rules)?;
         Policy::compile(alloc, constraints, rules)
     }
-}
 
-impl Edit {
-    /// Copies an edit.
+    /// Makes an edit, and answers the number that was given or withdrawn. An appended constraint is copied.
     ///
     /// # Errors
-    /// `NoMemory` where a growth was refused.
-    pub fn copy_of(alloc: Global, edit: &Edit) -> Result<Edit, NoMemory>
-        ensures { GivesAnswer result edit.now }
+    /// Those of [`append`](Policy::append) and of [`withdraw`](Policy::withdraw). The policy is then as it was before.
+    pub fn edit_copy(&mut self, alloc: Global, edit: &Edit) -> Result<u64, EditFault>
+        ensures { GivesOutcome self.old self.new result (edit_outcome self.old edit.now) }
     {
         match edit {
-            Edit::Append(addition) => Ok(Edit::Append(NewConstraint::copy_of(alloc, addition)?)),
-            Edit::Withdraw(number) => Ok(Edit::Withdraw(*number)),
+            Edit::Append(addition) => self.append_copy(alloc, addition),
+            Edit::Withdraw(number) => self.edit(alloc, Edit::Withdraw(*number)),
         }
+    }
+
+    // Appends a copy of a constraint, which is not made where it would be refused.
+    fn append_copy(&mut self, alloc: Global, addition: &NewConstraint) -> Result<u64, EditFault>
+        ensures { GivesOutcome self.old self.new result (append_outcome self.old addition.now) }
+    {
+        if is_too_many(self.constraints.as_slice(), addition.collections.as_slice()) {
+            return Err(EditFault::TooMany);
+        }
+        let Some(number) = self.greatest.checked_add(1) else {
+            return Err(EditFault::NumberSpent);
+        };
+        let Ok(copy) = NewConstraint::copy_of(alloc, addition) else {
+            return Err(EditFault::NoMemory);
+        };
+        self.append_as(alloc, numbered(copy, number))
     }
 }
 
