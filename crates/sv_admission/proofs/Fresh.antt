@@ -16,6 +16,7 @@ use Rattle.sv_login.specs.Post.{Post, is_login, user_sent}
 use Rattle.sv_login.specs.Session.{living, session_faults, session_number, with_session}
 use Rattle.sv_outcome.specs.declared.outcome.Outcome.{Outcome}
 use Rattle.sv_outcome.specs.declared.outcome.Outcome.TheVariants as outcomes
+use Rattle.sv_policy.specs.Compiled.{Standing}
 use Rattle.sv_realm.specs.declared.user.User.{User}
 use Rattle.sv_session.specs.Calls.{opened, opening_faults, renamed, renaming_faults, with_saved}
 use Rattle.sv_session.specs.Expiry.{HasNoneExpired}
@@ -107,8 +108,8 @@ module _ (law : CallsLeaveNoneExpired) (users : List User) (asked : Asked) where
   fresh_settled context_path session (outcomes.NoLogin why) store fresh = fresh
   fresh_settled context_path session (outcomes.Denied why) store fresh = fresh
 
-  pub fresh_admission : (content : Content) (store : Store) → HasNoneExpired asked.moment store → HasNoneExpired asked.moment (settled_in content users asked store).store
-  fresh_admission content store fresh =
+  pub fresh_admission : (content : Content) (standing : Standing) (store : Store) → HasNoneExpired asked.moment store → HasNoneExpired asked.moment (settled_in content standing users asked store).store
+  fresh_admission content standing store fresh =
       let touched = fresh_access law asked.moment (session_held asked store) store fresh in
-      fresh_settled content.context_path (session_held asked store) (outcome_in content users asked store) _
-      (fresh_behind_login content.app (session_held asked store) (store_accessed content users asked store) touched)
+      fresh_settled content.context_path (session_held asked store) (outcome_in content standing users asked store) _
+      (fresh_behind_login content.app (session_held asked store) (store_accessed content standing users asked store) touched)

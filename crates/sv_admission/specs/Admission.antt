@@ -2,6 +2,7 @@
 -- are settled (Jakarta Servlet 6.0, chapters 7 and 13).
 use Rattle.std.specs.Prelude.{List}
 use Rattle.sv_outcome.specs.declared.outcome.Outcome.{Outcome}
+use Rattle.sv_policy.specs.Compiled.{Standing}
 use Rattle.sv_realm.specs.declared.user.User.{User}
 use Rattle.sv_session.specs.Store.{Store}
 use Rattle.sv_site.specs.Site.{Content}
@@ -12,14 +13,14 @@ use Rattle.sv_admission.specs.Judged.{left_by_login, outcome_of}
 use Rattle.sv_admission.specs.Settled.{Settled, session_of, settled_by}
 use Rattle.sv_admission.specs.declared.admission.Admission.{Admission}
 
-module _ (content : Content) (users : List User) (asked : Asked) (store : Store) where
+module _ (content : Content) (standing : Standing) (users : List User) (asked : Asked) (store : Store) where
   -- the sessions behind the access
   abbrev pub store_accessed : Store
   store_accessed = accessed (session_held asked store) asked.moment store
 
   -- what becomes of the message
   abbrev pub outcome_in : Outcome
-  outcome_in = outcome_of content.app users asked (session_held asked store) store_accessed
+  outcome_in = outcome_of content.app standing users asked (session_held asked store) store_accessed
 
   -- what it leaves of the sessions
   abbrev pub settled_in : Settled

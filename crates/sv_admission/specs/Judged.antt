@@ -11,6 +11,7 @@ use Rattle.sv_login.specs.Post.{Post, post_of}
 use Rattle.sv_login.specs.declared.outcome.LoginOutcome.{LoginOutcome}
 use Rattle.sv_outcome.specs.Outcome.{Findings, outcome}
 use Rattle.sv_outcome.specs.declared.outcome.Outcome.{Outcome}
+use Rattle.sv_policy.specs.Compiled.{Standing}
 use Rattle.sv_realm.specs.declared.user.User.{User}
 use Rattle.sv_session.specs.Store.{Store}
 use Rattle.sv_admission.specs.Asked.{Asked}
@@ -28,15 +29,16 @@ abbrev pub login_step : WebApp → List User → Asked → Option ℕ → Store 
 login_step app users asked session store =
     option_map (λ pages. login users (post_in asked) session asked.words asked.moment store) app.login
 
-abbrev pub findings : WebApp → List User → Asked → Option ℕ → Store → Findings
-findings app users asked session store = record {
+-- the verdict is that of the constraints as they stand
+abbrev pub findings : WebApp → Standing → List User → Asked → Option ℕ → Store → Findings
+findings app standing users asked session store = record {
   is_protected = is_protected asked.canon.path;
   login = option_map (λ step. step.0) (login_step app users asked session store);
-  verdict = verdict app.constraints app.rules asked.message.method asked.canon.path (caller_held users session store);
+  verdict = verdict standing.constraints standing.rules asked.message.method asked.canon.path (caller_held users session store);
 }
 
-abbrev pub outcome_of : WebApp → List User → Asked → Option ℕ → Store → Outcome
-outcome_of app users asked session store = outcome (findings app users asked session store)
+abbrev pub outcome_of : WebApp → Standing → List User → Asked → Option ℕ → Store → Outcome
+outcome_of app standing users asked session store = outcome (findings app standing users asked session store)
 
 -- what a login leaves of the sessions; behind a hidden folder there is none
 abbrev pub left_by_login : WebApp → List User → Asked → Option ℕ → Store → Store

@@ -9,22 +9,24 @@ use Rattle.sv_constraints.specs.declared.owned_decision.OwnedWhy.{OwnedWhy}
 use Rattle.sv_journal.specs.declared.entry.Entry.TheVariants as entries
 use Rattle.sv_outcome.specs.Laws.{IsOrdinary}
 use Rattle.sv_outcome.specs.Outcome.{Findings}
+use Rattle.sv_policy.specs.Compiled.{Standing}
 use Rattle.sv_realm.specs.declared.user.User.{User}
 use Rattle.sv_session.specs.Expiry.{HasNoneExpired}
 use Rattle.sv_session.specs.Store.{Store}
 use Rattle.sv_site.specs.Site.{Content}
 
 -- what is found of a message
-abbrev pub found_of : Content → List User → Asked → Store → Findings
-found_of content users asked store = findings content.app users asked (session_held asked store) (store_accessed content users asked store)
+abbrev pub found_of : Content → Standing → List User → Asked → Store → Findings
+found_of content standing users asked store =
+    findings content.app standing users asked (session_held asked store) (store_accessed content standing users asked store)
 
 -- the journal says of a message that it entered exactly where its path is not hidden, it is no login post, and the verdict is open
 abbrev pub EntersExactlyByAnOpenVerdict : Type 0
-EntersExactlyByAnOpenVerdict = (content : Content) (users : List User) (asked : Asked) (store : Store)
-    → ((admission content users asked store).entry ≡ entries.Entered content.context_path asked.canon.path)
-    ↔ (IsOrdinary (found_of content users asked store) × ((why : OwnedWhy) × ((found_of content users asked store).verdict ≡ decisions.Open why)))
+EntersExactlyByAnOpenVerdict = (content : Content) (standing : Standing) (users : List User) (asked : Asked) (store : Store)
+    → ((admission content standing users asked store).entry ≡ entries.Entered content.context_path asked.canon.path)
+    ↔ (IsOrdinary (found_of content standing users asked store) × ((why : OwnedWhy) × ((found_of content standing users asked store).verdict ≡ decisions.Open why)))
 
 -- where no session has expired at the moment of a message, it leaves none that has
 abbrev pub LeavesNoneExpired : Type 0
-LeavesNoneExpired = (content : Content) (users : List User) (asked : Asked) (store : Store)
-    → HasNoneExpired asked.moment store → HasNoneExpired asked.moment (settled_in content users asked store).store
+LeavesNoneExpired = (content : Content) (standing : Standing) (users : List User) (asked : Asked) (store : Store)
+    → HasNoneExpired asked.moment store → HasNoneExpired asked.moment (settled_in content standing users asked store).store

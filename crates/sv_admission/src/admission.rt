@@ -14,6 +14,7 @@ use std::alloc::Global;
 use sv_cookies::held;
 use sv_exchange::HeldSession;
 use sv_journal::{Entry, Event};
+use sv_policy::Policy;
 use sv_realm::Realm;
 use sv_session::Sessions;
 use sv_site::Site;
@@ -35,7 +36,7 @@ pub struct Admission {
 }
 
 /// Judges a message to this path in its context, at a moment in seconds since 1970, with its two random words: the session that its cookies name
-/// is accessed, hidden folders come first, then logins, then the combined constraints (Jakarta Servlet 6.0, sections 7.6, 10.5, 13.6.3 and 13.8).
+/// is accessed, hidden folders come first, then logins, then the policy's constraints as they stand (Jakarta Servlet 6.0, sections 7.6, 10.5, 13.6.3 and 13.8).
 /// Where a GET is sent to the login page its target is saved.
 ///
 /// # Errors
@@ -43,6 +44,7 @@ pub struct Admission {
 pub fn admit(
     alloc: Global,
     site: &Site,
+    policy: &Policy,
     users: &Realm,
     message: &Message,
     canon: &Canon,
@@ -51,14 +53,14 @@ pub fn admit(
     sessions: &mut Sessions,
 ) -> Result<Admission, NoMemory>
     ensures admission { let asked = asked_by message.now canon.now moment words in
-        GivesAnswer result (spec.admission site.now users.now asked sessions.old) }
+        GivesAnswer result (spec.admission site.now policy.now users.now asked sessions.old) }
     ensures sessions { let asked = asked_by message.now canon.now moment words in
-        OnOk result (sessions.new ≡ (spec.settled_in site.now users.now asked sessions.old).store) }
+        OnOk result (sessions.new ≡ (spec.settled_in site.now policy.now users.now asked sessions.old).store) }
 {
     let held = access(message, moment, sessions);
     let app = site.descriptor().web_app();
     let outcome = judge(
-        alloc, app, users, message, canon, moment, words, held, sessions,
+        alloc, app, policy, users, message, canon, moment, words, held, sessions,
     )?;
     let Settled {
         session,

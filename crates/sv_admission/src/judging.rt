@@ -11,25 +11,28 @@ ghost use Rattle.sv_admission.specs.Held.{caller_held};
 ghost use Rattle.sv_admission.specs.Judged.{content_type, left_by_login, outcome_of, post_in};
 
 use std::alloc::Global;
-use sv_constraints::{OwnedDecision, decide_plain};
+use sv_constraints::OwnedDecision;
 use sv_context_path::is_protected;
 use sv_descriptor::WebApp;
 use sv_head::Field;
 use sv_login::login_step;
 use sv_outcome::Outcome;
+use sv_policy::Policy;
 use sv_realm::{Caller, Realm};
 use sv_session::Sessions;
 use sv_text::NoMemory;
 use sv_uri::path::Canon;
 use sv_wire::Message;
 
-/// What becomes of a message to this path in its context, which holds this session. A login that passes changes the sessions.
+/// What becomes of a message to this path in its context, which holds this session, by the policy as it stands. A login that passes changes the
+/// sessions.
 ///
 /// # Errors
 /// `NoMemory` where a growth was refused.
 pub(crate) fn judge(
     alloc: Global,
     app: &WebApp,
+    policy: &Policy,
     users: &Realm,
     message: &Message,
     canon: &Canon,
@@ -38,7 +41,7 @@ pub(crate) fn judge(
     held: Option<u64>,
     sessions: &mut Sessions,
 ) -> Result<Outcome, NoMemory>
-    ensures outcome { GivesAnswer result (outcome_of app.now users.now (asked_by message.now canon.now moment words) held sessions.old) }
+    ensures outcome { GivesAnswer result (outcome_of app.now policy.now users.now (asked_by message.now canon.now moment words) held sessions.old) }
     ensures left { OnOk result (sessions.new ≡ left_by_login app.now users.now (asked_by message.now canon.now moment words) held sessions.old) }
 {
     if is_protected(canon.path.as_str()) {
@@ -46,12 +49,12 @@ pub(crate) fn judge(
     }
     let caller = caller_held(users, held, sessions);
     if app.login.is_none() {
-        return decided(alloc, app, message, canon, caller);
+        return decided(alloc, app, policy, message, canon, caller);
     }
     let login = login_outcome(alloc, users, message, canon, moment, words, held, sessions)?;
     match login {
         Some(outcome) => Ok(outcome),
-        None => decided(alloc, app, message, canon, caller),
+        None => decided(alloc, app, policy, message, canon, caller),
     }
 }
 
@@ -103,17 +106,16 @@ fn login_outcome(
 fn decided(
     alloc: Global,
     app: &WebApp,
+    policy: &Policy,
     message: &Message,
     canon: &Canon,
     caller: Option<&Caller>,
 ) -> Result<Outcome, NoMemory>
     ensures { GivesAnswer result (verdict_outcome (is_some app.now.login)
-        (verdict app.now.constraints app.now.rules message.now.method canon.now.path (option_copied caller.entry))) }
+        (verdict policy.now.constraints policy.now.rules message.now.method canon.now.path (option_copied caller.entry))) }
 {
-    let constraints = app.constraints.as_slice();
-    let method = message.method.as_str();
-    let decision = decide_plain(constraints, &app.rules, method, canon.path.as_str(), caller);
-    let decision = OwnedDecision::copy_of(alloc, decision)?;
+    let decided = policy.decide(message.method.as_str(), canon.path.as_str(), caller);
+    let decision = OwnedDecision::copy_of(alloc, decided.decision)?;
     Ok(Outcome::of_decision(decision, app.login.is_some()))
 }
 

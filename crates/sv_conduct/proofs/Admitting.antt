@@ -23,6 +23,7 @@ use Rattle.sv_login.specs.declared.outcome.LoginOutcome.TheVariants.{NoSession, 
 use Rattle.sv_outcome.specs.Outcome.{outcome}
 use Rattle.sv_outcome.specs.declared.outcome.Outcome.{Outcome}
 use Rattle.sv_outcome.specs.declared.outcome.Outcome.TheVariants as outcomes
+use Rattle.sv_policy.specs.Compiled.{Standing}
 use Rattle.sv_realm.specs.declared.user.User.{User}
 use Rattle.sv_session.specs.Calls.{HoldsCaller, opened, opening_faults, renamed, renaming_faults, with_saved}
 use Rattle.sv_session.specs.Laws.{CallersAreEntered, CallsLeaveOrder}
@@ -181,18 +182,18 @@ left_by_found false None step verdict sent store steps = left_same (IsLoginAs _ 
 left_by_found false (Some pages) step verdict sent store steps = steps (λ number caller target passed is. (target, rw passed refl, is))
 
 -- the admission of a message
-pub left_by_admission : (content : Content) (users : List User) (asked : Asked) (store : Store)
-    → IsLeft (IsLoginAs (outcome_in content users asked store) (user_sent users (post_in asked))) store (settled_in content users asked store).store
-left_by_admission content users asked store =
+pub left_by_admission : (content : Content) (standing : Standing) (users : List User) (asked : Asked) (store : Store)
+    → IsLeft (IsLoginAs (outcome_in content standing users asked store) (user_sent users (post_in asked))) store (settled_in content standing users asked store).store
+left_by_admission content standing users asked store =
     let session = session_held asked store in
-    let touched = store_accessed content users asked store in
-    let found = outcome_in content users asked store in
+    let touched = store_accessed content standing users asked store in
+    let found = outcome_in content standing users asked store in
     let sent = user_sent users (post_in asked) in
     let entered = left_by_login content.app users asked session touched in
-    let settled = (settled_in content users asked store).store in
+    let settled = (settled_in content standing users asked store).store in
     left_then (IsLoginAs found sent) store touched settled (left_by_access (IsLoginAs found sent) session asked.moment store)
     (left_then (IsLoginAs found sent) touched entered settled
     (left_by_found (is_protected asked.canon.path) content.app.login (login users (post_in asked) session asked.words asked.moment touched)
-    (verdict content.app.constraints content.app.rules asked.message.method asked.canon.path (caller_held users session touched)) sent touched
+    (verdict standing.constraints standing.rules asked.message.method asked.canon.path (caller_held users session touched)) sent touched
     (left_by_step (IsLoginAs found sent) users (post_in asked) session asked.words asked.moment touched))
     (left_by_settling (IsLoginAs found sent) asked content.context_path session found entered))

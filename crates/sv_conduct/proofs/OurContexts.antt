@@ -83,7 +83,7 @@ module _ {S F L : Type 0} (ss : S → Call → S → Type 0) (fs : F → Call �
         let context = handling.context in
         let asked = asked_of context handling.request in
         let moved = handled_moves moves asked context handling.after handling.response (whole handling.entries) handles in
-        let left = left_by_admission context.content context.users asked context.store in
+        let left = left_by_admission context.content context.policy context.users asked context.store in
         let admitted = subst IsOrderly (sym left.is) (left_orderly call left.calls context.store orderly) in
         subst IsOrderly (sym handles.store) (moved_calls asked.moment (exchange_begun context asked).store handles.exchange.store moved.sessions admitted);
     expires = λ context after moment told expires orderly. ordered_through call moment expires.ended context.store after.store expires.ends orderly;
@@ -102,7 +102,7 @@ module _ {S F L : Type 0} (ss : S → Call → S → Type 0) (fs : F → Call �
           let context = handling.context in
           let asked = asked_of context handling.request in
           let moved = handled_moves moves asked context handling.after handling.response (whole handling.entries) handles in
-          let kept = leave (exchange_begun context asked) handles.exchange moved (admission context.content context.users asked context.store none) in
+          let kept = leave (exchange_begun context asked) handles.exchange moved (admission context.content context.policy context.users asked context.store none) in
           subst (HasNoneExpired asked.moment) (sym handles.store) (subst (λ now. HasNoneExpired now handles.exchange.store) moved.moment kept);
     }
 
@@ -116,7 +116,7 @@ module _ {S F L : Type 0} (ss : S → Call → S → Type 0) (fs : F → Call �
           record {
             behind = gains.behind;
             are = gains.are ∙ ap (λ first. first ∷ gains.behind)
-                (same_entry handling.context.content.context_path asked.canon.path (outcome_in handling.context.content handling.context.users asked handling.context.store));
+                (same_entry handling.context.content.context_path asked.canon.path (outcome_in handling.context.content handling.context.policy handling.context.users asked handling.context.store));
             no_other = gains.no_outcome;
           };
       ends_silently = λ context after moment told expires.
@@ -131,8 +131,8 @@ module _ {S F L : Type 0} (ss : S → Call → S → Type 0) (fs : F → Call �
           let asked = asked_of context handling.request in
           let moved = handled_moves moves asked context handling.after handling.response (whole handling.entries) handles in
           let held = give_none (exchange_begun context asked) handles.exchange moved number caller (subst (HoldsCaller number caller) handles.store holds) in
-          let left = left_by_admission context.content context.users asked context.store in
-          elim (left_holds (IsLoginAs (outcome_in context.content context.users asked context.store) (user_sent context.users (post_in asked)))
+          let left = left_by_admission context.content context.policy context.users asked context.store in
+          elim (left_holds (IsLoginAs (outcome_in context.content context.policy context.users asked context.store) (user_sent context.users (post_in asked)))
           entered number caller left.calls context.store left.enter (subst (HoldsCaller number caller) left.is held)) [
             | inl before ↦ inl before
             | inr login ↦ inr record { target = login.0; passed = login.1; fits = login.2 }

@@ -5,7 +5,7 @@ use Rattle.sv_component.specs.Call.{Call}
 use Rattle.sv_container.specs.Deploying.{DeploysAll, UndeploysAll}
 use Rattle.sv_container.specs.Explaining.{ExplainsWhatWasDeployed, policies_of_contexts}
 use Rattle.sv_container.specs.Paths.{paths_of}
-use Rattle.sv_context.specs.Deployment.{Deploys, Undeploys, deployed}
+use Rattle.sv_context.specs.Deployment.{Deploys, Undeploys, declared_policy, deployed}
 use Rattle.sv_context.specs.State.{ContextState}
 use Rattle.sv_context.specs.declared.deployment.DeployFault.{DeployFault}
 use Rattle.sv_context.specs.declared.deployment.Deployment.{Deployment}
@@ -28,12 +28,12 @@ module _ {S F L : Type 0} where
 
   -- the policy of a context that may have been started
   abbrev policy_in : ContextPolicy → Result (ContextState S F L) (DeployFault S F L) → ContextPolicy
-  policy_in other (Ok context) = policy context.content.context_path context.content.app context.users
+  policy_in other (Ok context) = policy context.content.context_path context.policy context.users
   policy_in other (Err fault) = other
 
   policy_started : (deployment : Deployment S F L) (started : Result (LiveState S F L) (StartFault S F L))
-      → policy_in (policy deployment.path deployment.descriptor deployment.users) (deployed deployment started)
-      ≡ policy deployment.path deployment.descriptor deployment.users
+      → policy_in (policy deployment.path (declared_policy deployment.descriptor) deployment.users) (deployed deployment started)
+      ≡ policy deployment.path (declared_policy deployment.descriptor) deployment.users
   policy_started deployment (Ok live) = refl
   policy_started deployment (Err fault) = refl
 
@@ -106,7 +106,7 @@ module _ {S F L : Type 0} (servlet_step : S → Call → S → Type 0) (filter_s
   policies_stay [] before after contexts starts = ap policies_of_contexts starts.0
   policies_stay (deployment ∷ deployments) before after contexts starts =
       ap policies_of_contexts starts.5
-      ∙ (λ i. (ap (policy_in (policy deployment.path deployment.descriptor deployment.users)) starts.3.is ∙ policy_started deployment starts.3.started) i
+      ∙ (λ i. (ap (policy_in (policy deployment.path (declared_policy deployment.descriptor) deployment.users)) starts.3.is ∙ policy_started deployment starts.3.started) i
       ∷ policies_stay deployments starts.2 after starts.1 starts.4 i)
 
   pub contexts_count : (deployments : List (Deployment S F L)) (before after : JournalState) (contexts : List (ContextState S F L))

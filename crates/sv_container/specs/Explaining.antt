@@ -2,6 +2,7 @@
 use Rattle.std.specs.Prelude.{◌≡◌, ℕ, List, map, Option}
 use Rattle.sv_component.specs.Call.{Call}
 use Rattle.sv_container.specs.Deploying.{DeploysAll}
+use Rattle.sv_context.specs.Deployment.{declared_policy}
 use Rattle.sv_context.specs.State.{ContextState}
 use Rattle.sv_context.specs.declared.deployment.Deployment.{Deployment}
 use Rattle.sv_explain.specs.Context.{policy}
@@ -9,16 +10,16 @@ use Rattle.sv_explain.specs.Explanation as explanation
 use Rattle.sv_explain.specs.declared.context.ContextPolicy.{ContextPolicy}
 use Rattle.sv_journal.specs.Journal.{JournalState}
 
--- contexts by their paths, their constraints and their users
+-- contexts by their paths, their constraints as they stand, and their users
 abbrev pub policies_of_contexts : {S F L : Type 0} → List (ContextState S F L) → List ContextPolicy
-policies_of_contexts contexts = map (λ context. policy context.content.context_path context.content.app context.users) contexts
+policies_of_contexts contexts = map (λ context. policy context.content.context_path context.policy context.users) contexts
 
 abbrev pub explanation_of : {S F L : Type 0} → List (ContextState S F L) → List ℕ → List ℕ → Option (List ℕ) → explanation.Answer
 explanation_of contexts method target user = explanation.explanation (policies_of_contexts contexts) method target user
 
 -- the same of what is deployed
 abbrev pub policies_of : {S F L : Type 0} → List (Deployment S F L) → List ContextPolicy
-policies_of deployments = map (λ deployment. policy deployment.path deployment.descriptor deployment.users) deployments
+policies_of deployments = map (λ deployment. policy deployment.path (declared_policy deployment.descriptor) deployment.users) deployments
 
 -- contexts that were started answer by what was deployed
 abbrev pub ExplainsWhatWasDeployed : {S F L : Type 0} → (S → Call → S → Type 0) → (F → Call → F → Type 0) → (L → Call → L → Type 0) → Type 0

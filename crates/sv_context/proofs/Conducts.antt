@@ -37,6 +37,7 @@ module _ {S F L : Type 0} (ss : S → Call → S → Type 0) (fs : F → Call �
     runs = ap (λ context. world_of context unnoted) same;
     stays = record {
       content = ap (λ context. context.content) same;
+      policy = ap (λ context. context.policy) same;
       users = ap (λ context. context.users) same;
       servlets = ap (λ context. length context.servlets) same;
       filters = ap (λ context. length context.filters) same;

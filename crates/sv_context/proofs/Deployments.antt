@@ -17,20 +17,21 @@ use Rattle.sv_lifecycle.specs.declared.start_fault.StartCode.{StartCode}
 use Rattle.sv_lifecycle.specs.declared.start_fault.StartCode.TheVariants.{NoMemory, PartsMismatch}
 use Rattle.sv_lifecycle.specs.declared.start_fault.StartFault.{StartFault}
 use Rattle.sv_listeners.specs.Telling.{then_all}
+use Rattle.sv_policy.specs.Compiled.{Standing}
 use Rattle.sv_realm.specs.declared.user.User.{User}
 use Rattle.sv_session.specs.Store.{Store}
 use Rattle.sv_site.specs.Site.{Content}
-use Rattle.sv_context.specs.Deployment.{Deploys, Undeploys, content_of, deployed, no_sessions}
+use Rattle.sv_context.specs.Deployment.{Deploys, Undeploys, content_of, declared_policy, deployed, no_sessions}
 use Rattle.sv_context.specs.State.{AreComponentsOf, context_of, in_service, world_of}
 use Rattle.sv_context.specs.declared.deployment.Deployment.{Deployment}
 use Rattle.sv_context.proofs.Expiries.{grows_nothing, world_same}
 
 -- the start stands
 pub deployed_so : {S F L : Type 0} (deployment : Deployment S F L) (started : Result (LiveState S F L) (StartFault S F L)) (live : LiveState S F L)
-    (content : Content) (users : List User) (store : Store)
-    → started ≡ Ok live → content ≡ content_of deployment → users ≡ deployment.users → store ≡ no_sessions deployment.descriptor
-    → Ok (context_of content users live store) ≡ deployed deployment started
-deployed_so deployment started live content users store is its_content its_users its_store = rw (is, its_content, its_users, its_store) refl
+    (content : Content) (policy : Standing) (users : List User) (store : Store)
+    → started ≡ Ok live → content ≡ content_of deployment → policy ≡ declared_policy deployment.descriptor → users ≡ deployment.users → store ≡ no_sessions deployment.descriptor
+    → Ok (context_of content policy users live store) ≡ deployed deployment started
+deployed_so deployment started live content policy users store is its_content its_policy its_users its_store = rw (is, its_content, its_policy, its_users, its_store) refl
 
 -- the start is refused
 pub refused_so : {S F L : Type 0} (deployment : Deployment S F L) (started : Result (LiveState S F L) (StartFault S F L)) (fault : StartFault S F L)
@@ -39,14 +40,14 @@ refused_so deployment started fault is = rw is refl
 
 module _ {S F L : Type 0} (ss : S → Call → S → Type 0) (fs : F → Call → F → Type 0) (ls : L → Call → L → Type 0) where
   -- the stop of the started components is that of the context
-  pub stopped_so : (content : Content) (users : List User) (live : LiveState S F L) (store : Store) (parts : Parts S F L) (noted noted_after : JournalState)
+  pub stopped_so : (content : Content) (policy : Standing) (users : List User) (live : LiveState S F L) (store : Store) (parts : Parts S F L) (noted noted_after : JournalState)
       → AreComponentsOf content live
       → Grows ss fs ls (live_world live noted) (then_all (stop_calls (length live.parts.listeners.items) (standing.in_service live) store.sessions)) (world live.context parts noted_after)
-      → Grows ss fs ls (world_of (context_of content users live store) noted)
-      (then_all (stop_calls (length live.parts.listeners.items) (in_service (context_of content users live store)) store.sessions)) (world content.context_path parts noted_after)
-  stopped_so content users live store parts noted noted_after components stops =
+      → Grows ss fs ls (world_of (context_of content policy users live store) noted)
+      (then_all (stop_calls (length live.parts.listeners.items) (in_service (context_of content policy users live store)) store.sessions)) (world content.context_path parts noted_after)
+  stopped_so content policy users live store parts noted noted_after components stops =
       subst (λ from. Grows ss fs ls from (then_all (stop_calls (length live.parts.listeners.items) (standing.in_service live) store.sessions)) (world content.context_path parts noted_after))
-      (world_same content users live store noted components)
+      (world_same content policy users live store noted components)
       (subst (λ path. Grows ss fs ls (live_world live noted) (then_all (stop_calls (length live.parts.listeners.items) (standing.in_service live) store.sessions)) (world path parts noted_after))
       components.context stops)
 
@@ -83,17 +84,17 @@ module _ {S F L : Type 0} (ss : S → Call → S → Type 0) (fs : F → Call �
       (undone deployment PartsMismatch journal (subst (λ app. Fits app deployment.parts → ⊥) same fits, refl))
 
   -- what is handed back
-  pub undeployed_so : (content : Content) (users : List User) (live : LiveState S F L) (store : Store) (parts : Parts S F L) (noted noted_after : JournalState)
+  pub undeployed_so : (content : Content) (policy : Standing) (users : List User) (live : LiveState S F L) (store : Store) (parts : Parts S F L) (noted noted_after : JournalState)
       (path : List ℕ) (app : WebApp) (files : List File)
       → AreComponentsOf content live → record { context_path = path; app = app; files = files } ≡ content
       → Grows ss fs ls (live_world live noted) (then_all (stop_calls (length live.parts.listeners.items) (standing.in_service live) store.sessions)) (world live.context parts noted_after)
-      → Undeploys ss fs ls (context_of content users live store) noted (record { path = path; descriptor = app; files = files; users = users; parts = parts }) noted_after
-  undeployed_so content users live store parts noted noted_after path app files components same stops = record {
+      → Undeploys ss fs ls (context_of content policy users live store) noted (record { path = path; descriptor = app; files = files; users = users; parts = parts }) noted_after
+  undeployed_so content policy users live store parts noted noted_after path app files components same stops = record {
     stops =
-        subst (λ path. Grows ss fs ls (world_of (context_of content users live store) noted)
-        (then_all (stop_calls (length live.parts.listeners.items) (in_service (context_of content users live store)) store.sessions)) (world path parts noted_after))
+        subst (λ path. Grows ss fs ls (world_of (context_of content policy users live store) noted)
+        (then_all (stop_calls (length live.parts.listeners.items) (in_service (context_of content policy users live store)) store.sessions)) (world path parts noted_after))
         (sym (ap (λ (its : Content). its.context_path) same))
-        (stopped_so content users live store parts noted noted_after components stops);
+        (stopped_so content policy users live store parts noted noted_after components stops);
     content = same;
     users = refl;
   }

@@ -19,17 +19,19 @@ use Rattle.sv_session.specs.Lists.{without_first}
 use Rattle.sv_session.specs.Store.{Session, Store, is_numbered, numbered}
 use Rattle.sv_session.specs.declared.ended_session.EndedSession.{EndedSession}
 use Rattle.sv_context.specs.Expiry.{Expires, ends_told}
+use Rattle.sv_policy.specs.Compiled.{Standing}
 use Rattle.sv_realm.specs.declared.user.User.{User}
 use Rattle.sv_site.specs.Site.{Content}
 use Rattle.sv_context.specs.State.{AreComponentsOf, ContextState, IsSameDeployment, context_of, world_of}
 
 -- contexts of the same parts are the same
-same_context : {S F L : Type 0} (one other : ContextState S F L) → one.content ≡ other.content → one.users ≡ other.users
+same_context : {S F L : Type 0} (one other : ContextState S F L) → one.content ≡ other.content → one.policy ≡ other.policy → one.users ≡ other.users
     → one.servlets ≡ other.servlets → one.filters ≡ other.filters → one.listeners ≡ other.listeners
     → one.initialised ≡ other.initialised → one.standings ≡ other.standings → one.store ≡ other.store → one ≡ other
-same_context one other content users servlets filters listeners initialised standings store =
+same_context one other content policy users servlets filters listeners initialised standings store =
     let same : record {
       content = one.content;
+      policy = one.policy;
       users = one.users;
       servlets = one.servlets;
       filters = one.filters;
@@ -37,13 +39,13 @@ same_context one other content users servlets filters listeners initialised stan
       initialised = one.initialised;
       standings = one.standings;
       store = one.store;
-    } ≡ other = rw (content, users, servlets, filters, listeners, initialised, standings, store) refl in
+    } ≡ other = rw (content, policy, users, servlets, filters, listeners, initialised, standings, store) refl in
     same
 
 -- started components of a content, as runs see them
-pub world_same : {S F L : Type 0} (content : Content) (users : List User) (live : LiveState S F L) (store : Store) (noted : JournalState)
-    → AreComponentsOf content live → live_world live noted ≡ world_of (context_of content users live store) noted
-world_same content users live store noted components =
+pub world_same : {S F L : Type 0} (content : Content) (policy : Standing) (users : List User) (live : LiveState S F L) (store : Store) (noted : JournalState)
+    → AreComponentsOf content live → live_world live noted ≡ world_of (context_of content policy users live store) noted
+world_same content policy users live store noted components =
     ap (λ (path : List ℕ). record { context = path; servlets = live.parts.servlets.items; filters = live.parts.filters.items; listeners = live.parts.listeners.items; journal = noted })
     components.context
 
@@ -119,7 +121,7 @@ module _ {S F L : Type 0} (ss : S → Call → S → Type 0) (fs : F → Call �
       ended = [];
       ends = ((law moment before.store).1 fresh, refl);
       told = grows_nothing (world_of before noted);
-      stays = record { content = refl; users = refl; servlets = refl; filters = refl; listeners = refl; initialised = refl };
+      stays = record { content = refl; policy = refl; users = refl; servlets = refl; filters = refl; listeners = refl; initialised = refl };
       standings = refl;
     }
 
@@ -133,7 +135,7 @@ module _ {S F L : Type 0} (ss : S → Call → S → Type 0) (fs : F → Call �
         let none = none_ended expires.ended after.store expires.ends in
         let told = subst (λ ended. Grows ss fs ls (world_of before noted) (then_all (ends_told ended (length before.listeners))) (world_of after noted_after)) none.0 expires.told in
         let same = told_nothing (world_of before noted) (world_of after noted_after) told in (
-          same_context after before expires.stays.content expires.stays.users (ap (λ world. world.servlets) same) (ap (λ world. world.filters) same)
+          same_context after before expires.stays.content expires.stays.policy expires.stays.users (ap (λ world. world.servlets) same) (ap (λ world. world.filters) same)
               (ap (λ world. world.listeners) same) expires.stays.initialised expires.standings none.1,
           ap (λ world. world.journal) same,
         )
@@ -151,7 +153,7 @@ module _ {S F L : Type 0} (ss : S → Call → S → Type 0) (fs : F → Call �
     ended = [];
     ends = λ rest after rest_ends. rest_ends;
     told = grows_nothing (world_of before noted);
-    stays = record { content = refl; users = refl; servlets = refl; filters = refl; listeners = refl; initialised = refl };
+    stays = record { content = refl; policy = refl; users = refl; servlets = refl; filters = refl; listeners = refl; initialised = refl };
     standings = refl;
   }
 
@@ -175,6 +177,7 @@ module _ {S F L : Type 0} (ss : S → Call → S → Type 0) (fs : F → Call �
           (behind from (done ++ ends_told so_far.ended (length before.listeners)) (so_far.told from done ran));
       stays = record {
         content = stays.content ∙ so_far.stays.content;
+        policy = stays.policy ∙ so_far.stays.policy;
         users = stays.users ∙ so_far.stays.users;
         servlets = stays.servlets ∙ so_far.stays.servlets;
         filters = stays.filters ∙ so_far.stays.filters;
@@ -195,18 +198,18 @@ module _ {S F L : Type 0} (ss : S → Call → S → Type 0) (fs : F → Call �
     }
 
   -- one session more, whose end the listeners of the started components heard
-  pub one_more_told : (moment : ℕ) (before : ContextState S F L) (noted : JournalState) (content : Content) (users : List User)
+  pub one_more_told : (moment : ℕ) (before : ContextState S F L) (noted : JournalState) (content : Content) (policy : Standing) (users : List User)
       (live live_after : LiveState S F L) (store store_after : Store) (noted_now noted_after : JournalState)
-      → SoFar moment before noted (context_of content users live store) noted_now → AreComponentsOf content live
+      → SoFar moment before noted (context_of content policy users live store) noted_now → AreComponentsOf content live
       → (session : EndedSession) → Some session ≡ expiring moment store → store_after ≡ left_by_expiry moment store
       → Grows ss fs ls (live_world live noted_now) (then_all (all_told (end_events session) (length live.parts.listeners.items))) (live_world live_after noted_after)
       → StandsAsBefore live live_after
-      → SoFar moment before noted (context_of content users live_after store_after) noted_after
-  one_more_told moment before noted content users live live_after store store_after noted_now noted_after so_far components session ends left made stands =
-      one_more moment before noted (context_of content users live store) noted_now so_far session (context_of content users live_after store_after) noted_after ends left
-      (subst (λ world. Grows ss fs ls world (then_all (all_told (end_events session) (length live.parts.listeners.items))) (world_of (context_of content users live_after store_after) noted_after))
-      (world_same content users live store noted_now components)
+      → SoFar moment before noted (context_of content policy users live_after store_after) noted_after
+  one_more_told moment before noted content policy users live live_after store store_after noted_now noted_after so_far components session ends left made stands =
+      one_more moment before noted (context_of content policy users live store) noted_now so_far session (context_of content policy users live_after store_after) noted_after ends left
+      (subst (λ world. Grows ss fs ls world (then_all (all_told (end_events session) (length live.parts.listeners.items))) (world_of (context_of content policy users live_after store_after) noted_after))
+      (world_same content policy users live store noted_now components)
       (subst (λ world. Grows ss fs ls (live_world live noted_now) (then_all (all_told (end_events session) (length live.parts.listeners.items))) world)
-      (world_same content users live_after store_after noted_after (components_stay content live live_after components stands)) made))
-      (record { content = refl; users = refl; servlets = stands.counts.servlets; filters = stands.counts.filters; listeners = stands.counts.listeners; initialised = stands.initialised })
+      (world_same content policy users live_after store_after noted_after (components_stay content live live_after components stands)) made))
+      (record { content = refl; policy = refl; users = refl; servlets = stands.counts.servlets; filters = stands.counts.filters; listeners = stands.counts.listeners; initialised = stands.initialised })
       stands.standings

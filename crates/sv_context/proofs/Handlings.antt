@@ -14,6 +14,7 @@ use Rattle.sv_journal.specs.Journal.{JournalState, Takes, with_entry}
 use Rattle.sv_journal.specs.declared.entry.Entry.{Entry}
 use Rattle.sv_journal.specs.declared.event.Event.{Event}
 use Rattle.sv_lifecycle.specs.Standing.{LiveState, live_world}
+use Rattle.sv_policy.specs.Compiled.{Standing}
 use Rattle.sv_realm.specs.declared.user.User.{User}
 use Rattle.sv_served.specs.ServedBy.{ServedBy}
 use Rattle.sv_session.specs.Store.{Store}
@@ -74,17 +75,17 @@ module _ {S F L : Type 0} (ss : S → Call → S → Type 0) (fs : F → Call �
       (answered_code site canon event answer (record { exchange = x; standings = live.standings }) (record { exchange = x'; standings = live'.standings })
       did.made (Some tt) did.does_so code)
 
-  module _ (content : Content) (users : List User) (live : LiveState S F L) (store lent : Store) (asked : Asked) (admission : Admission) where
+  module _ (content : Content) (policy : Standing) (users : List User) (live : LiveState S F L) (store lent : Store) (asked : Asked) (admission : Admission) where
     abbrev before : ContextState S F L
-    before = context_of content users live store
+    before = context_of content policy users live store
 
     abbrev begun_with : exchanges.State
     begun_with = begun asked.message asked.canon content.context_path asked.moment asked.words admission.session lent
 
-    module _ (components : AreComponentsOf content live) (is : admission ≡ admitted before asked) (settled : lent ≡ (settled_in content users asked store).store)
+    module _ (components : AreComponentsOf content live) (is : admission ≡ admitted before asked) (settled : lent ≡ (settled_in content policy users asked store).store)
         (x : exchanges.State) (began : x ≡ begun_with) (live' : LiveState S F L) (x' : exchanges.State) (store' : Store) (noted noted' : JournalState) where
       abbrev after : ContextState S F L
-      after = context_of content users live' store'
+      after = context_of content policy users live' store'
 
       begun_so : x ≡ exchange_begun before asked
       begun_so =
@@ -100,13 +101,14 @@ module _ {S F L : Type 0} (ss : S → Call → S → Type 0) (fs : F → Call �
             (subst (λ (a : Admission). Answered (site_of content) asked.canon a.event a.answer (state_in before x) did.made (state_in after x') result) is did.does_so);
         runs =
             subst (λ (a : Admission). Runs ss fs ls (world_of before (with_entry a.entry noted)) did.made (world_of after noted')) is
-            (subst (λ world. Runs ss fs ls world did.made (world_of after noted')) (world_same content users live store (with_entry admission.entry noted) components)
+            (subst (λ world. Runs ss fs ls world did.made (world_of after noted')) (world_same content policy users live store (with_entry admission.entry noted) components)
             (subst (λ world. Runs ss fs ls (live_world live (with_entry admission.entry noted)) did.made world)
-            (world_same content users live' store' noted'
+            (world_same content policy users live' store' noted'
             (answered_components content (site_of content) asked.canon admission.event admission.answer live live' x x' (with_entry admission.entry noted) noted' result did components))
             did.runs));
         stays = record {
           content = refl;
+          policy = refl;
           users = refl;
           servlets = did.counts.servlets;
           filters = did.counts.filters;
@@ -120,7 +122,7 @@ module _ {S F L : Type 0} (ss : S → Call → S → Type 0) (fs : F → Call �
           → CutShort ss fs ls asked before noted after noted'
       cut_so (inl ended) = inl record {
         entry = inr (subst (λ (a : Admission). Takes noted a.entry noted') is ended.2);
-        stays = ap (λ (l : LiveState S F L). context_of content users l store') ended.1;
+        stays = ap (λ (l : LiveState S F L). context_of content policy users l store') ended.1;
       }
       cut_so (inr did) = inr (x', answered_so None did)
 

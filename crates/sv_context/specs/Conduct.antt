@@ -32,7 +32,7 @@ module _ {S F L : Type 0} (servlet_step : S → Call → S → Type 0) (filter_s
   abbrev pub conduct : Conduct (ContextState S F L)
   conduct = record {
     sessions_of = λ context. context.store;
-    found = λ context request. found_of context.content context.users (asked_of context request) context.store;
+    found = λ context request. found_of context.content context.policy context.users (asked_of context request) context.store;
     caller_sent = λ context request. user_sent context.users (post_in (asked_of context request));
     Handles = λ handling. handled.Handles servlet_step filter_step listener_step
         (asked_of handling.context handling.request) handling.context new_journal (Some handling.response) handling.after (effect.whole handling.entries);

@@ -10,6 +10,7 @@ use Rattle.sv_lifecycle.specs.Starting.{Starts}
 use Rattle.sv_lifecycle.specs.World.{world}
 use Rattle.sv_lifecycle.specs.declared.start_fault.StartFault.{StartFault}
 use Rattle.sv_listeners.specs.Telling.{then_all}
+use Rattle.sv_policy.specs.Compiled.{Standing, compiled}
 use Rattle.sv_session.specs.Store.{Store, empty_store}
 use Rattle.sv_site.specs.Site.{Content}
 use Rattle.sv_context.specs.State.{ContextState, context_of, in_service, world_of}
@@ -20,13 +21,18 @@ use Rattle.sv_context.specs.declared.limits.TheConstants.{MAX_SESSIONS, SECONDS_
 abbrev pub content_of : {S F L : Type 0} → Deployment S F L → Content
 content_of deployment = record { context_path = deployment.path; app = deployment.descriptor; files = deployment.files }
 
+-- the constraints stand as they were deployed
+abbrev pub declared_policy : WebApp → Standing
+declared_policy app = compiled app.constraints app.rules
+
 -- no session yet; one lives as long without a request as the descriptor says, which counts in minutes
 abbrev pub no_sessions : WebApp → Store
 no_sessions app = empty_store MAX_SESSIONS (app.session.timeout * SECONDS_OF_MINUTE)
 
 -- the context whose components were started, or the deployment, whose components are as the calls of the start left them
 abbrev pub deployed : {S F L : Type 0} → Deployment S F L → Result (LiveState S F L) (StartFault S F L) → Result (ContextState S F L) (DeployFault S F L)
-deployed deployment (Ok live) = Ok (context_of (content_of deployment) deployment.users live (no_sessions deployment.descriptor))
+deployed deployment (Ok live) =
+    Ok (context_of (content_of deployment) (declared_policy deployment.descriptor) deployment.users live (no_sessions deployment.descriptor))
 deployed deployment (Err fault) = Err record { fault = fault.code; deployment = record deployment { parts = fault.parts } }
 
 module _ {S F L : Type 0} (servlet_step : S → Call → S → Type 0) (filter_step : F → Call → F → Type 0) (listener_step : L → Call → L → Type 0) where

@@ -27,13 +27,13 @@ state_in context its_exchange = record { exchange = its_exchange; standings = co
 module _ {S F L : Type 0} (context : ContextState S F L) (asked : Asked) where
   -- what becomes of a message before any component is called
   abbrev pub admitted : Admission
-  admitted = admission context.content context.users asked context.store
+  admitted = admission context.content context.policy context.users asked context.store
 
   -- its exchange, of which nothing was said yet, over the sessions as the admission left them
   abbrev pub exchange_begun : exchanges.State
   exchange_begun =
       begun asked.message asked.canon context.content.context_path asked.moment asked.words admitted.session
-      (settled_in context.content context.users asked context.store).store
+      (settled_in context.content context.policy context.users asked context.store).store
 
 module _ {S F L : Type 0} (servlet_step : S → Call → S → Type 0) (filter_step : F → Call → F → Type 0) (listener_step : L → Call → L → Type 0) where
   -- behind its entry these calls were made, which answer the message; there is no result where memory ended them

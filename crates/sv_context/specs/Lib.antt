@@ -1,6 +1,7 @@
 pub mod Answered
 pub mod Conduct
 pub mod Deployment
+pub mod Editing
 pub mod Expiry
 pub mod Forgetting
 pub mod Handled

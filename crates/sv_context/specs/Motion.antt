@@ -9,11 +9,12 @@ use Rattle.sv_context.specs.Conduct.{IsMoved, conduct, unnoted}
 use Rattle.sv_context.specs.State.{ContextState, IsSameDeployment, world_of}
 
 same_deployment : {S F L : Type 0} (context : ContextState S F L) → IsSameDeployment context context
-same_deployment context = record { content = refl; users = refl; servlets = refl; filters = refl; listeners = refl; initialised = refl }
+same_deployment context = record { content = refl; policy = refl; users = refl; servlets = refl; filters = refl; listeners = refl; initialised = refl }
 
 deployment_then : {S F L : Type 0} (before between after : ContextState S F L) → IsSameDeployment before between → IsSameDeployment between after → IsSameDeployment before after
 deployment_then before between after one two = record {
   content = two.content ∙ one.content;
+  policy = two.policy ∙ one.policy;
   users = two.users ∙ one.users;
   servlets = two.servlets ∙ one.servlets;
   filters = two.filters ∙ one.filters;

@@ -1,4 +1,4 @@
--- A deployed context as contracts see it: what it was deployed with, its components and how they stand, and its sessions (Jakarta Servlet 6.0,
+-- A deployed context as contracts see it: what it was deployed with, its constraints as they stand, its components and how they stand, and its sessions (Jakarta Servlet 6.0,
 -- chapters 2, 3 and 7).
 use Rattle.std.specs.Prelude.{◌≡◌, List, length}
 use Rattle.std.specs.List.{filter}
@@ -8,6 +8,7 @@ use Rattle.sv_component.specs.declared.standing.Standing.{Standing}
 use Rattle.sv_journal.specs.Journal.{JournalState}
 use Rattle.sv_lifecycle.specs.Standing.{LiveState, is_in_service}
 use Rattle.sv_lifecycle.specs.declared.order.Place.{Place}
+use Rattle.sv_policy.specs.Compiled as policies
 use Rattle.sv_realm.specs.declared.user.User.{User}
 use Rattle.sv_session.specs.Store.{Store}
 use Rattle.sv_site.specs.Site.{Content}
@@ -15,6 +16,8 @@ use Rattle.sv_site.specs.Site.{Content}
 pub record ContextState (S F L : Type 0) : Type 0 where
   -- the context's path, its descriptor and its files
   pub content : Content
+  -- the constraints as they stand
+  pub policy : policies.Standing
   pub users : List User
   -- the components, in the order of the descriptor
   pub servlets : List (Named S)
@@ -26,9 +29,10 @@ pub record ContextState (S F L : Type 0) : Type 0 where
   pub store : Store
 
 -- a context of its parts
-abbrev pub context_of : {S F L : Type 0} → Content → List User → LiveState S F L → Store → ContextState S F L
-context_of its_content its_users live its_store = record {
+abbrev pub context_of : {S F L : Type 0} → Content → policies.Standing → List User → LiveState S F L → Store → ContextState S F L
+context_of its_content its_policy its_users live its_store = record {
   content = its_content;
+  policy = its_policy;
   users = its_users;
   servlets = live.parts.servlets.items;
   filters = live.parts.filters.items;
@@ -52,9 +56,10 @@ world_of context its_journal = record {
 abbrev pub in_service : {S F L : Type 0} → ContextState S F L → List Place
 in_service context = filter (is_in_service context.standings) context.initialised
 
--- what was deployed stays, no component comes or goes, and what was initialised was
+-- what was deployed stays, and the constraints as they stand, no component comes or goes, and what was initialised was
 pub record IsSameDeployment {S F L : Type 0} (before after : ContextState S F L) : Type 0 where
   pub content : after.content ≡ before.content
+  pub policy : after.policy ≡ before.policy
   pub users : after.users ≡ before.users
   pub servlets : length after.servlets ≡ length before.servlets
   pub filters : length after.filters ≡ length before.filters

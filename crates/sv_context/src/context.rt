@@ -2,6 +2,7 @@
 
 use std::marker::Model;
 use sv_lifecycle::Live;
+use sv_policy::Policy;
 use sv_realm::Realm;
 use sv_session::Sessions;
 use sv_site::Site;
@@ -12,6 +13,8 @@ use sv_site::Site;
 pub struct Context<S, F, L> {
     pub(crate) site: Site,
     pub(crate) users: Realm,
+    // The constraints as they stand: at first those of the descriptor, of which it has copies.
+    pub(crate) policy: Policy,
     pub(crate) live: Live<S, F, L>,
     pub(crate) sessions: Sessions,
 }
@@ -21,7 +24,7 @@ impl<S, F, L> Model for Context<S, F, L> {
 
     ghost Value = { ContextState S F L };
 
-    ghost view = { λ context. context_of context.site context.users context.live context.sessions };
+    ghost view = { λ context. context_of context.site context.policy context.users context.live context.sessions };
 
     ghost invariant = { λ context. AreComponentsOf context.site context.live };
 }

@@ -1,10 +1,10 @@
 //! How a context is deployed and undeployed.
 
-ghost use Rattle.std.specs.Prelude.{◌≡◌, Err};
+ghost use Rattle.std.specs.Prelude.{◌≡◌, Err, IfOk};
 ghost use Rattle.sv_descriptor.specs.WellFormed.{IsWellFormed};
 ghost use Rattle.sv_journal.specs.Journal.{JournalState};
 ghost use Rattle.sv_site.specs.ServletMappings.{mappings_of};
-ghost use Rattle.sv_context.specs.Deployment.{Deploys, Undeploys, no_sessions};
+ghost use Rattle.sv_context.specs.Deployment.{Deploys, Undeploys, declared_policy, no_sessions};
 
 use crate::context::Context;
 use crate::deployment::{DeployFault, Deployment};
@@ -14,8 +14,10 @@ use sv_component::{Filter, Listener, Servlet};
 use sv_descriptor::Descriptor;
 use sv_journal::Journal;
 use sv_lifecycle::{Live, StartCode, StartFault, fits};
+use sv_policy::Policy;
 use sv_session::Sessions;
 use sv_site::{ServletPatterns, Site};
+use sv_text::NoMemory;
 
 impl<S: Servlet, F: Filter, L: Listener> Context<S, F, L> {
     /// Deploys a context: its components are started, and it has no session yet (Jakarta Servlet 6.0, sections 2.3.1, 6.2.1 and 11.3.3).
@@ -29,9 +31,9 @@ impl<S: Servlet, F: Filter, L: Listener> Context<S, F, L> {
     ) -> Result<Context<S, F, L>, DeployFault<S, F, L>>
         ensures { Deploys S.servlet_step F.filter_step L.listener_step deployment journal.old result journal.new }
     {
-        match ServletPatterns::of(alloc, &deployment.descriptor) {
-            Ok(patterns) => start(alloc, deployment, patterns, journal),
-            Err(_) => Err(without_patterns(deployment)),
+        match tables_of(alloc, &deployment.descriptor) {
+            Ok((patterns, policy)) => start(alloc, deployment, patterns, policy, journal),
+            Err(_) => Err(without_tables(deployment)),
         }
     }
 
@@ -43,6 +45,7 @@ impl<S: Servlet, F: Filter, L: Listener> Context<S, F, L> {
         let Context {
             site,
             users,
+            policy: _,
             live,
             mut sessions,
         } = self;
@@ -58,14 +61,27 @@ impl<S: Servlet, F: Filter, L: Listener> Context<S, F, L> {
     }
 }
 
-// Starts the components of a deployment whose patterns are compiled.
+// The patterns of the servlets and the policy of the constraints, compiled.
+fn tables_of(alloc: Global, descriptor: &Descriptor) -> Result<(ServletPatterns, Policy), NoMemory>
+    ensures tables { IfOk result (λ tables. (tables.0 ≡ mappings_of descriptor.now) × (tables.1 ≡ declared_policy descriptor.now)) }
+    ensures well_formed { IsWellFormed descriptor.now }
+{
+    let app = descriptor.web_app();
+    let patterns = ServletPatterns::of(alloc, descriptor)?;
+    let policy = Policy::compile_copies(alloc, app.constraints.as_slice(), &app.rules)?;
+    Ok((patterns, policy))
+}
+
+// Starts the components of a deployment whose patterns and constraints are compiled.
 fn start<S: Servlet, F: Filter, L: Listener>(
     alloc: Global,
     deployment: Deployment<S, F, L>,
     patterns: ServletPatterns,
+    policy: Policy,
     journal: &mut Journal,
 ) -> Result<Context<S, F, L>, DeployFault<S, F, L>>
     requires patterns { patterns ≡ mappings_of deployment.descriptor }
+    requires policy { policy ≡ declared_policy deployment.descriptor }
     requires well_formed { IsWellFormed deployment.descriptor }
     ensures { Deploys S.servlet_step F.filter_step L.listener_step deployment journal.old result journal.new }
 {
@@ -83,6 +99,7 @@ fn start<S: Servlet, F: Filter, L: Listener>(
             Ok(Context {
                 site,
                 users,
+                policy,
                 live,
                 sessions,
             })
@@ -100,8 +117,8 @@ fn start<S: Servlet, F: Filter, L: Listener>(
     }
 }
 
-// A deployment for whose patterns there was no memory, so that nothing was started.
-fn without_patterns<S: Servlet, F: Filter, L: Listener>(
+// A deployment for whose patterns or constraints there was no memory, so that nothing was started.
+fn without_tables<S: Servlet, F: Filter, L: Listener>(
     deployment: Deployment<S, F, L>,
 ) -> DeployFault<S, F, L>
     ensures { (journal : JournalState) → Deploys S.servlet_step F.filter_step L.listener_step deployment journal (Err result) journal }

@@ -1,5 +1,6 @@
 //! How the sessions of a context expire.
 
+ghost use Rattle.sv_policy.specs.Compiled.{Standing};
 ghost use Rattle.sv_realm.specs.declared.user.User.{User};
 ghost use Rattle.sv_site.specs.Site.{Content};
 ghost use Rattle.std.specs.Prelude.{List};
@@ -31,9 +32,9 @@ fn end_expired<S: Servlet, F: Filter, L: Listener>(
     sessions: &mut Sessions,
     journal: &mut Journal,
 )
-    ensures expires { (content : Content) (users : List User) → AreComponentsOf content live.old
+    ensures expires { (content : Content) (policy : Standing) (users : List User) → AreComponentsOf content live.old
         → Expires S.servlet_step F.filter_step L.listener_step moment
-        (context_of content users live.old sessions.old) journal.old (context_of content users live.new sessions.new) journal.new }
+        (context_of content policy users live.old sessions.old) journal.old (context_of content policy users live.new sessions.new) journal.new }
     ensures components { (content : Content) → AreComponentsOf content live.old → AreComponentsOf content live.new }
 {
     while let Some(session) = sessions.expire(moment) {

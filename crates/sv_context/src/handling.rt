@@ -8,6 +8,7 @@ ghost use Rattle.sv_admission.specs.Asked.{asked_by};
 ghost use Rattle.sv_context_path.specs.Within.{path_within};
 ghost use Rattle.sv_dispatch.specs.Did.{seen};
 ghost use Rattle.sv_mapping.specs.Pattern.{is_at_or_below};
+ghost use Rattle.sv_policy.specs.Compiled.{Standing};
 ghost use Rattle.sv_realm.specs.declared.user.User.{User};
 ghost use Rattle.sv_session.specs.Store.{Store};
 ghost use Rattle.sv_site.specs.Site.{site_of};
@@ -26,6 +27,7 @@ use sv_context_path::path_within;
 use sv_exchange::BeginFault;
 use sv_journal::{Entry, Journal};
 use sv_lifecycle::Live;
+use sv_policy::Policy;
 use sv_realm::Realm;
 use sv_session::Sessions;
 use sv_site::Site;
@@ -58,6 +60,7 @@ impl<S: Servlet, F: Filter, L: Listener> Context<S, F, L> {
         handle_in(
             alloc,
             &self.site,
+            &self.policy,
             &self.users,
             &mut self.live,
             &mut self.sessions,
@@ -74,6 +77,7 @@ impl<S: Servlet, F: Filter, L: Listener> Context<S, F, L> {
 fn handle_in<S: Servlet, F: Filter, L: Listener>(
     alloc: Global,
     site: &Site,
+    policy: &Policy,
     users: &Realm,
     live: &mut Live<S, F, L>,
     sessions: &mut Sessions,
@@ -86,9 +90,9 @@ fn handle_in<S: Servlet, F: Filter, L: Listener>(
     requires below { IsTrue (is_at_or_below site.now.context_path canon.now.path) }
     requires components { AreComponentsOf site.now live.old }
     ensures handles { Handles S.servlet_step F.filter_step L.listener_step
-        (asked_by message.now (within (context_of site.now users.now live.old sessions.old) canon.now) moment words)
-        (context_of site.now users.now live.old sessions.old) journal.old (seen result)
-        (context_of site.now users.now live.new sessions.new) journal.new }
+        (asked_by message.now (within (context_of site.now policy.now users.now live.old sessions.old) canon.now) moment words)
+        (context_of site.now policy.now users.now live.old sessions.old) journal.old (seen result)
+        (context_of site.now policy.now users.now live.new sessions.new) journal.new }
     ensures components { AreComponentsOf site.now live.new }
     ensures status { IfOk result (λ response. IsStatusCode response.status) }
 {
@@ -98,7 +102,9 @@ fn handle_in<S: Servlet, F: Filter, L: Listener>(
     let Ok(canon) = within(alloc, site.context_path(), canon) else {
         return Err(NoMemory);
     };
-    let Ok(admission) = admit(alloc, site, users, message, &canon, moment, words, sessions) else {
+    let Ok(admission) = admit(
+        alloc, site, policy, users, message, &canon, moment, words, sessions,
+    ) else {
         return Err(NoMemory);
     };
     answer(
@@ -140,11 +146,11 @@ fn answer<S: Servlet, F: Filter, L: Listener>(
 ) -> Result<Response, NoMemory>
     requires components { AreComponentsOf site.now live.old }
     requires whole { journal.old.whole ≡ true }
-    ensures handles { (users : List User) (store : Store)
-        → admission ≡ admitted (context_of site.now users live.old store) (asked_by message.now canon.now moment words)
-        → sessions.old ≡ (settled_in site.now users (asked_by message.now canon.now moment words) store).store
+    ensures handles { (policy : Standing) (users : List User) (store : Store)
+        → admission ≡ admitted (context_of site.now policy users live.old store) (asked_by message.now canon.now moment words)
+        → sessions.old ≡ (settled_in site.now policy users (asked_by message.now canon.now moment words) store).store
         → Handles S.servlet_step F.filter_step L.listener_step (asked_by message.now canon.now moment words)
-        (context_of site.now users live.old store) journal.old (seen result) (context_of site.now users live.new sessions.new) journal.new }
+        (context_of site.now policy users live.old store) journal.old (seen result) (context_of site.now policy users live.new sessions.new) journal.new }
     ensures components { AreComponentsOf site.now live.new }
     ensures status { IfOk result (λ response. IsStatusCode response.status) }
 {

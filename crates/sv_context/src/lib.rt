@@ -5,6 +5,7 @@ mod answering;
 mod context;
 mod deploying;
 mod deployment;
+mod editing;
 mod expiring;
 mod forgetting;
 mod handling;

@@ -7,10 +7,10 @@ use Rattle.std.proofs.lemmas.Bool.{both_ways, cases_Bool, lt-ltb, ltb-false}
 use Rattle.std.proofs.lemmas.List.Folds.{find_at}
 use Rattle.std.proofs.lemmas.Option.{slice_get-get_or, slice_get_past}
 use Rattle.sv_context_path.specs.Chosen.{is_chosen}
-use Rattle.sv_descriptor.specs.declared.web_app.WebApp.{WebApp}
 use Rattle.sv_mapping.specs.Pattern.{is_at_or_below}
 use Rattle.sv_explain.specs.Context.{context_of, context_paths, policy}
 use Rattle.sv_explain.specs.declared.context.ContextPolicy.{ContextPolicy}
+use Rattle.sv_policy.specs.Compiled.{Standing}
 use Rattle.sv_realm.specs.declared.user.User.{User}
 
 at_place : {X : Type 0} (t : X → Bool) (xs : List X) → option_and_then (λ i. slice_get xs i) (position t xs) ≡ find t xs
@@ -28,9 +28,9 @@ found_mapped f t (x ∷ xs) = by_test (t (f x)) (find (λ y. t (f y)) xs) (find 
     by_test false others mapped same = same
 
 -- the places of a chosen context among contexts that are mapped
-module _ {X : Type 0} (path_of : X → List ℕ) (app_of : X → WebApp) (users_of : X → List User) where
+module _ {X : Type 0} (path_of : X → List ℕ) (standing_of : X → Standing) (users_of : X → List User) where
   abbrev policy_of : X → ContextPolicy
-  policy_of context = policy (path_of context) (app_of context) (users_of context)
+  policy_of context = policy (path_of context) (standing_of context) (users_of context)
 
   paths_same : (contexts : List X) → map path_of contexts ≡ context_paths (map policy_of contexts)
   paths_same [] = refl
@@ -59,6 +59,6 @@ got contexts place None within some is = absurd (both_ways _ (sym some) (lt-ltb 
 got contexts place (Some context) within some is = ap Some is ∙ sym (slice_get-get_or contexts place context.now within)
 
 -- policies are their own
-pub policies_same : (contexts : List ContextPolicy) → map (λ context. policy context.path context.descriptor context.realm) contexts ≡ contexts
+pub policies_same : (contexts : List ContextPolicy) → map (λ context. policy context.path context.policy context.realm) contexts ≡ contexts
 policies_same [] = refl
 policies_same (context ∷ contexts) = ap (λ others. context ∷ others) (policies_same contexts)

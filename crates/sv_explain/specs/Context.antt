@@ -1,13 +1,13 @@
 -- Jakarta Servlet 6.0, section 12.1: the context of a request.
 use Rattle.std.specs.Prelude.{ℕ, List, map, find, Option}
 use Rattle.sv_context_path.specs.Chosen.{is_chosen}
-use Rattle.sv_descriptor.specs.declared.web_app.WebApp.{WebApp}
 use Rattle.sv_explain.specs.declared.context.ContextPolicy.{ContextPolicy}
+use Rattle.sv_policy.specs.Compiled.{Standing}
 use Rattle.sv_realm.specs.declared.user.User.{User}
 
--- a context by its path, its descriptor and its users
-abbrev pub policy : List ℕ → WebApp → List User → ContextPolicy
-policy its_path its_descriptor its_users = record { path = its_path; descriptor = its_descriptor; realm = its_users }
+-- a context by its path, its constraints as they stand, and its users
+abbrev pub policy : List ℕ → Standing → List User → ContextPolicy
+policy its_path its_standing its_users = record { path = its_path; policy = its_standing; realm = its_users }
 
 abbrev pub context_paths : List ContextPolicy → List (List ℕ)
 context_paths contexts = map (λ context. context.path) contexts

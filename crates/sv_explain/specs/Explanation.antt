@@ -33,10 +33,10 @@ abbrev pub caller_as : List User → Option (List ℕ) → Option (Option Caller
 caller_as users None = Some None
 caller_as users (Some name) = option_map Some (caller_named users name)
 
--- the verdict of the context's constraints
+-- the verdict of the context's constraints as they stand
 abbrev pub decided : ContextPolicy → List ℕ → List ℕ → Option Caller → Explanation
 decided context method path caller =
-    Decided context.path path (verdict context.descriptor.constraints context.descriptor.rules method path caller)
+    Decided context.path path (verdict context.policy.constraints context.policy.rules method path caller)
 
 -- for a path within the context and a caller, if the context has the user
 abbrev pub explanation_for : ContextPolicy → List ℕ → List ℕ → Option (Option Caller) → Answer

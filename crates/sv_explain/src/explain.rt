@@ -12,7 +12,7 @@ use crate::context::{ContextPolicy, HasPolicy, context_of};
 use crate::explanation::{Explanation, HiddenCause};
 use crate::fault::ExplainFault;
 use std::alloc::Global;
-use sv_constraints::{OwnedDecision, decide_plain};
+use sv_constraints::OwnedDecision;
 use sv_context_path::{is_protected, path_within};
 use sv_realm::{Caller, Realm};
 use sv_text::{NoMemory, Text};
@@ -22,7 +22,8 @@ use sv_uri::fault::CanonFault;
 /// What would become of a request with this method and this target, from the named user of its context or without a caller.
 ///
 /// The target is any bytes, read as a path with an optional query. A method may have any length. In a named user's place no
-/// password is asked for. The work is linear in the contexts, their users and the constraints of the request's context.
+/// password is asked for. The work is linear in the contexts and their users; the constraints
+/// are not gone over.
 ///
 /// # Errors
 /// [`ExplainFault::BadMethod`] before anything is said of the target, [`ExplainFault::NoSuchUser`] where the target has a
@@ -35,7 +36,7 @@ pub fn explain_request<C: HasPolicy>(
     user: Option<&str>,
 ) -> Result<Explanation, ExplainFault>
     ensures { Gives explain_fault result (spec.explanation
-        (map (λ context. policy (C.path_of context) (C.descriptor_of context) (C.users_of context)) contexts.now)
+        (map (λ context. policy (C.path_of context) (C.standing_of context) (C.users_of context)) contexts.now)
         method.now target.now (option_copied user.entry)) }
 {
     if !is_token(method) {
@@ -78,7 +79,7 @@ fn explain_within<C: HasPolicy>(
 ) -> Result<Explanation, ExplainFault>
     requires { IsTrue (is_at_or_below (C.path_of context.now) path.now) }
     ensures { Gives explain_fault result (spec.explanation_within
-        (policy (C.path_of context.now) (C.descriptor_of context.now) (C.users_of context.now)) method.now path.now (option_copied user.entry)) }
+        (policy (C.path_of context.now) (C.standing_of context.now) (C.users_of context.now)) method.now path.now (option_copied user.entry)) }
 {
     let Some(caller) = caller_as(context.users(), user) else {
         return Err(ExplainFault::NoSuchUser);
@@ -100,7 +101,7 @@ fn caller_as<'a>(realm: &'a Realm, user: Option<&str>) -> Option<Option<&'a Call
     }
 }
 
-/// What the constraints of the context decide.
+/// What the constraints of the context decide as they stand.
 fn decided<C: HasPolicy>(
     alloc: Global,
     context: &C,
@@ -108,16 +109,14 @@ fn decided<C: HasPolicy>(
     path: &str,
     caller: Option<&Caller>,
 ) -> Result<Explanation, NoMemory>
-    ensures { GivesAnswer result (spec.decided (policy (C.path_of context.now) (C.descriptor_of context.now) (C.users_of context.now))
+    ensures { GivesAnswer result (spec.decided (policy (C.path_of context.now) (C.standing_of context.now) (C.users_of context.now))
         method.now path.now (option_copied caller.entry)) }
 {
-    let web_app = context.descriptor().web_app();
-    let constraints = web_app.constraints.as_slice();
-    let decision = decide_plain(constraints, &web_app.rules, method, path, caller);
+    let decided = context.policy().decide(method, path, caller);
     Ok(Explanation::Decided {
         context: Text::copy_of(alloc, context.context_path())?,
         path: Text::copy_of(alloc, path)?,
-        decision: OwnedDecision::copy_of(alloc, decision)?,
+        decision: OwnedDecision::copy_of(alloc, decided.decision)?,
     })
 }
 

@@ -36,7 +36,7 @@ impl Policy {
     }
 
     /// Appends a constraint that has its number.
-    fn append_as(&mut self, alloc: Global, added: Constraint) -> Result<u64, EditFault>
+    pub(crate) fn append_as(&mut self, alloc: Global, added: Constraint) -> Result<u64, EditFault>
         ensures { GivesOutcome self.old self.new result (Ok (added.number, with_last self.old added)) }
     {
         let Ok(rebuilt) = rebuilt_with(
@@ -144,7 +144,7 @@ impl Policy {
 }
 
 /// Whether so many constraints stand that no more may, or one more, of these collections, lists too many patterns.
-fn is_too_many(constraints: &[Constraint], collections: &[Collection]) -> bool
+pub(crate) fn is_too_many(constraints: &[Constraint], collections: &[Collection]) -> bool
     ensures { result ≡ is_too_many constraints.now collections.now }
 {
     constraints.len() >= MAX_CONSTRAINTS || lists_too_many(collections)
@@ -162,7 +162,7 @@ fn lists_too_many(collections: &[Collection]) -> bool
 }
 
 /// The constraint with its number.
-fn numbered(addition: NewConstraint, number: u64) -> Constraint
+pub(crate) fn numbered(addition: NewConstraint, number: u64) -> Constraint
     ensures { result ≡ numbered addition number }
 {
     Constraint {

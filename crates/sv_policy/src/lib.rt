@@ -2,6 +2,7 @@
 //! (Jakarta Servlet 6.0, section 13.8).
 #![tactic(auto)]
 
+mod copying;
 mod edit;
 mod edit_fault;
 mod editing;

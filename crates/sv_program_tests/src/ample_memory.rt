@@ -2,6 +2,7 @@
 
 use std::alloc::Global;
 use sv_explain::{ContextPolicy, explain_parts};
+use sv_policy::Policy;
 use sv_program::{CommandFault, ContextTexts, descriptor_in, first_line, realm_in, server_in};
 use sv_text::Text;
 
@@ -41,9 +42,11 @@ fn the_parts_of_a_configuration_explain_a_request(rt: HostRuntime) {
 /// What the parts that the texts of the files have say of a request.
 fn line_of_parts(alloc: Global) -> Option<String> {
     let texts = texts(alloc)?;
+    let descriptor = descriptor_in(alloc, &texts).ok()?;
+    let app = descriptor.web_app();
     let context = ContextPolicy {
         path: copied(alloc, texts.context.path.as_str())?,
-        descriptor: descriptor_in(alloc, &texts).ok()?,
+        policy: Policy::compile_copies(alloc, app.constraints.as_slice(), &app.rules).ok()?,
         realm: realm_in(alloc, &texts).ok()?,
     };
     let explained = explain_parts(alloc, &[context], "GET", b"/admin/x.txt", Some("ann")).ok()?;

@@ -17,8 +17,9 @@ use Rattle.sv_admission.proofs.judging.judge.Goals as goal
 pub returns-in-None-clause-outcome : goal.returns-in-None-clause-outcome
 returns-in-None-clause-outcome c =
     let app = c.args.app.now in
+    let standing = c.args.policy.now in
     let asked = asked_by c.args.message.now c.args.canon.now c.args.moment c.args.words in
-    let by : Option Caller → OwnedDecision = λ caller. verdict app.constraints app.rules c.args.message.now.method c.args.canon.now.path caller in
+    let by : Option Caller → OwnedDecision = λ caller. verdict standing.constraints standing.rules c.args.message.now.method c.args.canon.now.path caller in
     subst (GivesAnswer c.decided-in-None.result)
     (ap (λ (caller : Option Caller). verdict_outcome (is_some app.login) (by caller)) c.caller_held-caller.ensures
     ∙ decided_so (is_protected c.args.canon.now.path) app.login (λ (pages : FormLogin). login c.args.users.now (post_in asked) c.args.held c.args.words c.args.moment c.args.sessions.now)

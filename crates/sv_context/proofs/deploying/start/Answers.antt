@@ -6,8 +6,8 @@ pub returns-in-Ok : goal.returns-in-Ok
 returns-in-Ok g c = record {
   started = c.start.result;
   starts = rw c.as_str.ensures at c.start.ensures;
-  is = deployed_so c.args.deployment c.start.result c.in-Ok.live c.new-site.result c.args.deployment.users c.no_sessions-sessions.result
-      c.in-Ok.is c.new-site.ensures refl c.no_sessions-sessions.ensures;
+  is = deployed_so c.args.deployment c.start.result c.in-Ok.live c.new-site.result c.args.policy c.args.deployment.users c.no_sessions-sessions.result
+      c.in-Ok.is c.new-site.ensures c.requires.policy refl c.no_sessions-sessions.ensures;
 }
 
 pub returns-in-Err : goal.returns-in-Err

@@ -1,4 +1,5 @@
 use Rattle.std.proofs.Common.{List, length}
+use Rattle.sv_policy.specs.Compiled.{Standing}
 use Rattle.sv_realm.specs.declared.user.User.{User}
 use Rattle.sv_site.specs.Site.{Content}
 use Rattle.sv_context.proofs.Expiries.{SoFar}
@@ -7,9 +8,9 @@ use Rattle.sv_context.proofs.expiring.end_expired.Given as goal
 
 abbrev pub invariant-loop-session : goal.invariant-loop-session
 invariant-loop-session g l = record {
-  so_far : (content : Content) (users : List User) → AreComponentsOf content l.initial.live
-      → SoFar g.S.Servlet.servlet_step g.F.Filter.filter_step g.L.Listener.listener_step l.moment (context_of content users l.initial.live l.initial.sessions) l.initial.journal
-      (context_of content users l.live l.sessions) l.journal;
+  so_far : (content : Content) (policy : Standing) (users : List User) → AreComponentsOf content l.initial.live
+      → SoFar g.S.Servlet.servlet_step g.F.Filter.filter_step g.L.Listener.listener_step l.moment (context_of content policy users l.initial.live l.initial.sessions) l.initial.journal
+      (context_of content policy users l.live l.sessions) l.journal;
   components : (content : Content) → AreComponentsOf content l.initial.live → AreComponentsOf content l.live;
 }
 

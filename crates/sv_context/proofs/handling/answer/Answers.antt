@@ -8,9 +8,9 @@ use Rattle.sv_context.proofs.Handlings.{answers_so, begun_code, cut_so, status_s
 use Rattle.sv_context.proofs.handling.answer.Goals as goal
 
 pub returns-in-Ok-done-clause-handles : goal.returns-in-Ok-done-clause-handles
-returns-in-Ok-done-clause-handles g c = λ users store is settled.
+returns-in-Ok-done-clause-handles g c = λ policy users store is settled.
     answers_so g.S.Servlet.servlet_step g.F.Filter.filter_step g.L.Listener.listener_step
-    c.args.site.now users c.args.live.now store c.replace-lent.result (asked_by c.args.message.now c.args.canon.now c.args.moment c.args.words) c.args.admission
+    c.args.site.now policy users c.args.live.now store c.replace-lent.result (asked_by c.args.message.now c.args.canon.now c.args.moment c.args.words) c.args.admission
     c.requires.components is (c.replace-lent.ensures.value ∙ settled) c.in-Ok.exchange
     (c.in-Ok.ensures ∙ ap (λ path. begun c.args.message.now c.args.canon.now path c.args.moment c.args.words c.args.admission.session c.replace-lent.result) c.context_path.ensures)
     c.respond_noted-done.new.live c.respond_noted-done.new.exchange c.finish-response.result.1 c.args.journal.now c.respond_noted-done.new.journal c.finish-response.result.0
@@ -31,9 +31,9 @@ returns-in-Ok-done-clause-status g c =
     c.finish-response.ensures.response
 
 pub returns-clause-handles : goal.returns-clause-handles
-returns-clause-handles g c = λ users store is settled.
+returns-clause-handles g c = λ policy users store is settled.
     cut_so g.S.Servlet.servlet_step g.F.Filter.filter_step g.L.Listener.listener_step
-    c.args.site.now users c.args.live.now store c.replace-lent.result (asked_by c.args.message.now c.args.canon.now c.args.moment c.args.words) c.args.admission
+    c.args.site.now policy users c.args.live.now store c.replace-lent.result (asked_by c.args.message.now c.args.canon.now c.args.moment c.args.words) c.args.admission
     c.requires.components is (c.replace-lent.ensures.value ∙ settled) c.in-Ok.exchange
     (c.in-Ok.ensures ∙ ap (λ path. begun c.args.message.now c.args.canon.now path c.args.moment c.args.words c.args.admission.session c.replace-lent.result) c.context_path.ensures)
     c.respond_noted-done.new.live c.respond_noted-done.new.exchange c.finish-response.result.1 c.args.journal.now c.respond_noted-done.new.journal

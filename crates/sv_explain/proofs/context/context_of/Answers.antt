@@ -7,20 +7,20 @@ use Rattle.sv_explain.proofs.context.context_of.Goals as goal
 pub returns-in-Some-clause-chosen : goal.returns-in-Some-clause-chosen
 returns-in-Some-clause-chosen g c =
     let path_of = g.C.HasContextPath.path_of in
-    let app_of = g.C.HasPolicy.descriptor_of in
+    let standing_of = g.C.HasPolicy.standing_of in
     let users_of = g.C.HasPolicy.users_of in
-    ap (option_map (λ context. policy (path_of context) (app_of context) (users_of context)))
+    ap (option_map (λ context. policy (path_of context) (standing_of context) (users_of context)))
     (got c.args.contexts.now c.in-Some.place c.get.result c.in-Some.ensures.bound c.get.ensures.lookup.0 c.get.ensures.lookup.1)
-    ∙ found_by_place path_of app_of users_of c.args.contexts.now c.args.path.now (Some c.in-Some.place)
+    ∙ found_by_place path_of standing_of users_of c.args.contexts.now c.args.path.now (Some c.in-Some.place)
     (sym c.in-Some.is ∙ c.context_place.ensures.chosen)
 
 pub returns-in-Some-clause-above : goal.returns-in-Some-clause-above
 returns-in-Some-clause-above g c =
-    serves_by_place g.C.HasContextPath.path_of g.C.HasPolicy.descriptor_of g.C.HasPolicy.users_of c.args.contexts.now c.args.path.now
+    serves_by_place g.C.HasContextPath.path_of g.C.HasPolicy.standing_of g.C.HasPolicy.users_of c.args.contexts.now c.args.path.now
     c.in-Some.place c.get.result
     (got c.args.contexts.now c.in-Some.place c.get.result c.in-Some.ensures.bound c.get.ensures.lookup.0 c.get.ensures.lookup.1) c.in-Some.ensures.above
 
 pub returns-in-None-clause-chosen : goal.returns-in-None-clause-chosen
 returns-in-None-clause-chosen g c =
-    found_by_place g.C.HasContextPath.path_of g.C.HasPolicy.descriptor_of g.C.HasPolicy.users_of c.args.contexts.now c.args.path.now None
+    found_by_place g.C.HasContextPath.path_of g.C.HasPolicy.standing_of g.C.HasPolicy.users_of c.args.contexts.now c.args.path.now None
     (sym c.in-None.is ∙ c.context_place.ensures.chosen)

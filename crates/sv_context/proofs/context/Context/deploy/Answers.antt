@@ -1,4 +1,4 @@
 use Rattle.sv_context.proofs.context.Context.deploy.Goals as goal
 
 pub returns-in-Err : goal.returns-in-Err
-returns-in-Err g c = c.without_patterns.ensures c.args.journal.now
+returns-in-Err g c = c.without_tables.ensures c.args.journal.now

@@ -1,6 +1,6 @@
 use Rattle.sv_context.proofs.Deployments.{mismatch_so, no_memory_so}
-use Rattle.sv_context.proofs.deploying.without_patterns.Goals as goal
-use Rattle.sv_context.proofs.deploying.without_patterns.Goals.{then-fits, else-fits}
+use Rattle.sv_context.proofs.deploying.without_tables.Goals as goal
+use Rattle.sv_context.proofs.deploying.without_tables.Goals.{then-fits, else-fits}
 
 pub returns : goal.returns
 returns g c = λ journal.
