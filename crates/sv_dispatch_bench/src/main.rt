@@ -4,6 +4,7 @@
 
 mod components;
 mod contexts;
+mod cookies;
 mod decisions;
 mod dispatch_figures;
 mod dispatches;
@@ -52,6 +53,7 @@ fn measure<R: Clock + Print + AllocGlobal>(rt: &R, figures: bool) -> Option<()> 
     lookup_figures::connections(rt, figures)?;
     decisions::decisions(rt, figures)?;
     sessions::sessions(rt, figures)?;
+    cookies::cookies(rt, figures)?;
     files::files(rt, figures)
 }
 
