@@ -1,24 +1,29 @@
 -- Which sessions hold a caller.
-use Rattle.std.proofs.Common.{◌≡◌, ◌≢◌, ◌⊎◌, ℕ, zero, suc, Bool, true, false, List, [], ◌∷◌, ◌++◌, Some, Ok, Err, refl, sym, ap, ◌∙◌, subst, inl, inr, append_assoc, slice_get, slice_set}
+use Rattle.std.proofs.Common.{◌≡◌, ◌≢◌, ◌⊎◌, ℕ, zero, suc, Bool, true, false, List, [], ◌∷◌, ◌++◌, Option, None, Some, Result, Ok, Err, refl, sym, ap, ◌∙◌, subst, inl, inr, append_assoc, slice_get, slice_set}
 use Rattle.std.specs.List.{AllByRecursion}
 use Rattle.sv_journal.specs.declared.entry.Entry.{Entry}
+use Rattle.sv_policy.specs.declared.edit.Edit.{Edit}
+use Rattle.sv_policy.specs.declared.edit_fault.EditFault.{EditFault}
 use Rattle.sv_run.specs.Contexts.{Handling, Theory}
+use Rattle.sv_run.specs.Editing.{EditsIn, place_with}
 use Rattle.sv_run.specs.Effect.{Answered, Deed, Effect, Handled}
-use Rattle.sv_run.specs.Events.{Accepts, Ended, ExpiresAll, Happening, Happens, Lost, Opened, Piece, Tick}
+use Rattle.sv_run.specs.Events.{Accepts, Edited, Ended, ExpiresAll, Happening, Happens, Lost, Opened, Piece, Tick}
 use Rattle.sv_run.specs.Items.{HandlesAt, Responds, Takes, TakesItem}
-use Rattle.sv_run.specs.Lawful.{GivesCallersByLogin, Holds, LogsIn}
+use Rattle.sv_run.specs.Lawful.{EditsAlone, GivesCallersByLogin, Holds, LogsIn}
 use Rattle.sv_run.specs.Laws.{CallersLoggedIn, HoldsAt, KeepsCaller, LoggedInBefore}
 use Rattle.sv_run.specs.Messages.{Destination, Itself, Within, destination}
 use Rattle.sv_run.specs.Runs.{Answer, Run, deeds_of}
 use Rattle.sv_run.specs.State.{State, World}
 use Rattle.sv_run.specs.declared.step_fault.StepFault.TheVariants.{Stopped, BadConnection, TooManyConnections, NoMemory}
 use Rattle.sv_run.proofs.Outcomes.{all_append}
+use Rattle.sv_session.specs.Calls.{HoldsCaller}
+use Rattle.sv_session.specs.Store.{Store}
 use Rattle.sv_wire.specs.declared.item.Item.{Item}
 use Rattle.sv_wire.specs.declared.item.Item.TheVariants.{Continue, Message, Refuse}
 use Rattle.sv_wire.specs.declared.message.Message.{Message as MessageRecord}
 
 -- what stands at a place of a list in which another place was set
-at_set : {X : Type 0} (items : List X) (set place : ℕ) (new there : X) → slice_get (slice_set items set new) place ≡ Some there
+pub at_set : {X : Type 0} (items : List X) (set place : ℕ) (new there : X) → slice_get (slice_set items set new) place ≡ Some there
     → ((place ≡ set) × (new ≡ there)) ⊎ ((place ≢ set) × (slice_get items place ≡ Some there))
 at_set [] set place new there found = absurd (cc)
 at_set (item ∷ items) zero zero new there found = inl (refl, cc)
@@ -32,11 +37,11 @@ at_set (item ∷ items) (suc set) (suc place) new there found = next (at_set ite
     next (inr apart) = inr (λ same. apart.0 (cc), apart.1)
 
 -- no container is stopped and runs
-runs_on : {b : Bool} → b ≡ true → b ≡ false → ⊥
+pub runs_on : {b : Bool} → b ≡ true → b ≡ false → ⊥
 runs_on is not = absurd (cc)
 
 -- a container that is stopped stays so
-stopped_stays : {Context Words : Type 0} (theory : Theory Context Words) (before after : State Context Words) (happenings : List Happening) (answers : List (Answer Context))
+pub stopped_stays : {Context Words : Type 0} (theory : Theory Context Words) (before after : State Context Words) (happenings : List Happening) (answers : List (Answer Context))
     → Run theory before happenings answers after → before.stopped ≡ true → after.stopped ≡ true
 stopped_stays theory before after [] [] run stopped = ap (λ s. s.stopped) run ∙ stopped
 stopped_stays theory before after [] (answer ∷ answers) run stopped = absurd run
@@ -101,7 +106,7 @@ module _ {Context Words : Type 0} (theory : Theory Context Words) (place number 
   came_answered : (before after : List Context) (entry : Entry) → after ≡ before → Came before (Answered entry ∷ []) after
   came_answered before after entry same = subst (λ cs. Came before (Answered entry ∷ []) cs) (sym same) (λ holds. inl (holds, (tt, tt)))
 
-  module _ (lawful : GivesCallersByLogin theory) where
+  module _ (alone : EditsAlone theory.path_of theory.conduct) (lawful : GivesCallersByLogin theory) where
     came_handled : (moment other : ℕ) (before after : List Context) (handling : Handling Context) → HandlesAt theory moment other before handling after
         → Came before (Handled other handling ∷ []) after
     came_handled moment other before after handling handles holds =
@@ -165,6 +170,28 @@ module _ {Context Words : Type 0} (theory : Theory Context Words) (place number 
         (came_item moment item before takes.0 takes.1 takes.3)
         (came_takes moment items takes.0 after takes.2 takes.4))
 
+    -- an edit keeps the sessions, and with them their callers
+    came_edited : (found : Option ℕ) (before after : List Context) (edit : Edit) (answer : Result ℕ EditFault) → EditsIn theory found before edit answer after
+        → Came before [] after
+    came_edited None before after edit answer edits holds = came_same before after edits.1 holds
+    came_edited (Some other) before after edit answer edits holds =
+        by_place (at_set before other place edits.edited holds.context (subst (λ cs. slice_get cs place ≡ Some holds.context) edits.is_after holds.there))
+      where
+        by_place : ((place ≡ other) × (edits.edited ≡ holds.context)) ⊎ ((place ≢ other) × (slice_get before place ≡ Some holds.context))
+            → (HoldsAt theory place number caller before × AllByRecursion (KeepsCaller theory place number caller) [])
+            ⊎ LoggedInBefore theory place number caller []
+        by_place (inl here) =
+            let held_then : Holds theory number caller edits.edited = subst (λ c. Holds theory number caller c) (sym here.1) holds.holds in
+            inl (
+              record {
+                context = edits.context;
+                there = ap (λ p. slice_get before p) here.0 ∙ edits.there;
+                holds = subst (λ (store : Store). HoldsCaller number caller store) (alone.sessions edits.context edits.edited edit answer edits.edits) held_then;
+              },
+              tt,
+            )
+        by_place (inr apart) = inl (record { context = holds.context; there = apart.1; holds = holds.holds }, tt)
+
     came_happens : (before after : State Context Words) (happening : Happening) (effect : Effect Context)
         → Happens theory before happening effect after → Came before.world.contexts effect.deeds after.world.contexts
     came_happens before after (Opened other) effect happens =
@@ -182,6 +209,10 @@ module _ {Context Words : Type 0} (theory : Theory Context Words) (place number 
     came_happens before after (Tick moment) effect happens =
         subst (λ ds. Came before.world.contexts ds after.world.contexts) (sym (ap (λ (e : Effect Context). e.deeds) happens.0))
         (came_same before.world.contexts after.world.contexts (ap (λ (s : State Context Words). s.world.contexts) happens.1))
+    came_happens before after (Edited path edit) effect happens =
+        subst (λ ds. Came before.world.contexts ds after.world.contexts) (sym (ap (λ (e : Effect Context). e.deeds) happens.brings))
+        (subst (λ cs. Came before.world.contexts [] cs) (sym (ap (λ (s : State Context Words). s.world.contexts) happens.is_after))
+        (came_edited (place_with theory before.world.contexts path) before.world.contexts happens.contexts edit happens.answer happens.edits))
 
     -- sessions that end take their callers along
     held_before : (contexts after : List Context) (moment : ℕ) (told : List Entry) (at : ℕ) → ExpiresAll theory.conduct contexts moment told after
@@ -235,9 +266,9 @@ module _ {Context Words : Type 0} (theory : Theory Context Words) (place number 
     came_run before after (happening ∷ happenings) (Err NoMemory ∷ answers) run runs =
         absurd (runs_on (stopped_stays theory run.0 after happenings answers run.2 run.1.stops) runs)
 
-pub callers_logged_in : {Context Words : Type 0} (theory : Theory Context Words) → GivesCallersByLogin theory → CallersLoggedIn theory
-callers_logged_in theory lawful before after happenings answers place number caller run runs not_before holds =
-    found (came_run theory place number caller lawful before after happenings answers run runs holds)
+pub callers_logged_in : {Context Words : Type 0} (theory : Theory Context Words) → EditsAlone theory.path_of theory.conduct → GivesCallersByLogin theory → CallersLoggedIn theory
+callers_logged_in theory alone lawful before after happenings answers place number caller run runs not_before holds =
+    found (came_run theory place number caller alone lawful before after happenings answers run runs holds)
   where
     found : (HoldsAt theory place number caller before.world.contexts × AllByRecursion (KeepsCaller theory place number caller) (deeds_of answers))
         ⊎ LoggedInBefore theory place number caller (deeds_of answers)

@@ -1,5 +1,6 @@
 -- Effects that are joined.
-use Rattle.std.proofs.Common.{◌≡◌, Bool, true, false, ◌||◌, refl, append_assoc, append-nil}
+use Rattle.std.proofs.Common.{◌≡◌, Bool, true, false, ◌||◌, Option, None, Some, refl, append_assoc, append-nil}
+use Rattle.std.specs.Option.{option_or}
 use Rattle.sv_run.specs.Effect.{Effect, nothing, joined}
 
 pub or-assoc : (a b c : Bool) → ((a || b) || c) ≡ (a || (b || c))
@@ -10,6 +11,14 @@ pub or-at_false : (a : Bool) → (a || false) ≡ a
 or-at_false true = refl
 or-at_false false = refl
 
+pub first-assoc : {X : Type 0} (a b c : Option X) → option_or (option_or a b) c ≡ option_or a (option_or b c)
+first-assoc None b c = refl
+first-assoc (Some x) b c = refl
+
+pub first-at_none : {X : Type 0} (a : Option X) → option_or a None ≡ a
+first-at_none None = refl
+first-at_none (Some x) = refl
+
 module _ {Context : Type 0} where
   pub joined-assoc : (a b c : Effect Context) → joined (joined a b) c ≡ joined a (joined b c)
   joined-assoc a b c =
@@ -18,6 +27,7 @@ module _ {Context : Type 0} where
         closes = or-assoc a.closes b.closes c.closes i;
         journal = append_assoc a.journal b.journal c.journal i;
         deeds = append_assoc a.deeds b.deeds c.deeds i;
+        edited = first-assoc a.edited b.edited c.edited i;
       }
 
   pub joined-nothing : (a : Effect Context) → joined a nothing ≡ a
@@ -27,4 +37,5 @@ module _ {Context : Type 0} where
         closes = or-at_false a.closes i;
         journal = append-nil a.journal i;
         deeds = append-nil a.deeds i;
+        edited = first-at_none a.edited i;
       }

@@ -1,5 +1,6 @@
 mod Beside
 mod Callers
+mod Constraints
 mod Cuts
 pub mod Effects
 mod Feedings

@@ -6,7 +6,7 @@ use Rattle.sv_run.specs.Effect.{Effect, nothing, telling, joined}
 use Rattle.sv_run.specs.Events.{Accepts, Happening, Happens, Piece, TakesPiece, connection_of, moment_after, unknown_fault}
 use Rattle.sv_run.specs.Feeding.{Feeds}
 use Rattle.sv_run.specs.Items.{Takes}
-use Rattle.sv_run.specs.Lawful.{AreSettled, EndsExpired}
+use Rattle.sv_run.specs.Lawful.{AreSettled, EditsAlone, EndsExpired}
 use Rattle.sv_run.specs.Laws.{AcceptsBoth, AcceptsOtherwise, CompletesNothing, OrdersAreAlike}
 use Rattle.sv_run.specs.State.{State, World, holding, settled_at}
 use Rattle.sv_run.proofs.Beside.{fault_beside, happens_apart, happens_settled, happens_with, happens_without}
@@ -46,7 +46,7 @@ module _ {Context Words : Type 0} (theory : Theory Context Words) where
       (subst (λ items. Takes theory state.moment items state.world effect piece.world) none piece.takes)
       piece.is_after
 
-  module _ (ends : EndsExpired theory) (before after : State Context Words) (number : ℕ) (bytes : List ℕ) (moment : ℕ) (other : Happening)
+  module _ (alone_edits : EditsAlone theory.path_of theory.conduct) (ends : EndsExpired theory) (before after : State Context Words) (number : ℕ) (bytes : List ℕ) (moment : ℕ) (other : Happening)
       (journal : List Entry) (one two : Effect Context) (apart : connection_of other ≢ Some number)
       (piece_now : moment_after before.moment (Piece number bytes moment) ≡ before.moment) (other_now : moment_after before.moment other ≡ before.moment)
       (completes : CompletesNothing before number bytes) where
@@ -63,7 +63,7 @@ module _ {Context Words : Type 0} (theory : Theory Context Words) where
         let goes_on = subst (λ s. Accepts theory s other two after) found.is_after both.goes_on in
         let alone = happens_without theory mid after number found.left other two apart
         (settled_accepts theory ends held_state after other two other_now settled goes_on) in
-        let later = happens_settled theory ends mid alone.later other two alone.happens settled in
+        let later = happens_settled theory alone_edits ends mid alone.later other two alone.happens settled in
         let own : alone.later.connections.held number ≡ Some piece.held = happens_apart theory mid alone.later number other two apart alone.happens ∙ piece.holds in
         let is_one : one ≡ telling (begins.told ++ []) = begins.is_joined ∙ ap (joined (telling begins.told)) found.brings_nothing in
         record {
@@ -111,8 +111,9 @@ module _ {Context Words : Type 0} (theory : Theory Context Words) where
                 sends = ap (λ (r : Effect Context). r.sends) is_one;
                 closes = ap (λ (r : Effect Context). r.closes) is_one;
                 deeds = ap (λ (r : Effect Context). r.deeds) is_one;
+                edited = ap (λ (r : Effect Context). r.edited) is_one;
               };
-          second_alike = record { sends = refl; closes = refl; deeds = refl };
+          second_alike = record { sends = refl; closes = refl; deeds = refl; edited = refl };
         }
 
     pub piece_first : AcceptsBoth theory before other (Piece number bytes moment) one two journal after
@@ -121,7 +122,7 @@ module _ {Context Words : Type 0} (theory : Theory Context Words) where
         let begins = accepts_now theory before both.between other one other_now both.begins in
         let mid = settled_at before.moment begins.contexts before in
         let settled = expiring_settles theory ends before.world.contexts begins.contexts before.moment begins.told begins.expires in
-        let later = happens_settled theory ends mid both.between other begins.brings begins.happens settled in
+        let later = happens_settled theory alone_edits ends mid both.between other begins.brings begins.happens settled in
         let piece = settled_accepts theory ends both.between after (Piece number bytes moment) two
         (subst (λ m. moment_after m (Piece number bytes moment) ≡ m) (sym later.0) piece_now)
         (subst (λ m. AreSettled theory m both.between.world.contexts) (sym later.0) later.1)
@@ -172,17 +173,19 @@ module _ {Context Words : Type 0} (theory : Theory Context Words) where
                 sends = ap (λ (r : Effect Context). r.sends) begins.is_joined;
                 closes = ap (λ (r : Effect Context). r.closes) begins.is_joined;
                 deeds = ap (λ (r : Effect Context). r.deeds) begins.is_joined;
+                edited = ap (λ (r : Effect Context). r.edited) begins.is_joined;
               };
           second_alike =
               record {
                 sends = ap (λ (r : Effect Context). r.sends) found.brings_nothing;
                 closes = ap (λ (r : Effect Context). r.closes) found.brings_nothing;
                 deeds = ap (λ (r : Effect Context). r.deeds) found.brings_nothing;
+                edited = ap (λ (r : Effect Context). r.edited) found.brings_nothing;
               };
         }
 
-  pub orders_are_alike : EndsExpired theory → OrdersAreAlike theory
-  orders_are_alike ends before after number bytes moment other journal one two apart piece_now other_now completes = (
-    other_first ends before after number bytes moment other journal one two apart piece_now other_now completes,
-    piece_first ends before after number bytes moment other journal one two apart piece_now other_now completes,
+  pub orders_are_alike : EditsAlone theory.path_of theory.conduct → EndsExpired theory → OrdersAreAlike theory
+  orders_are_alike alone_edits ends before after number bytes moment other journal one two apart piece_now other_now completes = (
+    other_first alone_edits ends before after number bytes moment other journal one two apart piece_now other_now completes,
+    piece_first alone_edits ends before after number bytes moment other journal one two apart piece_now other_now completes,
   )

@@ -11,7 +11,7 @@ use Rattle.sv_outcome.specs.declared.outcome.Outcome.TheVariants.{Protected, Log
 use Rattle.sv_context_path.specs.Within.{path_within}
 use Rattle.sv_run.specs.Contexts.{Handling, Theory}
 use Rattle.sv_run.specs.Effect.{Deed, Effect, Handled}
-use Rattle.sv_run.specs.Events.{Accepts, Ended, ExpiresAll, Happening, Happens, Lost, Opened, Piece, Tick}
+use Rattle.sv_run.specs.Events.{Accepts, Edited, Ended, ExpiresAll, Happening, Happens, Lost, Opened, Piece, Tick}
 use Rattle.sv_run.specs.Items.{Responds, Takes, TakesItem}
 use Rattle.sv_run.specs.Lawful.{TellsOutcomes, entry_of, is_outcome, outcome_entry, outcome_of}
 use Rattle.sv_run.specs.Laws.{EntersWhereAllowed, RequestsEnterExactlyWhereAllowed, deed_entry}
@@ -149,6 +149,7 @@ module _ {Context Words : Type 0} (theory : Theory Context Words) where
     happens_tells before after (Ended number) effect happens = subst TellsOf (sym happens.0) record { told = refl; enters = tt }
     happens_tells before after (Lost number) effect happens = subst TellsOf (sym happens.0) record { told = refl; enters = tt }
     happens_tells before after (Tick moment) effect happens = subst TellsOf (sym happens.0) record { told = refl; enters = tt }
+    happens_tells before after (Edited path edit) effect happens = subst TellsOf (sym happens.brings) record { told = refl; enters = tt }
 
     expires_silently : (contexts after : List Context) (moment : ℕ) (told : List Entry) → ExpiresAll theory.conduct contexts moment told after
         → filter is_outcome told ≡ []

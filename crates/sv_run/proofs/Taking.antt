@@ -81,13 +81,13 @@ module _ {Context Words : Type 0} (theory : Theory Context Words) where
 
     -- ---- a message leaves no session that has expired at its moment
 
-    settled_there : (contexts : List Context) (place : ℕ) (context : Context) → slice_get contexts place ≡ Some context
+    pub settled_there : (contexts : List Context) (place : ℕ) (context : Context) → slice_get contexts place ≡ Some context
         → AreSettled theory moment contexts → HasNoneExpired theory moment context
     settled_there [] place context there settled = absurd (cc)
     settled_there (first ∷ others) zero context there settled = subst (HasNoneExpired theory moment) (cc) settled.0
     settled_there (first ∷ others) (suc place) context there settled = settled_there others place context there settled.1
 
-    settled_with : (contexts : List Context) (place : ℕ) (context : Context) → HasNoneExpired theory moment context
+    pub settled_with : (contexts : List Context) (place : ℕ) (context : Context) → HasNoneExpired theory moment context
         → AreSettled theory moment contexts → AreSettled theory moment (slice_set contexts place context)
     settled_with [] place context none settled = tt
     settled_with (first ∷ others) zero context none settled = (none, settled.1)

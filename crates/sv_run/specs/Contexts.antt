@@ -1,7 +1,10 @@
--- What the run of a container rests on: what one context does with a moment and with a request, and where random words come from.
-use Rattle.std.specs.Prelude.{ℕ, List, Option}
+-- What the run of a container rests on: what one context does with a moment, with a request and with an edit, and where random words come from.
+use Rattle.std.specs.Prelude.{ℕ, List, Option, Result}
 use Rattle.sv_journal.specs.declared.entry.Entry.{Entry}
 use Rattle.sv_outcome.specs.Outcome.{Findings}
+use Rattle.sv_policy.specs.Compiled.{Standing}
+use Rattle.sv_policy.specs.declared.edit.Edit.{Edit}
+use Rattle.sv_policy.specs.declared.edit_fault.EditFault.{EditFault}
 use Rattle.sv_session.specs.Expiry as expiry
 use Rattle.sv_session.specs.Store.{Store}
 use Rattle.sv_uri.specs.declared.path.Canon.{Canon}
@@ -26,6 +29,8 @@ pub record Handling (Context : Type 0) : Type 0 where
 -- what one context does. A context is one value, with those of its components and its sessions in it
 pub record Conduct (Context : Type 0) : Type 1 where
   pub sessions_of : Context → Store
+  -- its constraints as they stand
+  pub policy_of : Context → Standing
   -- what is found of a request, by which its outcome is decided
   pub found : Context → Request → Findings
   -- the caller whose name and password a request sends as a login does, if they fit one
@@ -34,7 +39,9 @@ pub record Conduct (Context : Type 0) : Type 1 where
   pub Handles : Handling Context → Type 0
   -- the sessions that have expired at the moment end, of which the entries tell
   pub Expires : Context → ℕ → List Entry → Context → Type 0
-  -- its components are moved by some calls, and nothing that it was deployed with changes
+  -- its constraints are edited, and that is the answer
+  pub Edits : Context → Edit → Result ℕ EditFault → Context → Type 0
+  -- its components are moved by some calls, and neither what it was deployed with nor its constraints change
   pub Moves : Context → Context → Type 0
 
 pub record Theory (Context Words : Type 0) : Type 1 where

@@ -1,7 +1,9 @@
 -- What an event brings. Effects are joined in their order.
-use Rattle.std.specs.Prelude.{ℕ, Bool, true, false, ◌||◌, List, [], ◌∷◌, ◌++◌}
+use Rattle.std.specs.Prelude.{ℕ, Bool, true, false, ◌||◌, List, [], ◌∷◌, ◌++◌, Option, None, Some, Result}
+use Rattle.std.specs.Option.{option_or}
 use Rattle.sv_journal.specs.Journal.{JournalState}
 use Rattle.sv_journal.specs.declared.entry.Entry.{Entry}
+use Rattle.sv_policy.specs.declared.edit_fault.EditFault.{EditFault}
 use Rattle.sv_run.specs.Contexts.{Handling}
 use Rattle.sv_run.specs.declared.reaction.Reaction.{Reaction}
 
@@ -10,12 +12,13 @@ pub data Deed (Context : Type 0) : Type 0 where
   Answered : Entry → Deed Context
   Handled : ℕ → Handling Context → Deed Context
 
--- the bytes for the connection and whether it closes, the entries of the journal, and what became of each message
+-- the bytes for the connection and whether it closes, the entries of the journal, what became of each message, and the answer to an edit
 pub record Effect (Context : Type 0) : Type 0 where
   pub sends : List ℕ
   pub closes : Bool
   pub journal : List Entry
   pub deeds : List (Deed Context)
+  pub edited : Option (Result ℕ EditFault)
 
 abbrev pub whole : List Entry → JournalState
 whole entries = record { entries = entries; whole = true }
@@ -27,10 +30,10 @@ noting entries journal = record journal { entries = journal.entries ++ entries }
 module _ {Context : Type 0} where
   -- what is seen of an effect
   abbrev pub shown : Effect Context → Reaction
-  shown effect = record { sends = effect.sends; closes = effect.closes; journal = whole effect.journal }
+  shown effect = record { sends = effect.sends; closes = effect.closes; journal = whole effect.journal; edited = effect.edited }
 
   abbrev pub nothing : Effect Context
-  nothing = record { sends = []; closes = false; journal = []; deeds = [] }
+  nothing = record { sends = []; closes = false; journal = []; deeds = []; edited = None }
 
   -- bytes alone
   abbrev pub sending : List ℕ → Effect Context
@@ -44,16 +47,20 @@ module _ {Context : Type 0} where
   abbrev pub closing : Effect Context
   closing = record nothing { closes = true }
 
+  -- the answer to an edit, alone
+  abbrev pub editing : Result ℕ EditFault → Effect Context
+  editing answer = record nothing { edited = Some answer }
+
   -- a message that the container answered itself
   abbrev pub answered : Entry → List ℕ → Bool → Effect Context
-  answered entry text closes = record { sends = text; closes = closes; journal = entry ∷ []; deeds = Answered entry ∷ [] }
+  answered entry text closes = record nothing { sends = text; closes = closes; journal = entry ∷ []; deeds = Answered entry ∷ [] }
 
   -- a message that the context at a place handled
   abbrev pub handled : ℕ → Handling Context → List ℕ → Bool → Effect Context
   handled place handling text closes =
-      record { sends = text; closes = closes; journal = handling.entries; deeds = Handled place handling ∷ [] }
+      record nothing { sends = text; closes = closes; journal = handling.entries; deeds = Handled place handling ∷ [] }
 
-  -- one behind another
+  -- one behind another; of answers to edits the first that is there
   abbrev pub joined : Effect Context → Effect Context → Effect Context
   joined first second =
       record {
@@ -61,6 +68,7 @@ module _ {Context : Type 0} where
         closes = first.closes || second.closes;
         journal = first.journal ++ second.journal;
         deeds = first.deeds ++ second.deeds;
+        edited = option_or first.edited second.edited;
       }
 
   abbrev pub joined_all : List (Effect Context) → Effect Context

@@ -1,8 +1,11 @@
--- One event of a container (RFC 9112, section 9; Jakarta Servlet 6.0, section 7.5).
-use Rattle.std.specs.Prelude.{◌≡◌, ℕ, min, max, true, false, List, [], ◌∷◌, ◌++◌, Option, None, Some, Result, Ok, Err, if◌then◌else◌, nat_le}
+-- One event of a container (RFC 9112, section 9; Jakarta Servlet 6.0, sections 7.5 and 13.8).
+use Rattle.std.specs.Prelude.{◌≡◌, ◌⊎◌, ℕ, min, max, true, false, List, [], ◌∷◌, ◌++◌, Option, None, Some, Result, Ok, Err, if◌then◌else◌, nat_le}
 use Rattle.sv_journal.specs.declared.entry.Entry.{Entry}
+use Rattle.sv_policy.specs.declared.edit.Edit.{Edit}
+use Rattle.sv_policy.specs.declared.edit_fault.EditFault.{EditFault}
 use Rattle.sv_run.specs.Connections.{Connections, forgotten, opened}
 use Rattle.sv_run.specs.Contexts.{Conduct, Theory}
+use Rattle.sv_run.specs.Editing.{EditsContext}
 use Rattle.sv_run.specs.Effect.{Effect, closing, joined, nothing, telling}
 use Rattle.sv_run.specs.Feeding.{Feeds}
 use Rattle.sv_run.specs.Items.{Takes}
@@ -13,13 +16,14 @@ use Rattle.sv_run.specs.declared.step_fault.StepFault.TheVariants.{Stopped, BadC
 use Rattle.sv_wire.specs.declared.item.Item.{Item}
 use Rattle.sv_wire.specs.Inbox.{Held}
 
--- connections have numbers, moments are in seconds since 1970
+-- connections have numbers, moments are in seconds since 1970, and a context that is edited has a path
 pub data Happening : Type 0 where
   Opened : ℕ → Happening
   Piece : ℕ → List ℕ → ℕ → Happening
   Ended : ℕ → Happening
   Lost : ℕ → Happening
   Tick : ℕ → Happening
+  Edited : List ℕ → Edit → Happening
 
 -- the connection of an event
 abbrev pub connection_of : Happening → Option ℕ
@@ -28,6 +32,7 @@ connection_of (Piece number bytes moment) = Some number
 connection_of (Ended number) = Some number
 connection_of (Lost number) = Some number
 connection_of (Tick moment) = None
+connection_of (Edited path edit) = None
 
 abbrev pub raised : ℕ → ℕ → ℕ
 raised before moment = min LAST_MOMENT (max before moment)
@@ -39,6 +44,7 @@ moment_after before (Tick moment) = raised before moment
 moment_after before (Opened number) = before
 moment_after before (Ended number) = before
 moment_after before (Lost number) = before
+moment_after before (Edited path edit) = before
 
 -- what refuses an opening
 abbrev pub opening_fault : Option Held → ℕ → Option StepFault
@@ -57,6 +63,7 @@ fault_of connections (Piece number bytes moment) = unknown_fault (connections.he
 fault_of connections (Ended number) = unknown_fault (connections.held number)
 fault_of connections (Lost number) = unknown_fault (connections.held number)
 fault_of connections (Tick moment) = None
+fault_of connections (Edited path edit) = None
 
 module _ {Context : Type 0} (conduct : Conduct Context) where
   -- the expired sessions end, context by context
@@ -72,6 +79,17 @@ module _ {Context : Type 0} (conduct : Conduct Context) where
   MovesAll [] after = after ≡ []
   MovesAll (context ∷ contexts) after =
       (moved : Context) × (others : List Context) × conduct.Moves context moved × MovesAll contexts others × (after ≡ moved ∷ others)
+
+  -- a context is moved by some calls, and then perhaps edited
+  abbrev pub Alters : Context → Context → Type 0
+  Alters before after =
+      conduct.Moves before after
+      ⊎ ((moved : Context) × (edit : Edit) × (answer : Result ℕ EditFault) × conduct.Moves before moved × conduct.Edits moved edit answer after)
+
+  abbrev pub AltersAll : List Context → List Context → Type 0
+  AltersAll [] after = after ≡ []
+  AltersAll (context ∷ contexts) after =
+      (altered : Context) × (others : List Context) × Alters context altered × AltersAll contexts others × (after ≡ altered ∷ others)
 
 module _ {Context Words : Type 0} (theory : Theory Context Words) where
   -- a piece of a connection: the items that it completes are handled, and the rest is held
@@ -92,6 +110,7 @@ module _ {Context Words : Type 0} (theory : Theory Context Words) where
   Happens before (Ended number) effect after = (effect ≡ closing) × (after ≡ record before { connections = forgotten number before.connections })
   Happens before (Lost number) effect after = (effect ≡ nothing) × (after ≡ record before { connections = forgotten number before.connections })
   Happens before (Tick moment) effect after = (effect ≡ nothing) × (after ≡ before)
+  Happens before (Edited path edit) effect after = EditsContext theory before path edit effect after
 
   -- an event that nothing refuses: the moment is raised, the expired sessions end, and then it happens
   pub record Accepts (before : State Context Words) (happening : Happening) (effect : Effect Context) (after : State Context Words) : Type 0 where

@@ -1,5 +1,5 @@
 -- What the laws of runs want of a context.
-use Rattle.std.specs.Prelude.{◌≡◌, ◌⊎◌, ℕ, Bool, true, false, List, [], ◌∷◌, filter, Option, Some}
+use Rattle.std.specs.Prelude.{◌≡◌, ◌⊎◌, ℕ, Bool, true, false, List, [], ◌∷◌, filter, Option, Some, Result}
 use Rattle.std.specs.List.{AllByRecursion}
 use Rattle.sv_context_path.specs.Within.{path_within}
 use Rattle.sv_journal.specs.declared.entry.Entry.{Entry}
@@ -8,6 +8,9 @@ use Rattle.sv_journal.specs.declared.refusal_cause.RefusalCause.TheVariants as c
 use Rattle.sv_outcome.specs.Outcome.{outcome}
 use Rattle.sv_outcome.specs.declared.outcome.Outcome.{Outcome}
 use Rattle.sv_outcome.specs.declared.outcome.Outcome.TheVariants as outcomes
+use Rattle.sv_policy.specs.Edits.{GivesOutcome, edit_outcome}
+use Rattle.sv_policy.specs.declared.edit.Edit.{Edit}
+use Rattle.sv_policy.specs.declared.edit_fault.EditFault.{EditFault}
 use Rattle.sv_run.specs.Contexts.{Conduct, Handling, HasNoneExpired, Theory}
 use Rattle.sv_session.specs.Calls.{HoldsCaller}
 
@@ -39,6 +42,12 @@ pub record IsMotion {Context : Type 0} (conduct : Conduct Context) : Type 0 wher
 -- what is moved by calls keeps its context path
 abbrev pub KeepsPath : {Context : Type 0} → (Context → List ℕ) → Conduct Context → Type 0
 KeepsPath {Context} path_of conduct = (before after : Context) → conduct.Moves before after → path_of after ≡ path_of before
+
+-- an edit keeps a context's path and its sessions
+pub record EditsAlone {Context : Type 0} (path_of : Context → List ℕ) (conduct : Conduct Context) : Type 0 where
+  pub path : (before after : Context) (edit : Edit) (answer : Result ℕ EditFault) → conduct.Edits before edit answer after → path_of after ≡ path_of before
+  pub sessions : (before after : Context) (edit : Edit) (answer : Result ℕ EditFault)
+      → conduct.Edits before edit answer after → conduct.sessions_of after ≡ conduct.sessions_of before
 
 module _ {Context Words : Type 0} (theory : Theory Context Words) where
   abbrev pub AreSettled : ℕ → List Context → Type 0
@@ -95,3 +104,17 @@ module _ {Context Words : Type 0} (theory : Theory Context Words) where
         → Holds number caller handling.context ⊎ LogsIn number caller handling
     pub not_by_expiry : (context after : Context) (moment : ℕ) (told : List Entry) (number caller : ℕ)
         → theory.conduct.Expires context moment told after → Holds number caller after → Holds number caller context
+
+  -- the same constraints stand as before, at the same path
+  pub record KeepsConstraints (before after : Context) : Type 0 where
+    pub path : theory.path_of after ≡ theory.path_of before
+    pub policy : theory.conduct.policy_of after ≡ theory.conduct.policy_of before
+
+  -- an edit changes the constraints as they stand by its outcome, and nothing else changes them
+  pub record ChangesConstraintsByEdits : Type 0 where
+    pub edits : (before after : Context) (edit : Edit) (answer : Result ℕ EditFault)
+        → theory.conduct.Edits before edit answer after
+        → GivesOutcome (theory.conduct.policy_of before) (theory.conduct.policy_of after) answer (edit_outcome (theory.conduct.policy_of before) edit)
+    pub by_request : (handling : Handling Context) → theory.conduct.Handles handling → KeepsConstraints handling.context handling.after
+    pub by_expiry : (context after : Context) (moment : ℕ) (told : List Entry)
+        → theory.conduct.Expires context moment told after → KeepsConstraints context after

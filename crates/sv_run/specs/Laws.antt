@@ -1,5 +1,5 @@
 -- The laws of runs.
-use Rattle.std.specs.Prelude.{◌≡◌, ◌≢◌, ◌↔◌, ℕ, true, false, List, [], ◌∷◌, ◌++◌, filter, map, Option, Some, Ok, Err, slice_get}
+use Rattle.std.specs.Prelude.{◌≡◌, ◌≢◌, ◌↔◌, ℕ, true, false, List, [], ◌∷◌, ◌++◌, bytes_eq, filter, flat_map, map, Option, Some, Ok, Err, if◌then◌else◌, slice_get}
 use Rattle.std.specs.List.{AllByRecursion}
 use Rattle.sv_constraints.specs.declared.owned_decision.OwnedDecision.TheVariants as decisions
 use Rattle.sv_constraints.specs.declared.owned_decision.OwnedWhy.{OwnedWhy}
@@ -7,9 +7,13 @@ use Rattle.sv_context_path.specs.Within.{path_within}
 use Rattle.sv_journal.specs.declared.entry.Entry.{Entry}
 use Rattle.sv_journal.specs.declared.entry.Entry.TheVariants as entries
 use Rattle.sv_outcome.specs.Laws.{IsOrdinary}
+use Rattle.sv_policy.specs.Compiled.{Standing}
+use Rattle.sv_policy.specs.Edits.{edited_all}
+use Rattle.sv_policy.specs.declared.edit.Edit.{Edit}
 use Rattle.sv_run.specs.Contexts.{Handling, Theory}
+use Rattle.sv_run.specs.Editing.{place_with}
 use Rattle.sv_run.specs.Effect.{Answered, Deed, Effect, Handled, joined, joined_all}
-use Rattle.sv_run.specs.Events.{Accepts, Happening, Piece, Steps, connection_of, moment_after}
+use Rattle.sv_run.specs.Events.{Accepts, Edited, Ended, Happening, Lost, Opened, Piece, Steps, Tick, connection_of, moment_after}
 use Rattle.sv_run.specs.Feeding.{Feeds}
 use Rattle.sv_run.specs.Lawful.{Holds, LogsIn, entry_of, is_outcome}
 use Rattle.sv_run.specs.Runs.{Answer, Run, deeds_of, journal_of}
@@ -53,6 +57,7 @@ pub record AreAlike {Context : Type 0} (one other : Effect Context) : Type 0 whe
   pub sends : one.sends ≡ other.sends
   pub closes : one.closes ≡ other.closes
   pub deeds : one.deeds ≡ other.deeds
+  pub edited : one.edited ≡ other.edited
 
 -- the piece completes no item
 pub record CompletesNothing {Context Words : Type 0} (state : State Context Words) (number : ℕ) (bytes : List ℕ) : Type 0 where
@@ -60,6 +65,18 @@ pub record CompletesNothing {Context Words : Type 0} (state : State Context Word
   pub left : Held
   pub holds : state.connections.held number ≡ Some held
   pub feeds : Feeds held bytes [] left
+
+-- the edits of the context with the path among events, in their order
+abbrev pub edit_for : List ℕ → Happening → List Edit
+edit_for path (Edited other edit) = if bytes_eq path other then edit ∷ [] else []
+edit_for path (Opened number) = []
+edit_for path (Piece number bytes moment) = []
+edit_for path (Ended number) = []
+edit_for path (Lost number) = []
+edit_for path (Tick moment) = []
+
+abbrev pub edits_of : List ℕ → List Happening → List Edit
+edits_of path happenings = flat_map (edit_for path) happenings
 
 module _ {Context Words : Type 0} (theory : Theory Context Words) where
   -- two pieces at one moment
@@ -199,3 +216,16 @@ module _ {Context Words : Type 0} (theory : Theory Context Words) where
       → Run theory before happenings answers after → after.stopped ≡ false
       → ¬ (HoldsAt place number caller before.world.contexts) → HoldsAt place number caller after.world.contexts
       → LoggedInBefore place number caller (deeds_of answers)
+
+  -- the constraints of the context at a place, as they stand
+  abbrev pub policy_at : List Context → ℕ → Option Standing
+  policy_at contexts place = slice_get (map theory.conduct.policy_of contexts) place
+
+  -- until memory is refused, nothing but edits changes the constraints: those of a context stand as its own edits have left them, one after another,
+  -- whatever was edited in others
+  abbrev pub ConstraintsChangeByEditsAlone : Type 0
+  ConstraintsChangeByEditsAlone =
+      (before after : State Context Words) (happenings : List Happening) (answers : List (Answer Context)) (path : List ℕ) (place : ℕ) (standing : Standing)
+      → Run theory before happenings answers after → after.stopped ≡ false
+      → place_with theory before.world.contexts path ≡ Some place → policy_at before.world.contexts place ≡ Some standing
+      → policy_at after.world.contexts place ≡ Some (edited_all standing (edits_of path happenings))

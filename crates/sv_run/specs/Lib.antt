@@ -1,5 +1,6 @@
 pub mod Connections
 pub mod Contexts
+pub mod Editing
 pub mod Effect
 pub mod Events
 pub mod Feeding

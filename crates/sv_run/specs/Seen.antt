@@ -1,7 +1,7 @@
 -- What the events of the code say.
 use Rattle.sv_run.specs.Events as events
 use Rattle.sv_run.specs.declared.happening.Happening.{Happening}
-use Rattle.sv_run.specs.declared.happening.Happening.TheVariants.{Opened, Piece, Ended, Lost, Tick}
+use Rattle.sv_run.specs.declared.happening.Happening.TheVariants.{Opened, Piece, Ended, Lost, Tick, Edit}
 
 abbrev pub happening_of : Happening → events.Happening
 happening_of (Opened connection) = events.Opened connection
@@ -9,3 +9,4 @@ happening_of (Piece connection bytes moment) = events.Piece connection bytes.now
 happening_of (Ended connection) = events.Ended connection
 happening_of (Lost connection) = events.Lost connection
 happening_of (Tick moment) = events.Tick moment
+happening_of (Edit context edit) = events.Edited context.now edit.now

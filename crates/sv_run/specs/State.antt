@@ -23,6 +23,10 @@ module _ {Context Words : Type 0} where
   abbrev pub holding : ℕ → Held → State Context Words → State Context Words
   holding number held state = record state { connections = with_held number held state.connections }
 
+  -- with the contexts as they are then; nothing else changes
+  abbrev pub with_contexts : List Context → State Context Words → State Context Words
+  with_contexts contexts state = record state { world = record { contexts = contexts; words = state.world.words } }
+
   -- at a moment, with the contexts as they are then
   abbrev pub settled_at : ℕ → List Context → State Context Words → State Context Words
   settled_at moment contexts state = record state { moment = moment; world = record { contexts = contexts; words = state.world.words } }

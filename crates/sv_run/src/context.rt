@@ -1,16 +1,18 @@
 //! What a container wants of a context, and of a source of random words.
 
-ghost use Rattle.std.specs.Prelude.{◌≡◌, ℕ, true, List, IfOk, IsTrue};
+ghost use Rattle.std.specs.Prelude.{◌≡◌, ℕ, true, List, Err, IfOk, IsTrue};
 ghost use Rattle.http.specs.StatusCode.{IsStatusCode};
 ghost use Rattle.sv_journal.specs.declared.entry.Entry.{Entry};
 ghost use Rattle.sv_mapping.specs.Pattern.{is_at_or_below};
+ghost use Rattle.sv_policy.specs.declared.edit_fault.EditFault.TheVariants as fault;
 ghost use Rattle.sv_run.specs.Contexts.{Conduct, request_of};
 ghost use Rattle.sv_run.specs.Effect.{noting};
-ghost use Rattle.sv_run.specs.Lawful.{IsMotion, KeepsPath};
+ghost use Rattle.sv_run.specs.Lawful.{EditsAlone, IsMotion, KeepsPath};
 
 use std::alloc::Global;
 use sv_context_path::HasContextPath;
 use sv_journal::Journal;
+use sv_policy::{Edit, EditFault};
 use sv_text::NoMemory;
 use sv_uri::path::Canon;
 use sv_wire::{Message, Response};
@@ -51,9 +53,20 @@ pub trait Context: HasContextPath + Sized {
             → (told : List Entry) × conduct.Expires self.old moment told self.new × (journal.new ≡ noting told journal.old) }
         ensures moves { conduct.Moves self.old self.new };
 
+    /// Edits the constraints: the number of the one that is appended or withdrawn. The next request is decided by them as they stand then. No component
+    /// is called, and nothing is told.
+    ///
+    /// # Errors
+    /// The first [`EditFault`] that stands: the context is as it was before.
+    fn edit(&mut self, alloc: Global, edit: &Edit) -> Result<u64, EditFault>
+        ensures edits { conduct.Edits self.old edit.now result self.new }
+        ensures refused { result ≡ Err fault.NoMemory → self.new ≡ self.old };
+
     ghost is_motion: { IsMotion conduct };
 
     ghost keeps_path: { KeepsPath Self.path_of conduct };
+
+    ghost edits_alone: { EditsAlone Self.path_of conduct };
 }
 
 /// A source of random words.

@@ -1,5 +1,7 @@
 //! The events of a container.
 
+use sv_policy::Edit;
+
 /// An event of a container. A connection has a number, and a moment is in seconds since 1970. Of moments the greatest so far counts, at most
 /// [`LAST_MOMENT`](crate::LAST_MOMENT).
 #[derive(Clone, Copy)]
@@ -26,5 +28,11 @@ pub enum Happening<'a> {
     /// Time went on.
     Tick {
         moment: u64,
+    },
+    /// The constraints of a context are edited.
+    Edit {
+        /// The path of the context, `""` for the root.
+        context: &'a str,
+        edit: &'a Edit,
     },
 }

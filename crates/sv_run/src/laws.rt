@@ -2,8 +2,8 @@
 
 ghost use Rattle.std.specs.Prelude.{◌≡◌};
 ghost use Rattle.sv_run.specs.Contexts.{theory_of};
-ghost use Rattle.sv_run.specs.Lawful.{EndsExpired, GivesCallersByLogin, TellsOutcomes};
-ghost use Rattle.sv_run.specs.Laws.{CallersLoggedIn, EndedReadingsStay, FeedingsMayBeCut, OrdersAreAlike, PiecesMayBeCut, PiecesMayComeInParts, RefusedEventsChangeNothing, RequestsEnterExactlyWhereAllowed, RunsJoin, RunsSplit};
+ghost use Rattle.sv_run.specs.Lawful.{ChangesConstraintsByEdits, EndsExpired, GivesCallersByLogin, TellsOutcomes};
+ghost use Rattle.sv_run.specs.Laws.{CallersLoggedIn, ConstraintsChangeByEditsAlone, EndedReadingsStay, FeedingsMayBeCut, OrdersAreAlike, PiecesMayBeCut, PiecesMayComeInParts, RefusedEventsChangeNothing, RequestsEnterExactlyWhereAllowed, RunsJoin, RunsSplit};
 
 use crate::context::{Context, Words};
 use crate::limits::{LAST_MOMENT, MAX_CONNECTIONS};
@@ -69,4 +69,10 @@ pub fn runs_join<C: Context, W: Words>()
 /// A run over two lists of events is one over the first, and then one over the second.
 pub fn runs_split<C: Context, W: Words>()
     ensures { RunsSplit (theory_of C.path_of C.conduct W.draws) }
+{}
+
+/// Where edits change the constraints and nothing else does: over every list of events, until memory is refused, those of a context stand as its own
+/// edits have left them, one after another, whatever was edited in others.
+pub fn constraints_change_by_edits_alone<C: Context, W: Words>()
+    ensures { ChangesConstraintsByEdits (theory_of C.path_of C.conduct W.draws) → ConstraintsChangeByEditsAlone (theory_of C.path_of C.conduct W.draws) }
 {}

@@ -3,4 +3,4 @@ use Rattle.sv_run.proofs.Callers as lemmas
 use Rattle.sv_run.proofs.laws.callers_logged_in.Goals as goal
 
 pub returns : goal.returns
-returns g c = lemmas.callers_logged_in (theory_of g.C.HasContextPath.path_of g.C.Context.conduct g.W.Words.draws)
+returns g c = lemmas.callers_logged_in (theory_of g.C.HasContextPath.path_of g.C.Context.conduct g.W.Words.draws) g.met.C.Context.edits_alone
