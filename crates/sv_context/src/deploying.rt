@@ -1,6 +1,6 @@
 //! How a context is deployed and undeployed.
 
-ghost use Rattle.std.specs.Prelude.{◌≡◌, Err};
+ghost use Rattle.std.specs.Prelude.{◌≡◌, Err, IfOk};
 ghost use Rattle.sv_descriptor.specs.WellFormed.{IsWellFormed};
 ghost use Rattle.sv_journal.specs.Journal.{JournalState};
 ghost use Rattle.sv_site.specs.ServletMappings.{mappings_of};
@@ -17,6 +17,7 @@ use sv_lifecycle::{Live, StartCode, StartFault, fits};
 use sv_policy::Policy;
 use sv_session::Sessions;
 use sv_site::{ServletPatterns, Site};
+use sv_text::NoMemory;
 
 impl<S: Servlet, F: Filter, L: Listener> Context<S, F, L> {
     /// Deploys a context: its components are started, and it has no session yet (Jakarta Servlet 6.0, sections 2.3.1, 6.2.1 and 11.3.3).
@@ -30,11 +31,9 @@ impl<S: Servlet, F: Filter, L: Listener> Context<S, F, L> {
     ) -> Result<Context<S, F, L>, DeployFault<S, F, L>>
         ensures { Deploys S.servlet_step F.filter_step L.listener_step deployment journal.old result journal.new }
     {
-        let app = deployment.descriptor.web_app();
-        let policy = Policy::compile_copies(alloc, app.constraints.as_slice(), &app.rules);
-        match (ServletPatterns::of(alloc, &deployment.descriptor), policy) {
-            (Ok(patterns), Ok(policy)) => start(alloc, deployment, patterns, policy, journal),
-            _ => Err(without_tables(deployment)),
+        match tables_of(alloc, &deployment.descriptor) {
+            Ok((patterns, policy)) => start(alloc, deployment, patterns, policy, journal),
+            Err(_) => Err(without_tables(deployment)),
         }
     }
 
@@ -60,6 +59,17 @@ impl<S: Servlet, F: Filter, L: Listener> Context<S, F, L> {
             parts,
         }
     }
+}
+
+// The patterns of the servlets and the policy of the constraints, compiled.
+fn tables_of(alloc: Global, descriptor: &Descriptor) -> Result<(ServletPatterns, Policy), NoMemory>
+    ensures tables { IfOk result (λ tables. (tables.0 ≡ mappings_of descriptor.now) × (tables.1 ≡ declared_policy descriptor.now)) }
+    ensures well_formed { IsWellFormed descriptor.now }
+{
+    let app = descriptor.web_app();
+    let patterns = ServletPatterns::of(alloc, descriptor)?;
+    let policy = Policy::compile_copies(alloc, app.constraints.as_slice(), &app.rules)?;
+    Ok((patterns, policy))
 }
 
 // Starts the components of a deployment whose patterns and constraints are compiled.
