@@ -19,14 +19,14 @@ use Rattle.sv_lifecycle.specs.Standing.{LiveState}
 use Rattle.sv_lifecycle.specs.declared.start_fault.StartFault.{StartFault}
 use Rattle.sv_login.specs.Post.{user_sent}
 use Rattle.sv_run.specs.Effect.{whole}
-use Rattle.sv_run.specs.Lawful.{EndsExpired, GivesCallersByLogin, TellsOutcomes, is_outcome}
+use Rattle.sv_run.specs.Lawful.{ChangesConstraintsByEdits, EndsExpired, GivesCallersByLogin, TellsOutcomes, is_outcome}
 use Rattle.sv_session.specs.Calls.{HoldsCaller, left_by_expiry}
 use Rattle.sv_session.specs.Expiry.{HasNoneExpired}
 use Rattle.sv_session.specs.Laws.{CallersAreEntered, CallsLeaveOrder, EmptyIsOrderly, MovesLeaveOrder}
 use Rattle.sv_session.specs.Runs.{Expire, Expires}
 use Rattle.sv_session.specs.Store.{IsOrderly, Store}
 use Rattle.sv_session.specs.declared.ended_session.EndedSession.{EndedSession}
-use Rattle.sv_site.specs.Site.{site_of}
+use Rattle.sv_site.specs.Site.{Content, site_of}
 use Rattle.sv_tree.specs.Laws.{AnswersMoveSessions, MovedGiveNoCaller, MovedLeaveNoneExpired, MovesJoin, StepsMoveSessions}
 use Rattle.sv_tree.specs.Moving.{IsMoved}
 use Rattle.sv_tree.specs.Site.{Site}
@@ -139,4 +139,17 @@ module _ {S F L : Type 0} (ss : S → Call → S → Type 0) (fs : F → Call �
           ];
       not_by_expiry = λ context after moment told number caller expires holds.
           held_through entered number caller moment expires.ended context.store after.store expires.ends holds;
+    }
+
+    pub changes_constraints : ChangesConstraintsByEdits (theory ss fs ls draws)
+    changes_constraints = record {
+      edits = λ before after edit answer edits. edits.outcome;
+      by_request = λ handling handles. record {
+          path = ap (λ (content : Content). content.context_path) handles.is_answered.stays.content;
+          policy = handles.is_answered.stays.policy;
+        };
+      by_expiry = λ context after moment told expires. record {
+          path = ap (λ (content : Content). content.context_path) expires.stays.content;
+          policy = expires.stays.policy;
+        };
     }

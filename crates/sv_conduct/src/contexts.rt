@@ -2,7 +2,7 @@
 
 ghost use Rattle.sv_conduct.specs.Order.{SessionsStayInOrder};
 ghost use Rattle.sv_context.specs.Theory.{theory};
-ghost use Rattle.sv_run.specs.Lawful.{EndsExpired, GivesCallersByLogin, TellsOutcomes};
+ghost use Rattle.sv_run.specs.Lawful.{ChangesConstraintsByEdits, EndsExpired, GivesCallersByLogin, TellsOutcomes};
 
 use sv_admission::no_admission_leaves_an_expired_session;
 use sv_component::{Filter, Listener, Servlet, runs_are_journalled};
@@ -48,3 +48,8 @@ pub fn sessions_of_contexts_stay_in_order<S: Servlet, F: Filter, L: Listener>()
     components_keep_the_sessions();
     answers_move_the_sessions();
 }
+
+/// An edit changes the constraints of a context as they stand by its outcome, and neither a request nor an expiry changes them.
+pub fn edits_alone_change_the_constraints<S: Servlet, F: Filter, L: Listener, W: Words>()
+    ensures { ChangesConstraintsByEdits (theory S.servlet_step F.filter_step L.listener_step W.draws) }
+{}

@@ -6,9 +6,9 @@ mod runs;
 
 pub use contexts::{
     callers_come_by_login, contexts_end_expired_sessions, contexts_tell_outcomes,
-    sessions_of_contexts_stay_in_order,
+    edits_alone_change_the_constraints, sessions_of_contexts_stay_in_order,
 };
 pub use runs::{
-    callers_logged_in, callers_logged_in_since_the_start, orders_are_alike, pieces_may_be_cut,
+    callers_logged_in, callers_logged_in_since_the_start, constraints_change_by_edits_alone, orders_are_alike, pieces_may_be_cut,
     pieces_may_come_in_parts, requests_enter_exactly_where_allowed,
 };

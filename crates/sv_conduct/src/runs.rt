@@ -2,10 +2,11 @@
 
 ghost use Rattle.sv_conduct.specs.Start.{CallersLoggedInSinceTheStart};
 ghost use Rattle.sv_context.specs.Theory.{theory};
-ghost use Rattle.sv_run.specs.Laws.{CallersLoggedIn, OrdersAreAlike, PiecesMayBeCut, PiecesMayComeInParts, RequestsEnterExactlyWhereAllowed};
+ghost use Rattle.sv_run.specs.Laws.{CallersLoggedIn, ConstraintsChangeByEditsAlone, OrdersAreAlike, PiecesMayBeCut, PiecesMayComeInParts, RequestsEnterExactlyWhereAllowed};
 
 use crate::contexts::{
     callers_come_by_login, contexts_end_expired_sessions, contexts_tell_outcomes,
+    edits_alone_change_the_constraints,
 };
 use sv_component::{Filter, Listener, Servlet};
 use sv_context::Context;
@@ -59,4 +60,13 @@ pub fn orders_are_alike<S: Servlet, F: Filter, L: Listener, W: Words>()
 {
     contexts_end_expired_sessions::<S, F, L, W>();
     sv_run::orders_are_alike::<Context<S, F, L>, W>();
+}
+
+/// Over every list of events, until memory is refused, the constraints of a context stand as its own edits have left them, one after another,
+/// whatever was edited in others (Jakarta Servlet 6.0, section 13.8).
+pub fn constraints_change_by_edits_alone<S: Servlet, F: Filter, L: Listener, W: Words>()
+    ensures { ConstraintsChangeByEditsAlone (theory S.servlet_step F.filter_step L.listener_step W.draws) }
+{
+    edits_alone_change_the_constraints::<S, F, L, W>();
+    sv_run::constraints_change_by_edits_alone::<Context<S, F, L>, W>();
 }

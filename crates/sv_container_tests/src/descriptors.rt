@@ -9,6 +9,7 @@ pub fn descriptor_text(name: &str) -> &'static str {
         "two" => TWO,
         "bad" => BAD,
         "who" => WHO,
+        "edited" => EDITED,
         _ => "",
     }
 }
@@ -23,4 +24,11 @@ servlet-name = "who"
 url-pattern = ["/who"]
 [[listener]]
 listener-class = "Log"
+"#;
+
+/// A context without components and without constraints, which denies uncovered methods.
+const EDITED: &str = r#"
+deny-uncovered-http-methods = true
+[[security-role]]
+role-name = "a"
 "#;

@@ -1,5 +1,6 @@
 pub mod Conducts
 pub mod Deployments
+pub mod Editings
 pub mod Expiries
 pub mod Handlings
 pub mod Journals

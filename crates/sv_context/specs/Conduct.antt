@@ -9,6 +9,7 @@ use Rattle.sv_journal.specs.Journal.{JournalState, broken, new_journal}
 use Rattle.sv_login.specs.Post.{user_sent}
 use Rattle.sv_run.specs.Contexts.{Conduct, Request}
 use Rattle.sv_run.specs.Effect as effect
+use Rattle.sv_context.specs.Editing as editing
 use Rattle.sv_context.specs.Expiry as expiry
 use Rattle.sv_context.specs.Handled as handled
 use Rattle.sv_context.specs.State.{ContextState, IsSameDeployment, world_of}
@@ -32,10 +33,12 @@ module _ {S F L : Type 0} (servlet_step : S → Call → S → Type 0) (filter_s
   abbrev pub conduct : Conduct (ContextState S F L)
   conduct = record {
     sessions_of = λ context. context.store;
+    policy_of = λ context. context.policy;
     found = λ context request. found_of context.content context.policy context.users (asked_of context request) context.store;
     caller_sent = λ context request. user_sent context.users (post_in (asked_of context request));
     Handles = λ handling. handled.Handles servlet_step filter_step listener_step
         (asked_of handling.context handling.request) handling.context new_journal (Some handling.response) handling.after (effect.whole handling.entries);
     Expires = λ context moment told after. expiry.Expires servlet_step filter_step listener_step moment context new_journal after (effect.whole told);
+    Edits = λ before edit answer after. editing.Edits before edit answer after;
     Moves = IsMoved;
   }

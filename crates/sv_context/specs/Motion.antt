@@ -1,9 +1,9 @@
--- No calls move nothing, calls behind calls are calls, and no call moves a context to another path.
+-- No calls move nothing, calls behind calls are calls, no call moves a context to another path, and an edit changes the constraints alone.
 use Rattle.std.proofs.Common.{[], ◌++◌, refl, ap, ◌∙◌}
 use Rattle.sv_component.proofs.Running.{runs_join}
 use Rattle.sv_component.specs.Call.{Call}
 use Rattle.sv_component.specs.Runs.{Runs}
-use Rattle.sv_run.specs.Lawful.{IsMotion, KeepsPath}
+use Rattle.sv_run.specs.Lawful.{EditsAlone, IsMotion, KeepsPath}
 use Rattle.sv_site.specs.Site.{Content}
 use Rattle.sv_context.specs.Conduct.{IsMoved, conduct, unnoted}
 use Rattle.sv_context.specs.State.{ContextState, IsSameDeployment, world_of}
@@ -40,3 +40,9 @@ module _ {S F L : Type 0} (ss : S → Call → S → Type 0) (fs : F → Call �
 
   pub keeps_path_by : KeepsPath (λ (context : ContextState S F L). context.content.context_path) (conduct ss fs ls)
   keeps_path_by before after moves = ap (λ (content : Content). content.context_path) moves.stays.content
+
+  pub edits_alone_by : EditsAlone (λ (context : ContextState S F L). context.content.context_path) (conduct ss fs ls)
+  edits_alone_by = record {
+    path = λ before after edit answer edits. ap (λ (context : ContextState S F L). context.content.context_path) edits.stays;
+    sessions = λ before after edit answer edits. ap (λ (context : ContextState S F L). context.store) edits.stays;
+  }

@@ -5,6 +5,7 @@ use std::alloc::Global;
 use sv_component::{Filter, Listener, Servlet};
 use sv_context_path::HasContextPath;
 use sv_journal::Journal;
+use sv_policy::{Edit, EditFault};
 use sv_text::NoMemory;
 use sv_uri::path::Canon;
 use sv_wire::{Message, Response};
@@ -19,7 +20,7 @@ impl<S, F, L> HasContextPath for Context<S, F, L> {
 
 impl<S: Servlet, F: Filter, L: Listener> sv_run::Context for Context<S, F, L> {
     ghost use Rattle.sv_context.specs.Conduct.{conduct as conduct_by};
-    ghost use Rattle.sv_context.specs.Motion.{keeps_path_by, motion_by};
+    ghost use Rattle.sv_context.specs.Motion.{edits_alone_by, keeps_path_by, motion_by};
 
     ghost conduct = { conduct_by S.servlet_step F.filter_step L.listener_step };
 
@@ -39,7 +40,13 @@ impl<S: Servlet, F: Filter, L: Listener> sv_run::Context for Context<S, F, L> {
         self.expire(alloc, moment, journal);
     }
 
+    fn edit(&mut self, alloc: Global, edit: &Edit) -> Result<u64, EditFault> {
+        self.edit(alloc, edit)
+    }
+
     ghost is_motion = { motion_by S.servlet_step F.filter_step L.listener_step };
 
     ghost keeps_path = { keeps_path_by S.servlet_step F.filter_step L.listener_step };
+
+    ghost edits_alone = { edits_alone_by S.servlet_step F.filter_step L.listener_step };
 }
