@@ -1,21 +1,28 @@
--- Contexts that are moved by calls.
-use Rattle.std.proofs.Common.{◌≡◌, List, [], ◌∷◌, length, map, ap, ◌∙◌, suc}
+-- Contexts that are moved by calls or edited.
+use Rattle.std.proofs.Common.{◌≡◌, List, [], ◌∷◌, length, map, ap, ◌∙◌, suc, inl, inr}
 use Rattle.sv_component.specs.Call.{Call}
 use Rattle.sv_context.specs.Conduct.{conduct}
 use Rattle.sv_context.specs.State.{ContextState}
-use Rattle.sv_run.specs.Events.{MovesAll}
+use Rattle.sv_run.specs.Events.{Alters, AltersAll}
 use Rattle.sv_site.specs.Site.{Content}
 
 module _ {S F L : Type 0} (servlet_step : S → Call → S → Type 0) (filter_step : F → Call → F → Type 0) (listener_step : L → Call → L → Type 0) where
-  -- none comes or goes, and each keeps its path
-  pub paths_kept : (before after : List (ContextState S F L)) → MovesAll (conduct servlet_step filter_step listener_step) before after
-      → map (λ context. context.content.context_path) after ≡ map (λ context. context.content.context_path) before
-  paths_kept [] after moves = ap (map (λ context. context.content.context_path)) moves
-  paths_kept (context ∷ contexts) after moves =
-      ap (map (λ context. context.content.context_path)) moves.4
-      ∙ (λ i. ap (λ (content : Content). content.context_path) moves.2.stays.content i ∷ paths_kept contexts moves.1 moves.3 i)
+  path_kept : (before after : ContextState S F L) → Alters (conduct servlet_step filter_step listener_step) before after
+      → after.content.context_path ≡ before.content.context_path
+  path_kept before after (inl moves) = ap (λ (content : Content). content.context_path) moves.stays.content
+  path_kept before after (inr edited) =
+      ap (λ (context : ContextState S F L). context.content.context_path) edited.4.stays
+      ∙ ap (λ (content : Content). content.context_path) edited.3.stays.content
 
-  pub count_kept : (before after : List (ContextState S F L)) → MovesAll (conduct servlet_step filter_step listener_step) before after
+  -- none comes or goes, and each keeps its path
+  pub paths_kept : (before after : List (ContextState S F L)) → AltersAll (conduct servlet_step filter_step listener_step) before after
+      → map (λ context. context.content.context_path) after ≡ map (λ context. context.content.context_path) before
+  paths_kept [] after alters = ap (map (λ context. context.content.context_path)) alters
+  paths_kept (context ∷ contexts) after alters =
+      ap (map (λ context. context.content.context_path)) alters.4
+      ∙ (λ i. path_kept context alters.0 alters.2 i ∷ paths_kept contexts alters.1 alters.3 i)
+
+  pub count_kept : (before after : List (ContextState S F L)) → AltersAll (conduct servlet_step filter_step listener_step) before after
       → length after ≡ length before
-  count_kept [] after moves = ap length moves
-  count_kept (context ∷ contexts) after moves = ap length moves.4 ∙ ap suc (count_kept contexts moves.1 moves.3)
+  count_kept [] after alters = ap length alters
+  count_kept (context ∷ contexts) after alters = ap length alters.4 ∙ ap suc (count_kept contexts alters.1 alters.3)
