@@ -1,10 +1,10 @@
 -- What has been brought so far, with what comes behind it.
-use Rattle.std.proofs.Common.{◌≡◌, Bool, true, false, ◌||◌, List, [], refl, sym, ap, ◌∙◌, append_assoc, append-nil}
+use Rattle.std.proofs.Common.{◌≡◌, Bool, true, false, ◌||◌, List, [], None, refl, sym, ap, ◌∙◌, append_assoc, append-nil}
 use Rattle.sv_host.specs.Output.{Adds, reaction_of, then_brings}
 use Rattle.sv_host.specs.declared.output.Output.{Output}
 use Rattle.sv_journal.specs.Journal.{JournalState, new_journal}
 use Rattle.sv_journal.specs.declared.entry.Entry.{Entry}
-use Rattle.sv_run.proofs.Effects.{or-assoc, or-at_false}
+use Rattle.sv_run.proofs.Effects.{first-assoc, first-at_none, or-assoc, or-at_false}
 use Rattle.sv_run.specs.Effect.{Effect, closing, joined, nothing, noting, shown, telling}
 use Rattle.sv_run.specs.declared.reaction.Reaction.{Reaction}
 
@@ -20,6 +20,7 @@ module _ {Context : Type 0} where
         sends = append_assoc reaction.sends first.sends second.sends i;
         closes = or-assoc reaction.closes first.closes second.closes i;
         journal = record reaction.journal { entries = append_assoc reaction.journal.entries first.journal second.journal i };
+        edited = first-assoc reaction.edited first.edited second.edited i;
       }
 
   pub adds_on : (start reached next : Output) (front more : Effect Context)
@@ -34,6 +35,7 @@ module _ (Context : Type 0) where
         sends = sym (append-nil output.sends.items) i;
         closes = sym (or-at_false output.closes) i;
         journal = record output.journal { entries = sym (append-nil output.journal.entries) i };
+        edited = sym (first-at_none output.edited) i;
       }
 
   pub adds_closing : (output : Output) → Adds output (closing {Context = Context}) (record output { closes = true })
@@ -42,11 +44,12 @@ module _ (Context : Type 0) where
         sends = sym (append-nil output.sends.items) i;
         closes = or-true output.closes i;
         journal = record output.journal { entries = sym (append-nil output.journal.entries) i };
+        edited = sym (first-at_none output.edited) i;
       }
 
 -- an event brings what was told, and then its effect
 pub brings_all : {Context : Type 0} (output : Output) (journal : JournalState) (told : List Entry) (effect : Effect Context) (end : Reaction)
-    → reaction_of output ≡ record { sends = []; closes = false; journal = new_journal } → journal ≡ noting told output.journal
+    → reaction_of output ≡ record { sends = []; closes = false; journal = new_journal; edited = None } → journal ≡ noting told output.journal
     → end ≡ then_brings (record (reaction_of output) { journal = journal }) effect → end ≡ shown (joined (telling told) effect)
 brings_all output journal told effect end is_new notes brings =
     brings ∙ ap (λ r. then_brings r effect)
@@ -54,4 +57,5 @@ brings_all output journal told effect end is_new notes brings =
       sends = ap (λ (r : Reaction). r.sends) is_new i;
       closes = ap (λ (r : Reaction). r.closes) is_new i;
       journal = (notes ∙ ap (λ (r : Reaction). noting told r.journal) is_new) i;
+      edited = ap (λ (r : Reaction). r.edited) is_new i;
     })

@@ -1,12 +1,18 @@
 -- Contexts that are moved one after another.
-use Rattle.std.proofs.Common.{◌≡◌, ℕ, zero, suc, ◌<◌, ◌≤◌, List, [], ◌∷◌, ◌++◌, length, map, slice_index_or, slice_set, refl, sym, ap, ◌∙◌, subst, arith, append-nil, append_assoc}
+use Rattle.std.proofs.Common.{◌≡◌, ℕ, zero, suc, ◌<◌, ◌≤◌, List, [], ◌∷◌, ◌++◌, inl, inr, Result, Ok, Err, IfErr, length, map, slice_index_or, slice_set, refl, sym, ap, ◌∙◌, subst, arith, append-nil, append_assoc}
 use Rattle.std.proofs.lemmas.List.{with_items_is}
 use Rattle.std.specs.Vec.{with_items}
 use Rattle.std.specs.declared.vec.Vec.{Vec}
 use Rattle.sv_journal.specs.declared.entry.Entry.{Entry}
 use Rattle.sv_run.specs.Contexts.{Conduct}
-use Rattle.sv_run.specs.Events.{ExpiresAll, MovesAll}
+use Rattle.sv_policy.specs.declared.edit.Edit.{Edit}
+use Rattle.sv_policy.specs.declared.edit_fault.EditFault.{EditFault}
+use Rattle.sv_run.specs.Events.{Alters, AltersAll, ExpiresAll, MovesAll}
 use Rattle.sv_run.specs.Lawful.{IsMotion, KeepsPath}
+
+pub if_err : {T E P : Type 0} (result : Result T E) → P → IfErr result (λ _. P)
+if_err (Ok done) holds = tt
+if_err (Err fault) holds = holds
 
 module _ {Context : Type 0} (conduct : Conduct Context) where
   module _ (moment : ℕ) where
@@ -120,6 +126,40 @@ module _ {Context : Type 0} (conduct : Conduct Context) where
           later.4,
         )
 
+    -- contexts that are moved, and then perhaps edited, were altered
+    pub moves_alter : (before after : List Context) → MovesAll conduct before after → AltersAll conduct before after
+    moves_alter [] after moves = moves
+    moves_alter (context ∷ contexts) after moves = (moves.0, moves.1, inl moves.2, moves_alter contexts moves.1 moves.3, moves.4)
+
+    pub alters_none : (contexts : List Context) → AltersAll conduct contexts contexts
+    alters_none contexts = moves_alter contexts contexts (moves_none contexts)
+
+    alters_on : (before between after : Context) → conduct.Moves before between → Alters conduct between after → Alters conduct before after
+    alters_on before between after first (inl moves) = inl (motion.goes_on before between after first moves)
+    alters_on before between after first (inr edits) =
+        inr (edits.0, edits.1, edits.2, motion.goes_on before between edits.0 first edits.3, edits.4)
+
+    pub alters_behind : (before between after : List Context) → MovesAll conduct before between → AltersAll conduct between after
+        → AltersAll conduct before after
+    alters_behind [] between after first second = subst (λ (cs : List Context). AltersAll conduct cs after) first second
+    alters_behind (context ∷ contexts) between after first second =
+        let later = subst (λ (cs : List Context). AltersAll conduct cs after) first.4 second in (
+          later.0,
+          later.1,
+          alters_on context first.0 later.0 first.2 later.2,
+          alters_behind contexts first.1 later.1 first.3 later.3,
+          later.4,
+        )
+
+    pub alters_at : (place : ℕ) (contexts : List Context) (old new : Context) (edit : Edit) (answer : Result ℕ EditFault)
+        → place < length contexts → old ≡ slice_index_or contexts place old → conduct.Edits old edit answer new
+        → AltersAll conduct contexts (slice_set contexts place new)
+    alters_at place [] old new edit answer within is edits = absurd (omega (arith, within))
+    alters_at zero (context ∷ contexts) old new edit answer within is edits =
+        (new, contexts, inr (context, edit, answer, motion.stands context, subst (λ c. conduct.Edits c edit answer new) is edits), alters_none contexts, refl)
+    alters_at (suc place) (context ∷ contexts) old new edit answer within is edits =
+        (context, slice_set contexts place new, inl (motion.stands context), alters_at place contexts old new edit answer (omega (arith, within)) is edits, refl)
+
   -- each context keeps its path
   pub paths_kept : (path_of : Context → List ℕ) → KeepsPath path_of conduct → (before after : List Context) → MovesAll conduct before after
       → map path_of after ≡ map path_of before
@@ -137,3 +177,7 @@ module _ {Context : Type 0} (conduct : Conduct Context) where
     pub index_kept : (path_of : Context → List ℕ) → KeepsPath path_of conduct → (index : List (List ℕ)) → index ≡ map path_of held.items
         → MovesAll conduct given after → index ≡ map path_of (with_items held after).items
     index_kept path_of keeps index known moves = known ∙ sym (paths_kept path_of keeps held.items (with_items held after).items (moves_lent moves))
+
+    pub alters_lent : AltersAll conduct given after → AltersAll conduct held.items (with_items held after).items
+    alters_lent alters =
+        subst (λ end. AltersAll conduct held.items end) (sym (with_items_is held after all)) (subst (λ start. AltersAll conduct start after) is alters)

@@ -4,6 +4,7 @@ use Rattle.sv_host.specs.Output.{then_brings}
 use Rattle.sv_journal.specs.declared.entry.Entry.{Entry}
 use Rattle.sv_journal.specs.declared.entry.Entry.TheVariants.{Refused}
 use Rattle.sv_journal.specs.declared.refusal_cause.RefusalCause.TheVariants as causes
+use Rattle.sv_run.proofs.Effects.{first-at_none}
 use Rattle.sv_run.specs.Contexts.{Handling, Theory, request_of}
 use Rattle.sv_run.specs.Effect.{Effect, answered, handled, noting}
 use Rattle.sv_run.specs.Items.{IsAnswerTo, Responds, TakesMessage}
@@ -60,7 +61,8 @@ module _ {C W : Type 0} (theory : Theory C W) (moment : ℕ) (message : Message)
           answers,
           refl,
         ),
-        sent ∙ ap (λ (r : Reaction). record r { sends = r.sends ++ text; closes = r.closes || not message.keep }) notes,
+        sent ∙ ap (λ (r : Reaction). record r { sends = r.sends ++ text; closes = r.closes || not message.keep }) notes
+            ∙ (λ i. record (then_brings start (handled place handling text (not message.keep))) { edited = sym (first-at_none start.edited) i }),
       )
 
   pub sent : {T E : Type 0} (result : Result T E) (place : ℕ) (canon : Canon) (old new : C) (response : Response) (middle end : Reaction)

@@ -1,5 +1,6 @@
 mod Adding
 mod Contexts
+mod EditedContexts
 mod Feedings
 mod Handling
 mod Happening

@@ -1,11 +1,12 @@
 -- What an event has brought so far.
 use Rattle.std.specs.Prelude.{◌≡◌, ◌||◌, ◌++◌}
+use Rattle.std.specs.Option.{option_or}
 use Rattle.sv_host.specs.declared.output.Output.{Output}
 use Rattle.sv_run.specs.Effect.{Effect, noting}
 use Rattle.sv_run.specs.declared.reaction.Reaction.{Reaction}
 
 abbrev pub reaction_of : Output → Reaction
-reaction_of output = record { sends = output.sends.items; closes = output.closes; journal = output.journal }
+reaction_of output = record { sends = output.sends.items; closes = output.closes; journal = output.journal; edited = output.edited }
 
 -- a reaction, and then what an effect brings
 abbrev pub then_brings : {Context : Type 0} → Reaction → Effect Context → Reaction
@@ -14,6 +15,7 @@ then_brings reaction effect =
       sends = reaction.sends ++ effect.sends;
       closes = reaction.closes || effect.closes;
       journal = noting effect.journal reaction.journal;
+      edited = option_or reaction.edited effect.edited;
     }
 
 -- what an effect brings is added

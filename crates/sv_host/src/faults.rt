@@ -29,6 +29,7 @@ pub fn fault_of(connections: &Connections, happening: Happening) -> Option<StepF
         Happening::Ended { connection } => unknown_fault(connections, connection),
         Happening::Lost { connection } => unknown_fault(connections, connection),
         Happening::Tick { .. } => None,
+        Happening::Edit { .. } => None,
     }
 }
 

@@ -1,14 +1,16 @@
 //! Contexts behind connections.
 
-ghost use Rattle.std.specs.Prelude.{◌≡◌, None, IfOk, IsSome, false, map};
+ghost use Rattle.std.specs.Prelude.{◌≡◌, None, IfErr, IfOk, IsSome, false, map};
 ghost use Rattle.sv_host.specs.Host.{StepsSo, opening, state_of};
 ghost use Rattle.sv_host.specs.Output.{Adds};
 ghost use Rattle.sv_run.specs.Contexts.{theory_of};
+ghost use Rattle.sv_run.specs.Editing.{EditsContext};
 ghost use Rattle.sv_run.specs.Effect.{Effect, shown};
-ghost use Rattle.sv_run.specs.Events.{Accepts, Happens, MovesAll, TakesPiece, fault_of};
+ghost use Rattle.sv_run.specs.Events.{Accepts, AltersAll, Happens, MovesAll, TakesPiece, fault_of};
 ghost use Rattle.sv_run.specs.Seen.{happening_of};
 
 use crate::connections::Connections;
+use crate::editing::told_of;
 use crate::faults::{fault_of, moment_after};
 use crate::indexed::Indexed;
 use crate::items::take_items;
@@ -16,6 +18,7 @@ use crate::output::Output;
 use std::alloc::Global;
 use sv_context_index::ContextIndex;
 use sv_context_path::HasContextPath;
+use sv_policy::Edit;
 use sv_run::{Context, Happening, Reaction, Reactor, StepFault, Words};
 use sv_text::NoMemory;
 
@@ -64,14 +67,14 @@ impl<C: HasContextPath, W> Host<C, W> {
 
 impl<C: Context, W: Words> Host<C, W> {
     /// Takes an event: the moment is raised, the sessions that have expired end, and then it happens (RFC 9112, section 9; Jakarta Servlet
-    /// 6.0, section 7.5). A connection and a context are found as fast among many as among few.
+    /// 6.0, sections 7.5 and 13.8). A connection and the context of a request are found as fast among many as among few.
     ///
     /// # Errors
     /// [`StepFault`], the first that stands. After one other than `NoMemory` nothing has changed, and after `NoMemory` each event is refused
     /// as `Stopped`; what the event brought is lost then, and the contexts were moved by some of its calls.
     pub fn step(&mut self, happening: Happening) -> Result<Reaction, StepFault>
         ensures steps { StepsSo (theory_of C.path_of C.conduct W.draws) (state_of self.old) (happening_of happening.entry) result (state_of self.new) }
-        ensures moves { MovesAll C.conduct (state_of self.old).world.contexts (state_of self.new).world.contexts }
+        ensures alters { AltersAll C.conduct (state_of self.old).world.contexts (state_of self.new).world.contexts }
     {
         if self.stopped {
             return Err(StepFault::Stopped);
@@ -95,7 +98,8 @@ impl<C: Context, W: Words> Host<C, W> {
         ensures accepts { IfOk result (λ reaction. (effect : Effect C)
             × Accepts (theory_of C.path_of C.conduct W.draws) (state_of self.old) (happening_of happening.entry) effect (state_of self.new)
             × (reaction ≡ shown effect)) }
-        ensures moves { MovesAll C.conduct (state_of self.old).world.contexts (state_of self.new).world.contexts }
+        ensures moves { IfErr result (λ _. MovesAll C.conduct (state_of self.old).world.contexts (state_of self.new).world.contexts) }
+        ensures alters { AltersAll C.conduct (state_of self.old).world.contexts (state_of self.new).world.contexts }
     {
         let mut output = Output::new(self.alloc);
         self.moment = moment_after(self.moment, happening);
@@ -104,7 +108,9 @@ impl<C: Context, W: Words> Host<C, W> {
         if !output.journal.whole() {
             return Err(NoMemory);
         }
-        self.happen(happening, &mut output)?;
+        let Ok(()) = self.happen(happening, &mut output) else {
+            return Err(NoMemory);
+        };
         Ok(output.into_reaction())
     }
 
@@ -114,7 +120,8 @@ impl<C: Context, W: Words> Host<C, W> {
         ensures happens { IfOk result (λ _. (effect : Effect C)
             × Happens (theory_of C.path_of C.conduct W.draws) (state_of self.old) (happening_of happening.entry) effect (state_of self.new)
             × Adds output.old effect output.new) }
-        ensures moves { MovesAll C.conduct (state_of self.old).world.contexts (state_of self.new).world.contexts }
+        ensures moves { IfErr result (λ _. MovesAll C.conduct (state_of self.old).world.contexts (state_of self.new).world.contexts) }
+        ensures alters { AltersAll C.conduct (state_of self.old).world.contexts (state_of self.new).world.contexts }
     {
         match happening {
             Happening::Opened { connection } => self.connections.open(connection),
@@ -133,7 +140,23 @@ impl<C: Context, W: Words> Host<C, W> {
                 Ok(())
             }
             Happening::Tick { .. } => Ok(()),
+            Happening::Edit { context, edit } => self.edit(context, edit, output),
         }
+    }
+
+    // The constraints of the context that has the path are edited.
+    fn edit(&mut self, path: &str, edit: &Edit, output: &mut Output) -> Result<(), NoMemory>
+        ensures edits { IfOk result (λ _. (effect : Effect C)
+            × EditsContext (theory_of C.path_of C.conduct W.draws) (state_of self.old) path.now edit.now effect (state_of self.new)
+            × Adds output.old effect output.new) }
+        ensures moves { IfErr result (λ _. MovesAll C.conduct (state_of self.old).world.contexts (state_of self.new).world.contexts) }
+        ensures alters { AltersAll C.conduct (state_of self.old).world.contexts (state_of self.new).world.contexts }
+    {
+        let Ok(told) = told_of(self.contexts.edit::<W>(self.alloc, path, edit)) else {
+            return Err(NoMemory);
+        };
+        output.tell_edited::<C>(told);
+        Ok(())
     }
 
     // A piece of a connection: the items that it completes are handled.

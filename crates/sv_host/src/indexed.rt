@@ -1,16 +1,19 @@
 //! Contexts that are found by their paths.
 
-ghost use Rattle.std.specs.Prelude.{◌≡◌, ◌<◌, ℕ, true, IfOk, IfSome, IsTrue, List, Some, length, map, position, slice_get};
+ghost use Rattle.std.specs.Prelude.{◌≡◌, ◌≢◌, ◌<◌, ℕ, true, Err, IfOk, IfSome, IsTrue, List, Some, length, map, position, slice_get};
 ghost use Rattle.sv_context_path.specs.Chosen.{is_chosen};
 ghost use Rattle.sv_host.specs.Output.{Adds};
 ghost use Rattle.sv_journal.specs.declared.entry.Entry.{Entry};
 ghost use Rattle.sv_mapping.specs.Pattern.{is_at_or_below};
+ghost use Rattle.sv_policy.specs.declared.edit_fault.EditFault.TheVariants as fault;
 ghost use Rattle.sv_run.specs.Contexts.{theory_of};
+ghost use Rattle.sv_run.specs.Editing.{EditsIn, place_with};
 ghost use Rattle.sv_run.specs.Effect.{Effect, noting};
-ghost use Rattle.sv_run.specs.Events.{ExpiresAll, MovesAll};
+ghost use Rattle.sv_run.specs.Events.{AltersAll, ExpiresAll, MovesAll};
 ghost use Rattle.sv_run.specs.Items.{Responds};
 ghost use Rattle.sv_run.specs.Messages.{Within};
 
+use crate::editing::edit_context;
 use crate::expiring::expire_all;
 use crate::output::Output;
 use crate::serving::handle_at;
@@ -19,6 +22,7 @@ use std::marker::Model;
 use sv_context_index::ContextIndex;
 use sv_context_path::HasContextPath;
 use sv_journal::Journal;
+use sv_policy::{Edit, EditFault};
 use sv_run::{Context, Words};
 use sv_text::NoMemory;
 use sv_uri::path::Canon;
@@ -83,6 +87,21 @@ impl<C: Context> Indexed<C> {
         ensures moves { MovesAll C.conduct self.old self.new }
     {
         expire_all(alloc, self.contexts.as_mut_slice(), moment, journal);
+    }
+
+    /// Has the first context that has the path edit its constraints.
+    pub(crate) fn edit<W: Words>(
+        &mut self,
+        alloc: Global,
+        path: &str,
+        edit: &Edit,
+    ) -> Result<u64, EditFault>
+        ensures edits { result ≢ Err fault.NoMemory
+            → EditsIn (theory_of C.path_of C.conduct W.draws) (place_with (theory_of C.path_of C.conduct W.draws) self.old path.now) self.old edit.now result self.new }
+        ensures refused { result ≡ Err fault.NoMemory → self.new ≡ self.old }
+        ensures alters { AltersAll C.conduct self.old self.new }
+    {
+        edit_context::<C, W>(alloc, self.contexts.as_mut_slice(), path, edit)
     }
 
     /// Has the context at the place handle a message.

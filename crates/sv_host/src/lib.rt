@@ -4,6 +4,7 @@
 
 mod answering;
 mod connections;
+mod editing;
 mod expiring;
 mod faults;
 mod host;

@@ -1,11 +1,13 @@
 //! What an event has brought so far.
 
-ghost use Rattle.std.specs.Prelude.{◌≡◌, false, []};
-ghost use Rattle.sv_host.specs.Output.{reaction_of};
+ghost use Rattle.std.specs.Prelude.{◌≡◌, false, [], None};
+ghost use Rattle.sv_host.specs.Output.{Adds, reaction_of};
 ghost use Rattle.sv_journal.specs.Journal.{new_journal};
+ghost use Rattle.sv_run.specs.Effect.{editing};
 
 use std::alloc::Global;
 use sv_journal::Journal;
+use sv_policy::EditFault;
 use sv_run::Reaction;
 use sv_text::Bytes;
 
@@ -15,18 +17,27 @@ pub struct Output {
     pub(crate) sends: Vec<u8>,
     pub(crate) closes: bool,
     pub(crate) journal: Journal,
+    pub(crate) edited: Option<Result<u64, EditFault>>,
 }
 
 impl Output {
     /// Nothing yet. It takes no memory.
     pub fn new(alloc: Global) -> Output
-        ensures { reaction_of result ≡ record { sends = []; closes = false; journal = new_journal } }
+        ensures { reaction_of result ≡ record { sends = []; closes = false; journal = new_journal; edited = None } }
     {
         Output {
             sends: Vec::new(alloc),
             closes: false,
             journal: Journal::new(alloc),
+            edited: None,
         }
+    }
+
+    /// Tells the answer to an edit.
+    pub(crate) fn tell_edited<C>(&mut self, answer: Result<u64, EditFault>)
+        ensures { Adds {Context = C} self.old (editing answer) self.new }
+    {
+        self.edited = self.edited.or(Some(answer));
     }
 
     /// The whole reaction.
@@ -37,11 +48,13 @@ impl Output {
             sends,
             closes,
             journal,
+            edited,
         } = self;
         Reaction {
             sends: Bytes::from_vec(sends),
             closes,
             journal,
+            edited,
         }
     }
 }

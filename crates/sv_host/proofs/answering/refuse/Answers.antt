@@ -1,9 +1,10 @@
-use Rattle.std.proofs.Common.{◌++◌, false, refl, ap, ◌∙◌}
+use Rattle.std.proofs.Common.{◌++◌, false, refl, sym, ap, ◌∙◌}
 use Rattle.sv_run.specs.Messages.{plain_response}
 use Rattle.sv_run.specs.declared.reaction.Reaction.{Reaction}
 use Rattle.sv_wire.specs.ResponseText.{response_text}
 use Rattle.sv_wire.specs.WireFault.{fault_status}
 use Rattle.sv_host.proofs.Adding.{or-true}
+use Rattle.sv_run.proofs.Effects.{first-at_none}
 use Rattle.sv_host.proofs.answering.refuse.Goals as goal
 
 pub returns : goal.returns
@@ -19,5 +20,6 @@ returns g c =
             (c.in_ok-response.ensures ∙ ap plain_response c.status.ensures) ∙ ap (λ (r : Reaction). r.sends ++ text) noted) i;
         closes = or-true c.args.output.now.closes i;
         journal = ap (λ (r : Reaction). r.journal) noted i;
+        edited = (ap (λ (r : Reaction). r.edited) noted ∙ sym (first-at_none c.args.output.now.edited)) i;
       },
     )

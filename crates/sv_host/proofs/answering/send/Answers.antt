@@ -13,5 +13,6 @@ returns c =
             (wrote.2 ∙ ap (λ head_only. c.args.output.now.sends.items ++ response_text c.args.response.now head_only message.keep wrote.0) c.is_head.ensures) i;
         closes = c.closes_behind-output.ensures i;
         journal = c.args.output.now.journal;
+        edited = c.args.output.now.edited;
       },
     )

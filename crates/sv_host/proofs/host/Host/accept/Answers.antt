@@ -3,26 +3,35 @@ use Rattle.sv_run.specs.Contexts.{theory_of}
 use Rattle.sv_run.specs.Effect.{joined, telling}
 use Rattle.sv_run.specs.Seen.{happening_of}
 use Rattle.sv_host.proofs.Adding.{brings_all}
-use Rattle.sv_host.proofs.Contexts.{moves_join}
+use Rattle.sv_host.proofs.Contexts.{alters_behind, moves_alter, moves_join}
 use Rattle.sv_host.proofs.Happening.{accepts_at}
 use Rattle.sv_host.specs.Host.{state_of}
 use Rattle.sv_host.proofs.host.Host.accept.Goals as goal
 
-pub returns-in_err-happen-clause-moves : goal.returns-in_err-happen-clause-moves
-returns-in_err-happen-clause-moves g c =
-    moves_join g.C.Context.conduct g.met.C.Context.is_motion c.args.self.now.contexts c.expire_all.new.self c.happen.new.self.contexts
-    c.expire_all.ensures.moves c.happen.ensures.moves
+pub returns-then-not-whole-clause-alters : goal.returns-then-not-whole-clause-alters
+returns-then-not-whole-clause-alters g c =
+    moves_alter g.C.Context.conduct g.met.C.Context.is_motion c.args.self.now.contexts c.expire_all.new.self c.expire_all.ensures.moves
 
-pub returns-clause-moves : goal.returns-clause-moves
-returns-clause-moves g c =
+pub returns-in_default-clause-moves : goal.returns-in_default-clause-moves
+returns-in_default-clause-moves g c =
     moves_join g.C.Context.conduct g.met.C.Context.is_motion c.args.self.now.contexts c.expire_all.new.self c.happen.new.self.contexts
-    c.expire_all.ensures.moves c.happen.ensures.moves
+    c.expire_all.ensures.moves c.in_default.ensures.moves
+
+pub returns-in_default-clause-alters : goal.returns-in_default-clause-alters
+returns-in_default-clause-alters g c =
+    alters_behind g.C.Context.conduct g.met.C.Context.is_motion c.args.self.now.contexts c.expire_all.new.self c.happen.new.self.contexts
+    c.expire_all.ensures.moves c.happen.ensures.alters
+
+pub returns-clause-alters : goal.returns-clause-alters
+returns-clause-alters g c =
+    alters_behind g.C.Context.conduct g.met.C.Context.is_motion c.args.self.now.contexts c.expire_all.new.self c.happen.new.self.contexts
+    c.expire_all.ensures.moves c.happen.ensures.alters
 
 pub returns-clause-accepts : goal.returns-clause-accepts
 returns-clause-accepts g c =
     let theory = theory_of g.C.HasContextPath.path_of g.C.Context.conduct g.W.Words.draws in
     let told = c.expire_all.ensures.expires (sym c.whole.ensures ∙ c.if-not-whole.false) in
-    let happened = c.in_ok-happen.ensures.happens in (
+    let happened = c.in-Ok.ensures.happens in (
       joined (telling told.0) happened.0,
       accepts_at theory (state_of c.args.self.now) (happening_of c.args.happening) (state_of c.happen.new.self) c.moment_after-self.result told.0
           c.expire_all.new.self happened.0 c.moment_after-self.ensures c.requires.runs c.requires.fits told.1 happened.1,

@@ -4,22 +4,40 @@ use Rattle.sv_run.specs.Contexts.{theory_of}
 use Rattle.sv_run.specs.Effect.{closing, nothing}
 use Rattle.sv_run.specs.Seen.{happening_of}
 use Rattle.sv_host.proofs.Adding.{adds_closing, adds_nothing}
-use Rattle.sv_host.proofs.Contexts.{moves_none}
+use Rattle.sv_host.proofs.Contexts.{alters_none, if_err, moves_alter, moves_none}
+use Rattle.sv_host.proofs.EditedContexts.{edits_happen_so}
 use Rattle.sv_host.proofs.Happening.{ends, loses, opens_so, ticks}
 use Rattle.sv_host.specs.Host.{state_of}
 use Rattle.sv_host.proofs.host.Host.happen.Goals as goal
 
 pub returns-in-Opened-clause-moves : goal.returns-in-Opened-clause-moves
-returns-in-Opened-clause-moves g c = moves_none g.C.Context.conduct g.met.C.Context.is_motion c.args.self.now.contexts
+returns-in-Opened-clause-moves g c =
+    if_err c.open.result (moves_none g.C.Context.conduct g.met.C.Context.is_motion c.args.self.now.contexts)
 
-pub returns-in-Ended-clause-moves : goal.returns-in-Ended-clause-moves
-returns-in-Ended-clause-moves g c = moves_none g.C.Context.conduct g.met.C.Context.is_motion c.args.self.now.contexts
+pub returns-in-Piece-clause-moves : goal.returns-in-Piece-clause-moves
+returns-in-Piece-clause-moves g c = if_err c.take_piece.result c.take_piece.ensures.moves
 
-pub returns-in-Lost-clause-moves : goal.returns-in-Lost-clause-moves
-returns-in-Lost-clause-moves g c = moves_none g.C.Context.conduct g.met.C.Context.is_motion c.args.self.now.contexts
+pub returns-in-Opened-clause-alters : goal.returns-in-Opened-clause-alters
+returns-in-Opened-clause-alters g c = alters_none g.C.Context.conduct g.met.C.Context.is_motion c.args.self.now.contexts
 
-pub returns-in-Tick-clause-moves : goal.returns-in-Tick-clause-moves
-returns-in-Tick-clause-moves g c = moves_none g.C.Context.conduct g.met.C.Context.is_motion c.args.self.now.contexts
+pub returns-in-Piece-clause-alters : goal.returns-in-Piece-clause-alters
+returns-in-Piece-clause-alters g c =
+    moves_alter g.C.Context.conduct g.met.C.Context.is_motion c.args.self.now.contexts c.take_piece.new.self.contexts c.take_piece.ensures.moves
+
+pub returns-in-Ended-clause-alters : goal.returns-in-Ended-clause-alters
+returns-in-Ended-clause-alters g c = alters_none g.C.Context.conduct g.met.C.Context.is_motion c.args.self.now.contexts
+
+pub returns-in-Lost-clause-alters : goal.returns-in-Lost-clause-alters
+returns-in-Lost-clause-alters g c = alters_none g.C.Context.conduct g.met.C.Context.is_motion c.args.self.now.contexts
+
+pub returns-in-Tick-clause-alters : goal.returns-in-Tick-clause-alters
+returns-in-Tick-clause-alters g c = alters_none g.C.Context.conduct g.met.C.Context.is_motion c.args.self.now.contexts
+
+pub returns-in-Edit-clause-happens : goal.returns-in-Edit-clause-happens
+returns-in-Edit-clause-happens g c =
+    let theory = theory_of g.C.HasContextPath.path_of g.C.Context.conduct g.W.Words.draws in
+    edits_happen_so theory c.edit.result (state_of c.args.self.now) (state_of c.edit.new.self) (happening_of c.args.happening) c.in-Edit.context.now
+    c.in-Edit.edit.now c.args.output.now c.edit.new.output (ap happening_of c.in-Edit.is) c.edit.ensures.edits
 
 pub returns-in-Opened-clause-happens : goal.returns-in-Opened-clause-happens
 returns-in-Opened-clause-happens g c =

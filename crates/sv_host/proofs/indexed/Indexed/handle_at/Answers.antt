@@ -1,7 +1,6 @@
-use Rattle.std.proofs.Common.{◌≡◌, ◌<◌, List, length, Some, IfOk, IsTrue, slice_get, subst, sym, ap, ◌∙◌, arith}
+use Rattle.std.proofs.Common.{◌≡◌, ◌<◌, List, length, IfOk, slice_get, subst, sym, ap, ◌∙◌, arith}
 use Rattle.std.proofs.lemmas.List.{with_items_is}
 use Rattle.std.specs.Vec.{with_items}
-use Rattle.sv_mapping.specs.Pattern.{is_at_or_below}
 use Rattle.sv_run.specs.Contexts.{theory_of}
 use Rattle.sv_run.specs.Effect.{Effect}
 use Rattle.sv_run.specs.Events.{MovesAll}
