@@ -1,16 +1,18 @@
 //! The filters that a dispatch passes.
 
+ghost use Rattle.sv_text.specs.Gives.{GivesAnswer};
+
 use std::alloc::Global;
-use sv_chain::chain_plain;
+use sv_chain::{Chain, Chains, MAX_KEPT_CHAINS, chain_plain};
 use sv_descriptor::{Descriptor, Kind, read_descriptor};
 use sv_rows::{Asks, Strays, cell, hold};
 use sv_text::NoMemory;
 
 /// The chain of a path, a servlet and a kind of dispatches, by the places of its filters.
 #[derive(Drop)]
-struct Chains(Descriptor);
+struct PlainChains(Descriptor);
 
-impl Asks for Chains {
+impl Asks for PlainChains {
     const QUESTION: usize = 3;
 
     fn answer(&self, alloc: Global, row: &str, answer: &mut Vec<u8>) -> Result<(), NoMemory> {
@@ -36,7 +38,7 @@ pub fn kind_of(name: &str) -> Kind {
 /// Whether the rows hold of the descriptor.
 fn hold_of<R: Eprint + AllocGlobal>(rt: &R, descriptor: &str, rows: &str) -> Result<(), Strays> {
     match read_descriptor(rt.alloc(), descriptor) {
-        Ok(descriptor) => hold(rt, &[rows], &Chains(descriptor)),
+        Ok(descriptor) => hold(rt, &[rows], &PlainChains(descriptor)),
         Err(_) => Err(Strays::NoMemory),
     }
 }
@@ -174,4 +176,89 @@ const ORDERS_ROWS: &str = r#"
 #[test]
 fn each_kind_has_its_chain_in_the_order_of_the_mappings(rt: HostRuntime) -> Result<(), Strays> {
     hold_of(&rt, ORDERS, ORDERS_ROWS)
+}
+
+/// The chain of a path, a servlet and a kind, asked for twice of chains that were asked for as many others as they keep and one more; and
+/// how many they keep then. A path `#N` has N bytes.
+#[derive(Drop)]
+struct KeptChains(Descriptor);
+
+impl Asks for KeptChains {
+    const QUESTION: usize = 3;
+
+    fn answer(&self, alloc: Global, row: &str, answer: &mut Vec<u8>) -> Result<(), NoMemory> {
+        let mut chains = filled(alloc, &self.0)?;
+        let path = path_of(alloc, cell(row, 0))?;
+        let (servlet, kind) = (cell(row, 1), kind_of(cell(row, 2)));
+        for _time in 0..2 {
+            let chain = chains.of(alloc, &self.0, path.as_str(), servlet, kind)?;
+            write_places(alloc, &chain, answer)?;
+        }
+        let text = format!(in alloc; "{}", chains.count())?;
+        answer.extend_from_slice(text.as_bytes())?;
+        Ok(())
+    }
+}
+
+/// Chains that were asked for as many paths as they keep, and one more.
+fn filled(alloc: Global, descriptor: &Descriptor) -> Result<Chains, NoMemory>
+    ensures { GivesAnswer result descriptor.now }
+{
+    let mut chains = Chains::compile(alloc, descriptor);
+    for number in 0..=MAX_KEPT_CHAINS {
+        let path = format!(in alloc; "/{number}")?;
+        chains.of(alloc, descriptor, path.as_str(), "s", Kind::Request)?;
+    }
+    Ok(chains)
+}
+
+/// The path, or one of so many bytes.
+fn path_of(alloc: Global, cell: &str) -> Result<String, NoMemory> {
+    let mut path = String::new(alloc);
+    match cell.strip_prefix('#') {
+        Some(count) => {
+            for _byte in 0..count.parse::<usize>().unwrap_or(0) {
+                path.push('/')?;
+            }
+        }
+        None => path.push_str(cell)?,
+    }
+    Ok(path)
+}
+
+fn write_places(alloc: Global, chain: &Chain, answer: &mut Vec<u8>) -> Result<(), NoMemory> {
+    for place in chain.as_slice() {
+        let text = format!(in alloc; "{place}")?;
+        answer.extend_from_slice(text.as_bytes())?;
+    }
+    answer.extend_from_slice(b".")?;
+    Ok(())
+}
+
+/// Path, servlet, kind, the chain twice and how many are kept.
+const KEPT_ROWS: &str = r#"
+-- the last of the paths before let all others go, and a hit lets nothing go
+/x        | default | REQUEST | 01.01.2
+/x        | s       | REQUEST | 01.01.2
+/bad      | bad     | REQUEST | 01.01.2
+/1024     | s       | REQUEST | 01.01.1
+/1023     | s       | REQUEST | 01.01.2
+-- another servlet takes the place of the path's, another kind has a place of its own
+/1024     | t       | REQUEST | 01.01.1
+/1024     | s       | FORWARD | ..2
+/x        | s       | FORWARD | ..2
+-- a path and a servlet's name of 1,024 bytes are kept, and longer ones are answered and not kept
+#1023     | s       | REQUEST | 01.01.2
+#1024     | s       | REQUEST | 01.01.1
+#1022     | ss      | REQUEST | 01.01.2
+#1023     | ss      | REQUEST | 01.01.1
+#70000    | s       | REQUEST | 01.01.1
+"#;
+
+#[test]
+fn what_is_kept_changes_no_chain(rt: HostRuntime) -> Result<(), Strays> {
+    match read_descriptor(rt.alloc(), ALL) {
+        Ok(descriptor) => hold(&rt, &[KEPT_ROWS], &KeptChains(descriptor)),
+        Err(_) => Err(Strays::NoMemory),
+    }
 }
