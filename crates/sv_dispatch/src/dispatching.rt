@@ -1,10 +1,13 @@
 //! A dispatch: its filters, a servlet's turns or a file, and the dispatches within.
 
-ghost use Rattle.std.specs.Prelude.{◌≡◌, ◌<◌, ℕ, None, suc};
+ghost use Rattle.std.specs.Prelude.{◌≡◌, ◌<◌, ℕ, IfOk, None, OnErr, OnOk, Some, suc};
 ghost use Rattle.sv_component.specs.declared.answers.Step.TheVariants.{Unavailable};
 ghost use Rattle.sv_dispatch.specs.Did.{Did, seen};
 ghost use Rattle.sv_dispatch.specs.Seen.{IsHere};
 ghost use Rattle.sv_tree.specs.declared.resource.Resource.TheVariants.{Files, Servlet};
+ghost use Rattle.sv_tree.specs.Does.{tries};
+ghost use Rattle.sv_tree.specs.State.{on_exchange};
+ghost use Rattle.sv_tree.specs.Site.{begun_by, chosen};
 ghost use Rattle.sv_tree.specs.Tree.{Dispatches, Responds, Serves, Stepped, Tree, Turn, Within, behind_include, is_too_late};
 
 use crate::endings::{away_for, err, error_status, fail, fault, lasting, missing};
@@ -38,15 +41,35 @@ pub(crate) fn dispatch_by<M: Machine, T: Tables>(
     ensures does { Did M.state M.frame M.ran (Tree (T.site tables.old) (suc room) kind canon.now) machine.old machine.new (seen result) }
     ensures stays { tables.new ≡ tables.old }
 {
-    let chosen = tables.choose(canon.path.as_str());
-    let Ok(()) = machine.enter(kind, &chosen, canon) else {
+    let Ok(resource) = entered(machine, tables, kind, canon) else {
         return Err(NoMemory);
     };
-    let Ok(finished) = within(alloc, machine, tables, room, chosen.resource, kind, canon) else {
+    let Ok(finished) = within(alloc, machine, tables, room, resource, kind, canon) else {
         return Err(NoMemory);
     };
     machine.leave();
     Ok(finished)
+}
+
+// The beginning of a dispatch: who answers.
+fn entered<M: Machine, T: Tables>(
+    machine: &mut M,
+    tables: &T,
+    kind: Kind,
+    canon: &Canon,
+) -> Result<Resource, NoMemory>
+    ensures begins { OnOk result (Did M.state M.frame M.ran (tries (on_exchange (begun_by (chosen (T.site tables.now) canon.now.path) kind canon.now)))
+        machine.old machine.new (Some tt)) }
+    ensures lacks { OnErr result (Did M.state M.frame M.ran (tries (on_exchange (begun_by (chosen (T.site tables.now) canon.now.path) kind canon.now)))
+        machine.old machine.new None) }
+    ensures resource { IfOk result (λ resource. resource ≡ (chosen (T.site tables.now) canon.now.path).resource) }
+    ensures there { IfOk result (λ resource. (place : ℕ) → resource ≡ Servlet place → place < T.servlets tables.now) }
+{
+    let chosen = tables.choose(canon.path.as_str());
+    let Ok(()) = machine.enter(kind, &chosen, canon) else {
+        return Err(NoMemory);
+    };
+    Ok(chosen.resource)
 }
 
 // The filters, and what stands behind them.

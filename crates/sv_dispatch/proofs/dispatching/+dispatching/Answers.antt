@@ -1,8 +1,7 @@
-use Rattle.std.proofs.Common.{None, Some, sym, ap, ◌∙◌, subst, add-one}
+use Rattle.std.proofs.Common.{None, Some, refl, sym, ap, ◌∙◌, subst, add-one}
 use Rattle.sv_dispatch.specs.Did.{seen}
-use Rattle.sv_site.specs.Seen.{chosen_seen}
 use Rattle.sv_tree.specs.Site.{chosen, name_of}
-use Rattle.sv_tree.specs.Tree.{Tree, Turn}
+use Rattle.sv_tree.specs.Tree.{Tree, Turn, Within}
 use Rattle.sv_dispatch.proofs.Deeds.{Makes}
 use Rattle.sv_dispatch.proofs.DispatchDeeds.{asked_lacks, dispatch_breaks, dispatch_ends, dispatch_lacks, responds_filed, stepped_forward, within_breaks, within_ends, within_lacks, within_leaves, within_stops}
 use Rattle.sv_dispatch.proofs.LeaveDeeds.{can_leave}
@@ -68,23 +67,29 @@ turns-loop-ended-preserved g t c =
 
 pub dispatch_by-returns-in_default-clause-does : goal.dispatch_by-returns-in_default-clause-does
 dispatch_by-returns-in_default-clause-does g t c =
-    dispatch_lacks g.M.Machine.state g.M.Machine.frame g.M.Machine.ran (g.T.Tables.site c.args.tables.now) c.args.room c.args.kind c.args.canon.now (chosen_seen c.choose-chosen.result)
-    c.args.machine.now c.enter.new.self (c.choose-chosen.ensures.is ∙ ap (chosen (g.T.Tables.site c.args.tables.now)) c.as_str.ensures) c.in_default.ensures
+    dispatch_lacks g.M.Machine.state g.M.Machine.frame g.M.Machine.ran (g.T.Tables.site c.args.tables.now) c.args.room c.args.kind c.args.canon.now (chosen (g.T.Tables.site c.args.tables.now) c.args.canon.now.path)
+    c.args.machine.now c.entered.new.machine refl c.in_default.ensures.lacks
 
 pub dispatch_by-returns-in_default-within-clause-does : goal.dispatch_by-returns-in_default-within-clause-does
 dispatch_by-returns-in_default-within-clause-does g t c =
-    dispatch_breaks g.M.Machine.state g.M.Machine.frame g.M.Machine.ran (g.T.Tables.site c.args.tables.now) c.args.room c.args.kind c.args.canon.now (chosen_seen c.choose-chosen.result)
-    c.args.machine.now c.enter.new.self c.within.new.machine (c.choose-chosen.ensures.is ∙ ap (chosen (g.T.Tables.site c.args.tables.now)) c.as_str.ensures) c.in-Ok.ensures c.in_default-within.ensures.does
+    dispatch_breaks g.M.Machine.state g.M.Machine.frame g.M.Machine.ran (g.T.Tables.site c.args.tables.now) c.args.room c.args.kind c.args.canon.now (chosen (g.T.Tables.site c.args.tables.now) c.args.canon.now.path)
+    c.args.machine.now c.entered.new.machine c.within.new.machine refl c.in-Ok.ensures.begins
+    (subst (λ resource. Makes g.M.Machine.state g.M.Machine.frame g.M.Machine.ran (Within (g.T.Tables.site c.args.tables.now) c.args.room (Tree (g.T.Tables.site c.args.tables.now) c.args.room) resource c.args.kind c.args.canon.now)
+    c.entered.new.machine c.within.new.machine None) c.in-Ok.ensures.resource c.in_default-within.ensures.does)
 
 pub dispatch_by-leave-requires : goal.dispatch_by-leave-requires
 dispatch_by-leave-requires g t c =
-    can_leave g.M.Machine.state g.M.Machine.frame g.M.Machine.ran (g.T.Tables.site c.args.tables.now) c.args.room c.args.kind c.args.canon.now (chosen_seen c.choose-chosen.result)
-    c.in-Ok-within.finished c.args.machine.now c.enter.new.self c.within.new.machine (c.choose-chosen.ensures.is ∙ ap (chosen (g.T.Tables.site c.args.tables.now)) c.as_str.ensures) c.in-Ok.ensures c.in-Ok-within.ensures.does
+    can_leave g.M.Machine.state g.M.Machine.frame g.M.Machine.ran (g.T.Tables.site c.args.tables.now) c.args.room c.args.kind c.args.canon.now (chosen (g.T.Tables.site c.args.tables.now) c.args.canon.now.path)
+    c.in-Ok-within.finished c.args.machine.now c.entered.new.machine c.within.new.machine refl c.in-Ok.ensures.begins
+    (subst (λ resource. Makes g.M.Machine.state g.M.Machine.frame g.M.Machine.ran (Within (g.T.Tables.site c.args.tables.now) c.args.room (Tree (g.T.Tables.site c.args.tables.now) c.args.room) resource c.args.kind c.args.canon.now)
+    c.entered.new.machine c.within.new.machine (Some c.in-Ok-within.finished)) c.in-Ok.ensures.resource c.in-Ok-within.ensures.does)
 
 pub dispatch_by-returns-clause-does : goal.dispatch_by-returns-clause-does
 dispatch_by-returns-clause-does g t c =
-    dispatch_ends g.M.Machine.state g.M.Machine.frame g.M.Machine.ran (g.T.Tables.site c.args.tables.now) c.args.room c.args.kind c.args.canon.now (chosen_seen c.choose-chosen.result)
-    c.in-Ok-within.finished c.args.machine.now c.enter.new.self c.within.new.machine c.leave.new.self (c.choose-chosen.ensures.is ∙ ap (chosen (g.T.Tables.site c.args.tables.now)) c.as_str.ensures) c.in-Ok.ensures c.in-Ok-within.ensures.does c.leave.ensures
+    dispatch_ends g.M.Machine.state g.M.Machine.frame g.M.Machine.ran (g.T.Tables.site c.args.tables.now) c.args.room c.args.kind c.args.canon.now (chosen (g.T.Tables.site c.args.tables.now) c.args.canon.now.path)
+    c.in-Ok-within.finished c.args.machine.now c.entered.new.machine c.within.new.machine c.leave.new.self refl c.in-Ok.ensures.begins
+    (subst (λ resource. Makes g.M.Machine.state g.M.Machine.frame g.M.Machine.ran (Within (g.T.Tables.site c.args.tables.now) c.args.room (Tree (g.T.Tables.site c.args.tables.now) c.args.room) resource c.args.kind c.args.canon.now)
+    c.entered.new.machine c.within.new.machine (Some c.in-Ok-within.finished)) c.in-Ok.ensures.resource c.in-Ok-within.ensures.does) c.leave.ensures
 
 pub respond-returns-in-Files-clause-does : goal.respond-returns-in-Files-clause-does
 respond-returns-in-Files-clause-does g t c =
