@@ -34,19 +34,20 @@ pub(crate) fn respond<S: Servlet, F: Filter, L: Listener>(
     alloc: Global,
     live: &mut Live<S, F, L>,
     exchange: &mut Exchange,
-    site: &Site,
+    site: &mut Site,
     canon: &Canon,
     event: Option<&Event>,
     answer: &Answer,
     journal: &mut Journal,
 ) -> Result<(), NoMemory>
-    requires servlets { length live.old.parts.servlets.items ≡ length site.now.app.servlets }
-    requires filters { length live.old.parts.filters.items ≡ length site.now.app.filters }
-    requires listeners { length live.old.parts.listeners.items ≡ length site.now.app.listeners }
+    requires servlets { length live.old.parts.servlets.items ≡ length site.old.app.servlets }
+    requires filters { length live.old.parts.filters.items ≡ length site.old.app.filters }
+    requires listeners { length live.old.parts.listeners.items ≡ length site.old.app.listeners }
     requires whole { journal.old.whole ≡ true }
-    ensures answered { ServedBy S.servlet_step F.filter_step L.listener_step (Answered (site_of site.now) canon.now (option_copied event.entry) answer.now)
+    ensures answered { ServedBy S.servlet_step F.filter_step L.listener_step (Answered (site_of site.old) canon.now (option_copied event.entry) answer.now)
         live.old exchange.old journal.old (seen result) live.new exchange.new journal.new }
     ensures whole { OnOk result (journal.new.whole ≡ true) }
+    ensures site { site.new ≡ site.old }
 {
     let Ok(()) = tell_first(alloc, live, event, journal) else {
         return Err(NoMemory);
@@ -59,18 +60,19 @@ fn answer_by<S: Servlet, F: Filter, L: Listener>(
     alloc: Global,
     live: &mut Live<S, F, L>,
     exchange: &mut Exchange,
-    site: &Site,
+    site: &mut Site,
     canon: &Canon,
     answer: &Answer,
     journal: &mut Journal,
 ) -> Result<(), NoMemory>
-    requires servlets { length live.old.parts.servlets.items ≡ length site.now.app.servlets }
-    requires filters { length live.old.parts.filters.items ≡ length site.now.app.filters }
-    requires listeners { length live.old.parts.listeners.items ≡ length site.now.app.listeners }
+    requires servlets { length live.old.parts.servlets.items ≡ length site.old.app.servlets }
+    requires filters { length live.old.parts.filters.items ≡ length site.old.app.filters }
+    requires listeners { length live.old.parts.listeners.items ≡ length site.old.app.listeners }
     requires whole { journal.old.whole ≡ true }
-    ensures answered { ServedBy S.servlet_step F.filter_step L.listener_step (Answers (site_of site.now) canon.now answer.now)
+    ensures answered { ServedBy S.servlet_step F.filter_step L.listener_step (Answers (site_of site.old) canon.now answer.now)
         live.old exchange.old journal.old (seen result) live.new exchange.new journal.new }
     ensures whole { OnOk result (journal.new.whole ≡ true) }
+    ensures site { site.new ≡ site.old }
 {
     match answer {
         Answer::Entered => request(alloc, live, exchange, site, Kind::Request, canon, journal),
@@ -85,17 +87,18 @@ fn request<S: Servlet, F: Filter, L: Listener>(
     alloc: Global,
     live: &mut Live<S, F, L>,
     exchange: &mut Exchange,
-    site: &Site,
+    site: &mut Site,
     kind: Kind,
     canon: &Canon,
     journal: &mut Journal,
 ) -> Result<(), NoMemory>
-    requires servlets { length live.old.parts.servlets.items ≡ length site.now.app.servlets }
-    requires filters { length live.old.parts.filters.items ≡ length site.now.app.filters }
-    requires listeners { length live.old.parts.listeners.items ≡ length site.now.app.listeners }
-    ensures answered { ServedBy S.servlet_step F.filter_step L.listener_step (Requested (site_of site.now) (Served (site_of site.now) kind canon.now))
+    requires servlets { length live.old.parts.servlets.items ≡ length site.old.app.servlets }
+    requires filters { length live.old.parts.filters.items ≡ length site.old.app.filters }
+    requires listeners { length live.old.parts.listeners.items ≡ length site.old.app.listeners }
+    ensures answered { ServedBy S.servlet_step F.filter_step L.listener_step (Requested (site_of site.old) (Served (site_of site.old) kind canon.now))
         live.old exchange.old journal.old (seen result) live.new exchange.new journal.new }
     ensures whole { OnOk result (journal.new.whole ≡ true) }
+    ensures site { site.new ≡ site.old }
 {
     let Ok(()) = hear(alloc, live, &Event::RequestInitialized, journal) else {
         return Err(NoMemory);
@@ -111,18 +114,19 @@ fn error<S: Servlet, F: Filter, L: Listener>(
     alloc: Global,
     live: &mut Live<S, F, L>,
     exchange: &mut Exchange,
-    site: &Site,
+    site: &mut Site,
     status: u16,
     page: &Option<Canon>,
     journal: &mut Journal,
 ) -> Result<(), NoMemory>
-    requires servlets { length live.old.parts.servlets.items ≡ length site.now.app.servlets }
-    requires filters { length live.old.parts.filters.items ≡ length site.now.app.filters }
-    requires listeners { length live.old.parts.listeners.items ≡ length site.now.app.listeners }
+    requires servlets { length live.old.parts.servlets.items ≡ length site.old.app.servlets }
+    requires filters { length live.old.parts.filters.items ≡ length site.old.app.filters }
+    requires listeners { length live.old.parts.listeners.items ≡ length site.old.app.listeners }
     requires whole { journal.old.whole ≡ true }
-    ensures answered { (canon : CanonData) → ServedBy S.servlet_step F.filter_step L.listener_step (Answers (site_of site.now) canon (Error status page.now))
+    ensures answered { (canon : CanonData) → ServedBy S.servlet_step F.filter_step L.listener_step (Answers (site_of site.old) canon (Error status page.now))
         live.old exchange.old journal.old (seen result) live.new exchange.new journal.new }
     ensures whole { OnOk result (journal.new.whole ≡ true) }
+    ensures site { site.new ≡ site.old }
 {
     match page {
         Some(page) => request_page(alloc, live, exchange, site, status, page, journal),
@@ -135,17 +139,18 @@ fn request_page<S: Servlet, F: Filter, L: Listener>(
     alloc: Global,
     live: &mut Live<S, F, L>,
     exchange: &mut Exchange,
-    site: &Site,
+    site: &mut Site,
     status: u16,
     page: &Canon,
     journal: &mut Journal,
 ) -> Result<(), NoMemory>
-    requires servlets { length live.old.parts.servlets.items ≡ length site.now.app.servlets }
-    requires filters { length live.old.parts.filters.items ≡ length site.now.app.filters }
-    requires listeners { length live.old.parts.listeners.items ≡ length site.now.app.listeners }
-    ensures answered { ServedBy S.servlet_step F.filter_step L.listener_step (Requested (site_of site.now) (ShowsError (site_of site.now) status (Some page.now)))
+    requires servlets { length live.old.parts.servlets.items ≡ length site.old.app.servlets }
+    requires filters { length live.old.parts.filters.items ≡ length site.old.app.filters }
+    requires listeners { length live.old.parts.listeners.items ≡ length site.old.app.listeners }
+    ensures answered { ServedBy S.servlet_step F.filter_step L.listener_step (Requested (site_of site.old) (ShowsError (site_of site.old) status (Some page.now)))
         live.old exchange.old journal.old (seen result) live.new exchange.new journal.new }
     ensures whole { OnOk result (journal.new.whole ≡ true) }
+    ensures site { site.new ≡ site.old }
 {
     let Ok(()) = hear(alloc, live, &Event::RequestInitialized, journal) else {
         return Err(NoMemory);

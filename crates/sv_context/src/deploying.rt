@@ -10,6 +10,7 @@ use crate::context::Context;
 use crate::deployment::{DeployFault, Deployment};
 use crate::limits::{MAX_SESSIONS, SECONDS_OF_MINUTE};
 use std::alloc::Global;
+use sv_chain::Chains;
 use sv_component::{Filter, Listener, Servlet};
 use sv_descriptor::Descriptor;
 use sv_journal::Journal;
@@ -95,7 +96,8 @@ fn start<S: Servlet, F: Filter, L: Listener>(
     match Live::start(alloc, path.as_str(), parts, &descriptor, journal) {
         Ok(live) => {
             let sessions = no_sessions(alloc, &descriptor);
-            let site = Site::new(path, descriptor, files, patterns);
+            let chains = Chains::compile(alloc, &descriptor);
+            let site = Site::new(path, descriptor, files, patterns, chains);
             Ok(Context {
                 site,
                 users,

@@ -59,7 +59,7 @@ impl<S: Servlet, F: Filter, L: Listener> Context<S, F, L> {
     {
         handle_in(
             alloc,
-            &self.site,
+            &mut self.site,
             &self.policy,
             &self.users,
             &mut self.live,
@@ -76,7 +76,7 @@ impl<S: Servlet, F: Filter, L: Listener> Context<S, F, L> {
 // Handles a message in the parts of a context.
 fn handle_in<S: Servlet, F: Filter, L: Listener>(
     alloc: Global,
-    site: &Site,
+    site: &mut Site,
     policy: &Policy,
     users: &Realm,
     live: &mut Live<S, F, L>,
@@ -87,14 +87,15 @@ fn handle_in<S: Servlet, F: Filter, L: Listener>(
     words: (u64, u64),
     journal: &mut Journal,
 ) -> Result<Response, NoMemory>
-    requires below { IsTrue (is_at_or_below site.now.context_path canon.now.path) }
-    requires components { AreComponentsOf site.now live.old }
+    requires below { IsTrue (is_at_or_below site.old.context_path canon.now.path) }
+    requires components { AreComponentsOf site.old live.old }
     ensures handles { Handles S.servlet_step F.filter_step L.listener_step
-        (asked_by message.now (within (context_of site.now policy.now users.now live.old sessions.old) canon.now) moment words)
-        (context_of site.now policy.now users.now live.old sessions.old) journal.old (seen result)
-        (context_of site.now policy.now users.now live.new sessions.new) journal.new }
-    ensures components { AreComponentsOf site.now live.new }
+        (asked_by message.now (within (context_of site.old policy.now users.now live.old sessions.old) canon.now) moment words)
+        (context_of site.old policy.now users.now live.old sessions.old) journal.old (seen result)
+        (context_of site.old policy.now users.now live.new sessions.new) journal.new }
+    ensures components { AreComponentsOf site.old live.new }
     ensures status { IfOk result (λ response. IsStatusCode response.status) }
+    ensures site { site.new ≡ site.old }
 {
     if !journal.whole() {
         return Err(NoMemory);
@@ -134,7 +135,7 @@ fn copied(alloc: Global, text: &Option<Text>) -> Result<Option<Text>, NoMemory>
 // Answers a message that was admitted. The sessions are lent to its exchange, and come back in every case.
 fn answer<S: Servlet, F: Filter, L: Listener>(
     alloc: Global,
-    site: &Site,
+    site: &mut Site,
     live: &mut Live<S, F, L>,
     sessions: &mut Sessions,
     message: &Message,
@@ -144,15 +145,16 @@ fn answer<S: Servlet, F: Filter, L: Listener>(
     admission: Admission,
     journal: &mut Journal,
 ) -> Result<Response, NoMemory>
-    requires components { AreComponentsOf site.now live.old }
+    requires components { AreComponentsOf site.old live.old }
     requires whole { journal.old.whole ≡ true }
     ensures handles { (policy : Standing) (users : List User) (store : Store)
-        → admission ≡ admitted (context_of site.now policy users live.old store) (asked_by message.now canon.now moment words)
-        → sessions.old ≡ (settled_in site.now policy users (asked_by message.now canon.now moment words) store).store
+        → admission ≡ admitted (context_of site.old policy users live.old store) (asked_by message.now canon.now moment words)
+        → sessions.old ≡ (settled_in site.old policy users (asked_by message.now canon.now moment words) store).store
         → Handles S.servlet_step F.filter_step L.listener_step (asked_by message.now canon.now moment words)
-        (context_of site.now policy users live.old store) journal.old (seen result) (context_of site.now policy users live.new sessions.new) journal.new }
-    ensures components { AreComponentsOf site.now live.new }
+        (context_of site.old policy users live.old store) journal.old (seen result) (context_of site.old policy users live.new sessions.new) journal.new }
+    ensures components { AreComponentsOf site.old live.new }
     ensures status { IfOk result (λ response. IsStatusCode response.status) }
+    ensures site { site.new ≡ site.old }
 {
     let Admission {
         entry,
@@ -202,19 +204,20 @@ fn respond_noted<S: Servlet, F: Filter, L: Listener>(
     alloc: Global,
     live: &mut Live<S, F, L>,
     exchange: &mut Exchange,
-    site: &Site,
+    site: &mut Site,
     canon: &Canon,
     entry: Entry,
     event: Option<&Event>,
     answer: &Answer,
     journal: &mut Journal,
 ) -> Result<(), NoMemory>
-    requires components { AreComponentsOf site.now live.old }
+    requires components { AreComponentsOf site.old live.old }
     requires whole { journal.old.whole ≡ true }
-    ensures responds { RespondsNoted S.servlet_step F.filter_step L.listener_step (site_of site.now) canon.now entry (option_copied event.entry) answer.now
+    ensures responds { RespondsNoted S.servlet_step F.filter_step L.listener_step (site_of site.old) canon.now entry (option_copied event.entry) answer.now
         live.old exchange.old journal.old (seen result) live.new exchange.new journal.new }
-    ensures components { AreComponentsOf site.now live.new }
+    ensures components { AreComponentsOf site.old live.new }
     ensures whole { OnOk result (journal.new.whole ≡ true) }
+    ensures site { site.new ≡ site.old }
 {
     journal.note(Ok(entry));
     if !journal.whole() {

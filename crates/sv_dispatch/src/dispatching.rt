@@ -1,10 +1,13 @@
 //! A dispatch: its filters, a servlet's turns or a file, and the dispatches within.
 
-ghost use Rattle.std.specs.Prelude.{◌≡◌, ◌<◌, ℕ, None, suc};
+ghost use Rattle.std.specs.Prelude.{◌≡◌, ◌<◌, ℕ, IfOk, None, OnErr, OnOk, Some, suc};
 ghost use Rattle.sv_component.specs.declared.answers.Step.TheVariants.{Unavailable};
 ghost use Rattle.sv_dispatch.specs.Did.{Did, seen};
 ghost use Rattle.sv_dispatch.specs.Seen.{IsHere};
 ghost use Rattle.sv_tree.specs.declared.resource.Resource.TheVariants.{Files, Servlet};
+ghost use Rattle.sv_tree.specs.Does.{tries};
+ghost use Rattle.sv_tree.specs.State.{on_exchange};
+ghost use Rattle.sv_tree.specs.Site.{begun_by, chosen};
 ghost use Rattle.sv_tree.specs.Tree.{Dispatches, Responds, Serves, Stepped, Tree, Turn, Within, behind_include, is_too_late};
 
 use crate::endings::{away_for, err, error_status, fail, fault, lasting, missing};
@@ -27,25 +30,46 @@ use sv_uri::path::Canon;
 pub(crate) fn dispatch_by<M: Machine, T: Tables>(
     alloc: Global,
     machine: &mut M,
-    tables: &T,
+    tables: &mut T,
     room: usize,
     kind: Kind,
     canon: &Canon,
 ) -> Result<Finished, NoMemory>
-    requires servlets { T.servlets tables.now ≡ (M.frame machine.old).servlets }
-    requires filters { T.filters tables.now ≡ (M.frame machine.old).filters }
-    requires listeners { (T.site tables.now).listeners ≡ (M.frame machine.old).listeners }
-    ensures { Did M.state M.frame M.ran (Tree (T.site tables.now) (suc room) kind canon.now) machine.old machine.new (seen result) }
+    requires servlets { T.servlets tables.old ≡ (M.frame machine.old).servlets }
+    requires filters { T.filters tables.old ≡ (M.frame machine.old).filters }
+    requires listeners { (T.site tables.old).listeners ≡ (M.frame machine.old).listeners }
+    ensures does { Did M.state M.frame M.ran (Tree (T.site tables.old) (suc room) kind canon.now) machine.old machine.new (seen result) }
+    ensures stays { tables.new ≡ tables.old }
+{
+    let Ok(resource) = entered(machine, tables, kind, canon) else {
+        return Err(NoMemory);
+    };
+    let Ok(finished) = within(alloc, machine, tables, room, resource, kind, canon) else {
+        return Err(NoMemory);
+    };
+    machine.leave();
+    Ok(finished)
+}
+
+// The beginning of a dispatch: who answers.
+fn entered<M: Machine, T: Tables>(
+    machine: &mut M,
+    tables: &T,
+    kind: Kind,
+    canon: &Canon,
+) -> Result<Resource, NoMemory>
+    ensures begins { OnOk result (Did M.state M.frame M.ran (tries (on_exchange (begun_by (chosen (T.site tables.now) canon.now.path) kind canon.now)))
+        machine.old machine.new (Some tt)) }
+    ensures lacks { OnErr result (Did M.state M.frame M.ran (tries (on_exchange (begun_by (chosen (T.site tables.now) canon.now.path) kind canon.now)))
+        machine.old machine.new None) }
+    ensures resource { IfOk result (λ resource. resource ≡ (chosen (T.site tables.now) canon.now.path).resource) }
+    ensures there { IfOk result (λ resource. (place : ℕ) → resource ≡ Servlet place → place < T.servlets tables.now) }
 {
     let chosen = tables.choose(canon.path.as_str());
     let Ok(()) = machine.enter(kind, &chosen, canon) else {
         return Err(NoMemory);
     };
-    let Ok(finished) = within(alloc, machine, tables, room, chosen.resource, kind, canon) else {
-        return Err(NoMemory);
-    };
-    machine.leave();
-    Ok(finished)
+    Ok(chosen.resource)
 }
 
 // The filters, and what stands behind them.
@@ -53,20 +77,21 @@ pub(crate) fn dispatch_by<M: Machine, T: Tables>(
 fn within<M: Machine, T: Tables>(
     alloc: Global,
     machine: &mut M,
-    tables: &T,
+    tables: &mut T,
     room: usize,
     resource: Resource,
     kind: Kind,
     canon: &Canon,
 ) -> Result<Finished, NoMemory>
-    requires servlets { T.servlets tables.now ≡ (M.frame machine.old).servlets }
-    requires filters { T.filters tables.now ≡ (M.frame machine.old).filters }
-    requires listeners { (T.site tables.now).listeners ≡ (M.frame machine.old).listeners }
+    requires servlets { T.servlets tables.old ≡ (M.frame machine.old).servlets }
+    requires filters { T.filters tables.old ≡ (M.frame machine.old).filters }
+    requires listeners { (T.site tables.old).listeners ≡ (M.frame machine.old).listeners }
     requires there { (place : ℕ) → resource ≡ Servlet place → place < (M.frame machine.old).servlets }
-    ensures { Did M.state M.frame M.ran (Within (T.site tables.now) room (Tree (T.site tables.now) room) resource kind canon.now)
+    ensures does { Did M.state M.frame M.ran (Within (T.site tables.old) room (Tree (T.site tables.old) room) resource kind canon.now)
         machine.old machine.new (seen result) }
+    ensures stays { tables.new ≡ tables.old }
 {
-    let Ok(chain) = tables.chain(canon.path.as_str(), resource, kind) else {
+    let Ok(chain) = tables.chain(alloc, canon.path.as_str(), resource, kind) else {
         return Err(NoMemory);
     };
     let chain = chain.as_slice();
@@ -97,19 +122,20 @@ fn within<M: Machine, T: Tables>(
 fn respond<M: Machine, T: Tables>(
     alloc: Global,
     machine: &mut M,
-    tables: &T,
+    tables: &mut T,
     room: usize,
     resource: Resource,
     kind: Kind,
     canon: &Canon,
     ended: Option<Finished>,
 ) -> Result<Finished, NoMemory>
-    requires servlets { T.servlets tables.now ≡ (M.frame machine.old).servlets }
-    requires filters { T.filters tables.now ≡ (M.frame machine.old).filters }
-    requires listeners { (T.site tables.now).listeners ≡ (M.frame machine.old).listeners }
+    requires servlets { T.servlets tables.old ≡ (M.frame machine.old).servlets }
+    requires filters { T.filters tables.old ≡ (M.frame machine.old).filters }
+    requires listeners { (T.site tables.old).listeners ≡ (M.frame machine.old).listeners }
     requires there { (place : ℕ) → resource ≡ Servlet place → place < (M.frame machine.old).servlets }
-    ensures { Did M.state M.frame M.ran (Responds (T.site tables.now) room (Tree (T.site tables.now) room) resource kind canon.now ended)
+    ensures does { Did M.state M.frame M.ran (Responds (T.site tables.old) room (Tree (T.site tables.old) room) resource kind canon.now ended)
         machine.old machine.new (seen result) }
+    ensures stays { tables.new ≡ tables.old }
 {
     if let Some(finished) = ended {
         return Ok(finished);
@@ -131,7 +157,7 @@ fn file<M: Machine, T: Tables>(
     ensures { (room : ℕ) → Did M.state M.frame M.ran (Responds (T.site tables.now) room (Tree (T.site tables.now) room) Files kind canon.now None)
         machine.old machine.new (seen result) }
 {
-    let Ok(found) = tables.file(canon, machine.method(), kind) else {
+    let Ok(found) = tables.file(alloc, canon, machine.method(), kind) else {
         return Err(NoMemory);
     };
     filed(alloc, machine, tables, kind, found)
@@ -142,15 +168,16 @@ fn file<M: Machine, T: Tables>(
 fn turns<M: Machine, T: Tables>(
     alloc: Global,
     machine: &mut M,
-    tables: &T,
+    tables: &mut T,
     room: usize,
     place: usize,
 ) -> Result<Finished, NoMemory>
-    requires servlets { T.servlets tables.now ≡ (M.frame machine.old).servlets }
-    requires filters { T.filters tables.now ≡ (M.frame machine.old).filters }
-    requires listeners { (T.site tables.now).listeners ≡ (M.frame machine.old).listeners }
+    requires servlets { T.servlets tables.old ≡ (M.frame machine.old).servlets }
+    requires filters { T.filters tables.old ≡ (M.frame machine.old).filters }
+    requires listeners { (T.site tables.old).listeners ≡ (M.frame machine.old).listeners }
     requires there { place < (M.frame machine.old).servlets }
-    ensures { Did M.state M.frame M.ran (Serves (T.site tables.now) room (Tree (T.site tables.now) room) place) machine.old machine.new (seen result) }
+    ensures does { Did M.state M.frame M.ran (Serves (T.site tables.old) room (Tree (T.site tables.old) room) place) machine.old machine.new (seen result) }
+    ensures stays { tables.new ≡ tables.old }
 {
     let mut number = 0u32;
     loop {
@@ -169,17 +196,18 @@ fn turns<M: Machine, T: Tables>(
 fn turn<M: Machine, T: Tables>(
     alloc: Global,
     machine: &mut M,
-    tables: &T,
+    tables: &mut T,
     room: usize,
     place: usize,
     number: u32,
 ) -> Result<Option<Finished>, NoMemory>
-    requires servlets { T.servlets tables.now ≡ (M.frame machine.old).servlets }
-    requires filters { T.filters tables.now ≡ (M.frame machine.old).filters }
-    requires listeners { (T.site tables.now).listeners ≡ (M.frame machine.old).listeners }
+    requires servlets { T.servlets tables.old ≡ (M.frame machine.old).servlets }
+    requires filters { T.filters tables.old ≡ (M.frame machine.old).filters }
+    requires listeners { (T.site tables.old).listeners ≡ (M.frame machine.old).listeners }
     requires there { place < (M.frame machine.old).servlets }
-    ensures { Did M.state M.frame M.ran (Turn (T.site tables.now) room (Tree (T.site tables.now) room) place number)
+    ensures does { Did M.state M.frame M.ran (Turn (T.site tables.old) room (Tree (T.site tables.old) room) place number)
         machine.old machine.new (seen result) }
+    ensures stays { tables.new ≡ tables.old }
 {
     match machine.standing(place) {
         Standing::Gone => lasting(missing(alloc, machine, tables, Resource::Servlet(place))),
@@ -206,17 +234,18 @@ fn turn<M: Machine, T: Tables>(
 fn stepped<M: Machine, T: Tables>(
     alloc: Global,
     machine: &mut M,
-    tables: &T,
+    tables: &mut T,
     room: usize,
     place: usize,
     step: Step,
 ) -> Result<Option<Finished>, NoMemory>
-    requires servlets { T.servlets tables.now ≡ (M.frame machine.old).servlets }
-    requires filters { T.filters tables.now ≡ (M.frame machine.old).filters }
-    requires listeners { (T.site tables.now).listeners ≡ (M.frame machine.old).listeners }
+    requires servlets { T.servlets tables.old ≡ (M.frame machine.old).servlets }
+    requires filters { T.filters tables.old ≡ (M.frame machine.old).filters }
+    requires listeners { (T.site tables.old).listeners ≡ (M.frame machine.old).listeners }
     requires there { place < (M.frame machine.old).servlets }
     requires here { IsHere place (M.state machine.old) }
-    ensures { Did M.state M.frame M.ran (Stepped (T.site tables.now) room (Tree (T.site tables.now) room) place step) machine.old machine.new (seen result) }
+    ensures does { Did M.state M.frame M.ran (Stepped (T.site tables.old) room (Tree (T.site tables.old) room) place step) machine.old machine.new (seen result) }
+    ensures stays { tables.new ≡ tables.old }
 {
     let servlet = Resource::Servlet(place);
     match step {
@@ -286,17 +315,18 @@ fn unavailable<M: Machine, T: Tables>(
 fn asked_for<M: Machine, T: Tables>(
     alloc: Global,
     machine: &mut M,
-    tables: &T,
+    tables: &mut T,
     room: usize,
     place: usize,
     kind: Kind,
     text: &Text,
 ) -> Result<Finished, NoMemory>
-    requires servlets { T.servlets tables.now ≡ (M.frame machine.old).servlets }
-    requires filters { T.filters tables.now ≡ (M.frame machine.old).filters }
-    requires listeners { (T.site tables.now).listeners ≡ (M.frame machine.old).listeners }
-    ensures { Did M.state M.frame M.ran (Dispatches (T.site tables.now) room (Tree (T.site tables.now) room) place kind text.now)
+    requires servlets { T.servlets tables.old ≡ (M.frame machine.old).servlets }
+    requires filters { T.filters tables.old ≡ (M.frame machine.old).filters }
+    requires listeners { (T.site tables.old).listeners ≡ (M.frame machine.old).listeners }
+    ensures does { Did M.state M.frame M.ran (Dispatches (T.site tables.old) room (Tree (T.site tables.old) room) place kind text.now)
         machine.old machine.new (seen result) }
+    ensures stays { tables.new ≡ tables.old }
 {
     let servlet = Resource::Servlet(place);
     if is_too_late(kind, machine.is_committed()) {

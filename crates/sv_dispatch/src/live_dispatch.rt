@@ -7,7 +7,6 @@ ghost use Rattle.sv_site.specs.Site.{site_of};
 
 use crate::dispatching::dispatch_by;
 use crate::running::Running;
-use crate::site_tables::SiteTables;
 use std::alloc::Global;
 use sv_component::{Exchange, Filter, Listener, Servlet};
 use sv_journal::Journal;
@@ -30,16 +29,17 @@ pub fn dispatch<'a, S: Servlet, F: Filter, L: Listener>(
     alloc: Global,
     live: &'a mut Live<S, F, L>,
     exchange: &'a mut Exchange,
-    site: &Site,
+    site: &mut Site,
     kind: Kind,
     canon: &Canon,
     journal: &'a mut Journal,
 ) -> Result<Finished, NoMemory>
-    requires servlets { length live.old.parts.servlets.items ≡ length site.now.app.servlets }
-    requires filters { length live.old.parts.filters.items ≡ length site.now.app.filters }
-    requires listeners { length live.old.parts.listeners.items ≡ length site.now.app.listeners }
-    ensures { Dispatched S.servlet_step F.filter_step L.listener_step (site_of site.now) kind canon.now
+    requires servlets { length live.old.parts.servlets.items ≡ length site.old.app.servlets }
+    requires filters { length live.old.parts.filters.items ≡ length site.old.app.filters }
+    requires listeners { length live.old.parts.listeners.items ≡ length site.old.app.listeners }
+    ensures does { Dispatched S.servlet_step F.filter_step L.listener_step (site_of site.old) kind canon.now
         live.old exchange.old journal.old (seen result) live.new exchange.new journal.new }
+    ensures site { site.new ≡ site.old }
 {
     let mut machine = Running::over(alloc, live, exchange, journal);
     run(&mut machine, site, kind, canon)
@@ -48,32 +48,22 @@ pub fn dispatch<'a, S: Servlet, F: Filter, L: Listener>(
 // Makes the dispatch.
 fn run<S: Servlet, F: Filter, L: Listener>(
     machine: &mut Running<'_, S, F, L>,
-    site: &Site,
+    site: &mut Site,
     kind: Kind,
     canon: &Canon,
 ) -> Result<Finished, NoMemory>
-    requires servlets { length machine.old.live.now.parts.servlets.items ≡ length site.now.app.servlets }
-    requires filters { length machine.old.live.now.parts.filters.items ≡ length site.now.app.filters }
-    requires listeners { length machine.old.live.now.parts.listeners.items ≡ length site.now.app.listeners }
-    ensures made { Dispatched S.servlet_step F.filter_step L.listener_step (site_of site.now) kind canon.now
+    requires servlets { length machine.old.live.now.parts.servlets.items ≡ length site.old.app.servlets }
+    requires filters { length machine.old.live.now.parts.filters.items ≡ length site.old.app.filters }
+    requires listeners { length machine.old.live.now.parts.listeners.items ≡ length site.old.app.listeners }
+    ensures made { Dispatched S.servlet_step F.filter_step L.listener_step (site_of site.old) kind canon.now
         machine.old.live.now machine.old.exchange.now machine.old.journal.now (seen result)
         machine.new.live.now machine.new.exchange.now machine.new.journal.now }
     ensures live { machine.new.live.ghost_name ≡ machine.old.live.ghost_name }
     ensures exchange { machine.new.exchange.ghost_name ≡ machine.old.exchange.ghost_name }
     ensures journal { machine.new.journal.ghost_name ≡ machine.old.journal.ghost_name }
+    ensures site { site.new ≡ site.old }
 {
-    let tables = SiteTables {
-        alloc: machine.alloc,
-        site,
-    };
-    dispatch_by(
-        machine.alloc,
-        machine,
-        &tables,
-        MAX_NESTING - 1,
-        kind,
-        canon,
-    )
+    dispatch_by(machine.alloc, machine, site, MAX_NESTING - 1, kind, canon)
 }
 
 impl<'a, S, F, L> Running<'a, S, F, L> {

@@ -1,12 +1,14 @@
 //! What a dispatch asks of its context.
 
+use std::alloc::Global;
+use sv_chain::Chain;
 use sv_mapping::Kind;
 use sv_site::{Chosen, FileFound};
 use sv_text::NoMemory;
 use sv_tree::Resource;
 use sv_uri::path::Canon;
 
-/// The tables of a context, which no dispatch changes.
+/// The tables of a context, which no dispatch changes for those that come after it.
 pub(crate) trait Tables {
     ghost use Rattle.std.specs.Prelude.{◌≡◌, ◌<◌, ℕ, IfOk};
     ghost use Rattle.std.specs.List.{All};
@@ -33,13 +35,21 @@ pub(crate) trait Tables {
         ensures { result.now ≡ name_of (site self.now) resource };
 
     /// The filters of a dispatch to who answers, by their places.
-    fn chain(&self, path: &str, resource: Resource, kind: Kind) -> Result<Vec<usize>, NoMemory>
-        ensures is { IfOk result (λ chain. chain.items ≡ (site self.now).chain path.now (name_of (site self.now) resource) kind) }
-        ensures there { IfOk result (λ chain. All (λ place. place < filters self.now) chain.items) };
+    fn chain(
+        &mut self,
+        alloc: Global,
+        path: &str,
+        resource: Resource,
+        kind: Kind,
+    ) -> Result<Chain, NoMemory>
+        ensures is { IfOk result (λ chain. chain ≡ (site self.new).chain path.now (name_of (site self.new) resource) kind) }
+        ensures there { IfOk result (λ chain. All (λ place. place < filters self.new) chain) }
+        ensures stays { self.new ≡ self.old };
 
     /// What the file servlet has for a path.
     fn file<'a>(
         &'a self,
+        alloc: Global,
         canon: &Canon,
         method: &str,
         kind: Kind,

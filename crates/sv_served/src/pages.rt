@@ -38,16 +38,17 @@ pub fn show_error<S: Servlet, F: Filter, L: Listener>(
     alloc: Global,
     live: &mut Live<S, F, L>,
     exchange: &mut Exchange,
-    site: &Site,
+    site: &mut Site,
     status: u16,
     page: Option<&Canon>,
     journal: &mut Journal,
 ) -> Result<(), NoMemory>
-    requires servlets { length live.old.parts.servlets.items ≡ length site.now.app.servlets }
-    requires filters { length live.old.parts.filters.items ≡ length site.now.app.filters }
-    requires listeners { length live.old.parts.listeners.items ≡ length site.now.app.listeners }
-    ensures { ServedBy S.servlet_step F.filter_step L.listener_step (ShowsError (site_of site.now) status (option_copied page.entry))
+    requires servlets { length live.old.parts.servlets.items ≡ length site.old.app.servlets }
+    requires filters { length live.old.parts.filters.items ≡ length site.old.app.filters }
+    requires listeners { length live.old.parts.listeners.items ≡ length site.old.app.listeners }
+    ensures does { ServedBy S.servlet_step F.filter_step L.listener_step (ShowsError (site_of site.old) status (option_copied page.entry))
         live.old exchange.old journal.old (seen result) live.new exchange.new journal.new }
+    ensures site { site.new ≡ site.old }
 {
     let Ok(()) = exchange.keep_error(status, phrase_of(status), None, None) else {
         return Err(NoMemory);
@@ -64,16 +65,17 @@ pub(crate) fn show_kept<S: Servlet, F: Filter, L: Listener>(
     alloc: Global,
     live: &mut Live<S, F, L>,
     exchange: &mut Exchange,
-    site: &Site,
+    site: &mut Site,
     status: u16,
     kind: Option<&str>,
     journal: &mut Journal,
 ) -> Result<(), NoMemory>
-    requires servlets { length live.old.parts.servlets.items ≡ length site.now.app.servlets }
-    requires filters { length live.old.parts.filters.items ≡ length site.now.app.filters }
-    requires listeners { length live.old.parts.listeners.items ≡ length site.now.app.listeners }
-    ensures { ServedBy S.servlet_step F.filter_step L.listener_step (Shows (site_of site.now) status (option_copied kind.entry))
+    requires servlets { length live.old.parts.servlets.items ≡ length site.old.app.servlets }
+    requires filters { length live.old.parts.filters.items ≡ length site.old.app.filters }
+    requires listeners { length live.old.parts.listeners.items ≡ length site.old.app.listeners }
+    ensures does { ServedBy S.servlet_step F.filter_step L.listener_step (Shows (site_of site.old) status (option_copied kind.entry))
         live.old exchange.old journal.old (seen result) live.new exchange.new journal.new }
+    ensures site { site.new ≡ site.old }
 {
     if exchange.committed() {
         return Ok(());
@@ -93,16 +95,17 @@ fn show<S: Servlet, F: Filter, L: Listener>(
     alloc: Global,
     live: &mut Live<S, F, L>,
     exchange: &mut Exchange,
-    site: &Site,
+    site: &mut Site,
     sought: &Sought,
     page: Option<&Canon>,
     journal: &mut Journal,
 ) -> Result<(), NoMemory>
-    requires servlets { length live.old.parts.servlets.items ≡ length site.now.app.servlets }
-    requires filters { length live.old.parts.filters.items ≡ length site.now.app.filters }
-    requires listeners { length live.old.parts.listeners.items ≡ length site.now.app.listeners }
-    ensures { ServedBy S.servlet_step F.filter_step L.listener_step (Pages (site_of site.now) sought.now.status sought.now.field (option_copied page.entry))
+    requires servlets { length live.old.parts.servlets.items ≡ length site.old.app.servlets }
+    requires filters { length live.old.parts.filters.items ≡ length site.old.app.filters }
+    requires listeners { length live.old.parts.listeners.items ≡ length site.old.app.listeners }
+    ensures does { ServedBy S.servlet_step F.filter_step L.listener_step (Pages (site_of site.old) sought.now.status sought.now.field (option_copied page.entry))
         live.old exchange.old journal.old (seen result) live.new exchange.new journal.new }
+    ensures site { site.new ≡ site.old }
 {
     match page {
         Some(page) => show_page(alloc, live, exchange, site, sought, page, journal),
@@ -115,16 +118,17 @@ fn show_page<S: Servlet, F: Filter, L: Listener>(
     alloc: Global,
     live: &mut Live<S, F, L>,
     exchange: &mut Exchange,
-    site: &Site,
+    site: &mut Site,
     sought: &Sought,
     page: &Canon,
     journal: &mut Journal,
 ) -> Result<(), NoMemory>
-    requires servlets { length live.old.parts.servlets.items ≡ length site.now.app.servlets }
-    requires filters { length live.old.parts.filters.items ≡ length site.now.app.filters }
-    requires listeners { length live.old.parts.listeners.items ≡ length site.now.app.listeners }
-    ensures { ServedBy S.servlet_step F.filter_step L.listener_step (Pages (site_of site.now) sought.now.status sought.now.field (Some page.now))
+    requires servlets { length live.old.parts.servlets.items ≡ length site.old.app.servlets }
+    requires filters { length live.old.parts.filters.items ≡ length site.old.app.filters }
+    requires listeners { length live.old.parts.listeners.items ≡ length site.old.app.listeners }
+    ensures does { ServedBy S.servlet_step F.filter_step L.listener_step (Pages (site_of site.old) sought.now.status sought.now.field (Some page.now))
         live.old exchange.old journal.old (seen result) live.new exchange.new journal.new }
+    ensures site { site.new ≡ site.old }
 {
     let Ok(()) = reset(exchange, sought.status, sought.field.as_ref()) else {
         return Err(NoMemory);

@@ -30,16 +30,17 @@ pub fn serve<S: Servlet, F: Filter, L: Listener>(
     alloc: Global,
     live: &mut Live<S, F, L>,
     exchange: &mut Exchange,
-    site: &Site,
+    site: &mut Site,
     kind: Kind,
     canon: &Canon,
     journal: &mut Journal,
 ) -> Result<(), NoMemory>
-    requires servlets { length live.old.parts.servlets.items ≡ length site.now.app.servlets }
-    requires filters { length live.old.parts.filters.items ≡ length site.now.app.filters }
-    requires listeners { length live.old.parts.listeners.items ≡ length site.now.app.listeners }
-    ensures { ServedBy S.servlet_step F.filter_step L.listener_step (Served (site_of site.now) kind canon.now)
+    requires servlets { length live.old.parts.servlets.items ≡ length site.old.app.servlets }
+    requires filters { length live.old.parts.filters.items ≡ length site.old.app.filters }
+    requires listeners { length live.old.parts.listeners.items ≡ length site.old.app.listeners }
+    ensures does { ServedBy S.servlet_step F.filter_step L.listener_step (Served (site_of site.old) kind canon.now)
         live.old exchange.old journal.old (seen result) live.new exchange.new journal.new }
+    ensures site { site.new ≡ site.old }
 {
     let Ok(finished) = dispatch(alloc, live, exchange, site, kind, canon, journal) else {
         return Err(NoMemory);
@@ -52,15 +53,16 @@ fn settle<S: Servlet, F: Filter, L: Listener>(
     alloc: Global,
     live: &mut Live<S, F, L>,
     exchange: &mut Exchange,
-    site: &Site,
+    site: &mut Site,
     finished: &Finished,
     journal: &mut Journal,
 ) -> Result<(), NoMemory>
-    requires servlets { length live.old.parts.servlets.items ≡ length site.now.app.servlets }
-    requires filters { length live.old.parts.filters.items ≡ length site.now.app.filters }
-    requires listeners { length live.old.parts.listeners.items ≡ length site.now.app.listeners }
-    ensures { ServedBy S.servlet_step F.filter_step L.listener_step (Settled (site_of site.now) finished.now)
+    requires servlets { length live.old.parts.servlets.items ≡ length site.old.app.servlets }
+    requires filters { length live.old.parts.filters.items ≡ length site.old.app.filters }
+    requires listeners { length live.old.parts.listeners.items ≡ length site.old.app.listeners }
+    ensures does { ServedBy S.servlet_step F.filter_step L.listener_step (Settled (site_of site.old) finished.now)
         live.old exchange.old journal.old (seen result) live.new exchange.new journal.new }
+    ensures site { site.new ≡ site.old }
 {
     match finished {
         Finished::Done => Ok(()),

@@ -13,10 +13,10 @@ pub returns-in_default-serve-clause-answered : goal.returns-in_default-serve-cla
 returns-in_default-serve-clause-answered g c =
     requested_cut g.S.Servlet.servlet_step g.F.Filter.filter_step g.L.Listener.listener_step (site_of c.args.site.now) (Served (site_of c.args.site.now) c.args.kind c.args.canon.now)
     c.args.live.now c.hear.new.live c.args.exchange.now c.args.journal.now c.hear.new.journal c.requires.listeners (c.in-Ok.ensures.heard c.args.exchange.now)
-    c.serve.new.live c.serve.new.exchange c.serve.new.journal c.in_default-serve.ensures
+    c.serve.new.live c.serve.new.exchange c.serve.new.journal c.in_default-serve.ensures.does
 
 pub returns-clause-answered : goal.returns-clause-answered
 returns-clause-answered g c =
     requested_so g.S.Servlet.servlet_step g.F.Filter.filter_step g.L.Listener.listener_step (site_of c.args.site.now) (Served (site_of c.args.site.now) c.args.kind c.args.canon.now)
     c.args.live.now c.hear.new.live c.args.exchange.now c.args.journal.now c.hear.new.journal c.requires.listeners (c.in-Ok.ensures.heard c.args.exchange.now)
-    c.serve.new.live c.serve.new.exchange c.serve.new.journal c.hear-2.new.live c.hear-2.new.journal (seen c.hear-2.result) c.in-Ok-serve.ensures (c.hear-2.ensures.heard c.serve.new.exchange)
+    c.serve.new.live c.serve.new.exchange c.serve.new.journal c.hear-2.new.live c.hear-2.new.journal (seen c.hear-2.result) c.in-Ok-serve.ensures.does (c.hear-2.ensures.heard c.serve.new.exchange)

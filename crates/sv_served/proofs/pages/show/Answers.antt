@@ -7,8 +7,8 @@ use Rattle.sv_tree.specs.Served.{Pages, Plain}
 use Rattle.sv_served.proofs.ContextDeeds.{by_alone}
 use Rattle.sv_served.proofs.pages.show.Goals as goal
 
-pub returns-in-None : goal.returns-in-None
-returns-in-None g c =
+pub returns-in-None-clause-does : goal.returns-in-None-clause-does
+returns-in-None-clause-does g c =
     subst (λ page. ServedBy g.S.Servlet.servlet_step g.F.Filter.filter_step g.L.Listener.listener_step (Pages (site_of c.args.site.now) c.args.sought.now.status c.args.sought.now.field page)
     c.args.live.now c.args.exchange.now c.args.journal.now (seen c.plain.result) c.args.live.now c.plain.new.exchange c.args.journal.now)
     (sym (ap option_copied c.in-None.is))

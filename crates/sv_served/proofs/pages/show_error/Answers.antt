@@ -10,16 +10,16 @@ use Rattle.sv_served.proofs.pages.show_error.Goals as goal
 abbrev said : ℕ → List ℕ → KeptError
 said its_status its_text = record { status = its_status; text = its_text; servlet = None; field = None }
 
-pub returns-in_default : goal.returns-in_default
-returns-in_default g c =
+pub returns-in_default-clause-does : goal.returns-in_default-clause-does
+returns-in_default-clause-does g c =
     error_not g.S.Servlet.servlet_step g.F.Filter.filter_step g.L.Listener.listener_step (site_of c.args.site.now)
     c.args.live.now c.args.live.now c.args.journal.now c.args.journal.now c.args.status (option_copied c.args.page) (said c.args.status c.phrase_of.result.now)
     c.args.exchange.now c.keep_error.new.self (ap (said c.args.status) c.phrase_of.ensures)
     (keeps_not (said c.args.status c.phrase_of.result.now) c.args.exchange.now c.keep_error.new.self c.in_default.ensures.refused)
 
-pub returns : goal.returns
-returns g c =
+pub returns-clause-does : goal.returns-clause-does
+returns-clause-does g c =
     error_so g.S.Servlet.servlet_step g.F.Filter.filter_step g.L.Listener.listener_step (site_of c.args.site.now)
     c.args.live.now c.show.new.live c.args.journal.now c.show.new.journal c.args.status (option_copied c.args.page) (said c.args.status c.phrase_of.result.now)
     c.args.exchange.now c.keep_error.new.self (ap (said c.args.status) c.phrase_of.ensures) c.show.new.exchange (seen c.show.result)
-    (keeps_so (said c.args.status c.phrase_of.result.now) c.args.exchange.now c.keep_error.new.self c.in-Ok.ensures.kept) c.show.ensures
+    (keeps_so (said c.args.status c.phrase_of.result.now) c.args.exchange.now c.keep_error.new.self c.in-Ok.ensures.kept) c.show.ensures.does

@@ -6,27 +6,27 @@ use Rattle.sv_tree.specs.Served.{kept_field}
 use Rattle.sv_served.proofs.ContextDeeds.{kept_done, kept_lacks, kept_so}
 use Rattle.sv_served.proofs.pages.show_kept.Goals as goal
 
-pub returns-then-committed : goal.returns-then-committed
-returns-then-committed g c =
+pub returns-then-committed-clause-does : goal.returns-then-committed-clause-does
+returns-then-committed-clause-does g c =
     kept_done g.S.Servlet.servlet_step g.F.Filter.filter_step g.L.Listener.listener_step (site_of c.args.site.now)
     c.args.live.now c.args.live.now c.args.journal.now c.args.journal.now c.args.status (option_copied c.args.kind)
     c.args.exchange.now c.args.exchange.now c.committed.result c.committed.ensures c.if-committed.true
 
-pub returns-in_default : goal.returns-in_default
-returns-in_default g c =
+pub returns-in_default-clause-does : goal.returns-in_default-clause-does
+returns-in_default-clause-does g c =
     kept_lacks g.S.Servlet.servlet_step g.F.Filter.filter_step g.L.Listener.listener_step (site_of c.args.site.now)
     c.args.live.now c.args.live.now c.args.journal.now c.args.journal.now c.args.status (option_copied c.args.kind)
     c.args.exchange.now c.args.exchange.now c.committed.result c.committed.ensures c.if-committed.false
 
-pub returns-in_default-kept_field : goal.returns-in_default-kept_field
-returns-in_default-kept_field g c =
+pub returns-in_default-kept_field-clause-does : goal.returns-in_default-kept_field-clause-does
+returns-in_default-kept_field-clause-does g c =
     kept_lacks g.S.Servlet.servlet_step g.F.Filter.filter_step g.L.Listener.listener_step (site_of c.args.site.now)
     c.args.live.now c.args.live.now c.args.journal.now c.args.journal.now c.args.status (option_copied c.args.kind)
     c.args.exchange.now c.args.exchange.now c.committed.result c.committed.ensures c.if-committed.false
 
-pub returns : goal.returns
-returns g c =
+pub returns-clause-does : goal.returns-clause-does
+returns-clause-does g c =
     kept_so g.S.Servlet.servlet_step g.F.Filter.filter_step g.L.Listener.listener_step (site_of c.args.site.now)
     c.args.live.now c.show.new.live c.args.journal.now c.show.new.journal c.args.status (option_copied c.args.kind)
     c.args.exchange.now c.show.new.exchange c.committed.result c.committed.ensures c.in-Ok-kept_field.field (option_copied c.as_ref.result) (seen c.show.result) c.if-committed.false
-    (c.in-Ok-kept_field.ensures ∙ ap kept_field c.kept.ensures) (c.as_ref.ensures.value ∙ c.in-Ok.ensures) c.show.ensures
+    (c.in-Ok-kept_field.ensures ∙ ap kept_field c.kept.ensures) (c.as_ref.ensures.value ∙ c.in-Ok.ensures) c.show.ensures.does
