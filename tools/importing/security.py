@@ -3,6 +3,7 @@ from __future__ import annotations
 
 from .components import is_pattern_told
 from .elements import shortened
+from .gaps import tell_readings
 from .limits import MAX_METHOD_BYTES, MAX_NAME_BYTES, MAX_PATTERNS_OF_CONSTRAINT, is_location, is_method, is_name
 from .told import Told
 from .tree import Element
@@ -35,6 +36,7 @@ def constraints(root: Element, told: Told) -> list[Table]:
             element.line,
             f"constraint {number} has more than {MAX_PATTERNS_OF_CONSTRAINT} patterns: those that are too many stand as constraint {len(tables)}",
         )
+    tell_readings(root, tables, told)
     return tables
 
 
@@ -47,7 +49,7 @@ def _collections(element: Element, told: Told) -> list[Table]:
 
 def _collection(element: Element, told: Told) -> Table | None:
     """The table of a collection, `None` where it covers nothing."""
-    texts = [child.text for child in element.all("url-pattern") if _is_constraint_pattern(child, told)]
+    texts = [child.text for child in element.all("url-pattern") if is_pattern_told(child, told)]
     patterns = list(dict.fromkeys(texts))
     methods = _methods(element, told)
     if element.first("url-pattern") is None:
@@ -57,12 +59,6 @@ def _collection(element: Element, told: Told) -> Table | None:
     name = element.text_of("web-resource-name")
     named: Table = {"web-resource-name": " ".join(name.split())} if name else {}
     return {**named, "url-pattern": list(patterns), **methods, **words(element)}
-
-
-def _is_constraint_pattern(pattern: Element, told: Told) -> bool:
-    if pattern.text == "/":
-        told.tell(pattern.line, 'url-pattern "/" of a constraint is the default pattern for the path /, too; Tomcat takes it for an exact one there')
-    return is_pattern_told(pattern, told)
 
 
 def _methods(element: Element, told: Told) -> Table | None:
