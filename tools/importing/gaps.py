@@ -2,6 +2,7 @@
 on from a prefix whose constraints leave the method uncovered. By the specification the best pattern alone counts (Jakarta Servlet 6.0, section 13.8.3)."""
 from __future__ import annotations
 
+import re
 from typing import Iterator, NamedTuple
 
 from .elements import shortened
@@ -30,6 +31,8 @@ class Methods(NamedTuple):
         return f"all methods but {names}" if self.is_all_but else names
 
 
+# An extension pattern by which a path is found: an extension is not empty in Tomcat, and has no dot.
+_EXTENSION = re.compile(r"\*\.[^.]+")
 ALL = Methods(frozenset(), True)
 
 
@@ -41,7 +44,9 @@ def tell_readings(root: Element, constraints: list[Table], told: Told) -> None:
     uncovered = _uncovered(constraints)
     if "/" in uncovered and ("/*" in uncovered or "" in uncovered):
         told.tell(lines["/"], 'url-pattern "/" of a constraint stands behind all others for the path /, too; Tomcat takes it for an exact one there')
-    lesser = [pattern for pattern in uncovered if pattern == "/" or pattern.startswith("*.")]
+    if "*." in uncovered:
+        told.tell(lines["*."], 'url-pattern "*." of a constraint is for paths that end in a dot; Tomcat matches nothing by it')
+    lesser = [pattern for pattern in uncovered if pattern == "/" or _EXTENSION.fullmatch(pattern)]
     for pattern, methods in uncovered.items():
         if lesser and pattern.endswith("/*") and (methods.is_all_but or methods.names) and root.first("deny-uncovered-http-methods") is None:
             told.tell(

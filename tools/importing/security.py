@@ -65,7 +65,7 @@ def _methods(element: Element, told: Told) -> Table | None:
     """The methods of a collection, `None` where it covers no method. Without a list it covers all."""
     listed, omitted = list(element.all("http-method")), list(element.all("http-method-omission"))
     if listed and omitted:
-        told.tell(omitted[0].line, "a collection has one list of methods: http-method-omission is not read; Tomcat does not read it either")
+        told.tell(omitted[0].line, "a collection has one list of methods: http-method-omission is not read; Tomcat does not start such an application")
     key = "http-method" if listed else "http-method-omission"
     methods = [child.text for child in listed or omitted if _is_method_told(child, told)]
     if listed and not methods:
