@@ -91,7 +91,7 @@ def _errors(element: Element, told: Told) -> Table | None:
         told.tell(kind.line, "an error page is for a code or for a type: exception-type is not read")
     if code is not None:
         number = whole(code)
-        if number in ERROR_CODES:
+        if number is not None and number in ERROR_CODES:
             return {"error-code": number}
         told.tell(code.line, f"error-code {shortened(code.text)} is no status of an error from 400 to 599: the page is not read")
         return None

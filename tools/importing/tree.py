@@ -114,5 +114,7 @@ def read(text: bytes, told: Told) -> Document:
         builder.parser.Parse(text, True)
     except expat.ExpatError as error:
         raise told.fault(error.lineno, f"no XML: {expat.errors.messages[error.code]}") from error
+    except (LookupError, ValueError) as error:
+        raise told.fault(1, f"its encoding cannot be read: {error}") from error
     assert builder.root is not None  # A document without a root is no XML.
     return Document(builder.root, builder.public_id, builder.doctype_line)
