@@ -29,10 +29,11 @@ _FRAGMENT = "META-INF/web-fragment.xml"
 
 @dataclasses.dataclass
 class Descriptor:
-    """The tables of a descriptor, in the order of its format."""
+    """The tables of a descriptor, in the order of its format, and whether nothing beside the file was to be read."""
 
     top: Table
     tables: list[tuple[str, Table]]
+    is_complete: bool
 
     def text(self) -> str:
         """The descriptor's TOML."""
@@ -48,7 +49,7 @@ def read(text: bytes, told: Told) -> Descriptor:
     tell_what_is_not_taken(document.root, told)
     root = taken(document.root)
     _tell_encoding(root, told)
-    descriptor = Descriptor(_top(root, told), _tables(root, told))
+    descriptor = Descriptor(_top(root, told), _tables(root, told), _is_complete(root))
     _check_lists(descriptor, told)
     return descriptor
 

@@ -9,6 +9,8 @@ from .told import Told
 
 # The most elements that may stand within one another: descriptors have six levels.
 DEEPEST = 64
+# The blanks of XML.
+BLANKS = " \t\r\n"
 
 
 @dataclasses.dataclass
@@ -25,7 +27,7 @@ class Element:
     @property
     def text(self) -> str:
         """The text of the element itself, without blanks at either end."""
-        return "".join(self.pieces).strip()
+        return "".join(self.pieces).strip(BLANKS)
 
     def all(self, name: str) -> Iterator[Element]:
         """The children of a name, in their order."""

@@ -3,7 +3,7 @@ from __future__ import annotations
 
 from .elements import shortened
 from .toml import Value
-from .told import Told
+from .told import Told, on_one_line
 from .tree import Element
 
 Table = dict[str, Value]
@@ -11,10 +11,10 @@ Table = dict[str, Value]
 
 def words(element: Element) -> Table:
     """The words for people of an element, which a descriptor of this program may have in every table. Those of parameters stand beside them."""
-    descriptions = [_on_one_line(text) for text in element.texts("description")]
+    descriptions = [on_one_line(text) for text in element.texts("description")]
     for param in element.all("init-param"):
-        descriptions += [f"{param.text_of('param-name')}: {_on_one_line(text)}" for text in param.texts("description")]
-    names = [_on_one_line(text) for text in element.texts("display-name")]
+        descriptions += [f"{param.text_of('param-name')}: {on_one_line(text)}" for text in param.texts("description")]
+    names = [on_one_line(text) for text in element.texts("display-name")]
     kept = {"description": descriptions, "display-name": names}
     return {key: texts[0] if len(texts) == 1 else list(texts) for key, texts in kept.items() if texts}
 
@@ -50,7 +50,3 @@ def init_params(element: Element, told: Told) -> Table:
         else:
             params[name] = param.text_of("param-value")
     return {"init-param": params} if params else {}
-
-
-def _on_one_line(text: str) -> str:
-    return " ".join(text.split())
