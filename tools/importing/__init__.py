@@ -1,0 +1,1 @@
+"""Reads what other servlet containers are configured by, and writes it in this program's formats."""

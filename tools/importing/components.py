@@ -1,0 +1,234 @@
+"""Servlets, filters and listeners, and what they are mapped to."""
+from __future__ import annotations
+
+from .elements import shortened
+from .limits import FILTER_CLASSES, LISTENER_CLASSES, MAX_NAME_BYTES, MAX_PATTERN_BYTES, SERVLET_CLASSES, is_name, is_pattern, size
+from .told import Told
+from .tree import Element
+from .words import Table, init_params, truth, whole, words
+
+FILE_SERVLET = "default"
+EVERY_SERVLET = "*"
+# What a class that is not in this program stands as.
+ANY_SERVLET = "Paths"
+ANY_FILTER = "Mark"
+ANY_LISTENER = "Log"
+# The servlet that answers 404.
+NO_SERVLET = "Gone"
+
+_DISPATCHERS = ("REQUEST", "FORWARD", "INCLUDE", "ERROR")
+
+
+class Names:
+    """The components of one kind: under which name each one of the file stands in the descriptor."""
+
+    def __init__(self, kind: str, root: Element) -> None:
+        self.kind = kind
+        self._given = {element.text_of(f"{kind}-name") for element in root.all(kind)}
+        self._written: dict[str, str] = {}
+
+    def declare(self, element: Element, told: Told) -> str | None:
+        """The name for a component that is declared, `None` where it cannot be declared."""
+        name = element.text_of(f"{self.kind}-name")
+        if not name:
+            told.tell(element.line, f"a {self.kind} without a name is not read")
+        elif name in self._written:
+            told.tell(element.line, f"{self.kind} {shortened(name)} is declared once more: the first one counts")
+        elif self.kind == "servlet" and name == FILE_SERVLET:
+            told.tell(element.line, "servlet default is the file servlet of this program: what is declared under its name is not read")
+        else:
+            self._written[name] = self._name_for(element, name, told)
+            return self._written[name]
+        return None
+
+    def find(self, name: str) -> str | None:
+        """The name under which a component stands, `None` where none of its name is declared."""
+        return self._written.get(name)
+
+    def _name_for(self, element: Element, name: str, told: Told) -> str:
+        if is_name(name) and not (self.kind == "servlet" and name == EVERY_SERVLET):
+            return name
+        written = f"{self.kind}-{len(self._written) + 1}"
+        while written in self._given:
+            written += "-"
+        why = f"has more than {MAX_NAME_BYTES} bytes" if name != EVERY_SERVLET else "stands for every servlet"
+        told.tell(element.line, f"the {self.kind}'s name {shortened(name)} {why}: it stands as {written}")
+        return written
+
+
+def servlets(root: Element, names: Names, told: Told) -> list[Table]:
+    """The tables of the servlets."""
+    tables: list[Table] = []
+    for element in root.all("servlet"):
+        name = names.declare(element, told)
+        if name is not None:
+            class_name = _servlet_class(element, told)
+            order = _load_on_startup(element, told)
+            tables.append({"servlet-name": name, "servlet-class": class_name, **order, **init_params(element, told), **words(element)})
+            _tell_async(element, told)
+    return tables
+
+
+def _servlet_class(element: Element, told: Told) -> str:
+    name = element.text_of("servlet-name")
+    page, class_element = element.first("jsp-file"), element.first("servlet-class")
+    if not truth(element, "enabled", True, told):
+        told.tell(element.line, f"servlet {shortened(name)} is not enabled: stands as {NO_SERVLET}, which answers 404")
+        return NO_SERVLET
+    if page is not None and class_element is not None:
+        told.tell(page.line, f"servlet {shortened(name)} has a class, too: jsp-file {page.text} is not read")
+    elif page is not None:
+        told.tell(page.line, f"jsp-file {page.text} is not run by this program: stands as {ANY_SERVLET}")
+        return ANY_SERVLET
+    return _class_of(element, "servlet", SERVLET_CLASSES, ANY_SERVLET, told)
+
+
+def _class_of(element: Element, kind: str, known: frozenset[str], stand_in: str, told: Told) -> str:
+    """The class of a component, or what stands for one that this program does not have."""
+    class_element = element.first(f"{kind}-class")
+    if class_element is None or not class_element.text:
+        told.tell(element.line, f"a {kind} without a class stands as {stand_in}")
+        return stand_in
+    if class_element.text in known:
+        return class_element.text
+    told.tell(class_element.line, f"class {class_element.text} is not in this program: stands as {stand_in}")
+    return stand_in
+
+
+def _load_on_startup(element: Element, told: Told) -> Table:
+    order = element.first("load-on-startup")
+    if order is None:
+        return {}
+    number = whole(order)
+    if number is not None and -(2**31) <= number < 2**31:
+        return {"load-on-startup": number}
+    if order.text:
+        told.tell(order.line, f"load-on-startup {shortened(order.text)} is no number of 32 bits: the servlet asks for no place in the order of starts")
+    else:
+        told.tell(order.line, "load-on-startup is empty: the servlet asks for no place in the order of starts")
+    return {}
+
+
+def _tell_async(element: Element, told: Told) -> None:
+    supported = element.first("async-supported")
+    if supported is not None and truth(element, "async-supported", False, told):
+        told.tell(supported.line, "async-supported: no request goes on behind the call of its servlet")
+
+
+def servlet_mappings(root: Element, names: Names, told: Told) -> list[Table]:
+    """The tables of the servlet mappings. A pattern stands for one servlet alone."""
+    tables: list[Table] = []
+    owners: dict[str, str] = {}
+    for element in root.all("servlet-mapping"):
+        name = element.text_of("servlet-name")
+        written = names.find(name)
+        if name == FILE_SERVLET:
+            _tell_patterns_of_files(element, told)
+        elif written is None:
+            told.tell(element.line, f"no servlet {shortened(name)} is declared: its mapping is not read")
+        else:
+            patterns = [it.text for it in element.all("url-pattern") if _is_free(it, name, owners, told)]
+            if patterns:
+                tables.append({"servlet-name": written, "url-pattern": list(patterns)})
+            elif element.first("url-pattern") is None:
+                told.tell(element.line, f"a mapping of servlet {shortened(name)} without a pattern is not read")
+    return tables
+
+
+def _tell_patterns_of_files(element: Element, told: Told) -> None:
+    """Tells the patterns of the file servlet, but for the one at which it stands by itself."""
+    for pattern in element.all("url-pattern"):
+        if pattern.text != "/":
+            told.tell(pattern.line, f"the file servlet takes no pattern: {shortened(pattern.text)} goes to the servlet whose pattern is the next best")
+
+
+def _is_free(pattern: Element, name: str, owners: dict[str, str], told: Told) -> bool:
+    """Whether a pattern can be given to a servlet; then it is its."""
+    if not is_pattern_told(pattern, told):
+        return False
+    owner = owners.setdefault(pattern.text, "")
+    if owner:
+        told.tell(pattern.line, f"url-pattern {shortened(pattern.text)} stands for servlet {shortened(owner)} already: the first mapping counts")
+        return False
+    owners[pattern.text] = name
+    return True
+
+
+def is_pattern_told(pattern: Element, told: Told) -> bool:
+    """Whether an element's text is a pattern; tells those that are none, and those that Tomcat reads otherwise."""
+    if size(pattern.text) > MAX_PATTERN_BYTES:
+        told.tell(pattern.line, f"url-pattern {shortened(pattern.text)} has more than {MAX_PATTERN_BYTES} bytes, and is not read")
+        return False
+    if not is_pattern(pattern.text):
+        told.tell(pattern.line, f"url-pattern {shortened(pattern.text)} is no pattern, and is not read; Tomcat does not start such an application")
+        return False
+    if "%" in pattern.text:
+        told.tell(pattern.line, f"url-pattern {shortened(pattern.text)} is compared as it is written; Tomcat decodes it first")
+    return True
+
+
+def filters(root: Element, names: Names, told: Told) -> list[Table]:
+    """The tables of the filters."""
+    tables: list[Table] = []
+    for element in root.all("filter"):
+        name = names.declare(element, told)
+        if name is not None:
+            class_name = _class_of(element, "filter", FILTER_CLASSES, ANY_FILTER, told)
+            tables.append({"filter-name": name, "filter-class": class_name, **init_params(element, told), **words(element)})
+            _tell_async(element, told)
+    return tables
+
+
+def filter_mappings(root: Element, filter_names: Names, servlet_names: Names, told: Told) -> list[Table]:
+    """The tables of the filter mappings."""
+    tables: list[Table] = []
+    for element in root.all("filter-mapping"):
+        name = element.text_of("filter-name")
+        written = filter_names.find(name)
+        if written is None:
+            told.tell(element.line, f"no filter {shortened(name)} is declared: its mapping is not read")
+            continue
+        patterns = [it.text for it in element.all("url-pattern") if is_pattern_told(it, told)]
+        servlet_list = _servlets_of(element, servlet_names, told)
+        dispatchers = _dispatchers(element, told)
+        if not patterns and not servlet_list:
+            told.tell(element.line, f"a mapping of filter {shortened(name)} to nothing is not read")
+        elif dispatchers is not None:
+            lists = {"url-pattern": patterns, "servlet-name": servlet_list, "dispatcher": dispatchers}
+            tables.append({"filter-name": written, **{key: list(texts) for key, texts in lists.items() if texts}})
+    return tables
+
+
+def _servlets_of(element: Element, names: Names, told: Told) -> list[str]:
+    found: list[str] = []
+    for child in element.all("servlet-name"):
+        written = child.text if child.text in (FILE_SERVLET, EVERY_SERVLET) else names.find(child.text)
+        if written is None:
+            told.tell(child.line, f"no servlet {shortened(child.text)} is declared: the filter is not mapped to it")
+        else:
+            found.append(written)
+    return found
+
+
+def _dispatchers(element: Element, told: Told) -> list[str] | None:
+    """The dispatches of a filter mapping, `None` where it is for none that there is."""
+    found: list[str] = []
+    for child in element.all("dispatcher"):
+        if child.text in _DISPATCHERS:
+            found += [child.text] if child.text not in found else []
+        elif child.text == "ASYNC":
+            told.tell(child.line, "dispatcher ASYNC: there are no asynchronous dispatches")
+        else:
+            told.tell(child.line, f"dispatcher {shortened(child.text)} is none, and is not read")
+    if found or element.first("dispatcher") is None:
+        return found
+    told.tell(element.line, "a filter mapping for no dispatch that there is, is not read")
+    return None
+
+
+def listeners(root: Element, told: Told) -> list[Table]:
+    """The tables of the listeners."""
+    return [
+        {"listener-class": _class_of(element, "listener", LISTENER_CLASSES, ANY_LISTENER, told), **words(element)}
+        for element in root.all("listener")
+    ]

@@ -1,0 +1,159 @@
+"""A whole web.xml as a descriptor of this program."""
+from __future__ import annotations
+
+import dataclasses
+import zipfile
+from pathlib import Path
+
+from . import components, pages, security, toml, tree
+from .elements import shortened, taken, tell_what_is_not_taken
+from .limits import MAX_LIST_ITEMS
+from .toml import Value
+from .told import Told
+from .tree import Document, Element
+from .words import Table, words
+
+_NAMESPACES = frozenset(
+    [
+        "",
+        "http://java.sun.com/xml/ns/j2ee",
+        "http://java.sun.com/xml/ns/javaee",
+        "http://xmlns.jcp.org/xml/ns/javaee",
+        "https://jakarta.ee/xml/ns/jakartaee",
+    ]
+)
+_VERSIONS = ("2.4", "2.5", "3.0", "3.1", "4.0", "5.0", "6.0", "6.1")
+_PUBLIC_IDS = ("-//Sun Microsystems, Inc.//DTD Web Application 2.2//EN", "-//Sun Microsystems, Inc.//DTD Web Application 2.3//EN")
+_FRAGMENT = "META-INF/web-fragment.xml"
+
+
+@dataclasses.dataclass
+class Descriptor:
+    """The tables of a descriptor, in the order of its format, and whether nothing beside the file was to be read."""
+
+    top: Table
+    tables: list[tuple[str, Table]]
+    is_complete: bool
+
+    def text(self) -> str:
+        """The descriptor's TOML."""
+        top = "".join(toml.pair(key, value) for key, value in self.top.items())
+        texts = [top] if top else []
+        return "\n".join(texts + [toml.table(header, table) for header, table in self.tables])
+
+
+def read(text: bytes, told: Told) -> Descriptor:
+    """Reads the text of a web.xml, and tells what has no place in a descriptor. What is no web.xml is a `Fault`."""
+    document = tree.read(text, told)
+    _check_root(document, told)
+    tell_what_is_not_taken(document.root, told)
+    root = taken(document.root)
+    _tell_encoding(root, told)
+    descriptor = Descriptor(_top(root, told), _tables(root, told), _is_complete(root))
+    _check_lists(descriptor, told)
+    return descriptor
+
+
+def _check_root(document: Document, told: Told) -> None:
+    root = document.root
+    if root.name != "web-app":
+        raise told.fault(root.line, f"{root.name} is no web-app")
+    if root.namespace not in _NAMESPACES:
+        told.tell(root.line, f"the namespace {root.namespace} is none of web.xml: its elements are read as if it were")
+    version = root.attributes.get("version", "")
+    if version and version not in _VERSIONS:
+        told.tell(root.line, f"version {shortened(version)} is none from 2.4 to 6.1: it is read as if it were 6.1")
+    if document.doctype_line and document.public_id not in _PUBLIC_IDS:
+        told.tell(document.doctype_line, "the DOCTYPE is none of Servlet 2.2 and 2.3: what it declares is not read")
+
+
+def _is_complete(root: Element) -> bool:
+    return root.attributes.get("metadata-complete", "").strip() in ("true", "1")
+
+
+def _top(root: Element, told: Told) -> Table:
+    deny = root.first("deny-uncovered-http-methods")
+    top: Table = {} if deny is None else {"deny-uncovered-http-methods": True}
+    if deny is not None and deny.text:
+        told.tell(deny.line, f"deny-uncovered-http-methods holds no value: {shortened(deny.text)} changes nothing, it is set")
+    if not _is_complete(root):
+        told.tell(root.line, "metadata-complete is not true: what annotations of classes and web-fragment.xml files would add is not read")
+    return {**top, **words(root)}
+
+
+def _tell_encoding(root: Element, told: Told) -> None:
+    encoding = root.first("request-character-encoding")
+    if encoding is not None and encoding.text.upper() != "UTF-8":
+        told.tell(encoding.line, f"request-character-encoding {shortened(encoding.text)}: parameters are read as UTF-8")
+
+
+def _tables(root: Element, told: Told) -> list[tuple[str, Table]]:
+    servlet_names = components.Names("servlet", root)
+    filter_names = components.Names("filter", root)
+    lists = {
+        "servlet": components.servlets(root, servlet_names, told),
+        "servlet-mapping": components.servlet_mappings(root, servlet_names, told),
+        "filter": components.filters(root, filter_names, told),
+        "filter-mapping": components.filter_mappings(root, filter_names, servlet_names, told),
+        "listener": components.listeners(root, told),
+    }
+    singles = {"session-config": pages.session_config(root, told), "welcome-file-list": pages.welcome_files(root, told)}
+    later = {
+        "error-page": pages.error_pages(root, told),
+        "security-constraint": security.constraints(root, told),
+        "security-role": security.roles(root, told),
+    }
+    login = {"login-config": security.login_config(root, told)}
+    return _rows(lists) + _tables_of(singles) + _rows(later) + _tables_of(login)
+
+
+def _rows(lists: dict[str, list[Table]]) -> list[tuple[str, Table]]:
+    return [(f"[[{name}]]", table) for name, tables in lists.items() for table in tables]
+
+
+def _tables_of(singles: dict[str, Table | None]) -> list[tuple[str, Table]]:
+    return [(f"[{name}]", table) for name, table in singles.items() if table is not None]
+
+
+def _check_lists(descriptor: Descriptor, told: Told) -> None:
+    """Sees that no list is longer than the format allows: one that is cut would be another configuration."""
+    headers = [header for header, _ in descriptor.tables]
+    for header in dict.fromkeys(headers):
+        _check_length(header.strip("[]"), headers.count(header), told)
+    for _, table in descriptor.tables:
+        _check_inner_lists(table, told)
+
+
+def _check_inner_lists(table: Table, told: Told) -> None:
+    for key, value in table.items():
+        items: list[Value] = value if isinstance(value, list) else [value]
+        if key not in ("description", "display-name", "init-param"):
+            _check_length(key, len(items), told)
+            for item in items:
+                if isinstance(item, dict):
+                    _check_inner_lists(item, told)
+
+
+def _check_length(key: str, length: int, told: Told) -> None:
+    if length > MAX_LIST_ITEMS:
+        raise told.fault(1, f"{length} of {key} are more than {MAX_LIST_ITEMS}, which a descriptor may have")
+
+
+def fragments(web_xml: Path) -> list[str]:
+    """The libraries beside a web.xml that have a fragment."""
+    return [path.name for path in sorted(web_xml.parent.glob("lib/*.jar")) if _has_fragment(path)]
+
+
+def _has_fragment(path: Path) -> bool:
+    try:
+        with zipfile.ZipFile(path) as library:
+            return _FRAGMENT in library.namelist()
+    except (OSError, zipfile.BadZipFile):
+        return False
+
+
+def server_text(seed: str, context: str, users: str) -> str:
+    """The server file for a descriptor `web.toml`, at a port that is free when it is served."""
+    server: dict[str, Value] = {"port": 0, "seed": seed}
+    table: dict[str, Value] = {"path": context, "descriptor": "web.toml", "files": "", **({"users": users} if users else {})}
+    return "".join(toml.pair(key, value) for key, value in server.items()) + "\n" + toml.table("[[context]]", table)

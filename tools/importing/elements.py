@@ -1,0 +1,192 @@
+"""The elements of web.xml, Servlet 2.3 to 6.1: which are taken, and what is said of the others."""
+from __future__ import annotations
+
+import dataclasses
+import enum
+from typing import Union
+
+from .told import Told
+from .tree import Element
+
+
+class Taken(enum.Enum):
+    """How often an element that is read may stand in its parent."""
+
+    ONE = "once"
+    MANY = "any number of times"
+
+
+@dataclasses.dataclass(frozen=True)
+class Says:
+    """An element that has no place here: what that means, and which of its children has its name."""
+
+    meaning: str
+    named_by: str = ""
+
+
+Content = dict[str, Union[Taken, Says]]
+ONE, MANY = Taken.ONE, Taken.MANY
+
+_WORDS: Content = {"description": MANY, "display-name": MANY, "icon": Says("no icon is shown")}
+_NO_JSP = "JSP is not run by this program"
+_NO_NAMES = "nothing is looked up by name here"
+_NO_CALLBACKS = "no such method is called here"
+
+# What stands in each element that is read. An element that is no key here has a text alone.
+CONTENT: dict[str, Content] = {
+    "web-app": {
+        **_WORDS,
+        "servlet": MANY,
+        "servlet-mapping": MANY,
+        "filter": MANY,
+        "filter-mapping": MANY,
+        "listener": MANY,
+        "session-config": ONE,
+        "welcome-file-list": MANY,
+        "error-page": MANY,
+        "security-constraint": MANY,
+        "security-role": MANY,
+        "login-config": ONE,
+        "deny-uncovered-http-methods": ONE,
+        "request-character-encoding": ONE,
+        "response-character-encoding": Says("components of this program say themselves what type their answer has"),
+        "distributable": Says("sessions stay in the memory of one process"),
+        "context-param": Says("no component of this program reads the parameters of a context", "param-name"),
+        "mime-mapping": Says("a file has the type that this program gives to its extension", "extension"),
+        "default-context-path": Says("the context stands at the path that --context gives"),
+        "absolute-ordering": Says("no fragment is read, so none is put in order"),
+        "module-name": Says("an application has no name here"),
+        "locale-encoding-mapping-list": Says("no locale chooses the encoding of an answer"),
+        "jsp-config": Says(_NO_JSP),
+        "taglib": Says(_NO_JSP, "taglib-uri"),
+        "env-entry": Says(_NO_NAMES, "env-entry-name"),
+        "ejb-ref": Says(_NO_NAMES, "ejb-ref-name"),
+        "ejb-local-ref": Says(_NO_NAMES, "ejb-ref-name"),
+        "service-ref": Says(_NO_NAMES, "service-ref-name"),
+        "resource-ref": Says(_NO_NAMES, "res-ref-name"),
+        "resource-env-ref": Says(_NO_NAMES, "resource-env-ref-name"),
+        "message-destination-ref": Says(_NO_NAMES, "message-destination-ref-name"),
+        "message-destination": Says(_NO_NAMES, "message-destination-name"),
+        "persistence-context-ref": Says(_NO_NAMES, "persistence-context-ref-name"),
+        "persistence-unit-ref": Says(_NO_NAMES, "persistence-unit-ref-name"),
+        "data-source": Says(_NO_NAMES, "name"),
+        "jms-connection-factory": Says(_NO_NAMES, "name"),
+        "jms-destination": Says(_NO_NAMES, "name"),
+        "mail-session": Says(_NO_NAMES, "name"),
+        "connection-factory": Says(_NO_NAMES, "name"),
+        "administered-object": Says(_NO_NAMES, "name"),
+        "context-service": Says(_NO_NAMES, "name"),
+        "managed-executor": Says(_NO_NAMES, "name"),
+        "managed-scheduled-executor": Says(_NO_NAMES, "name"),
+        "managed-thread-factory": Says(_NO_NAMES, "name"),
+        "post-construct": Says(_NO_CALLBACKS, "lifecycle-callback-method"),
+        "pre-destroy": Says(_NO_CALLBACKS, "lifecycle-callback-method"),
+    },
+    "servlet": {
+        **_WORDS,
+        "servlet-name": ONE,
+        "servlet-class": ONE,
+        "jsp-file": ONE,
+        "init-param": MANY,
+        "load-on-startup": ONE,
+        "enabled": ONE,
+        "async-supported": ONE,
+        "run-as": Says("what a servlet calls has no caller of its own here", "role-name"),
+        "security-role-ref": Says("no component of this program asks for roles by another name", "role-name"),
+        "multipart-config": Says("a body of several parts comes to the servlet as it is, within the limits of this program"),
+    },
+    "servlet-mapping": {"servlet-name": ONE, "url-pattern": MANY},
+    "filter": {**_WORDS, "filter-name": ONE, "filter-class": ONE, "init-param": MANY, "async-supported": ONE},
+    "filter-mapping": {"filter-name": ONE, "url-pattern": MANY, "servlet-name": MANY, "dispatcher": MANY},
+    "init-param": {"description": MANY, "param-name": ONE, "param-value": ONE},
+    "listener": {**_WORDS, "listener-class": ONE},
+    "session-config": {"session-timeout": ONE, "cookie-config": ONE, "tracking-mode": MANY},
+    "cookie-config": {
+        "name": ONE,
+        "domain": Says("the cookie of a session names no domain"),
+        "path": Says("the cookie of a session has the path of its context"),
+        "comment": Says("the cookie of a session has no comment"),
+        "http-only": ONE,
+        "secure": ONE,
+        "max-age": ONE,
+        "attribute": Says("the cookie of a session has no further attribute", "attribute-name"),
+    },
+    "welcome-file-list": {"welcome-file": MANY},
+    "error-page": {"error-code": ONE, "exception-type": ONE, "location": ONE},
+    "security-constraint": {**_WORDS, "web-resource-collection": MANY, "auth-constraint": ONE, "user-data-constraint": ONE},
+    "web-resource-collection": {
+        "description": MANY,
+        "web-resource-name": ONE,
+        "url-pattern": MANY,
+        "http-method": MANY,
+        "http-method-omission": MANY,
+    },
+    "auth-constraint": {"description": MANY, "role-name": MANY},
+    "user-data-constraint": {"description": MANY, "transport-guarantee": ONE},
+    "security-role": {"description": MANY, "role-name": ONE},
+    "login-config": {
+        "auth-method": ONE,
+        "realm-name": Says("the name of a realm is shown by BASIC and DIGEST alone, and callers log in by a form here"),
+        "form-login-config": ONE,
+    },
+    "form-login-config": {"form-login-page": ONE, "form-error-page": ONE},
+}
+
+# The attributes that say nothing of an answer, for every element; the root's own are read with the root.
+_XSI = "http://www.w3.org/2001/XMLSchema-instance "
+_IDLE_ATTRIBUTES = frozenset(
+    ["id", "http://www.w3.org/XML/1998/namespace lang", f"{_XSI}schemaLocation", f"{_XSI}noNamespaceSchemaLocation"]
+)
+ROOT_ATTRIBUTES = frozenset(["version", "metadata-complete"])
+
+
+def tell_what_is_not_taken(element: Element, told: Told) -> None:
+    """Tells everything in an element that no reader takes: elements, attributes and texts."""
+    _tell_attributes(element, told)
+    content = CONTENT.get(element.name, {})
+    if content and element.text:
+        told.tell(element.line, f"the text {shortened(element.text)} within {element.name} means nothing")
+    seen: set[str] = set()
+    for child in element.children:
+        place = content.get(child.name)
+        if child.namespace != element.namespace:
+            told.tell(child.line, f"{child.name} within {element.name} is of another namespace, and is not read")
+        elif place is None:
+            told.tell(child.line, f"{child.name} within {element.name} is no element of web.xml, and is not read")
+        elif isinstance(place, Says):
+            told.tell(child.line, f"{_named(child, place.named_by)}: {place.meaning}")
+        elif place is ONE and child.name in seen:
+            told.tell(child.line, f"{child.name} stands here once more: the first one counts")
+        else:
+            tell_what_is_not_taken(child, told)
+        seen.add(child.name)
+
+
+def taken(element: Element) -> Element:
+    """The element with what is read of it alone, so that what was told is not taken, too."""
+    content = CONTENT.get(element.name, {})
+    kept: list[Element] = []
+    for child in element.children:
+        place = content.get(child.name)
+        is_second = place is ONE and any(child.name == other.name for other in kept)
+        if isinstance(place, Taken) and child.namespace == element.namespace and not is_second:
+            kept.append(taken(child))
+    return dataclasses.replace(element, children=kept)
+
+
+def shortened(text: str) -> str:
+    """A text in quotes, on one line and no longer than can be read at once."""
+    words = " ".join(text.split())
+    return f'"{words}"' if len(words) <= 60 else f'"{words[:57]}..."'
+
+
+def _named(element: Element, named_by: str) -> str:
+    name = element.text_of(named_by) if named_by else ""
+    return f"{element.name} {name}" if name else element.name
+
+
+def _tell_attributes(element: Element, told: Told) -> None:
+    for attribute in element.attributes:
+        is_of_root = element.name == "web-app" and attribute in ROOT_ATTRIBUTES
+        if attribute not in _IDLE_ATTRIBUTES and not is_of_root:
+            told.tell(element.line, f"the attribute {attribute.rpartition(' ')[2]} of {element.name} is none of web.xml")

@@ -1,0 +1,73 @@
+"""Where Tomcat reads the patterns of constraints otherwise: it seeks an exact pattern, then the longest of a prefix, then an extension, then `/`, and goes
+on from a prefix whose constraints leave the method uncovered. By the specification the best pattern alone counts (Jakarta Servlet 6.0, section 13.8.3)."""
+from __future__ import annotations
+
+import re
+from typing import Iterator, NamedTuple
+
+from .elements import shortened
+from .told import Told
+from .tree import Element
+from .words import Table
+
+
+class Methods(NamedTuple):
+    """These methods, or all but these."""
+
+    names: frozenset[str]
+    is_all_but: bool
+
+    def without(self, collection: Table) -> Methods:
+        """What remains where a collection covers its methods."""
+        listed, omitted = collection.get("http-method"), collection.get("http-method-omission")
+        if isinstance(listed, list):
+            names = frozenset(map(str, listed))
+            return Methods(self.names | names if self.is_all_but else self.names - names, self.is_all_but)
+        rest = frozenset(map(str, omitted)) if isinstance(omitted, list) else frozenset()
+        return Methods(rest - self.names if self.is_all_but else rest & self.names, False)
+
+    def __str__(self) -> str:
+        names = ", ".join(sorted(self.names))
+        return f"all methods but {names}" if self.is_all_but else names
+
+
+# An extension pattern by which a path is found: an extension is not empty in Tomcat, and has no dot.
+_EXTENSION = re.compile(r"\*\.[^.]+")
+ALL = Methods(frozenset(), True)
+
+
+def tell_readings(root: Element, constraints: list[Table], told: Told) -> None:
+    """Tells the patterns of constraints for which Tomcat decides otherwise."""
+    lines: dict[str, int] = {}
+    for pattern_element in _patterns_of(root):
+        lines.setdefault(pattern_element.text, pattern_element.line)
+    uncovered = _uncovered(constraints)
+    if "/" in uncovered and ("/*" in uncovered or "" in uncovered):
+        told.tell(lines["/"], 'url-pattern "/" of a constraint stands behind all others for the path /, too; Tomcat takes it for an exact one there')
+    if "*." in uncovered:
+        told.tell(lines["*."], 'url-pattern "*." of a constraint is for paths that end in a dot; Tomcat matches nothing by it')
+    lesser = [pattern for pattern in uncovered if pattern == "/" or _EXTENSION.fullmatch(pattern)]
+    for pattern, methods in uncovered.items():
+        if lesser and pattern.endswith("/*") and (methods.is_all_but or methods.names) and root.first("deny-uncovered-http-methods") is None:
+            told.tell(
+                lines[pattern],
+                f"url-pattern {shortened(pattern)}: its constraints leave {methods} uncovered, and so open; Tomcat goes on to {', '.join(map(shortened, lesser))}",
+            )
+
+
+def _patterns_of(root: Element) -> Iterator[Element]:
+    for constraint in root.all("security-constraint"):
+        for collection in constraint.all("web-resource-collection"):
+            yield from collection.all("url-pattern")
+
+
+def _uncovered(constraints: list[Table]) -> dict[str, Methods]:
+    """The methods that the constraints of each pattern leave uncovered."""
+    found: dict[str, Methods] = {}
+    for constraint in constraints:
+        collections = constraint["web-resource-collection"]
+        assert isinstance(collections, list)
+        for collection in collections:
+            for pattern in collection["url-pattern"]:
+                found[pattern] = found.get(pattern, ALL).without(collection)
+    return found

@@ -1,0 +1,184 @@
+"""Security constraints, roles, login."""
+from __future__ import annotations
+
+from .components import is_pattern_told
+from .elements import shortened
+from .gaps import tell_readings
+from .limits import MAX_METHOD_BYTES, MAX_NAME_BYTES, MAX_PATTERNS_OF_CONSTRAINT, is_location, is_method, is_name
+from .told import Told
+from .tree import Element
+from .words import Table, words
+
+RESERVED_ROLES = ("*", "**")
+LOGIN_PAGE = "/login.html"
+ERROR_PAGE = "/error.html"
+# No canonical path has two slashes side by side, so no request is matched by it.
+NO_PATH = "//nothing"
+
+_GUARANTEES = ("NONE", "INTEGRAL", "CONFIDENTIAL")
+
+
+def constraints(root: Element, told: Told) -> list[Table]:
+    """The tables of the constraints, each at its place: what does not fit into one stands behind all others."""
+    tables: list[Table] = []
+    behind: list[tuple[Element, int, Table]] = []
+    for number, element in enumerate(root.all("security-constraint"), 1):
+        rest = {**_authorization(element, told), **_transport(element, told), **words(element)}
+        parts = _parts(_collections(element, told))
+        if not parts:
+            told.tell(element.line, f"constraint {number} has no pattern that could be read: it stands as one that no request matches")
+            parts = [[{"url-pattern": [NO_PATH]}]]
+        tables.append({"web-resource-collection": list(parts[0]), **rest})
+        behind += [(element, number, {"web-resource-collection": list(part), **rest}) for part in parts[1:]]
+    for element, number, table in behind:
+        tables.append(table)
+        told.tell(
+            element.line,
+            f"constraint {number} has more than {MAX_PATTERNS_OF_CONSTRAINT} patterns: those that are too many stand as constraint {len(tables)}",
+        )
+    tell_readings(root, tables, told)
+    return tables
+
+
+def _collections(element: Element, told: Told) -> list[Table]:
+    if element.first("web-resource-collection") is None:
+        told.tell(element.line, "a security-constraint without a web-resource-collection constrains nothing")
+    found = [_collection(child, told) for child in element.all("web-resource-collection")]
+    return [table for table in found if table is not None]
+
+
+def _collection(element: Element, told: Told) -> Table | None:
+    """The table of a collection, `None` where it covers nothing."""
+    texts = [child.text for child in element.all("url-pattern") if is_pattern_told(child, told)]
+    patterns = list(dict.fromkeys(texts))
+    methods = _methods(element, told)
+    if element.first("url-pattern") is None:
+        told.tell(element.line, "a web-resource-collection without a url-pattern covers nothing")
+    if not patterns or methods is None:
+        return None
+    name = element.text_of("web-resource-name")
+    named: Table = {"web-resource-name": " ".join(name.split())} if name else {}
+    return {**named, "url-pattern": list(patterns), **methods, **words(element)}
+
+
+def _methods(element: Element, told: Told) -> Table | None:
+    """The methods of a collection, `None` where it covers no method. Without a list it covers all."""
+    listed, omitted = list(element.all("http-method")), list(element.all("http-method-omission"))
+    if listed and omitted:
+        told.tell(omitted[0].line, "a collection has one list of methods: http-method-omission is not read; Tomcat does not start such an application")
+    key = "http-method" if listed else "http-method-omission"
+    methods = [child.text for child in listed or omitted if _is_method_told(child, told)]
+    if listed and not methods:
+        told.tell(element.line, "a web-resource-collection whose methods are none covers nothing")
+        return None
+    return {key: list(dict.fromkeys(methods))} if methods else {}
+
+
+def _is_method_told(element: Element, told: Told) -> bool:
+    if is_method(element.text):
+        return True
+    effect = "not covered" if element.name == "http-method" else "covered"
+    told.tell(
+        element.line,
+        f"{element.name} {shortened(element.text)} is no token of 1 to {MAX_METHOD_BYTES} bytes, and is not read: requests with it are {effect}",
+    )
+    return False
+
+
+def _parts(collections: list[Table]) -> list[list[Table]]:
+    """The collections in parts, each of which has no more patterns than a constraint may have."""
+    parts: list[list[Table]] = []
+    room = 0
+    for collection in collections:
+        patterns = collection["url-pattern"]
+        assert isinstance(patterns, list)
+        while patterns:
+            if room == 0:
+                parts.append([])
+                room = MAX_PATTERNS_OF_CONSTRAINT
+            parts[-1].append({**collection, "url-pattern": patterns[:room]})
+            patterns, room = patterns[room:], max(0, room - len(patterns))
+    return parts
+
+
+def _authorization(element: Element, told: Told) -> Table:
+    """Who may enter: nobody where no role is named, and everybody where there is no such element."""
+    constraint = element.first("auth-constraint")
+    if constraint is None:
+        return {}
+    roles: list[str] = []
+    for child in constraint.all("role-name"):
+        if is_name(child.text):
+            roles.append(child.text)
+        else:
+            told.tell(child.line, f"role-name {shortened(child.text)} is no name of 1 to {MAX_NAME_BYTES} bytes: nobody has this role")
+    return {"auth-constraint": {**({"role-name": list(roles)} if roles else {}), **words(constraint)}}
+
+
+def _transport(element: Element, told: Told) -> Table:
+    constraint = element.first("user-data-constraint")
+    if constraint is None:
+        return {}
+    guarantee = constraint.first("transport-guarantee")
+    if guarantee is None:
+        told.tell(constraint.line, "a user-data-constraint without a transport-guarantee asks for nothing")
+        return {}
+    asked = guarantee.text
+    if asked not in _GUARANTEES:
+        told.tell(guarantee.line, f"transport-guarantee {shortened(asked)} is none of NONE, INTEGRAL and CONFIDENTIAL: it stands as CONFIDENTIAL, as in Tomcat")
+        asked = "CONFIDENTIAL"
+    if asked != "NONE":
+        told.tell(
+            guarantee.line,
+            f"transport-guarantee {asked}: what it covers is denied with 403, also behind a proxy that gives TLS; Tomcat redirects to a secure port",
+        )
+    return {"user-data-constraint": {"transport-guarantee": asked, **words(constraint)}}
+
+
+def roles(root: Element, told: Told) -> list[Table]:
+    """The tables of the declared roles."""
+    tables: list[Table] = []
+    seen: set[str] = set()
+    for element in root.all("security-role"):
+        name = element.text_of("role-name")
+        if name in RESERVED_ROLES:
+            told.tell(element.line, f"security-role {name} has a meaning of its own in a constraint, and cannot be declared")
+        elif not is_name(name):
+            told.tell(element.line, f"security-role {shortened(name)} is no name of 1 to {MAX_NAME_BYTES} bytes, and is not declared")
+        elif name in seen:
+            told.tell(element.line, f"security-role {name} is declared once more")
+        else:
+            seen.add(name)
+            tables.append({"role-name": name, **words(element)})
+    return tables
+
+
+def login_config(root: Element, told: Told) -> Table | None:
+    """The table of the login, `None` where callers cannot log in."""
+    element = root.first("login-config")
+    if element is None:
+        return None
+    method = element.text_of("auth-method")
+    if method in ("", "NONE"):
+        told.tell(element.line, "login-config has no method: callers cannot log in, and `login` stands for a denial with 403")
+        return None
+    pages = {"form-login-page": LOGIN_PAGE, "form-error-page": ERROR_PAGE}
+    form = element.first("form-login-config")
+    if method == "FORM":
+        pages = {key: _page(element, form, key, page, told) for key, page in pages.items()}
+    else:
+        told.tell(element.line, f"{method} login is told as FORM for policy: what it would ask for by 401 is `login`, with the page {LOGIN_PAGE}")
+        if form is not None:
+            told.tell(form.line, f"form-login-config is for FORM alone, and not for {method}")
+    return {"auth-method": "FORM", "form-login-config": dict(pages)}
+
+
+def _page(login: Element, form: Element | None, key: str, default: str, told: Told) -> str:
+    page = None if form is None else form.first(key)
+    if page is None:
+        told.tell(login.line, f"FORM login without a {key}: it stands as {default}")
+        return default
+    if is_location(page.text):
+        return page.text
+    told.tell(page.line, f"{key} {shortened(page.text)} is no path within the context: it stands as {default}")
+    return default
