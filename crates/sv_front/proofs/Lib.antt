@@ -1,0 +1,6 @@
+mod Doing
+mod Fronting
+mod Joining
+mod LawLemmas
+mod Rounding
+mod Stepping

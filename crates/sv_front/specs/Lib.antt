@@ -1,0 +1,9 @@
+pub mod Course
+pub mod Fronts
+pub mod Known
+pub mod Laws
+pub mod Notes
+pub mod Pieces
+pub mod Places
+pub mod Steps
+pub mod Ways

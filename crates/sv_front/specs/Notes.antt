@@ -1,0 +1,83 @@
+-- What was done of all connections, one after another.
+use Rattle.std.specs.Prelude.{◌≡◌, ℕ, ◌++◌, List, [], ◌∷◌, cond, map, nat_eq, Result, Ok, Err}
+use Rattle.sv_connection.specs.Connection.{AreTold}
+use Rattle.sv_connection.specs.Turns.{over_event}
+use Rattle.sv_front.specs.Course.{Along}
+use Rattle.sv_front.specs.Places.{Arms, Deed, Ends, Hands, Opens, Pauses, Place, Reads, Writes}
+use Rattle.sv_front.specs.Ways.{Ways}
+use Rattle.sv_front.specs.declared.cause.Cause.{Cause}
+use Rattle.sv_front.specs.declared.cause.Cause.TheVariants.{AnswerCloses, GivenUp, PeerEnded, ReadFails, WriteFails}
+use Rattle.sv_connection.specs.declared.over.Over.{Over}
+use Rattle.sv_connection.specs.declared.over.Over.TheVariants.{Closed, Lost}
+use Rattle.sv_run.specs.Events.{Happening, Opened, Piece, Tick}
+use Rattle.sv_run.specs.Reacting.{Reacting, Reacts}
+use Rattle.sv_run.specs.declared.reaction.Reaction.{Reaction}
+use Rattle.sv_run.specs.declared.step_fault.StepFault.{StepFault}
+
+-- a deed of the connection of that number, or a tick at that moment
+pub data Note : Type 0 where
+  Of : ℕ → Deed → Note
+  Ticks : ℕ → Reaction → Note
+
+-- how a connection is over by its cause
+abbrev pub over_by : Cause → Over
+over_by PeerEnded = Closed
+over_by AnswerCloses = Closed
+over_by ReadFails = Lost
+over_by WriteFails = Lost
+over_by GivenUp = Lost
+
+-- the event that was taken, its answer, and the moment that was told for it
+abbrev pub event_of : ℕ → Deed → List Happening
+event_of number (Opens reaction) = Opened number ∷ []
+event_of number (Hands bytes moment reaction) = Piece number bytes moment ∷ []
+event_of number (Ends cause reaction) = over_event number (over_by cause) ∷ []
+event_of number other = []
+
+abbrev pub answer_of : Deed → List (Result Reaction StepFault)
+answer_of (Opens reaction) = Ok reaction ∷ []
+answer_of (Hands bytes moment reaction) = Ok reaction ∷ []
+answer_of (Ends cause reaction) = Ok reaction ∷ []
+answer_of other = []
+
+abbrev pub moment_of : Deed → List ℕ
+moment_of (Hands bytes moment reaction) = moment ∷ []
+moment_of other = []
+
+abbrev pub events : List Note → List Happening
+events [] = []
+events (Of number deed ∷ notes) = event_of number deed ++ events notes
+events (Ticks moment reaction ∷ notes) = Tick moment ∷ events notes
+
+abbrev pub answers : List Note → List (Result Reaction StepFault)
+answers [] = []
+answers (Of number deed ∷ notes) = answer_of deed ++ answers notes
+answers (Ticks moment reaction ∷ notes) = Ok reaction ∷ answers notes
+
+abbrev pub moments : List Note → List ℕ
+moments [] = []
+moments (Of number deed ∷ notes) = moment_of deed ++ moments notes
+moments (Ticks moment reaction ∷ notes) = moment ∷ moments notes
+
+-- what was done of one number
+abbrev pub deeds_of : ℕ → List Note → List Deed
+deeds_of number [] = []
+deeds_of number (Of other deed ∷ notes) = cond (nat_eq number other) (deed ∷ deeds_of number notes) (deeds_of number notes)
+deeds_of number (Ticks moment reaction ∷ notes) = deeds_of number notes
+
+module _ {R C : Type 0} (steps : Reacting R) (tells : C → ℕ → C → Type 0) where
+  -- the events were taken one after another, at the moments that the clock told
+  pub record Went (before : R) (clock : C) (notes : List Note) (after : R) (clock_after : C) : Type 0 where
+    pub reacts : Reacts steps before (events notes) (answers notes) after
+    pub told : AreTold tells clock (moments notes) clock_after
+
+  module _ {S : Type 0} (ways : Ways S) where
+    -- it was done of one connection alone
+    pub record Talks (number : ℕ) (before : R) (clock : C) (place : Place S) (deeds : List Deed) (after : R) (clock_after : C) (place_after : Place S) : Type 0 where
+      pub went : Went before clock (map (Of number) deeds) after clock_after
+      pub along : Along ways place deeds place_after
+
+    -- it was done, and led each number from its place to its next
+    pub record Goes (before : R) (clock : C) (places : ℕ → Place S) (notes : List Note) (after : R) (clock_after : C) (places_after : ℕ → Place S) : Type 0 where
+      pub went : Went before clock notes after clock_after
+      pub courses : (number : ℕ) → Along ways (places number) (deeds_of number notes) (places_after number)

@@ -1,0 +1,91 @@
+-- Where a connection stands, and what may come next.
+use Rattle.std.specs.Prelude.{◌≡◌, ◌⊎◌, ℕ, ◌<◌, Bool, false, true, List, [], ◌++◌, length, Option, None, Some}
+use Rattle.sv_front.specs.Pieces.{IsPiece}
+use Rattle.sv_front.specs.Ways.{Ways}
+use Rattle.sv_front.specs.declared.cause.Cause.{Cause}
+use Rattle.sv_front.specs.declared.cause.Cause.TheVariants.{AnswerCloses, GivenUp, PeerEnded, ReadFails, WriteFails}
+use Rattle.sv_run.specs.declared.reaction.Reaction.{Reaction}
+use Rattle.sv_streams.specs.Calls.{Gave, ReadFailed, Took, WriteFailed}
+
+-- the stream of a connection, what was read of it and not handed on, what waits to be written to it, whether it closes behind that, and whether
+-- nothing was done since a call would have had to wait or the peer was armed
+pub record Standing (S : Type 0) : Type 0 where
+  pub stream : S
+  pub ahead : List ℕ
+  pub unsent : List ℕ
+  pub closes : Bool
+  pub rests : Bool
+
+-- of a number: no connection had it, one has it, or the one that had it is over
+pub data Place (S : Type 0) : Type 0 where
+  Unused : Place S
+  Open : Standing S → Place S
+  Over : Place S
+
+-- what was done of a connection
+pub data Deed : Type 0 where
+  -- it was opened
+  Opens : Reaction → Deed
+  -- a read gave these bytes
+  Reads : List ℕ → Deed
+  -- a piece was handed on at that moment, and brought that
+  Hands : List ℕ → ℕ → Reaction → Deed
+  -- a write took these bytes
+  Writes : List ℕ → Deed
+  -- the call that it needs would have to wait
+  Pauses : Deed
+  -- it is to be told anew of what is ready
+  Arms : Deed
+  -- it was told to be over
+  Ends : Cause → Reaction → Deed
+
+module _ {S : Type 0} where
+  -- a connection that was opened
+  abbrev pub fresh : S → Standing S
+  fresh stream = record { stream = stream; ahead = []; unsent = []; closes = false; rests = true }
+
+  -- nothing waits to be handed on or to be written
+  abbrev pub IsIdle : Standing S → Type 0
+  IsIdle at = (at.ahead ≡ []) × (at.unsent ≡ []) × (at.closes ≡ false)
+
+  -- a piece can be handed on: nothing waits to be written
+  abbrev pub HasPiece : Standing S → Type 0
+  HasPiece at = (0 < length at.ahead) × (at.unsent ≡ []) × (at.closes ≡ false)
+
+  -- it needs to be read or to be written to
+  abbrev pub Needs : Standing S → Type 0
+  Needs at = IsIdle at ⊎ (0 < length at.unsent)
+
+  module _ (ways : Ways S) where
+    -- why it is over, and its stream then
+    abbrev pub Causes : Standing S → Cause → S → Type 0
+    Causes at PeerEnded stream = IsIdle at × ways.makes at.stream (Gave []) stream
+    Causes at ReadFails stream = IsIdle at × ways.makes at.stream ReadFailed stream
+    Causes at WriteFails stream = (0 < length at.unsent) × ways.makes at.stream WriteFailed stream
+    Causes at AnswerCloses stream = (at.unsent ≡ []) × (at.closes ≡ true) × (stream ≡ at.stream)
+    Causes at GivenUp stream = Unit {0}
+
+    -- what leads from one place of a number to its next: nothing leads on from the end
+    abbrev pub Leads : Place S → Deed → Place S → Type 0
+    Leads Unused (Opens reaction) (Open after) =
+        after ≡ fresh after.stream
+    Leads (Open at) (Reads bytes) (Open after) =
+        IsIdle at × (0 < length bytes) × ways.makes at.stream (Gave bytes) after.stream
+        × (after ≡ record at { stream = after.stream; ahead = bytes; rests = false })
+    Leads (Open at) (Hands bytes moment reaction) (Open after) =
+        HasPiece at × IsPiece bytes × (at.ahead ≡ bytes ++ after.ahead)
+        × (after ≡ record at { ahead = after.ahead; unsent = reaction.sends; closes = reaction.closes; rests = false })
+    Leads (Open at) (Writes bytes) (Open after) =
+        (0 < length bytes) × ways.makes at.stream (Took bytes) after.stream × (at.unsent ≡ bytes ++ after.unsent)
+        × (after ≡ record at { stream = after.stream; unsent = after.unsent; rests = false })
+    Leads (Open at) Pauses (Open after) =
+        Needs at × ways.pauses at.stream after.stream × (after ≡ record at { stream = after.stream; rests = true })
+    Leads (Open at) Arms (Open after) =
+        Needs at × ways.arms at.stream after.stream × (after ≡ record at { stream = after.stream; rests = true })
+    Leads (Open at) (Ends cause reaction) Over = (stream : S) × Causes at cause stream
+    Leads other deed place = ⊥
+
+    -- it is armed, or given up
+    abbrev pub IsArmed : Standing S → Option Cause → Standing S → Type 0
+    IsArmed at None after = Leads (Open at) Arms (Open after)
+    IsArmed at (Some cause) after = cause ≡ GivenUp

@@ -1,0 +1,265 @@
+//! One connection, as far as it gets without waiting.
+
+ghost use Rattle.std.specs.Prelude.{◌≡◌, ◌<◌, length};
+ghost use Rattle.sv_front.specs.Places.{HasPiece, IsIdle, Needs};
+ghost use Rattle.sv_front.specs.Steps.{Drives, HandsOn, SendsOn, StepsOnce, TakesIn};
+
+use crate::cause::Cause;
+use crate::limits::{BYTES_A_WINDOW, MAX_IDLE_SECONDS, READS_AT_ONCE, WINDOW_SECONDS};
+use crate::peer::{Peer, Tried};
+use crate::pending::Pending;
+use crate::pieces::piece_len;
+use crate::step::Step;
+use std::alloc::Global;
+use std::marker::Model;
+use sv_run::{Happening, Reaction, Reactor, StepFault};
+use sv_streams::Clock;
+use sv_text::NoMemory;
+
+/// A connection that is served beside others.
+#[derive(Drop)]
+pub(crate) struct Connection<P> {
+    alloc: Global,
+    stream: P,
+    ahead: Pending,
+    unsent: Pending,
+    closes: bool,
+    rests: bool,
+    begun: bool,
+    waits: bool,
+    moved: usize,
+    until: u64,
+}
+
+impl<P> Model for Connection<P> {
+    ghost use Rattle.sv_front.specs.Places.{Standing};
+
+    ghost Value = { Standing P };
+
+    ghost view = { λ c. record { stream = c.stream; ahead = c.ahead; unsent = c.unsent; closes = c.closes; rests = c.rests } };
+}
+
+impl<P: Peer> Connection<P> {
+    ghost use Rattle.std.specs.Prelude.{◌≡◌, [], false, true, IsTrue, ◌↔◌};
+    ghost use Rattle.sv_front.specs.Places as spec;
+
+    /// A connection that was opened, whose stream is armed.
+    pub fn new(alloc: Global, stream: P, until: u64) -> Connection<P>
+        ensures { result ≡ record { stream = stream; ahead = []; unsent = []; closes = false; rests = true } }
+    {
+        Connection {
+            alloc,
+            stream,
+            ahead: Pending::new(alloc),
+            unsent: Pending::new(alloc),
+            closes: false,
+            rests: true,
+            begun: false,
+            waits: false,
+            moved: 0,
+            until,
+        }
+    }
+
+    /// Gives its stream up.
+    pub fn into_stream(self) -> P
+        ensures { result ≡ self.stream }
+    {
+        self.stream
+    }
+
+    /// When it is to be given up, in seconds.
+    pub fn until(&self) -> u64 {
+        self.until
+    }
+
+    /// Whether it stands between requests: nothing was read since its last answer, which was written.
+    pub fn is_between_requests(&self) -> bool {
+        !self.begun && self.is_idle()
+    }
+
+    /// Does what can be done without waiting, at that time in seconds, until the connection rests, or is over for that cause.
+    ///
+    /// # Errors
+    /// Why an event was refused, or want of memory.
+    pub fn drive_at<R: Reactor, C: Clock>(
+        &mut self,
+        now: u64,
+        number: u64,
+        reactor: &mut R,
+        clock: &mut C,
+    ) -> Result<Option<Cause>, StepFault>
+        ensures { Drives P.ways R.steps C.tells number reactor.old clock.old self.old result reactor.new clock.new self.new }
+    {
+        let driven = self.drive(number, reactor, clock);
+        self.pace(now);
+        driven
+    }
+
+    // Puts the moment off at which it is to be given up, where it moved enough bytes or came to stand between requests.
+    fn pace(&mut self, now: u64)
+        ensures { self.new ≡ self.old }
+    {
+        if self.is_between_requests() {
+            self.waits = false;
+            self.until = now.saturating_add(MAX_IDLE_SECONDS);
+        } else if !self.waits || self.moved >= BYTES_A_WINDOW {
+            self.waits = true;
+            self.moved = 0;
+            self.until = now.saturating_add(WINDOW_SECONDS);
+        }
+    }
+
+    // Does what can be done without waiting, until the connection rests, or is over for that cause.
+    fn drive<R: Reactor, C: Clock>(
+        &mut self,
+        number: u64,
+        reactor: &mut R,
+        clock: &mut C,
+    ) -> Result<Option<Cause>, StepFault>
+        ensures { Drives P.ways R.steps C.tells number reactor.old clock.old self.old result reactor.new clock.new self.new }
+    {
+        let mut reads = 0;
+        for _ in 0..u64::MAX {
+            if self.is_idle() {
+                if reads >= READS_AT_ONCE {
+                    return Ok(self.arm());
+                }
+                reads += 1;
+            }
+            match self.step(number, reactor, clock) {
+                Ok(Step::GoesOn) => {}
+                Ok(Step::Rests) => return Ok(None),
+                Ok(Step::IsOver(cause)) => return Ok(Some(cause)),
+                Err(fault) => return Err(fault),
+            }
+        }
+        Ok(Some(Cause::GivenUp))
+    }
+
+    // Does one thing.
+    fn step<R: Reactor, C: Clock>(
+        &mut self,
+        number: u64,
+        reactor: &mut R,
+        clock: &mut C,
+    ) -> Result<Step, StepFault>
+        ensures { StepsOnce P.ways R.steps C.tells number reactor.old clock.old self.old result reactor.new clock.new self.new }
+    {
+        if !self.unsent.is_empty() {
+            return Ok(self.send_on());
+        }
+        if self.closes {
+            return Ok(Step::IsOver(Cause::AnswerCloses));
+        }
+        if self.ahead.is_empty() {
+            return match self.take_in() {
+                Ok(step) => Ok(step),
+                Err(_) => Err(StepFault::NoMemory),
+            };
+        }
+        match self.hand_on(number, reactor, clock) {
+            Ok(()) => Ok(Step::GoesOn),
+            Err(fault) => Err(fault),
+        }
+    }
+
+    // Whether the connection needs to be read, and nothing else.
+    fn is_idle(&self) -> bool
+        ensures { IsTrue result ↔ IsIdle self.now }
+    {
+        !self.closes && self.unsent.is_empty() && self.ahead.is_empty()
+    }
+
+    // Reads once.
+    fn take_in(&mut self) -> Result<Step, NoMemory>
+        requires { IsIdle self.old }
+        ensures { TakesIn P.ways self.old result self.new }
+    {
+        match self.ahead.refill(self.alloc, &mut self.stream) {
+            Ok(Tried::Done(0)) => Ok(Step::IsOver(Cause::PeerEnded)),
+            Ok(Tried::Done(count)) => {
+                self.begun = true;
+                self.moved = self.moved.saturating_add(count);
+                self.rests = false;
+                Ok(Step::GoesOn)
+            }
+            Ok(Tried::Paused) => {
+                self.rests = true;
+                Ok(Step::Rests)
+            }
+            Ok(Tried::Failed) => Ok(Step::IsOver(Cause::ReadFails)),
+            Err(refused) => Err(refused),
+        }
+    }
+
+    // Writes once.
+    fn send_on(&mut self) -> Step
+        requires { 0 < length self.old.unsent }
+        ensures { SendsOn P.ways self.old result self.new }
+    {
+        match self.stream.write(self.unsent.as_slice()) {
+            Tried::Done(count) => {
+                self.unsent.skip(count);
+                self.moved = self.moved.saturating_add(count);
+                self.rests = false;
+                Step::GoesOn
+            }
+            Tried::Paused => {
+                self.rests = true;
+                Step::Rests
+            }
+            Tried::Failed => Step::IsOver(Cause::WriteFails),
+        }
+    }
+
+    // Hands one piece on.
+    fn hand_on<R: Reactor, C: Clock>(
+        &mut self,
+        number: u64,
+        reactor: &mut R,
+        clock: &mut C,
+    ) -> Result<(), StepFault>
+        requires { HasPiece self.old }
+        ensures { HandsOn P.ways R.steps C.tells number reactor.old clock.old self.old result reactor.new clock.new self.new }
+    {
+        let count = piece_len(self.ahead.as_slice());
+        let moment = clock.now();
+        let piece = Happening::Piece {
+            connection: number,
+            bytes: self.ahead.as_slice().split_at(count).0,
+            moment,
+        };
+        match reactor.step(piece) {
+            Ok(reaction) => {
+                self.ahead.skip(count);
+                self.keep(reaction);
+                Ok(())
+            }
+            Err(fault) => Err(fault),
+        }
+    }
+
+    // What a piece brought waits to be written.
+    fn keep(&mut self, reaction: Reaction)
+        ensures { self.new ≡ record self.old { unsent = reaction.sends; closes = reaction.closes; rests = false } }
+    {
+        let Reaction { sends, closes, .. } = reaction;
+        self.unsent = Pending::of(sends);
+        self.begun = self.begun && self.unsent.is_empty();
+        self.closes = closes;
+        self.rests = false;
+    }
+
+    // Asks to be told anew of what is ready; where that cannot be had, the connection is given up.
+    fn arm(&mut self) -> Option<Cause>
+        requires { IsIdle self.old }
+        ensures { spec.IsArmed P.ways self.old result self.new }
+    {
+        if self.stream.arm() {
+            self.rests = true;
+            return None;
+        }
+        Some(Cause::GivenUp)
+    }
+}

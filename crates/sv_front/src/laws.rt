@@ -1,0 +1,40 @@
+//! The laws of connections that are served at once, each the contract of a function that does nothing.
+
+ghost use Rattle.std.specs.Prelude.{◌≡◌};
+ghost use Rattle.sv_front.specs.Laws.{BytesAreKept, EndsHaveACause, NumbersAreNotUsedAgain, RestIsForSomething};
+
+use crate::limits::{
+    BYTES_A_WINDOW, MAX_CONNECTIONS, MAX_IDLE_SECONDS, READ_BYTES, READS_AT_ONCE, WINDOW_SECONDS,
+};
+use crate::peer::Peer;
+
+/// The limits of this crate as numbers.
+pub fn limits_are_as_stated()
+    ensures connections { MAX_CONNECTIONS ≡ 1024 }
+    ensures read { READ_BYTES ≡ 16384 }
+    ensures reads { READS_AT_ONCE ≡ 8 }
+    ensures idle { MAX_IDLE_SECONDS ≡ 60 }
+    ensures window { WINDOW_SECONDS ≡ 10 }
+    ensures bytes { BYTES_A_WINDOW ≡ 10240 }
+{}
+
+/// Of an open connection, what was read of it is what was handed on and what waits to be, and what was to be sent is what was written and what
+/// waits to be: nothing is lost, doubled or put elsewhere.
+pub fn bytes_are_kept<P: Peer>()
+    ensures { BytesAreKept P.ways }
+{}
+
+/// A connection is over only for a cause that its stream or its answer shows, or as it was given up; all was written where its answer closes it.
+pub fn ends_have_a_cause<P: Peer>()
+    ensures { EndsHaveACause P.ways }
+{}
+
+/// Nothing is done of a number whose connection is over.
+pub fn numbers_are_not_used_again<P: Peer>()
+    ensures { NumbersAreNotUsedAgain P.ways }
+{}
+
+/// An open connection that rests needs to be read, and nothing of it waits, or something waits to be written to it: none waits for nothing.
+pub fn rest_is_for_something<P: Peer>()
+    ensures { RestIsForSomething P.ways }
+{}

@@ -1,0 +1,26 @@
+//! Many connections at once, over anything that reports what is ready and anything that takes the events of a container.
+#![tactic(auto)]
+
+mod cause;
+mod connection;
+mod front;
+mod laws;
+mod limits;
+mod network;
+mod peer;
+mod pending;
+mod pieces;
+mod running;
+mod step;
+
+pub use cause::Cause;
+pub use laws::{
+    bytes_are_kept, ends_have_a_cause, limits_are_as_stated, numbers_are_not_used_again,
+    rest_is_for_something,
+};
+pub use limits::{
+    BYTES_A_WINDOW, MAX_CONNECTIONS, MAX_IDLE_SECONDS, READ_BYTES, READS_AT_ONCE, WINDOW_SECONDS,
+};
+pub use network::{Network, Told};
+pub use peer::{Peer, Tried};
+pub use running::run_front;

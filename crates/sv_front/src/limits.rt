@@ -1,0 +1,19 @@
+//! Limits of connections that are served at once.
+
+/// As many connections are known at once.
+pub const MAX_CONNECTIONS: usize = 1024;
+
+/// How many bytes a read of a connection takes at most.
+pub const READ_BYTES: usize = 16_384;
+
+/// As many reads are made of a connection before others have their turn.
+pub const READS_AT_ONCE: u32 = 8;
+
+/// A connection that stands between requests is given up after so many seconds.
+pub const MAX_IDLE_SECONDS: u64 = 60;
+
+/// Within so many seconds a message is to be read and answered, or enough bytes of it are to come or go.
+pub const WINDOW_SECONDS: u64 = 10;
+
+/// So many bytes are enough.
+pub const BYTES_A_WINDOW: usize = 10_240;

@@ -1,0 +1,109 @@
+//! Bytes that wait.
+
+ghost use Rattle.std.specs.Prelude.{◌≡◌, ◌<◌, [], length, vec_items};
+ghost use Rattle.sv_front.specs.Ways.{ReadsPiece};
+
+use crate::limits::READ_BYTES;
+use crate::peer::{Peer, Tried};
+use std::alloc::Global;
+use std::marker::Model;
+use sv_text::{Bytes, NoMemory};
+
+/// Bytes that wait to be handed on or to be written. Contracts see their list.
+#[derive(Drop)]
+pub(crate) struct Pending {
+    bytes: Vec<u8>,
+    at: usize,
+}
+
+impl Model for Pending {
+    ghost use Rattle.std.specs.Prelude.{ℕ, List, drop, ◌≤◌, vec_len};
+
+    ghost Value = { List ℕ };
+
+    ghost view = { λ p. drop p.at p.bytes.items };
+
+    ghost invariant = { λ p. p.at ≤ vec_len p.bytes };
+}
+
+impl Pending {
+    ghost use Rattle.std.specs.Prelude.{◌≡◌, ◌≤◌, ◌==◌, [], length, drop};
+    ghost use Rattle.sv_front.specs.Ways.{Refills};
+
+    /// No bytes.
+    pub fn new(alloc: Global) -> Pending
+        ensures { result ≡ [] }
+    {
+        Pending {
+            bytes: Vec::new(alloc),
+            at: 0,
+        }
+    }
+
+    /// All bytes of a text.
+    pub fn of(bytes: Bytes) -> Pending
+        ensures { result ≡ bytes }
+    {
+        Pending {
+            bytes: bytes.into_vec(),
+            at: 0,
+        }
+    }
+
+    /// Whether no bytes wait.
+    pub fn is_empty(&self) -> bool
+        ensures { result ≡ (length self.now == 0) }
+    {
+        self.as_slice().is_empty()
+    }
+
+    /// The bytes.
+    pub fn as_slice(&self) -> &[u8]
+        ensures { result.now ≡ self.now }
+    {
+        self.bytes.as_slice().split_at(self.at).1
+    }
+
+    /// Passes over so many bytes.
+    pub fn skip(&mut self, count: usize)
+        requires { count ≤ length self.old }
+        ensures { self.new ≡ drop count self.old }
+    {
+        self.at += count;
+    }
+
+    /// Reads once, where no bytes wait.
+    ///
+    /// # Errors
+    /// Memory ran out, and nothing was read.
+    pub fn refill<P: Peer>(&mut self, alloc: Global, peer: &mut P) -> Result<Tried, NoMemory>
+        requires { self.old ≡ [] }
+        ensures { Refills P.ways peer.old result peer.new self.new }
+    {
+        self.bytes = Vec::new(alloc);
+        self.at = 0;
+        self.bytes.resize(READ_BYTES, 0)?;
+        Ok(read_piece(peer, &mut self.bytes))
+    }
+}
+
+// Reads once into a piece, which then holds what came.
+fn read_piece<P: Peer>(peer: &mut P, piece: &mut Vec<u8>) -> Tried
+    requires { 0 < length (vec_items piece.old) }
+    ensures { ReadsPiece P.ways peer.old result peer.new (vec_items piece.new) }
+{
+    match peer.read(piece.as_mut_slice()) {
+        Tried::Done(count) => {
+            piece.truncate(count);
+            Tried::Done(count)
+        }
+        Tried::Paused => {
+            *piece = Vec::new(*piece.allocator());
+            Tried::Paused
+        }
+        Tried::Failed => {
+            *piece = Vec::new(*piece.allocator());
+            Tried::Failed
+        }
+    }
+}
