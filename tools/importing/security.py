@@ -14,6 +14,8 @@ LOGIN_PAGE = "/login.html"
 ERROR_PAGE = "/error.html"
 # No canonical path has two slashes side by side, so no request is matched by it.
 NO_PATH = "//nothing"
+# A method that no client sends.
+NO_METHOD = "-"
 
 _GUARANTEES = ("NONE", "INTEGRAL", "CONFIDENTIAL")
 
@@ -48,29 +50,29 @@ def _collections(element: Element, told: Told) -> list[Table]:
 
 
 def _collection(element: Element, told: Told) -> Table | None:
-    """The table of a collection, `None` where it covers nothing."""
+    """The table of a collection, `None` where it has no pattern."""
     texts = [child.text for child in element.all("url-pattern") if is_pattern_told(child, told)]
     patterns = list(dict.fromkeys(texts))
     methods = _methods(element, told)
     if element.first("url-pattern") is None:
         told.tell(element.line, "a web-resource-collection without a url-pattern covers nothing")
-    if not patterns or methods is None:
+    if not patterns:
         return None
     name = element.text_of("web-resource-name")
     named: Table = {"web-resource-name": " ".join(name.split())} if name else {}
     return {**named, "url-pattern": list(patterns), **methods, **words(element)}
 
 
-def _methods(element: Element, told: Told) -> Table | None:
-    """The methods of a collection, `None` where it covers no method. Without a list it covers all."""
+def _methods(element: Element, told: Told) -> Table:
+    """The methods of a collection. Without a list it covers all."""
     listed, omitted = list(element.all("http-method")), list(element.all("http-method-omission"))
     if listed and omitted:
         told.tell(omitted[0].line, "a collection has one list of methods: http-method-omission is not read; Tomcat does not start such an application")
     key = "http-method" if listed else "http-method-omission"
     methods = [child.text for child in listed or omitted if _is_method_told(child, told)]
     if listed and not methods:
-        told.tell(element.line, "a web-resource-collection whose methods are none covers nothing")
-        return None
+        told.tell(element.line, f"no method of this web-resource-collection can be written: it stands with the method {NO_METHOD}, so its patterns stay")
+        methods = [NO_METHOD]
     return {key: list(dict.fromkeys(methods))} if methods else {}
 
 
