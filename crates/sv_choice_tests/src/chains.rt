@@ -190,10 +190,10 @@ impl Asks for KeptChains {
         let mut chains = filled(alloc, &self.0)?;
         let path = path_of(alloc, cell(row, 0))?;
         let (servlet, kind) = (cell(row, 1), kind_of(cell(row, 2)));
-        for _time in 0..2 {
-            let chain = chains.of(alloc, &self.0, path.as_str(), servlet, kind)?;
-            write_places(alloc, &chain, answer)?;
-        }
+        let first = chains.of(alloc, &self.0, path.as_str(), servlet, kind)?;
+        write_places(alloc, &first, answer)?;
+        let second = chains.of(alloc, &self.0, path.as_str(), servlet, kind)?;
+        write_places(alloc, &second, answer)?;
         let text = format!(in alloc; "{}", chains.count())?;
         answer.extend_from_slice(text.as_bytes())?;
         Ok(())
