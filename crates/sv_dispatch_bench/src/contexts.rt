@@ -2,6 +2,7 @@
 
 use crate::components::{OUTER, Passing, Quiet, Writer};
 use std::alloc::Global;
+use sv_chain::Chains;
 use sv_descriptor::{Descriptor, read_descriptor};
 use sv_files::{File, Files};
 use sv_journal::Journal;
@@ -25,7 +26,7 @@ servlet-name = "outer"
 url-pattern = ["/outer"]
 "#;
 
-/// Three filters before the servlets.
+/// Three filters before the servlets, two by a pattern and one by name.
 const FILTERS: &str = r#"
 [[filter]]
 filter-name = "f0"
@@ -44,7 +45,7 @@ filter-name = "f1"
 url-pattern = ["/*"]
 [[filter-mapping]]
 filter-name = "f2"
-url-pattern = ["/*"]
+servlet-name = ["*"]
 "#;
 
 /// The names of the filters.
@@ -129,8 +130,9 @@ fn site(alloc: Global, descriptor: Descriptor, files: Files) -> Option<Site> {
     let Ok(patterns) = ServletPatterns::of(alloc, &descriptor) else {
         return None;
     };
+    let chains = Chains::compile(alloc, &descriptor);
     let path = Text::from_string(String::new(alloc));
-    Some(Site::new(path, descriptor, files, patterns))
+    Some(Site::new(path, descriptor, files, patterns, chains))
 }
 
 fn files(alloc: Global) -> Option<Files> {

@@ -2,11 +2,11 @@
 
 use crate::components::INNER_PATH;
 use crate::contexts::Context;
-use crate::dispatches::Dispatching;
+use crate::dispatches::{Chaining, Dispatching};
 use crate::exchanges::{Answering, Request};
 use std::rt::Clock;
 use std::time::Duration;
-use sv_measure::{Rounds, report_beyond, time_of_round};
+use sv_measure::{Rounds, report_beyond, report_time, time_of_round};
 
 /// What is dispatched to: its name, its path, and whether three filters stand before it.
 const PLACES: [(&str, &str, bool); 5] = [
@@ -22,6 +22,21 @@ pub fn dispatches<R: Clock + Print + AllocGlobal>(rt: &R, figures: bool) -> Opti
     for (name, path, is_filtered) in PLACES {
         to_path(rt, figures, name, path, is_filtered)?;
     }
+    chain(rt, figures)
+}
+
+/// A chain of three filters, by pattern and by name, that is kept.
+fn chain<R: Clock + Print + AllocGlobal>(rt: &R, figures: bool) -> Option<()> {
+    let context = Context::new(rt.alloc(), true)?;
+    let alloc = rt.alloc();
+    let mut chaining = Chaining { alloc, context };
+    let rounds = Rounds::quick(figures);
+    let _time: Duration = report_time(
+        rt,
+        rounds,
+        "a chain of 3 filters that is kept",
+        &mut chaining,
+    )?;
     Some(())
 }
 

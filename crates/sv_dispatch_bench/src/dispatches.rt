@@ -10,7 +10,7 @@ use sv_mapping::Kind;
 use sv_measure::Work;
 use sv_site::Site;
 use sv_text::NoMemory;
-use sv_tree::Finished;
+use sv_tree::{Finished, Resource};
 use sv_uri::path::Canon;
 
 /// Beginning an exchange, dispatching it to its path, and ending it.
@@ -36,7 +36,7 @@ fn is_dispatched(
     alloc: Global,
     live: &mut BenchLive,
     exchange: &mut Exchange,
-    site: &Site,
+    site: &mut Site,
     canon: &Canon,
 ) -> bool {
     let mut journal = Journal::new(alloc);
@@ -51,7 +51,7 @@ fn dispatched(
     alloc: Global,
     live: &mut BenchLive,
     exchange: &mut Exchange,
-    site: &Site,
+    site: &mut Site,
     canon: &Canon,
     journal: &mut Journal,
 ) -> Result<Finished, NoMemory> {
@@ -63,4 +63,20 @@ fn dispatched(
         return Err(NoMemory);
     }
     dispatch(alloc, live, exchange, site, Kind::Request, canon, journal)
+}
+
+/// Asking for the chain of filters before a servlet, which is kept.
+#[derive(Drop)]
+pub struct Chaining {
+    pub alloc: Global,
+    pub context: Context,
+}
+
+impl Work for Chaining {
+    fn round(&mut self, place: usize) -> Option<usize> {
+        let servlet = Resource::Servlet(0);
+        let site = &mut self.context.site;
+        let chain = site.chain(self.alloc, INNER_PATH, servlet, Kind::Request);
+        Some(place.wrapping_add(chain.ok()?.as_slice().len()))
+    }
 }

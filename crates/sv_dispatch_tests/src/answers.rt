@@ -54,7 +54,7 @@ fn ask_all(
 ) {
     let TestContext {
         mut live,
-        site,
+        mut site,
         mut sessions,
     } = context;
     for part in requests.split(';') {
@@ -69,7 +69,7 @@ fn ask_all(
                 &canon,
                 request.asking(asking),
                 &mut live,
-                &site,
+                &mut site,
                 exchange,
                 told,
             ),
@@ -104,7 +104,7 @@ fn ask(
     canon: &Canon,
     asking: Asking,
     live: &mut TestLive,
-    site: &Site,
+    site: &mut Site,
     mut exchange: Exchange,
     told: &mut Draft,
 ) -> Sessions {
@@ -136,7 +136,7 @@ fn answered(
     alloc: Global,
     live: &mut TestLive,
     exchange: &mut Exchange,
-    site: &Site,
+    site: &mut Site,
     request: Request<'_>,
     canon: &Canon,
     asking: Asking,

@@ -4,6 +4,7 @@ use crate::components::{TestLive, parts};
 use crate::descriptors::descriptor;
 use crate::words::{first_word, number_of};
 use std::alloc::Global;
+use sv_chain::Chains;
 use sv_descriptor::Descriptor;
 use sv_files::{File, Files};
 use sv_journal::Journal;
@@ -57,7 +58,8 @@ fn site(alloc: Global, row: &str, descriptor: Descriptor) -> Option<Site> {
     let Some(files) = files(alloc, row) else {
         return None;
     };
-    Some(Site::new(path, descriptor, files, patterns))
+    let chains = Chains::compile(alloc, &descriptor);
+    Some(Site::new(path, descriptor, files, patterns, chains))
 }
 
 fn files(alloc: Global, row: &str) -> Option<Files> {
