@@ -1,15 +1,11 @@
 -- What the calls of a connection come to.
-use Rattle.std.proofs.Common.{◌≡◌, ℕ, ◌+◌, ◌-◌, ◌<◌, ◌≤◌, Bool, false, true, eqb, ◌&&◌, ◌||◌, List, [], ◌∷◌, ◌++◌, Ok, refl, sym, ap, ◌∙◌, subst, length, take, drop, get_or, arith}
-use Rattle.std.proofs.lemmas.List.{get_or-take, length-take-le, take-append-drop}
-use Rattle.sv_front.specs.Pieces.{IsPiece, ends_empty_line}
-use Rattle.sv_front.specs.Places.{HasPiece, Hands, Leads, Open, Standing, Writes}
-use Rattle.sv_front.specs.Steps.{HandsOn, SendsOn}
+use Rattle.std.proofs.Common.{◌≡◌, ℕ, ◌<◌, ◌≤◌, Bool, false, List, ◌++◌, refl, sym, ap, ◌∙◌, subst, length, take, drop, arith}
+use Rattle.std.proofs.lemmas.List.{length-take-le, take-append-drop}
+use Rattle.sv_front.specs.Places.{Standing}
+use Rattle.sv_front.specs.Steps.{SendsOn}
 use Rattle.sv_front.specs.Ways.{TriesWrite, Ways}
 use Rattle.sv_front.specs.declared.peer.Tried.TheVariants.{Done}
 use Rattle.sv_front.specs.declared.step.Step.TheVariants.{GoesOn}
-use Rattle.sv_run.specs.Events.{Piece}
-use Rattle.sv_run.specs.Reacting.{Reacting}
-use Rattle.sv_run.specs.declared.reaction.Reaction.{Reaction}
 
 pub some_taken : (count : ℕ) (bytes : List ℕ) → count ≤ length bytes → 0 < count → 0 < length (take count bytes)
 some_taken count bytes within some = let taken : length (take count bytes) ≡ count = length-take-le count bytes within in omega arith

@@ -1,16 +1,15 @@
 -- What was done of one connection, among all.
-use Rattle.std.proofs.Common.{◌≡◌, ◌≢◌, ◌&&◌, IsSome, is_some, ℕ, ◌+◌, ◌<◌, ◌≤◌, Bool, true, false, cond, nat_eq, ltb, eqb-true, eq-eqb, ◌⊎◌, inl, inr, List, [], ◌∷◌, ◌++◌, Option, None, Some, Result, Ok, Err, refl, sym, ap, ◌∙◌, subst, map, arith}
+use Rattle.std.proofs.Common.{◌≡◌, ◌≢◌, ◌&&◌, IsSome, is_some, ℕ, ◌+◌, ◌<◌, ◌≤◌, Bool, true, false, cond, nat_eq, ltb, eqb-true, eq-eqb, inl, inr, List, [], ◌∷◌, ◌++◌, Option, None, Some, Result, Ok, Err, refl, sym, ap, ◌∙◌, subst, map, arith}
 use Rattle.std.proofs.lemmas.Bool.{cond-true, cond-false, lt-ltb, ltb-false, ltb-true}
-use Rattle.sv_connection.specs.Turns.{over_event}
 use Rattle.std.specs.Cmp.{nat_eq_equiv}
 use Rattle.std.specs.Map.{lookup, set_value}
 use Rattle.std.proofs.lemmas.Map.{lookup-set_value}
 use Rattle.sv_front.specs.Course.{Along}
 use Rattle.sv_front.specs.Fronts.{Moves}
 use Rattle.sv_front.specs.Known.{AreAtRest, DrivesOne, EndsOne, Known, OpensNext, OthersStay, found, held_or_over, knows, place_in, Ticked, tick_result}
-use Rattle.sv_front.specs.Notes.{Goes, Note, Of, Talks, Ticks, deeds_of, over_by}
-use Rattle.sv_front.specs.Places.{Causes, Deed, Ends, Open, Opens, Over, Place, Standing, Unused, fresh}
-use Rattle.sv_front.specs.Steps.{Drives, Fails}
+use Rattle.sv_front.specs.Notes.{Goes, Of, Talks, Ticks, deeds_of}
+use Rattle.sv_front.specs.Places.{Deed, Ends, Open, Opens, Over, Place, Standing, Unused, fresh}
+use Rattle.sv_front.specs.Steps.{Drives}
 use Rattle.sv_front.specs.Ways.{Ways}
 use Rattle.sv_front.specs.declared.cause.Cause.{Cause}
 use Rattle.sv_front.specs.declared.cause.Cause.TheVariants.{GivenUp}

@@ -1,10 +1,10 @@
 -- What was done behind what was done before.
-use Rattle.std.proofs.Common.{◌≡◌, ℕ, Bool, true, false, cond, List, [], ◌∷◌, ◌++◌, Result, Ok, refl, sym, ap, ◌∙◌, subst, append_assoc, append-nil, map, nat_eq}
+use Rattle.std.proofs.Common.{◌≡◌, ℕ, Bool, true, false, cond, List, [], ◌∷◌, ◌++◌, Result, Ok, refl, sym, ap, ◌∙◌, subst, append_assoc, map, nat_eq}
 use Rattle.std.proofs.lemmas.List.{map-append}
 use Rattle.sv_connection.specs.Connection.{AreTold}
 use Rattle.sv_front.specs.Course.{Along}
 use Rattle.sv_front.specs.Notes.{Goes, Note, Of, Talks, Ticks, Went, answer_of, answers, deeds_of, event_of, events, moment_of, moments}
-use Rattle.sv_front.specs.Places.{Deed, Leads, Place}
+use Rattle.sv_front.specs.Places.{Deed, Place}
 use Rattle.sv_front.specs.Ways.{Ways}
 use Rattle.sv_run.specs.Events.{Happening, Tick}
 use Rattle.sv_run.specs.Reacting.{Reacting, Reacts}

@@ -1,8 +1,8 @@
 -- What holds of all that may be done of a connection.
-use Rattle.std.proofs.Common.{◌≡◌, ◌≢◌, ◌⊎◌, ℕ, true, false, List, [], ◌∷◌, ◌++◌, refl, sym, ap, ◌∙◌, subst, inl, inr, append_assoc, append-nil, flat_map}
+use Rattle.std.proofs.Common.{◌≡◌, ◌≢◌, ℕ, true, false, List, [], ◌∷◌, ◌++◌, refl, sym, ap, ◌∙◌, subst, inl, append_assoc, append-nil, flat_map}
 use Rattle.sv_front.specs.Course.{Along}
 use Rattle.sv_front.specs.Laws.{calls_of, handed_of, sends_of}
-use Rattle.sv_front.specs.Places.{Arms, Causes, Deed, Ends, Hands, Leads, Needs, Open, Opens, Over, Pauses, Place, Reads, Standing, Unused, Writes, fresh}
+use Rattle.sv_front.specs.Places.{Arms, Causes, Deed, Ends, Hands, Leads, Needs, Open, Opens, Over, Pauses, Place, Reads, Standing, Unused, Writes}
 use Rattle.sv_front.specs.Ways.{Ways}
 use Rattle.sv_front.specs.declared.cause.Cause.{Cause}
 use Rattle.sv_run.specs.declared.reaction.Reaction.{Reaction}
@@ -20,7 +20,7 @@ unsent_of (Open at) = at.unsent
 unsent_of Over = []
 
 module _ {S : Type 0} (ways : Ways S) where
-  no_unused : (before : Place S) (deed : Deed) → Leads ways before deed Unused → ⊥
+  pub no_unused : (before : Place S) (deed : Deed) → Leads ways before deed Unused → ⊥
   no_unused Unused (Opens reaction) leads = absurd leads
   no_unused (Open at) (Opens reaction) leads = absurd leads
   no_unused before deed leads = absurd leads

@@ -1,3 +1,4 @@
+mod AloneLemmas
 mod Doing
 mod Fronting
 mod Joining

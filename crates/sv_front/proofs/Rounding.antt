@@ -1,14 +1,14 @@
 -- One round more.
-use Rattle.std.proofs.Common.{◌≡◌, ℕ, ◌<◌, Bool, true, false, cond, ltb, List, [], ◌∷◌, ◌++◌, Ok, Err, refl, sym, ap, ◌∙◌, subst, arith}
+use Rattle.std.proofs.Common.{◌≡◌, ℕ, ◌<◌, Bool, true, false, cond, ltb, List, [], ◌∷◌, flat_map, ◌++◌, Ok, refl, sym, ap, ◌∙◌, subst, arith}
 use Rattle.std.proofs.lemmas.Bool.{ltb-true}
 use Rattle.sv_front.specs.Course.{Along}
-use Rattle.sv_front.specs.Fronts.{Moves, Rounds, Serves}
+use Rattle.sv_front.specs.Fronts.{Moves, Rounds}
 use Rattle.sv_front.specs.Known.{AreAtRest, Known, found, held_or_over, place_in}
 use Rattle.sv_front.specs.Notes.{Goes, Note, Went, deeds_of}
 use Rattle.sv_front.specs.Places.{Open, Place, Standing, Unused}
 use Rattle.sv_front.specs.Ways.{Ways}
 use Rattle.sv_run.specs.Reacting.{Reacting}
-use Rattle.sv_run.specs.declared.step_fault.StepFault.{StepFault}
+use Rattle.sv_front.proofs.Joining.{goes_join}
 
 none_below : (number : ℕ) → ltb number 0 ≡ false
 none_below number = by (ltb number 0) refl
@@ -61,3 +61,12 @@ module _ {R C S : Type 0} (ways : Ways S) (steps : Reacting R) (tells : C → �
     round_more before now after clock clock_now clock_after (λ number. Unused) (place_in known) (place_in known_after) rounds notes so_far goes (rests at_rest),
     rests at_rest,
   )
+
+  pub rounds_are_one : (before after : R) (clock clock_after : C) (places places_after : ℕ → Place S) (rounds : List (List Note))
+      → Rounds ways steps tells before clock places rounds after clock_after places_after
+      → Goes steps tells ways before clock places (flat_map (λ notes. notes) rounds) after clock_after places_after
+  rounds_are_one before after clock clock_after places places_after [] (same, same_clock, same_places) =
+      record { went = record { reacts = same; told = same_clock }; courses = same_places }
+  rounds_are_one before after clock clock_after places places_after (notes ∷ rounds) (middle, clock_middle, places_middle, goes, rest, later) =
+      goes_join steps tells ways before middle after clock clock_middle clock_after places places_middle places_after notes (flat_map (λ notes. notes) rounds) goes
+      (rounds_are_one middle after clock_middle clock_after places_middle places_after rounds later)

@@ -1,8 +1,8 @@
 -- One thing more that is done of a connection.
-use Rattle.std.proofs.Common.{◌≡◌, ℕ, true, List, [], ◌∷◌, ◌++◌, Option, None, Some, Result, Ok, Err, refl, sym, ap, subst}
+use Rattle.std.proofs.Common.{◌≡◌, ℕ, List, [], ◌∷◌, ◌++◌, Option, None, Some, Ok, Err, refl, sym, ap, subst}
 use Rattle.sv_front.specs.Notes.{Talks}
-use Rattle.sv_front.specs.Places.{Arms, Causes, Deed, Hands, IsArmed, Leads, Open, Pauses, Reads, Standing, Writes}
-use Rattle.sv_front.specs.Steps.{Drives, Fails, HandsOn, SendsOn, StepsOnce, TakesIn}
+use Rattle.sv_front.specs.Places.{Arms, Causes, Deed, Hands, IsArmed, Open, Pauses, Reads, Standing, Writes}
+use Rattle.sv_front.specs.Steps.{Drives, HandsOn, SendsOn, StepsOnce, TakesIn}
 use Rattle.sv_front.specs.Ways.{Ways}
 use Rattle.sv_front.specs.declared.cause.Cause.{Cause}
 use Rattle.sv_front.specs.declared.step.Step.{Step}

@@ -1,5 +1,5 @@
 -- Many connections, round after round.
-use Rattle.std.specs.Prelude.{◌≡◌, ℕ, List, [], ◌∷◌, Result, Ok, Err}
+use Rattle.std.specs.Prelude.{◌≡◌, ℕ, List, [], ◌∷◌, flat_map, Result, Ok, Err}
 use Rattle.sv_front.specs.Known.{AreAtRest, Known, place_in}
 use Rattle.sv_front.specs.Notes.{Goes, Note}
 use Rattle.sv_front.specs.Places.{Place, Unused}
@@ -35,3 +35,10 @@ module _ {S R C : Type 0} (ways : Ways S) (steps : Reacting R) (tells : C → �
       × Rounds before clock (λ number. Unused) rounds between clock_between places_between
       × (notes : List Note) × (middle : R) × (clock_middle : C) × (places : ℕ → Place S)
       × Goes steps tells ways between clock_between places_between notes middle clock_middle places × Fails steps fault middle after
+
+  -- what was done in rounds was done one after another: the events of all are taken one behind the other, and each number has one course
+  abbrev pub RoundsAreOne : Type 0
+  RoundsAreOne =
+      (before after : R) (clock clock_after : C) (places places_after : ℕ → Place S) (rounds : List (List Note))
+      → Rounds before clock places rounds after clock_after places_after
+      → Goes steps tells ways before clock places (flat_map (λ notes. notes) rounds) after clock_after places_after

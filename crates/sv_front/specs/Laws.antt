@@ -1,5 +1,5 @@
 -- The laws of connections that are served at once.
-use Rattle.std.specs.Prelude.{◌≡◌, ◌⊎◌, ℕ, true, List, [], ◌∷◌, ◌++◌, flat_map}
+use Rattle.std.specs.Prelude.{◌≡◌, ℕ, true, List, [], ◌∷◌, ◌++◌, flat_map}
 use Rattle.sv_front.specs.Course.{Along}
 use Rattle.sv_front.specs.Places.{Causes, Deed, Ends, Hands, Needs, Open, Over, Place, Reads, Standing, Unused, Writes}
 use Rattle.sv_front.specs.Ways.{Ways}

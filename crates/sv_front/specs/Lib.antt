@@ -1,3 +1,4 @@
+pub mod Alone
 pub mod Course
 pub mod Fronts
 pub mod Known

@@ -1,9 +1,9 @@
 -- What was done of all connections, one after another.
-use Rattle.std.specs.Prelude.{◌≡◌, ℕ, ◌++◌, List, [], ◌∷◌, cond, map, nat_eq, Result, Ok, Err}
+use Rattle.std.specs.Prelude.{ℕ, ◌++◌, List, [], ◌∷◌, cond, map, nat_eq, Result, Ok}
 use Rattle.sv_connection.specs.Connection.{AreTold}
 use Rattle.sv_connection.specs.Turns.{over_event}
 use Rattle.sv_front.specs.Course.{Along}
-use Rattle.sv_front.specs.Places.{Arms, Deed, Ends, Hands, Opens, Pauses, Place, Reads, Writes}
+use Rattle.sv_front.specs.Places.{Deed, Ends, Hands, Opens, Place}
 use Rattle.sv_front.specs.Ways.{Ways}
 use Rattle.sv_front.specs.declared.cause.Cause.{Cause}
 use Rattle.sv_front.specs.declared.cause.Cause.TheVariants.{AnswerCloses, GivenUp, PeerEnded, ReadFails, WriteFails}

@@ -1,7 +1,7 @@
 -- One connection, as far as it gets without waiting.
 use Rattle.std.specs.Prelude.{◌≡◌, ◌⊎◌, ℕ, true, List, [], ◌∷◌, Option, None, Some, Result, Ok, Err}
 use Rattle.sv_front.specs.Notes.{Talks}
-use Rattle.sv_front.specs.Places.{Causes, Deed, Hands, Leads, Open, Pauses, Arms, Reads, Standing, Writes}
+use Rattle.sv_front.specs.Places.{Causes, Deed, Hands, Leads, Open, Pauses, Reads, Standing, Writes}
 use Rattle.sv_front.specs.Ways.{Ways}
 use Rattle.sv_front.specs.declared.cause.Cause.{Cause}
 use Rattle.sv_front.specs.declared.step.Step.{Step}

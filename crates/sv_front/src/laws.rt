@@ -1,12 +1,16 @@
 //! The laws of connections that are served at once, each the contract of a function that does nothing.
 
 ghost use Rattle.std.specs.Prelude.{◌≡◌};
+ghost use Rattle.sv_front.specs.Alone.{ServedAsIfAlone};
+ghost use Rattle.sv_front.specs.Fronts.{RoundsAreOne};
 ghost use Rattle.sv_front.specs.Laws.{BytesAreKept, EndsHaveACause, NumbersAreNotUsedAgain, RestIsForSomething};
 
 use crate::limits::{
     BYTES_A_WINDOW, MAX_CONNECTIONS, MAX_IDLE_SECONDS, READ_BYTES, READS_AT_ONCE, WINDOW_SECONDS,
 };
 use crate::peer::Peer;
+use sv_run::Reactor;
+use sv_streams::Clock;
 
 /// The limits of this crate as numbers.
 pub fn limits_are_as_stated()
@@ -22,6 +26,17 @@ pub fn limits_are_as_stated()
 /// waits to be: nothing is lost, doubled or put elsewhere.
 pub fn bytes_are_kept<P: Peer>()
     ensures { BytesAreKept P.ways }
+{}
+
+/// What is done in rounds is done one after another: the events of all connections are taken one behind the other, and of each number one course.
+pub fn rounds_are_one<P: Peer, R: Reactor, C: Clock>()
+    ensures { RoundsAreOne P.ways R.steps C.tells }
+{}
+
+/// The events of a connection, their answers, their moments and, with each read cut into its pieces, the calls of its stream are those of turns of
+/// a connection that is served by itself: all but the last of them written whole, and of that one a part, from the first byte on.
+pub fn each_is_served_as_if_alone<P: Peer>()
+    ensures { ServedAsIfAlone P.ways }
 {}
 
 /// A connection is over only for a cause that its stream or its answer shows, or as it was given up; all was written where its answer closes it.

@@ -15,8 +15,8 @@ mod step;
 
 pub use cause::Cause;
 pub use laws::{
-    bytes_are_kept, ends_have_a_cause, limits_are_as_stated, numbers_are_not_used_again,
-    rest_is_for_something,
+    bytes_are_kept, each_is_served_as_if_alone, ends_have_a_cause, limits_are_as_stated,
+    numbers_are_not_used_again, rest_is_for_something, rounds_are_one,
 };
 pub use limits::{
     BYTES_A_WINDOW, MAX_CONNECTIONS, MAX_IDLE_SECONDS, READ_BYTES, READS_AT_ONCE, WINDOW_SECONDS,

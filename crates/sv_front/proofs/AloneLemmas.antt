@@ -1,0 +1,193 @@
+-- The turns of a connection that is served beside others.
+use Rattle.std.proofs.Common.{◌≡◌, ℕ, ◌<◌, ◌+◌, false, List, [], ◌∷◌, ◌++◌, Ok, Result, refl, sym, ap, ◌∙◌, subst, append_assoc, append-nil, flat_map, length, length-append, arith}
+use Rattle.std.proofs.lemmas.List.{map-append}
+use Rattle.std.specs.List.{AllByRecursion, concat}
+use Rattle.sv_connection.specs.Turns.{GoesOn, Turn, brought, calls_of, piece_of}
+use Rattle.sv_connection.specs.Turns as turn
+use Rattle.sv_front.specs.Alone.{AreTurns, IsAlone, IsUnderWay, cut_calls}
+use Rattle.sv_front.specs.Course.{Along}
+use Rattle.sv_front.specs.Notes.{answer_of, event_of, moment_of}
+use Rattle.sv_front.specs.Places.{Arms, Deed, Ends, Hands, Leads, Open, Opens, Over, Pauses, Place, Reads, Standing, Unused, Writes, fresh}
+use Rattle.sv_front.specs.Ways.{Ways}
+use Rattle.sv_run.specs.Events.{Opened}
+use Rattle.sv_run.specs.declared.reaction.Reaction.{Reaction}
+use Rattle.sv_run.specs.declared.step_fault.StepFault.{StepFault}
+use Rattle.sv_streams.specs.Calls.{Gave, Took}
+use Rattle.sv_front.proofs.LawLemmas.{no_unused, over_stays}
+
+all_join : {A : Type 0} (P : A → Type 0) (xs ys : List A) → AllByRecursion P xs → AllByRecursion P ys → AllByRecursion P (xs ++ ys)
+all_join P [] ys first second = second
+all_join P (x ∷ xs) ys (here, first) second = (here, all_join P xs ys first second)
+
+flat_join : {A B : Type 0} (f : A → List B) (xs ys : List A) → flat_map f (xs ++ ys) ≡ flat_map f xs ++ flat_map f ys
+flat_join f [] ys = refl
+flat_join f (x ∷ xs) ys = ap (λ back. f x ++ back) (flat_join f xs ys) ∙ sym (append_assoc (f x) (flat_map f xs) (flat_map f ys))
+
+one_more : {A B : Type 0} (f : A → List B) (xs : List A) (x : A) → flat_map f (xs ++ x ∷ []) ≡ flat_map f xs ++ f x
+one_more f xs x = flat_join f xs (x ∷ []) ∙ ap (λ back. flat_map f xs ++ back) (append-nil (f x))
+
+none_more : {A B : Type 0} (f : A → List B) (xs : List A) (x : A) → f x ≡ [] → flat_map f (xs ++ x ∷ []) ≡ flat_map f xs
+none_more f xs x none = one_more f xs x ∙ ap (λ back. flat_map f xs ++ back) none ∙ append-nil (flat_map f xs)
+
+concat_one : (parts : List (List ℕ)) (part : List ℕ) → concat (parts ++ part ∷ []) ≡ concat parts ++ part
+concat_one [] part = append-nil part
+concat_one (first ∷ parts) part = ap (λ back. first ++ back) (concat_one parts part) ∙ sym (append_assoc first (concat parts) part)
+
+module _ (number : ℕ) (deeds : List Deed) (opening : Reaction) where
+  -- a deed that is no event and no call of a turn
+  quiet_more : (turns : List Turn) (deed : Deed) → event_of number deed ≡ [] → answer_of deed ≡ [] → moment_of deed ≡ [] → cut_calls deed ≡ []
+      → AreTurns number deeds opening turns → AreTurns number (deeds ++ deed ∷ []) opening turns
+  quiet_more turns deed no_event no_answer no_moment no_call are = record {
+    happened = none_more (event_of number) deeds deed no_event ∙ are.happened;
+    answered = none_more answer_of deeds deed no_answer ∙ are.answered;
+    told = none_more moment_of deeds deed no_moment ∙ are.told;
+    called = none_more cut_calls deeds deed no_call ∙ are.called;
+  }
+
+  -- a piece more
+  piece_more : (turns : List Turn) (bytes : List ℕ) (moment : ℕ) (reaction : Reaction) → AreTurns number deeds opening turns
+      → AreTurns number (deeds ++ Hands bytes moment reaction ∷ []) opening (turns ++ record { bytes = bytes; moment = moment; reaction = reaction; parts = [] } ∷ [])
+  piece_more turns bytes moment reaction are =
+      let new : Turn = record { bytes = bytes; moment = moment; reaction = reaction; parts = [] } in
+      let deed = Hands bytes moment reaction in
+      record {
+        happened = one_more (event_of number) deeds deed ∙ ap (λ front. front ++ event_of number deed) are.happened
+            ∙ ap (λ back. Opened number ∷ back) (sym (map-append (piece_of number) turns (new ∷ [])));
+        answered = one_more answer_of deeds deed ∙ ap (λ front. front ++ answer_of deed) are.answered
+            ∙ ap (λ back. opened ∷ back) (sym (map-append brought turns (new ∷ [])));
+        told = one_more moment_of deeds deed ∙ ap (λ front. front ++ moment_of deed) are.told ∙ sym (map-append turn.moment_of turns (new ∷ []));
+        called = one_more cut_calls deeds deed ∙ ap (λ front. front ++ cut_calls deed) are.called ∙ sym (one_more calls_of turns new);
+      }
+    where
+      opened : Result Reaction StepFault
+      opened = Ok opening
+
+  -- a part more of the last turn
+  part_more : (turns : List Turn) (last : Turn) (part : List ℕ) → AreTurns number deeds opening (turns ++ last ∷ [])
+      → AreTurns number (deeds ++ Writes part ∷ []) opening (turns ++ record last { parts = last.parts ++ part ∷ [] } ∷ [])
+  part_more turns last part are =
+      let new : Turn = record last { parts = last.parts ++ part ∷ [] } in
+      let E = map-append (piece_of number) turns (last ∷ []) in
+      record {
+        happened = none_more (event_of number) deeds (Writes part) refl ∙ are.happened
+            ∙ ap (λ back. Opened number ∷ back) (map-append (piece_of number) turns (last ∷ []) ∙ sym (map-append (piece_of number) turns (new ∷ [])));
+        answered = none_more answer_of deeds (Writes part) refl ∙ are.answered
+            ∙ ap (λ back. opened ∷ back) (map-append brought turns (last ∷ []) ∙ sym (map-append brought turns (new ∷ [])));
+        told = none_more moment_of deeds (Writes part) refl ∙ are.told ∙ map-append turn.moment_of turns (last ∷ []) ∙ sym (map-append turn.moment_of turns (new ∷ []));
+        called = one_more cut_calls deeds (Writes part)
+            ∙ ap (λ front. front ++ Took part ∷ []) (are.called ∙ one_more calls_of turns last)
+            ∙ append_assoc (flat_map calls_of turns) (calls_of last) (Took part ∷ [])
+            ∙ ap (λ back. flat_map calls_of turns ++ (Gave last.bytes ∷ back)) (sym (map-append Took last.parts (part ∷ [])))
+            ∙ sym (one_more calls_of turns new);
+      }
+    where
+      opened : Result Reaction StepFault
+      opened = Ok opening
+
+module _ {S : Type 0} (ways : Ways S) (number : ℕ) where
+  -- what was under way goes on
+  goes_on : (under : List Turn) (b : Standing S) → IsUnderWay under b → b.unsent ≡ [] → b.closes ≡ false → AllByRecursion GoesOn under
+  goes_on [] b is none still = tt
+  goes_on (last ∷ []) b (some, sends, closes) none still = (
+    record {
+      whole = record { some = some; is_written = sym (append-nil (concat last.parts)) ∙ ap (λ rest. concat last.parts ++ rest) (sym none) ∙ sends };
+      stays_open = closes ∙ still;
+    },
+    tt,
+  )
+  goes_on (last ∷ other ∷ more) b is none still = absurd is
+
+  still_under : (under : List Turn) (b c : Standing S) → c.unsent ≡ b.unsent → c.closes ≡ b.closes → IsUnderWay under b → IsUnderWay under c
+  still_under [] b c unsent closes (none, still) = (unsent ∙ none, closes ∙ still)
+  still_under (last ∷ []) b c unsent closes (some, sends, is) =
+      (some, ap (λ rest. concat last.parts ++ rest) unsent ∙ sends, is ∙ sym closes)
+  still_under (last ∷ other ∷ more) b c unsent closes is = absurd is
+
+  quiet_step : (deeds : List Deed) (deed : Deed) (b c : Standing S) → event_of number deed ≡ [] → answer_of deed ≡ [] → moment_of deed ≡ [] → cut_calls deed ≡ []
+      → c.unsent ≡ b.unsent → c.closes ≡ b.closes → IsAlone number deeds b → IsAlone number (deeds ++ deed ∷ []) c
+  quiet_step deeds deed b c no_event no_answer no_moment no_call unsent closes is = record {
+    opening = is.opening;
+    turns = is.turns;
+    go_on = is.go_on;
+    under_way = is.under_way;
+    is_under_way = still_under is.under_way b c unsent closes is.is_under_way;
+    are_turns = quiet_more number deeds is.opening (is.turns ++ is.under_way) deed no_event no_answer no_moment no_call is.are_turns;
+  }
+
+  write_step : (deeds : List Deed) (b c : Standing S) (part : List ℕ) → 0 < length part → b.unsent ≡ part ++ c.unsent → c.closes ≡ b.closes
+      → (opening : Reaction) (turns : List Turn) → AllByRecursion GoesOn turns → (under : List Turn) → IsUnderWay under b → AreTurns number deeds opening (turns ++ under)
+      → IsAlone number (deeds ++ Writes part ∷ []) c
+  write_step deeds b c part some front same opening turns all [] (none, still) are =
+      let measured : length (part ++ c.unsent) ≡ length part + length c.unsent = length-append part c.unsent in
+      let empty : length (part ++ c.unsent) ≡ 0 = ap length (sym front ∙ none) in
+      absurd (omega arith)
+  write_step deeds b c part some front same opening turns all (last ∷ []) (bytes, sends, is) are = record {
+    opening = opening;
+    turns = turns;
+    go_on = all;
+    under_way = record last { parts = last.parts ++ part ∷ [] } ∷ [];
+    is_under_way = (
+      bytes,
+      ap (λ text. text ++ c.unsent) (concat_one last.parts part) ∙ append_assoc (concat last.parts) part c.unsent
+          ∙ ap (λ rest. concat last.parts ++ rest) (sym front) ∙ sends,
+      is ∙ sym same,
+    );
+    are_turns = part_more number deeds opening turns last part are;
+  }
+  write_step deeds b c part some front same opening turns all (last ∷ other ∷ more) is are = absurd is
+
+  alone_step : (deeds : List Deed) (deed : Deed) (b c : Standing S) → Leads ways (Open b) deed (Open c) → IsAlone number deeds b → IsAlone number (deeds ++ deed ∷ []) c
+  alone_step deeds (Opens reaction) b c leads is = absurd leads
+  alone_step deeds (Ends cause reaction) b c leads is = absurd leads
+  alone_step deeds (Reads bytes) b c (idle, some, made, now) is =
+      quiet_step deeds (Reads bytes) b c refl refl refl refl (ap (λ (s : Standing S). s.unsent) now) (ap (λ (s : Standing S). s.closes) now) is
+  alone_step deeds Pauses b c (needs, pauses, now) is =
+      quiet_step deeds Pauses b c refl refl refl refl (ap (λ (s : Standing S). s.unsent) now) (ap (λ (s : Standing S). s.closes) now) is
+  alone_step deeds Arms b c (needs, arms, now) is =
+      quiet_step deeds Arms b c refl refl refl refl (ap (λ (s : Standing S). s.unsent) now) (ap (λ (s : Standing S). s.closes) now) is
+  alone_step deeds (Writes bytes) b c (some, made, front, now) is =
+      write_step deeds b c bytes some front (ap (λ (s : Standing S). s.closes) now) is.opening is.turns is.go_on is.under_way is.is_under_way is.are_turns
+  alone_step deeds (Hands bytes moment reaction) b c (has, piece, front, now) is = record {
+    opening = is.opening;
+    turns = is.turns ++ is.under_way;
+    go_on = all_join GoesOn is.turns is.under_way is.go_on (goes_on is.under_way b is.is_under_way has.1 has.2);
+    under_way = record { bytes = bytes; moment = moment; reaction = reaction; parts = [] } ∷ [];
+    is_under_way = (piece.0, ap (λ (s : Standing S). s.unsent) now, sym (ap (λ (s : Standing S). s.closes) now));
+    are_turns = piece_more number deeds is.opening (is.turns ++ is.under_way) bytes moment reaction is.are_turns;
+  }
+
+  alone_on : (front deeds : List Deed) (b at : Standing S) → IsAlone number front b → Along ways (Open b) deeds (Open at) → IsAlone number (front ++ deeds) at
+  alone_on front [] b at is same =
+      let P : List Deed → Type 0 = λ ds. IsAlone number ds at in
+      let Q : Place S → Type 0 = here front in
+      subst P (sym (append-nil front)) (subst Q (sym same) is)
+    where
+      here : List Deed → Place S → Type 0
+      here ds Unused = Unit {0}
+      here ds (Open s) = IsAlone number ds s
+      here ds Over = Unit {0}
+  alone_on front (deed ∷ deeds) b at is (Open c, leads, later) =
+      let P : List Deed → Type 0 = λ ds. IsAlone number ds at in
+      subst P (append_assoc front (deed ∷ []) deeds) (alone_on (front ++ deed ∷ []) deeds c at (alone_step front deed b c leads is) later)
+  alone_on front (deed ∷ deeds) b at is (Unused, leads, later) = absurd (no_unused ways (Open b) deed leads)
+  alone_on front (deed ∷ deeds) b at is (Over, leads, later) = let no : Open at ≡ Over = (over_stays ways deeds (Open at) later).1 in absurd (cc)
+
+  begins : (reaction : Reaction) (b : Standing S) → b ≡ fresh b.stream → IsAlone number (Opens reaction ∷ []) b
+  begins reaction b is = record {
+    opening = reaction;
+    turns = [];
+    go_on = tt;
+    under_way = [];
+    is_under_way = (ap (λ (s : Standing S). s.unsent) is, ap (λ (s : Standing S). s.closes) is);
+    are_turns = record { happened = refl; answered = refl; told = refl; called = refl };
+  }
+
+  first_step : (deed : Deed) (deeds : List Deed) (b at : Standing S) → Leads ways Unused deed (Open b) → Along ways (Open b) deeds (Open at) → IsAlone number (deed ∷ deeds) at
+  first_step (Opens reaction) deeds b at leads later = alone_on (Opens reaction ∷ []) deeds b at (begins reaction b leads) later
+  first_step deed deeds b at leads later = absurd leads
+
+  pub alone : (deeds : List Deed) (at : Standing S) → Along ways Unused deeds (Open at) → IsAlone number deeds at
+  alone [] at is = let no : Open at ≡ Unused = is in absurd (cc)
+  alone (deed ∷ deeds) at (Open b, leads, later) = first_step deed deeds b at leads later
+  alone (deed ∷ deeds) at (Unused, leads, later) = absurd (no_unused ways Unused deed leads)
+  alone (deed ∷ deeds) at (Over, leads, later) = let no : Open at ≡ Over = (over_stays ways deeds (Open at) later).1 in absurd (cc)
