@@ -1,11 +1,10 @@
 -- The sessions in their slots, by the place of a session.
-use Rattle.std.proofs.Common.{◌≡◌, ℕ, zero, suc, ◌+◌, ◌<◌, ◌≤◌, Bool, true, false, ◌⊎◌, inl, inr, List, [], ◌∷◌, ◌++◌, length, map, set, get_or, filter, Option, None, Some, refl, sym, ◌∙◌, ap, subst, eq-eqb, arith}
+use Rattle.std.proofs.Common.{◌≡◌, ℕ, zero, suc, ◌<◌, ◌≤◌, true, false, ◌⊎◌, inl, inr, List, [], ◌∷◌, length, set, get_or, None, Some, refl, sym, ◌∙◌, ap, subst, eq-eqb, arith}
 use Rattle.std.specs.List.{find}
-use Rattle.std.proofs.lemmas.Bool.{both_ways, cases_Bool, eqb-true, ne_eqb}
-use Rattle.sv_expiry_queue.specs.declared.due.Due.{Due}
+use Rattle.std.proofs.lemmas.Bool.{both_ways, cases_Bool, ne_eqb}
 use Rattle.sv_session.specs.declared.slot.Slot.{Slot}
 use Rattle.sv_session.specs.Lists.{on_first, without_first}
-use Rattle.sv_session.specs.Slots.{IsFirstFrom, IsPlace, SlotsRise, due_of, living}
+use Rattle.sv_session.specs.Slots.{IsFirstFrom, IsPlace, SlotsRise, living}
 use Rattle.sv_session.specs.Store.{Session, Store, is_numbered}
 
 -- ---- the numbers of slots

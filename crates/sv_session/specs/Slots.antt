@@ -1,5 +1,5 @@
 -- The sessions as they are kept: in slots, in the order of their numbers, where the slot of an ended session is empty.
-use Rattle.std.specs.Prelude.{◌≡◌, ℕ, ◌<◌, ◌≤◌, Bool, true, List, [], ◌∷◌, length, map, find, Option, None, Some, slice_index_or, if◌then◌else◌}
+use Rattle.std.specs.Prelude.{◌≡◌, ℕ, ◌<◌, ◌≤◌, true, List, [], ◌∷◌, length, map, find, Option, None, Some, slice_index_or, if◌then◌else◌}
 use Rattle.std.specs.Option.{option_map}
 use Rattle.sv_expiry_queue.specs.declared.due.Due.{Due}
 use Rattle.sv_expiry_queue.specs.Order.{Waiting}

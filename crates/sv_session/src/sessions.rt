@@ -336,6 +336,8 @@ impl Sessions {
         ensures added { OnOk result (self.new ≡ record self.old { serial = self.old.serial + 1; sessions = self.old.sessions ++ kept ∷ [] }) }
         ensures refused { OnErr result (self.new ≡ self.old) }
     {
+        // The count is below it, and so the next count is a number too.
+        let _limit = self.limit;
         self.slots.reserve(1)?;
         self.ids.enter(self.alloc, kept.id(), kept.number())?;
         let Ok(()) = self.queue.push(kept.due()) else {

@@ -1,4 +1,4 @@
-use Rattle.std.proofs.Common.{sym, ◌∙◌, ap, arith}
+use Rattle.std.proofs.Common.{◌∙◌, ap, arith}
 use Rattle.sv_session.specs.declared.slot.Slot.{Slot}
 use Rattle.sv_session.proofs.SlotLemmas.{get_or-any, none_from, now_dead}
 use Rattle.sv_session.proofs.slot.place_of.Goals as goal
