@@ -27,7 +27,7 @@ module _ (interval : ℕ) where
   before_chain a b c =
       chain (a.last_access + interval) a.number (b.last_access + interval) b.number (c.last_access + interval) c.number
 
-  before_chain_not : (a b c : Session) → ends_before interval b a ≡ false → ends_before interval c b ≡ false → ends_before interval c a ≡ false
+  pub before_chain_not : (a b c : Session) → ends_before interval b a ≡ false → ends_before interval c b ≡ false → ends_before interval c a ≡ false
   before_chain_not a b c =
       chain_not (a.last_access + interval) a.number (b.last_access + interval) b.number (c.last_access + interval) c.number
 

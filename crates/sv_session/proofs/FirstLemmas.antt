@@ -63,3 +63,18 @@ missed_at p xs missed = elim (cases_Bool (ltb (position_or_len p xs) (length xs)
   | inl less ↦ let found : Some (position_or_len p xs) ≡ None = rw less at missed in cc
   | inr more ↦ past_all p xs (ltb-false (position_or_len p xs) (length xs) more)
 ]
+
+-- none is found
+pub none_found : {X : Type 0} (p : X → Bool) (xs : List X) → find p xs ≡ None → IsMissed p xs
+none_found p [] none = record { finds = refl; any = refl; changes = λ f. refl; leaves = refl }
+none_found p (x ∷ xs) none = elim (cases_Bool (p x)) [
+  | inl pass ↦ let found : Some x ≡ None = rw pass at none in cc
+  | inr fail ↦
+      let more = none_found p xs (rw fail at none) in
+      record {
+        finds = rw fail more.finds;
+        any = rw fail more.any;
+        changes = λ f. rw fail (ap (λ rest. x ∷ rest) (more.changes f));
+        leaves = rw fail (ap (λ rest. x ∷ rest) more.leaves);
+      }
+]

@@ -7,4 +7,8 @@ mod LiveIdLemmas
 mod MoveLemmas
 mod OrderLemmas
 mod RunLemmas
+mod JudgeLemmas
+mod KeptLemmas
+mod SlotLemmas
+mod IndexLemmas
 mod StoreLemmas

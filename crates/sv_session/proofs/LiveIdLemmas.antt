@@ -14,24 +14,11 @@ use Rattle.sv_session.specs.declared.session_fault.SessionFault.TheVariants.{Ser
 use Rattle.sv_session.specs.Attributes.{with_named, without_named}
 use Rattle.sv_session.specs.Calls.{expired_number, is_spent, missing, opened, opening_faults, renamed, renaming_faults, session_opened, setting_faults, with_attribute, without}
 use Rattle.sv_session.specs.Id.{id_text}
+use Rattle.sv_session.specs.Ids.{IdsDiffer, IsGiven, NoneHas}
 use Rattle.sv_session.specs.Lists.{on_first, without_first}
 use Rattle.sv_session.specs.Runs.{Call, Open, Touch, Expire, End, Rename, EnterCaller, Save, TakeSaved, Set, Remove, left_after, left_by, unless}
 use Rattle.sv_session.specs.Store.{Session, Store, empty_store, has_id, is_numbered, number_of, numbered}
 use Rattle.sv_session.proofs.IdLemmas.{nothing_behind, rises_unspent, serials_tell}
-
--- no session has the id
-abbrev NoneHas : List ℕ → List Session → Type 0
-NoneHas id [] = Unit {0}
-NoneHas id (x ∷ xs) = (x.id ≢ id) × NoneHas id xs
-
--- the id has a serial up to a bound
-abbrev IsGiven : ℕ → List ℕ → Type 0
-IsGiven bound id = (words : ℕ × ℕ) × (serial : ℕ) × (serial ≤ bound) × (id ≡ id_text words serial)
-
--- each session has such an id, which none behind it has
-abbrev IdsDiffer : ℕ → List Session → Type 0
-IdsDiffer bound [] = Unit {0}
-IdsDiffer bound (x ∷ xs) = IsGiven bound x.id × NoneHas x.id xs × IdsDiffer bound xs
 
 -- ---- changes of the list
 none_has_changed : (id : List ℕ) (test : Session → Bool) (change : Session → Session) → ((session : Session) → session.id ≢ id → (change session).id ≢ id)
@@ -60,7 +47,7 @@ differ_more : (bound : ℕ) (sessions : List Session) → IdsDiffer bound sessio
 differ_more bound [] differ = tt
 differ_more bound (x ∷ xs) differ = (given_more bound x.id differ.0, differ.1, differ_more bound xs differ.2)
 
-differ_left : (bound : ℕ) (test : Session → Bool) (sessions : List Session) → IdsDiffer bound sessions → IdsDiffer bound (without_first test sessions)
+pub differ_left : (bound : ℕ) (test : Session → Bool) (sessions : List Session) → IdsDiffer bound sessions → IdsDiffer bound (without_first test sessions)
 differ_left bound test [] differ = differ
 differ_left bound test (x ∷ xs) differ = elim (cases_Bool (test x)) [
   | inl passes ↦ rw passes differ.2
@@ -68,7 +55,7 @@ differ_left bound test (x ∷ xs) differ = elim (cases_Bool (test x)) [
 ]
 
 -- a change that keeps the id
-differ_kept : (bound : ℕ) (test : Session → Bool) (change : Session → Session) → ((session : Session) → (change session).id ≡ session.id)
+pub differ_kept : (bound : ℕ) (test : Session → Bool) (change : Session → Session) → ((session : Session) → (change session).id ≡ session.id)
     → (sessions : List Session) → IdsDiffer bound sessions → IdsDiffer bound (on_first test change sessions)
 differ_kept bound test change keeps [] differ = differ
 differ_kept bound test change keeps (x ∷ xs) differ = elim (cases_Bool (test x)) [
@@ -81,7 +68,7 @@ differ_kept bound test change keeps (x ∷ xs) differ = elim (cases_Bool (test x
 ]
 
 -- the next serial makes an id that no session has
-new_id : (words : ℕ × ℕ) (bound : ℕ) (sessions : List Session) → bound + 1 < 2 ^ 64 → IdsDiffer bound sessions → NoneHas (id_text words (bound + 1)) sessions
+pub new_id : (words : ℕ × ℕ) (bound : ℕ) (sessions : List Session) → bound + 1 < 2 ^ 64 → IdsDiffer bound sessions → NoneHas (id_text words (bound + 1)) sessions
 new_id words bound [] small differ = tt
 new_id words bound (x ∷ xs) small differ = (
   λ same.
@@ -91,7 +78,7 @@ new_id words bound (x ∷ xs) small differ = (
   new_id words bound xs small differ.2,
 )
 
-differ_opened : (words : ℕ × ℕ) (now bound : ℕ) (sessions : List Session) → NoneHas (id_text words (bound + 1)) sessions → IdsDiffer bound sessions
+pub differ_opened : (words : ℕ × ℕ) (now bound : ℕ) (sessions : List Session) → NoneHas (id_text words (bound + 1)) sessions → IdsDiffer bound sessions
     → IdsDiffer (bound + 1) (sessions ++ session_opened words (bound + 1) now ∷ [])
 differ_opened words now bound [] none differ = ((words, bound + 1, omega arith, refl), tt, tt)
 differ_opened words now bound (x ∷ xs) none differ = (
@@ -104,7 +91,7 @@ module _ (words : ℕ × ℕ) (bound : ℕ) (test : Session → Bool) where
   abbrev change : Session → Session
   change session = record session { id = id_text words (bound + 1) }
 
-  differ_renamed : (sessions : List Session) → NoneHas (id_text words (bound + 1)) sessions → IdsDiffer bound sessions
+  pub differ_renamed : (sessions : List Session) → NoneHas (id_text words (bound + 1)) sessions → IdsDiffer bound sessions
       → IdsDiffer (bound + 1) (on_first test change sessions)
   differ_renamed [] none differ = tt
   differ_renamed (x ∷ xs) none differ = elim (cases_Bool (test x)) [
@@ -165,13 +152,13 @@ own_behind [] store own = own
 own_behind (call ∷ calls) store own = own_behind calls (left_by call store) (call_leaves_own call store own)
 
 -- ---- found by its id
-itself : (id : List ℕ) → bytes_eq id id ≡ true
+pub itself : (id : List ℕ) → bytes_eq id id ≡ true
 itself id = (bytes_eq-Decides id id).1 refl
 
-another : (left right : List ℕ) → left ≢ right → bytes_eq left right ≡ false
+pub another : (left right : List ℕ) → left ≢ right → bytes_eq left right ≡ false
 another left right other = false_from_ne_true (bytes_eq left right) (λ same. other ((bytes_eq-Decides left right).0 same))
 
-found_has : (number : ℕ) (id : List ℕ) (sessions : List Session) (session : Session) → find (is_numbered number) sessions ≡ Some session
+pub found_has : (number : ℕ) (id : List ℕ) (sessions : List Session) (session : Session) → find (is_numbered number) sessions ≡ Some session
     → NoneHas id sessions → session.id ≢ id
 found_has number id [] session found none = absurd (none-some session found)
 found_has number id (x ∷ xs) session found none = elim (cases_Bool (is_numbered number x)) [

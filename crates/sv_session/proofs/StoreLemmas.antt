@@ -1,6 +1,7 @@
 -- What the calls do to the list of sessions, by the place of a session.
 use Rattle.std.proofs.Common.{◌≡◌, ℕ, ◌+◌, ◌<◌, true, false, List, [], ◌∷◌, length, Option, Some, None, get_or, set, refl, sym, ◌∙◌, ap, subst, eq-eqb}
-use Rattle.std.specs.List.{position, remove, slice_get}
+use Rattle.std.specs.List.{slice_get}
+use Rattle.std.proofs.lemmas.List.{set-get_or}
 use Rattle.std.specs.Option.{is_some, option_and_then}
 use Rattle.std.proofs.lemmas.Bool.{lt-leb, ne_eqb}
 use Rattle.sv_session.specs.declared.limits.TheConstants.{GREATEST_SERIAL}
@@ -8,9 +9,11 @@ use Rattle.sv_session.specs.declared.session_fault.SessionFault.TheVariants.{NoS
 use Rattle.sv_session.specs.Calls.{ended, ending, is_too_large, opening_faults, renamed, renaming_faults, setting_faults, value_of, without}
 use Rattle.sv_session.specs.Attributes.{value_named}
 use Rattle.sv_session.specs.Id.{id_text}
-use Rattle.sv_session.specs.Lists.{on_first}
+use Rattle.sv_session.specs.declared.slot.Slot.{Slot}
+use Rattle.sv_session.specs.Slots.{living}
 use Rattle.sv_session.specs.Store.{Session, Store, changed, is_numbered, numbered}
-use Rattle.sv_session.proofs.FirstLemmas.{IsFirstAt, found_at, missed_at}
+use Rattle.sv_session.proofs.FirstLemmas.{IsMissed, none_found}
+use Rattle.sv_session.proofs.SlotLemmas.{IsAt}
 
 -- ---- the greatest serial
 pub spent_opening : (store : Store) → store.serial ≡ GREATEST_SERIAL → length store.sessions < store.limit → opening_faults store ≡ SerialSpent ∷ []
@@ -21,95 +24,83 @@ pub spent_renaming : (store : Store) → store.serial ≡ GREATEST_SERIAL → (n
 spent_renaming store spent number session found = rw (found, eq-eqb store.serial GREATEST_SERIAL spent) refl
 
 -- ---- no session of the number
-module _ (number : ℕ) (store : Store) (missed : None ≡ position (is_numbered number) store.sessions) where
-  none_numbered : numbered number store ≡ None
-  none_numbered = (missed_at (is_numbered number) store.sessions (sym missed)).finds
-
-  pub is_not_found : false ≡ is_some (numbered number store)
-  is_not_found = rw none_numbered refl
-
-  pub nothing_read : {A : Type 0} (f : Session → Option A) → None ≡ option_and_then f (numbered number store)
-  nothing_read f = rw none_numbered refl
-
-  pub nothing_ended : None ≡ ending number store
-  nothing_ended = rw none_numbered refl
-
-  pub nothing_valued : (name : List ℕ) → None ≡ value_of number name store
-  nothing_valued name = rw none_numbered refl
+module _ (number : ℕ) (store : Store) (none : numbered number store ≡ None) where
+  missed : IsMissed (is_numbered number) store.sessions
+  missed = none_found (is_numbered number) store.sessions none
 
   pub nothing_changed : (f : Session → Session) → store ≡ changed number f store
-  nothing_changed f = ap (λ sessions. record store { sessions = sessions }) (sym ((missed_at (is_numbered number) store.sessions (sym missed)).changes f))
+  nothing_changed f = ap (λ sessions. record store { sessions = sessions }) (sym (missed.changes f))
 
   pub nothing_left_out : store ≡ without number store
-  nothing_left_out = ap (λ sessions. record store { sessions = sessions }) (sym (missed_at (is_numbered number) store.sessions (sym missed)).leaves)
+  nothing_left_out = ap (λ sessions. record store { sessions = sessions }) (sym missed.leaves)
+
+  pub is_not_found : false ≡ is_some (numbered number store)
+  is_not_found = rw none refl
+
+  pub nothing_read : {A : Type 0} (f : Session → Option A) → None ≡ option_and_then f (numbered number store)
+  nothing_read f = rw none refl
+
+  pub nothing_ended : None ≡ ending number store
+  nothing_ended = rw none refl
+
+  pub nothing_valued : (name : List ℕ) → None ≡ value_of number name store
+  nothing_valued name = rw none refl
 
   pub not_renamed : slice_get (renaming_faults number store) 0 ≡ Some NoSuch
-  not_renamed = rw none_numbered refl
+  not_renamed = rw none refl
 
   pub not_set : (name value : List ℕ) → slice_get (setting_faults number name value store) 0 ≡ Some NoSuch
-  not_set name value = rw none_numbered refl
+  not_set name value = rw none refl
 
 -- ---- the session of the number, at its place
-module _ (number place limit interval serial : ℕ) (sessions : List Session) (store : Store)
-    (same : record { limit = limit; interval = interval; serial = serial; sessions = sessions } ≡ store)
-    (found : Some place ≡ position (is_numbered number) store.sessions) (bound : place < length store.sessions) where
-  -- what holds of the list that is kept holds of the sessions of the store
-  first : IsFirstAt (is_numbered number) sessions place
-  first =
-      subst (λ s. Some place ≡ position (is_numbered number) s.sessions → place < length s.sessions → IsFirstAt (is_numbered number) sessions place) same
-      (λ here within. found_at (is_numbered number) sessions place (sym here) within) found bound
+module _ (number place limit interval serial : ℕ) (slots : List Slot) (store : Store)
+    (same : record { limit = limit; interval = interval; serial = serial; sessions = living slots } ≡ store) (slot : Slot) (at : IsAt number slots place slot) where
+  pub numbered_at : numbered number store ≡ Some slot.kept
+  numbered_at = subst (λ s. numbered number s ≡ Some slot.kept) same at.finds
 
-  pub left_at : record { limit = limit; interval = interval; serial = serial; sessions = remove sessions place } ≡ without number store
-  left_at =
-      subst (λ s. record { limit = limit; interval = interval; serial = serial; sessions = remove sessions place } ≡ without number s) same
-      (ap (λ all. record { limit = limit; interval = interval; serial = serial; sessions = all }) first.leaves)
+  pub left_at : (kept : Session) → record { limit = limit; interval = interval; serial = serial; sessions = living (set slots place (record { live = false; kept = kept })) } ≡ without number store
+  left_at kept =
+      ap (λ all. record { limit = limit; interval = interval; serial = serial; sessions = all }) (at.leaves kept) ∙ ap (without number) same
+
+  pub is_found : true ≡ is_some (numbered number store)
+  is_found = rw numbered_at refl
+
+  pub read_at : {A : Type 0} (f : Session → Option A) → f slot.kept ≡ option_and_then f (numbered number store)
+  read_at f = rw numbered_at refl
+
+  pub ended_at : Some (ended slot.kept) ≡ ending number store
+  ended_at = rw numbered_at refl
+
+  pub value_at : (name : List ℕ) → value_named name slot.kept.attributes ≡ value_of number name store
+  value_at name = rw numbered_at refl
 
   pub spent_at : serial ≡ GREATEST_SERIAL → slice_get (renaming_faults number store) 0 ≡ Some SerialSpent
-  spent_at spent = subst (λ s. slice_get (renaming_faults number s) 0 ≡ Some SerialSpent) same (rw (first.some, eq-eqb serial GREATEST_SERIAL spent) refl)
+  spent_at spent = subst (λ s. slice_get (renaming_faults number s) 0 ≡ Some SerialSpent) same (rw (at.finds, eq-eqb serial GREATEST_SERIAL spent) refl)
 
   pub unspent_at : (serial ≡ GREATEST_SERIAL → ⊥) → renaming_faults number store ≡ []
-  unspent_at unspent = subst (λ s. renaming_faults number s ≡ []) same (rw (first.some, ne_eqb serial GREATEST_SERIAL unspent) refl)
+  unspent_at unspent = subst (λ s. renaming_faults number s ≡ []) same (rw (at.finds, ne_eqb serial GREATEST_SERIAL unspent) refl)
 
-  module _ (item : Session) (is : item ≡ get_or sessions place item) where
-    pub numbered_at : numbered number store ≡ Some item
-    numbered_at = subst (λ s. numbered number s ≡ Some item) same (first.finds item ∙ ap Some (sym is))
+  pub changed_at : (f : Session → Session) (new : Session) → new ≡ f slot.kept
+      → record { limit = limit; interval = interval; serial = serial; sessions = living (set slots place (record { live = slot.live; kept = new })) } ≡ changed number f store
+  changed_at f new is_new =
+      ap (λ kept. record { limit = limit; interval = interval; serial = serial; sessions = living (set slots place (record { live = slot.live; kept = kept })) }) is_new
+      ∙ (ap (λ all. record { limit = limit; interval = interval; serial = serial; sessions = all }) (at.changes f) ∙ ap (changed number f) same)
 
-    pub is_found : true ≡ is_some (numbered number store)
-    is_found = rw numbered_at refl
+  pub unchanged_at : slot ≡ get_or slots place slot → (new : Session) → new ≡ slot.kept
+      → record { limit = limit; interval = interval; serial = serial; sessions = living (set slots place (record { live = slot.live; kept = new })) } ≡ store
+  unchanged_at is new is_new =
+      ap (λ kept. record { limit = limit; interval = interval; serial = serial; sessions = living (set slots place (record { live = slot.live; kept = kept })) }) is_new
+      ∙ (ap (λ all. record { limit = limit; interval = interval; serial = serial; sessions = living all }) (ap (set slots place) is ∙ set-get_or slots place slot) ∙ same)
 
-    pub read_at : {A : Type 0} (f : Session → Option A) → f item ≡ option_and_then f (numbered number store)
-    read_at f = rw numbered_at refl
+  pub renamed_at : (words : ℕ × ℕ) (new : Session) → new ≡ record slot.kept { id = id_text words (serial + 1) }
+      → record { limit = limit; interval = interval; serial = serial + 1; sessions = living (set slots place (record { live = slot.live; kept = new })) } ≡ renamed number words store
+  renamed_at words new is_new =
+      ap (λ kept. record { limit = limit; interval = interval; serial = serial + 1; sessions = living (set slots place (record { live = slot.live; kept = kept })) }) is_new
+      ∙ (ap (λ all. record { limit = limit; interval = interval; serial = serial + 1; sessions = all }) (at.changes (λ session. record session { id = id_text words (serial + 1) }))
+      ∙ ap (renamed number words) same)
 
-    pub ended_at : Some (ended item) ≡ ending number store
-    ended_at = rw numbered_at refl
+  pub too_large_at : (name value : List ℕ) → true ≡ is_too_large name value slot.kept.attributes → slice_get (setting_faults number name value store) 0 ≡ Some TooLarge
+  too_large_at name value large = rw (numbered_at, sym large) refl
 
-    pub value_at : (name : List ℕ) → value_named name item.attributes ≡ value_of number name store
-    value_at name = rw numbered_at refl
-
-    set_at : (f : Session → Session) (new : Session) → new ≡ f item → set sessions place new ≡ on_first (is_numbered number) f sessions
-    set_at f new is_new = ap (set sessions place) (is_new ∙ ap f is) ∙ first.changes f item
-
-    pub changed_at : (f : Session → Session) (new : Session) → new ≡ f item
-        → record { limit = limit; interval = interval; serial = serial; sessions = set sessions place new } ≡ changed number f store
-    changed_at f new is_new =
-        subst (λ s. record { limit = limit; interval = interval; serial = serial; sessions = set sessions place new } ≡ changed number f s) same
-        (ap (λ all. record { limit = limit; interval = interval; serial = serial; sessions = all }) (set_at f new is_new))
-
-    pub unchanged_at : (new : Session) → new ≡ item
-        → record { limit = limit; interval = interval; serial = serial; sessions = set sessions place new } ≡ store
-    unchanged_at new is_new =
-        ap (λ all. record { limit = limit; interval = interval; serial = serial; sessions = all })
-        (ap (set sessions place) (is_new ∙ is) ∙ first.same item) ∙ same
-
-    pub renamed_at : (words : ℕ × ℕ) (new : Session) → new ≡ record item { id = id_text words (serial + 1) }
-        → record { limit = limit; interval = interval; serial = serial + 1; sessions = set sessions place new } ≡ renamed number words store
-    renamed_at words new is_new =
-        subst (λ s. record { limit = limit; interval = interval; serial = serial + 1; sessions = set sessions place new } ≡ renamed number words s) same
-        (ap (λ all. record { limit = limit; interval = interval; serial = serial + 1; sessions = all })
-        (set_at (λ session. record session { id = id_text words (serial + 1) }) new is_new))
-
-    pub too_large_at : (name value : List ℕ) → true ≡ is_too_large name value item.attributes → slice_get (setting_faults number name value store) 0 ≡ Some TooLarge
-    too_large_at name value large = rw (numbered_at, sym large) refl
-
-    pub fitting_at : (name value : List ℕ) → is_too_large name value item.attributes ≡ false → setting_faults number name value store ≡ []
-    fitting_at name value fits = rw (numbered_at, fits) refl
+  pub fitting_at : (name value : List ℕ) → is_too_large name value slot.kept.attributes ≡ false → setting_faults number name value store ≡ []
+  fitting_at name value fits = rw (numbered_at, fits) refl

@@ -3,7 +3,9 @@ pub mod Calls
 pub mod Expiry
 pub mod Fault
 pub mod Id
+pub mod Ids
 pub mod Laws
 pub mod Lists
 pub mod Runs
+pub mod Slots
 pub mod Store

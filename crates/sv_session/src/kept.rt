@@ -1,10 +1,9 @@
 //! A session as it is kept.
 
-ghost use Rattle.std.specs.Prelude.{◌≡◌, ◌<◌, ℕ, IfOk, IfSome, None, OnErr, OnOk, Some, length, position};
+ghost use Rattle.std.specs.Prelude.{◌≡◌, ◌<◌, [], IfOk, IfSome, None, OnErr, OnOk, Some, length, position};
 ghost use Rattle.std.specs.Option.{option_copied};
 ghost use Rattle.sv_session.specs.Attributes.{is_named, names_one, value_named, with_named, without_named};
 ghost use Rattle.sv_session.specs.Calls.{ended, is_too_large, session_opened};
-ghost use Rattle.sv_session.specs.Expiry.{ends_before, has_expired};
 
 use crate::attribute::Attribute;
 use crate::ended_session::EndedSession;
@@ -13,6 +12,7 @@ use crate::limits::{MAX_ATTRIBUTES, MAX_NAME_BYTES, MAX_VALUE_BYTES};
 use std::alloc::Global;
 use std::marker::Model;
 use std::mem;
+use sv_expiry_queue::Due;
 use sv_text::{Listed, NoMemory, Text};
 
 /// A session as it is kept. Contracts see it as plain data.
@@ -77,19 +77,14 @@ impl Kept {
         self.id = id;
     }
 
-    /// Whether the session was not accessed for as long as the interval, which is in seconds, 0 for ever.
-    pub fn has_expired(&self, interval: u32, now: u64) -> bool
-        ensures { result ≡ has_expired interval now self.now }
+    /// What the session waits with for its end.
+    pub fn due(&self) -> Due
+        ensures { result ≡ record { last_access = self.now.last_access; number = self.now.number } }
     {
-        interval > 0 && now.saturating_sub(self.last_access) >= u64::from(interval)
-    }
-
-    /// Whether the session has an earlier deadline than another, or the same and a lesser number.
-    pub fn ends_before(&self, other: &Kept) -> bool
-        ensures { (interval : ℕ) → result ≡ ends_before interval self.now other.now }
-    {
-        self.last_access < other.last_access
-            || (self.last_access == other.last_access && self.number < other.number)
+        Due {
+            last_access: self.last_access,
+            number: self.number,
+        }
     }
 
     /// Notes an access.
@@ -189,13 +184,17 @@ impl Kept {
         Some(value)
     }
 
-    /// The session as its listeners are told of its end.
-    pub fn end(self) -> EndedSession
-        ensures { result ≡ ended self }
+    /// Ends the session, of which its number is left, and gives it as its listeners are told of its end.
+    pub fn end(&mut self, alloc: Global) -> EndedSession
+        ensures told { result ≡ ended self.old }
+        ensures left { self.new ≡ record self.old { id = []; saved = None; attributes = [] } }
     {
+        let attributes = mem::replace(&mut self.attributes, Vec::new(alloc));
+        self.id = Text::from_string(String::new(alloc));
+        self.saved = None;
         EndedSession {
             number: self.number,
-            attributes: Listed::from_vec(self.attributes),
+            attributes: Listed::from_vec(attributes),
         }
     }
 

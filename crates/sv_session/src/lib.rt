@@ -3,13 +3,14 @@
 
 mod attribute;
 mod ended_session;
-mod expiry;
 mod id;
+mod ids;
 mod kept;
 mod laws;
 mod limits;
 mod session_fault;
 mod sessions;
+mod slot;
 
 pub use attribute::Attribute;
 pub use ended_session::EndedSession;

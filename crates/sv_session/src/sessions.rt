@@ -1,18 +1,20 @@
 //! The sessions of a context.
 
-ghost use Rattle.std.specs.Prelude.{◌≡◌, ◌<◌, ◌+◌, [], IfSome, IsTrue, MatchResult, None, Some, is_some, length, position, slice_get};
+ghost use Rattle.std.specs.Prelude.{◌≡◌, ◌+◌, ◌<◌, ◌++◌, ◌∷◌, [], ℕ, MatchResult, None, OnErr, OnOk, Some, is_some, slice_get};
 ghost use Rattle.std.specs.Option.{option_copied};
 
 use crate::attribute::Attribute;
 use crate::ended_session::EndedSession;
-use crate::expiry::first_expired;
 use crate::id::id_of;
+use crate::ids::Ids;
 use crate::kept::Kept;
 use crate::limits::{GREATEST_SERIAL, MAX_ATTRIBUTES, MAX_NAME_BYTES, MAX_VALUE_BYTES};
 use crate::session_fault::SessionFault;
+use crate::slot::{Slot, first_living, gathered, place_of, push};
 use std::alloc::Global;
 use std::marker::Model;
-use sv_text::Text;
+use sv_expiry_queue::{Due, Queue};
+use sv_text::{NoMemory, Text};
 
 /// The sessions of a context (Jakarta Servlet 6.0, chapter 7). A session is named by its number, the serial that it was opened with; its id is what a
 /// client sends. Every open and every rename of the context takes the next serial, so that no id is given twice.
@@ -22,7 +24,10 @@ pub struct Sessions {
     limit: usize,
     interval: u32,
     serial: u64,
-    sessions: Vec<Kept>,
+    count: usize,
+    slots: Vec<Slot>,
+    ids: Ids,
+    queue: Queue,
 }
 
 impl Model for Sessions {
@@ -30,7 +35,11 @@ impl Model for Sessions {
 
     ghost Value = { Store };
 
-    ghost view = { λ s. record { limit = s.limit; interval = s.interval; serial = s.serial; sessions = s.sessions.items } };
+    ghost use Rattle.sv_session.specs.Slots.{AreKept, living};
+
+    ghost view = { λ s. record { limit = s.limit; interval = s.interval; serial = s.serial; sessions = living s.slots.items } };
+
+    ghost invariant = { λ s. AreKept s.serial s.count s.slots.items s.ids s.queue };
 }
 
 impl Sessions {
@@ -49,7 +58,10 @@ impl Sessions {
             limit,
             interval,
             serial: 0,
-            sessions: Vec::new(alloc),
+            count: 0,
+            slots: Vec::new(alloc),
+            ids: Ids::new(alloc),
+            queue: Queue::new(alloc, 0),
         }
     }
 
@@ -65,14 +77,16 @@ impl Sessions {
         if let Some(fault) = self.opening_fault() {
             return Err(fault);
         }
+        let Ok(()) = self.gather() else {
+            return Err(SessionFault::NoMemory);
+        };
         let serial = self.serial + 1;
-        let Ok(session) = Kept::open(self.alloc, words, serial, now) else {
+        let Ok(kept) = Kept::open(self.alloc, words, serial, now) else {
             return Err(SessionFault::NoMemory);
         };
-        let Ok(()) = self.sessions.push(session) else {
+        let Ok(()) = self.add(kept) else {
             return Err(SessionFault::NoMemory);
         };
-        self.serial = serial;
         Ok(serial)
     }
 
@@ -80,11 +94,7 @@ impl Sessions {
     pub fn find(&self, id: &[u8]) -> Option<u64>
         ensures { result ≡ number_of id.now self.now }
     {
-        let session = self
-            .sessions
-            .iter()
-            .find(|session| session.id().as_bytes() == id)?;
-        Some(session.number())
+        self.ids.get(id)
     }
 
     /// The id of a session.
@@ -117,7 +127,8 @@ impl Sessions {
     pub fn least(&self) -> Option<u64>
         ensures { result ≡ calls.least_number self.now }
     {
-        self.sessions.iter().map(|session| session.number()).min()
+        let slot = first_living(self.slots.as_slice())?;
+        Some(slot.kept.number())
     }
 
     /// Notes an access to a session at a moment. `false` where no such session lives.
@@ -125,10 +136,15 @@ impl Sessions {
         ensures found { result ≡ is_some (numbered number self.old) }
         ensures left { self.new ≡ calls.touched number now self.old }
     {
-        let Some(place) = self.place(number) else {
+        let Some(place) = place_of(self.slots.as_slice(), number) else {
             return false;
         };
-        self.sessions[place].touch(now);
+        self.slots[place].kept.touch(now);
+        let due = Due {
+            last_access: now,
+            number,
+        };
+        self.queue.put(place, Some(due));
         true
     }
 
@@ -137,8 +153,8 @@ impl Sessions {
         ensures ended { result ≡ calls.expiring now self.old }
         ensures left { self.new ≡ calls.left_by_expiry now self.old }
     {
-        let number = first_expired(self.sessions.as_slice(), self.interval, now)?;
-        self.end(number)
+        let due = self.queue.judge(self.interval, now)?;
+        self.end(due.number)
     }
 
     /// Ends a session. None where no such session lives.
@@ -146,8 +162,11 @@ impl Sessions {
         ensures ended { result ≡ calls.ending number self.old }
         ensures left { self.new ≡ calls.without number self.old }
     {
-        let place = self.place(number)?;
-        Some(self.sessions.remove(place).end())
+        let place = place_of(self.slots.as_slice(), number)?;
+        self.ids.remove(self.slots[place].kept.id());
+        self.queue.put(place, None);
+        self.count -= 1;
+        Some(self.slots[place].end(self.alloc))
     }
 
     /// Gives a session another id, of two random words and the next serial. Its number stays.
@@ -159,7 +178,7 @@ impl Sessions {
             (λ _. (calls.renaming_faults number self.old ≡ []) × (self.new ≡ calls.renamed number words self.old))
             (λ fault. Refuses (calls.renaming_faults number self.old) fault self.old self.new) }
     {
-        let Some(place) = self.place(number) else {
+        let Some(place) = place_of(self.slots.as_slice(), number) else {
             return Err(SessionFault::NoSuch);
         };
         if self.serial == GREATEST_SERIAL {
@@ -169,7 +188,11 @@ impl Sessions {
         let Ok(id) = id_of(self.alloc, words, serial) else {
             return Err(SessionFault::NoMemory);
         };
-        self.sessions[place].rename(id);
+        let Ok(()) = self.ids.enter(self.alloc, id.as_str(), number) else {
+            return Err(SessionFault::NoMemory);
+        };
+        self.ids.remove(self.slots[place].kept.id());
+        self.slots[place].kept.rename(id);
         self.serial = serial;
         Ok(())
     }
@@ -179,10 +202,10 @@ impl Sessions {
         ensures found { result ≡ is_some (numbered number self.old) }
         ensures left { self.new ≡ calls.with_caller number caller self.old }
     {
-        let Some(place) = self.place(number) else {
+        let Some(place) = place_of(self.slots.as_slice(), number) else {
             return false;
         };
-        self.sessions[place].enter_caller(caller);
+        self.slots[place].kept.enter_caller(caller);
         true
     }
 
@@ -199,10 +222,10 @@ impl Sessions {
         ensures found { result ≡ is_some (numbered number self.old) }
         ensures left { self.new ≡ calls.with_saved number (Some target) self.old }
     {
-        let Some(place) = self.place(number) else {
+        let Some(place) = place_of(self.slots.as_slice(), number) else {
             return false;
         };
-        self.sessions[place].save(target);
+        self.slots[place].kept.save(target);
         true
     }
 
@@ -211,8 +234,8 @@ impl Sessions {
         ensures taken { result ≡ calls.saved_of number self.old }
         ensures left { self.new ≡ calls.with_saved number None self.old }
     {
-        let place = self.place(number)?;
-        self.sessions[place].take_saved()
+        let place = place_of(self.slots.as_slice(), number)?;
+        self.slots[place].kept.take_saved()
     }
 
     /// The value of an attribute of a session (Jakarta Servlet 6.0, section 7.4).
@@ -238,13 +261,13 @@ impl Sessions {
             × (self.new ≡ calls.with_attribute number name.now value.now self.old))
             (λ fault. Refuses (calls.setting_faults number name.now value.now self.old) fault self.old self.new) }
     {
-        let Some(place) = self.place(number) else {
+        let Some(place) = place_of(self.slots.as_slice(), number) else {
             return Err(SessionFault::NoSuch);
         };
-        if self.sessions[place].is_too_large(name, value) {
+        if self.slots[place].kept.is_too_large(name, value) {
             return Err(SessionFault::TooLarge);
         }
-        let Ok(old) = self.sessions[place].set_value(self.alloc, name, value) else {
+        let Ok(old) = self.slots[place].kept.set_value(self.alloc, name, value) else {
             return Err(SessionFault::NoMemory);
         };
         Ok(old)
@@ -276,15 +299,20 @@ impl Sessions {
         ensures value { result ≡ calls.value_of number name.now self.old }
         ensures left { self.new ≡ calls.without_attribute number name.now self.old }
     {
-        let place = self.place(number)?;
-        self.sessions[place].remove_value(name)
+        let place = place_of(self.slots.as_slice(), number)?;
+        self.slots[place].kept.remove_value(name)
+    }
+
+    /// How many records [`expire`](Sessions::expire) has tested, up to the greatest number: one wherever it was called and there was a session.
+    pub fn judged(&self) -> u64 {
+        self.queue.judged()
     }
 
     /// Why no session can be opened, if none can.
     fn opening_fault(&self) -> Option<SessionFault>
         ensures { result ≡ slice_get (calls.opening_faults self.now) 0 }
     {
-        if self.sessions.len() >= self.limit {
+        if self.count >= self.limit {
             return Some(SessionFault::TooMany);
         }
         if self.serial == GREATEST_SERIAL {
@@ -297,18 +325,41 @@ impl Sessions {
     fn session(&self, number: u64) -> Option<&Kept>
         ensures { option_copied result ≡ numbered number self.now }
     {
-        self.sessions
-            .iter()
-            .find(|session| session.number() == number)
+        let place = place_of(self.slots.as_slice(), number)?;
+        Some(&self.slots[place].kept)
     }
 
-    /// The place of the session of a number.
-    fn place(&self, number: u64) -> Option<usize>
-        ensures place { result ≡ position (is_numbered number) self.now.sessions }
-        ensures bound { IfSome result (λ place. place < length self.now.sessions) }
+    /// Adds a session with the next serial behind the others.
+    fn add(&mut self, kept: Kept) -> Result<(), NoMemory>
+        requires opened { (words : ℕ × ℕ) × (now : ℕ) × (kept ≡ calls.session_opened words (self.old.serial + 1) now) }
+        requires fits { calls.opening_faults self.old ≡ [] }
+        ensures added { OnOk result (self.new ≡ record self.old { serial = self.old.serial + 1; sessions = self.old.sessions ++ kept ∷ [] }) }
+        ensures refused { OnErr result (self.new ≡ self.old) }
     {
-        self.sessions
-            .iter()
-            .position(|session| session.number() == number)
+        // The count is below it, and so the next count is a number too.
+        let _limit = self.limit;
+        self.slots.reserve(1)?;
+        self.ids.enter(self.alloc, kept.id(), kept.number())?;
+        let Ok(()) = self.queue.push(kept.due()) else {
+            self.ids.remove(kept.id());
+            return Err(NoMemory);
+        };
+        push(&mut self.slots, Slot { live: true, kept });
+        self.count += 1;
+        self.serial += 1;
+        Ok(())
+    }
+
+    /// Takes the slots of ended sessions out, where they are more than half of all.
+    fn gather(&mut self) -> Result<(), NoMemory>
+        ensures { self.new ≡ self.old }
+    {
+        if self.slots.len() / 2 < self.count.saturating_add(16) {
+            return Ok(());
+        }
+        let queue = gathered(self.alloc, self.slots.as_slice(), self.queue.judged())?;
+        self.slots.retain(|slot| slot.live);
+        self.queue = queue;
+        Ok(())
     }
 }

@@ -1,0 +1,2 @@
+mod OrderLemmas
+mod TreeLemmas

@@ -1,0 +1,48 @@
+//! The places of a queue, as a tree: below a place stand the places of twice its number and one, and of twice its number and two.
+
+ghost use Rattle.std.specs.Prelude.{◌≡◌, ◌≢◌, ◌<◌, ◌+◌, ◌*◌, ℕ, length, map};
+ghost use Rattle.sv_expiry_queue.specs.Order.{sooner};
+ghost use Rattle.sv_expiry_queue.specs.Tree.{IsSettled, least_at, least_below};
+
+use crate::due::{Due, sooner};
+
+/// A place: the record that waits there, if there is one, and the first of all that wait there and below.
+#[derive(Clone, Copy)]
+pub(crate) struct Node {
+    pub(crate) own: Option<Due>,
+    pub(crate) least: Option<Due>,
+}
+
+/// The first of all that wait at a place and below.
+pub(crate) fn least_at(nodes: &[Node], place: usize) -> Option<Due>
+    ensures { result ≡ least_at nodes.now place }
+{
+    match nodes.get(place) {
+        Some(node) => node.least,
+        None => None,
+    }
+}
+
+/// The first of a record, if there is one, and of all that wait below a place.
+fn least_below(nodes: &[Node], own: Option<Due>, place: usize) -> Option<Due>
+    requires { place < length nodes.now }
+    ensures { result ≡ least_below nodes.now own place }
+{
+    let left = sooner(own, least_at(nodes, 2 * place + 1));
+    sooner(left, least_at(nodes, 2 * place + 2))
+}
+
+/// Notes the first of all that wait at a place and below, there and at the places above it.
+pub(crate) fn settle(nodes: &mut [Node], place: usize)
+    requires place { place < length nodes.old }
+    requires others { (other : ℕ) → other ≢ place → IsSettled nodes.old other }
+    ensures settled { (other : ℕ) → IsSettled nodes.new other }
+    ensures own { map (λ node. node.own) nodes.new ≡ map (λ node. node.own) nodes.old }
+{
+    let own = nodes[place].own;
+    let least = least_below(nodes, own, place);
+    nodes[place] = Node { own, least };
+    if place > 0 {
+        settle(nodes, (place - 1) / 2);
+    }
+}

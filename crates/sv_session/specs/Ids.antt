@@ -1,0 +1,25 @@
+-- Jakarta Servlet 6.0, section 7.1: the ids of the sessions that live differ, and an index of them.
+use Rattle.std.specs.Prelude.{◌≡◌, ◌≢◌, ℕ, ◌≤◌, List, [], ◌∷◌, Option}
+use Rattle.std.specs.HashMap.{get_by}
+use Rattle.std.specs.Str.{bytes_eq}
+use Rattle.sv_session.specs.declared.ids.Ids.{Ids}
+use Rattle.sv_session.specs.Id.{id_text}
+use Rattle.sv_session.specs.Store.{Session}
+
+-- no session has the id
+abbrev pub NoneHas : List ℕ → List Session → Type 0
+NoneHas id [] = Unit {0}
+NoneHas id (x ∷ xs) = (x.id ≢ id) × NoneHas id xs
+
+-- the id has a serial up to a bound
+abbrev pub IsGiven : ℕ → List ℕ → Type 0
+IsGiven bound id = (words : ℕ × ℕ) × (serial : ℕ) × (serial ≤ bound) × (id ≡ id_text words serial)
+
+-- each session has such an id, which none behind it has
+abbrev pub IdsDiffer : ℕ → List Session → Type 0
+IdsDiffer bound [] = Unit {0}
+IdsDiffer bound (x ∷ xs) = IsGiven bound x.id × NoneHas x.id xs × IdsDiffer bound xs
+
+-- the number that an index has for an id
+abbrev pub number_in : Ids → List ℕ → Option ℕ
+number_in ids id = get_by (λ key. bytes_eq id key.items) ids.numbers

@@ -1,0 +1,98 @@
+//! The slot of a session.
+
+ghost use Rattle.std.specs.Prelude.{◌≡◌, ◌<◌, ◌++◌, ◌∷◌, [], ℕ, IfOk, IfSome, MatchOption, None, false, filter, find, length, map, vec_capacity, vec_len};
+ghost use Rattle.std.specs.Option.{option_copied};
+ghost use Rattle.sv_session.specs.Calls.{ended};
+ghost use Rattle.sv_session.specs.Slots.{IsFirstFrom, IsPlace, SlotsRise, due_of, living};
+ghost use Rattle.sv_session.specs.Store.{is_numbered};
+
+use crate::ended_session::EndedSession;
+use crate::kept::Kept;
+use std::alloc::Global;
+use sv_expiry_queue::{Due, Queue};
+use sv_text::NoMemory;
+
+/// A session, which lives, or what is left of one that has ended: its number keeps its place in the order.
+#[derive(Drop)]
+pub(crate) struct Slot {
+    pub(crate) live: bool,
+    pub(crate) kept: Kept,
+}
+
+impl Slot {
+    /// Ends the session of the slot, of which its number is left.
+    pub(crate) fn end(&mut self, alloc: Global) -> EndedSession
+        ensures told { result ≡ ended self.old.kept }
+        ensures left { self.new ≡ record { live = false; kept = record self.old.kept { id = []; saved = None; attributes = [] } } }
+    {
+        self.live = false;
+        self.kept.end(alloc)
+    }
+}
+
+/// The place of the session of a number.
+pub(crate) fn place_of(slots: &[Slot], number: u64) -> Option<usize>
+    ensures bound { IfSome result (λ place. place < length slots.now) }
+    ensures place { (high : ℕ) → SlotsRise 0 high slots.now
+        → MatchOption result (find (is_numbered number) (living slots.now) ≡ None) (λ place. IsPlace number slots.now place) }
+{
+    let place = first_from(slots, number);
+    if place >= slots.len() {
+        return None;
+    }
+    let slot = &slots[place];
+    if slot.kept.number() != number {
+        return None;
+    }
+    if slot.live {
+        return Some(place);
+    }
+    None
+}
+
+/// The first place whose slot has no lesser number than this one, or the length.
+fn first_from(slots: &[Slot], number: u64) -> usize
+    ensures { (high : ℕ) → SlotsRise 0 high slots.now → IsFirstFrom number slots.now result }
+{
+    let mut low = 0;
+    let mut high = slots.len();
+    while low < high {
+        let middle = low + (high - low) / 2;
+        let slot = &slots[middle];
+        if slot.kept.number() < number {
+            low = middle + 1;
+        } else {
+            high = middle;
+        }
+    }
+    low
+}
+
+/// The first slot of a session that lives.
+pub(crate) fn first_living(slots: &[Slot]) -> Option<&Slot>
+    ensures { option_copied result ≡ find (λ slot. slot.live) slots.now }
+{
+    slots.iter().find(|slot| slot.live)
+}
+
+/// Adds a slot behind the others, for which there is room.
+pub(crate) fn push(slots: &mut Vec<Slot>, slot: Slot)
+    requires { vec_len slots.old < vec_capacity slots.old }
+    ensures { slots.new.items ≡ slots.old.items ++ slot ∷ [] }
+{
+    // There is room.
+    let _room = slots.push(slot);
+}
+
+/// The queue of the sessions that live, at the places that they have where the empty slots are taken out.
+pub(crate) fn gathered(alloc: Global, slots: &[Slot], judged: u64) -> Result<Queue, NoMemory>
+    ensures { IfOk result (λ queue. queue.places ≡ map due_of (filter (λ slot. slot.live) slots.now)) }
+{
+    let mut queue = Queue::new(alloc, judged);
+    for slot in slots {
+        if slot.live {
+            queue.push(slot.kept.due())?;
+        }
+    }
+    Ok(queue)
+}
