@@ -145,11 +145,11 @@ module _ {S F L : Type 0} (ss : S → Call → S → Type 0) (fs : F → Call �
     changes_constraints = record {
       edits = λ before after edit answer edits. edits.outcome;
       by_request = λ handling handles. record {
-          path = ap (λ (content : Content). content.context_path) handles.is_answered.stays.content;
-          policy = handles.is_answered.stays.policy;
-        };
+        path = ap (λ (content : Content). content.context_path) handles.is_answered.stays.content;
+        policy = handles.is_answered.stays.policy;
+      };
       by_expiry = λ context after moment told expires. record {
-          path = ap (λ (content : Content). content.context_path) expires.stays.content;
-          policy = expires.stays.policy;
-        };
+        path = ap (λ (content : Content). content.context_path) expires.stays.content;
+        policy = expires.stays.policy;
+      };
     }

@@ -9,6 +9,7 @@ pub use contexts::{
     edits_alone_change_the_constraints, sessions_of_contexts_stay_in_order,
 };
 pub use runs::{
-    callers_logged_in, callers_logged_in_since_the_start, constraints_change_by_edits_alone, orders_are_alike, pieces_may_be_cut,
-    pieces_may_come_in_parts, requests_enter_exactly_where_allowed,
+    callers_logged_in, callers_logged_in_since_the_start, constraints_change_by_edits_alone,
+    orders_are_alike, pieces_may_be_cut, pieces_may_come_in_parts,
+    requests_enter_exactly_where_allowed,
 };

@@ -102,7 +102,11 @@ impl Queue {
     {
         let due = self.least()?;
         self.judged = self.judged.saturating_add(1);
-        if due.has_waited(interval, now) { Some(due) } else { None }
+        if due.has_waited(interval, now) {
+            Some(due)
+        } else {
+            None
+        }
     }
 
     /// How many records have been judged, up to the greatest number.
