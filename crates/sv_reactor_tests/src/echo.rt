@@ -2,6 +2,7 @@
 
 use std::alloc::Global;
 use sv_journal::{Entry, Journal, RefusalCause};
+use sv_policy::{Edit, EditFault};
 use sv_rows::Draft;
 use sv_run::{Happening, Reaction, Reactor, StepFault};
 use sv_text::Bytes;
@@ -9,7 +10,8 @@ use sv_text::Bytes;
 /// Sends the bytes of each piece, with the moment behind them, in angle brackets, and notes each event. A piece of full stops alone is taken in
 /// silence and not noted. A piece that holds a star brings an entry, one that ends in an exclamation mark closes, and one that begins with a
 /// question mark is refused with the fault of the number behind it. The opening of connection 900 and such a number, the end of connection
-/// 910 and such a number, and the loss of connection 920 and such a number are refused so too.
+/// 910 and such a number, and the loss of connection 920 and such a number are refused so too. What is appended is number 7, and a withdrawal of
+/// constraint 901 and on is refused with the faults of edits.
 #[derive(Drop)]
 pub(crate) struct Echo {
     alloc: Global,
@@ -37,7 +39,20 @@ impl Echo {
             sends: Bytes::from_vec(Vec::new(self.alloc)),
             closes,
             journal: Journal::new(self.alloc),
+            edited: None,
         }
+    }
+
+    fn edited(&self, edit: &Edit) -> Reaction {
+        let mut reaction = self.plain(false);
+        reaction.edited = Some(match edit {
+            Edit::Append(_) => Ok(7),
+            Edit::Withdraw(901) => Err(EditFault::NoSuch),
+            Edit::Withdraw(902) => Err(EditFault::TooMany),
+            Edit::Withdraw(903) => Err(EditFault::NumberSpent),
+            Edit::Withdraw(number) => Ok(*number),
+        });
+        reaction
     }
 
     // An event without bytes, which is refused where its number has a fault.
@@ -80,6 +95,7 @@ impl Echo {
                 sends: Bytes::from_vec(sends),
                 closes: bytes.last() == Some(&b'!'),
                 journal,
+                edited: None,
             }),
             Err(_) => Err(StepFault::NoMemory),
         }
@@ -106,6 +122,7 @@ impl Reactor for Echo {
                 self.told("lost", connection, connection.saturating_sub(920), false)
             }
             Happening::Tick { moment } => self.told("tick", moment, 0, false),
+            Happening::Edit { edit, .. } => Ok(self.edited(edit)),
         }
     }
 }

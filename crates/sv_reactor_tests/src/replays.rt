@@ -59,6 +59,10 @@ send 1 \\xff\\r\\n\n                | 100 | 0 | 100 | 0 | end         | event 1\
 end 1\nlost 2\n                     | 100 | 0 | 100 | 0 | end         | event 1\ncloses\nevent 2\n          | 2 | 2
 -- the moment of a piece is the last one that was told
 tick 7\nsend 1 a\ntick 5\nsend 1 b\n | 100 | 0 | 100 | 0 | end        | event 1\nevent 2\nsends <a@7>\nevent 3\nevent 4\nsends <b@5>\n | 2 | 4
+-- edits are answered
+append / /q * open\nwithdraw / 9\n | 100 | 0 | 100 | 0 | end        | event 1\nedited 7\nevent 2\nedited 9\n | 2 | 2
+withdraw / 901\nwithdraw / 902\n   | 100 | 0 | 100 | 0 | end        | event 1\nedit refused 1\nevent 2\nedit refused 2\n | 2 | 2
+withdraw / 903\nappend / q * open\n | 100 | 0 | 100 | 0 | script 2  | event 1\nedit refused 3\n         | 1 | 1
 -- a line that cannot be read is told by its number among all lines
 open 1\nopen x\nopen 2\n            | 100 | 0 | 100 | 0 | script 2    | event 1\n                           | 1 | 1
 # a\n\nx\n                          | 100 | 0 | 100 | 0 | script 3    | ""                                  | 1 | 0

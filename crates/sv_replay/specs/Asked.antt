@@ -6,7 +6,7 @@ use Rattle.sv_run.specs.Events as events
 use Rattle.sv_run.specs.declared.reaction.Reaction.{Reaction}
 use Rattle.sv_script.specs.Printed.{event_text}
 use Rattle.sv_script.specs.declared.line.ScriptLine.{ScriptLine}
-use Rattle.sv_script.specs.declared.line.ScriptLine.TheVariants.{Nothing, Open, Send, End, Lost, Tick}
+use Rattle.sv_script.specs.declared.line.ScriptLine.TheVariants.{Nothing, Open, Send, End, Lost, Tick, Edit}
 
 -- the event that is asked for at a moment
 abbrev pub event_of : ℕ → ScriptLine → Option Happening
@@ -16,6 +16,7 @@ event_of moment (Send connection bytes) = Some (events.Piece connection bytes mo
 event_of moment (End connection) = Some (events.Ended connection)
 event_of moment (Lost connection) = Some (events.Lost connection)
 event_of moment (Tick told) = Some (events.Tick told)
+event_of moment (Edit path edit) = Some (events.Edited path edit)
 
 -- the moment then: the last one that was told
 abbrev pub moment_behind : ℕ → ScriptLine → ℕ
@@ -25,6 +26,7 @@ moment_behind moment (Open connection) = moment
 moment_behind moment (Send connection bytes) = moment
 moment_behind moment (End connection) = moment
 moment_behind moment (Lost connection) = moment
+moment_behind moment (Edit path edit) = moment
 
 abbrev pub moment_behind_all : ℕ → List ScriptLine → ℕ
 moment_behind_all moment [] = moment
@@ -37,7 +39,7 @@ events_of moment (said ∷ more) = option_to_list (event_of moment said) ++ even
 
 -- the text of an accepted event, by its number
 abbrev pub reaction_text : ℕ → Reaction → List ℕ
-reaction_text number reaction = event_text number reaction.journal.entries reaction.sends reaction.closes
+reaction_text number reaction = event_text number reaction.journal.entries reaction.sends reaction.closes reaction.edited
 
 -- the texts of accepted events, numbered from that number on
 abbrev pub reactions_text : ℕ → List Reaction → List ℕ

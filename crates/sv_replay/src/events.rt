@@ -29,6 +29,10 @@ pub(crate) fn event_of(said: &ScriptLine, moment: u64) -> Option<Happening<'_>>
             connection: *connection,
         }),
         ScriptLine::Tick(told) => Some(Happening::Tick { moment: *told }),
+        ScriptLine::Edit(context, edit) => Some(Happening::Edit {
+            context: context.as_str(),
+            edit,
+        }),
     }
 }
 

@@ -91,6 +91,7 @@ fn print<O: Sink>(
         reaction.journal.entries(),
         reaction.sends.as_slice(),
         reaction.closes,
+        reaction.edited,
     ) {
         Ok(text) => text,
         Err(_) => return Err(ReplayFault::NoMemory),

@@ -1,3 +1,4 @@
 mod EscapeLemmas
 mod FieldLemmas
+mod NameLemmas
 mod ReadBackLemmas

@@ -3,12 +3,16 @@ use Rattle.std.specs.Prelude.{ℕ, ◌+◌, ◌^◌, Bool, ◌==◌, ◌&&◌, n
 use Rattle.std.specs.Option.{option_map}
 use Rattle.std.specs.Char.{is_ascii_digit}
 use Rattle.std.specs.List.{list_all}
-use Rattle.std.specs.Str.{byte}
+use Rattle.std.specs.Str.{byte, is_utf8}
 use Rattle.std.specs.Str.Parse.{digits_value}
 
 -- what stands before the first blank and behind it, where there is one
 abbrev pub at_blank : List ℕ → Option (List ℕ × List ℕ)
 at_blank text = option_map (λ place. (take place text, drop (place + 1) text)) (position (λ b. b == byte " ") text)
+
+-- the text that bytes are, where they are UTF-8
+abbrev pub text_of : List ℕ → Option (List ℕ)
+text_of bytes = if is_utf8 bytes then Some bytes else None
 
 -- one decimal digit or more, of a number that fits 64 bits
 abbrev pub is_number : List ℕ → Bool

@@ -2,6 +2,7 @@
 use Rattle.std.specs.Prelude.{ℕ, Bool, true, ◌==◌, List, [], ◌∷◌, codes, Option, Some, None, Result, Ok, if◌then◌else◌}
 use Rattle.std.specs.Option.{option_map, option_and_then, ok_or}
 use Rattle.std.specs.Str.{byte, bytes_eq}
+use Rattle.sv_script.specs.Editing.{appending, withdrawing}
 use Rattle.sv_script.specs.Escape.{unescaped}
 use Rattle.sv_script.specs.Fields.{at_blank, number}
 use Rattle.sv_script.specs.declared.fault.LineFault.{LineFault}
@@ -26,6 +27,8 @@ asked_by word rest =
     else if bytes_eq word (codes "end") then option_map End (number rest)
     else if bytes_eq word (codes "lost") then option_map Lost (number rest)
     else if bytes_eq word (codes "tick") then option_map Tick (number rest)
+    else if bytes_eq word (codes "append") then appending rest
+    else if bytes_eq word (codes "withdraw") then withdrawing rest
     else None
 
 -- what a line asks for that is not skipped

@@ -1,7 +1,7 @@
 //! The fields of a line, and the numbers among them.
 
 ghost use Rattle.std.specs.Prelude.{◌≡◌, ◌==◌, true, position};
-ghost use Rattle.std.specs.Option.{option_map};
+ghost use Rattle.std.specs.Option.{option_copied, option_map};
 ghost use Rattle.std.specs.Char.{is_ascii_digit};
 ghost use Rattle.std.specs.List.{list_all};
 ghost use Rattle.sv_script.specs.Fields as spec;
@@ -18,6 +18,16 @@ fn first_blank(text: &[u8]) -> Option<usize>
     ensures { result ≡ position (λ b. b == 32) text.now }
 {
     text.iter().position(|b| *b == b' ')
+}
+
+/// The text that bytes are, where they are UTF-8.
+pub(crate) fn text_of(bytes: &[u8]) -> Option<&str>
+    ensures { option_copied result ≡ spec.text_of bytes.now }
+{
+    match str::from_utf8(bytes) {
+        Ok(text) => Some(text),
+        Err(_) => None,
+    }
 }
 
 /// The number that a text of decimal digits writes, where it fits.

@@ -4,14 +4,16 @@ ghost use Rattle.std.specs.Prelude.{◌≡◌};
 ghost use Rattle.sv_text.specs.Gives.{Gives, GivesAnswer};
 ghost use Rattle.sv_script.specs.Line as spec;
 
+use crate::editing::{appending, withdrawing};
 use crate::escape::unescaped;
 use crate::fault::LineFault;
 use crate::fields::{at_blank, number};
 use std::alloc::Global;
-use sv_text::{Bytes, NoMemory};
+use sv_policy::Edit;
+use sv_text::{Bytes, NoMemory, Text};
 
 /// What a line of a script asks for.
-#[derive(Debug, Drop)]
+#[derive(Drop)]
 pub enum ScriptLine {
     /// Nothing: the line is empty, or a comment, which begins with `#`.
     Nothing,
@@ -25,6 +27,10 @@ pub enum ScriptLine {
     Lost(u64),
     /// `tick M`: it is that moment, in seconds since 1970.
     Tick(u64),
+    /// `append CONTEXT PATTERN METHODS ROLES` and `withdraw CONTEXT N`: the constraints of the context that has this path are edited so. The root
+    /// is written as `/` or as nothing. METHODS is `*`, or names with commas between them, or `!` and the names of those that are left out;
+    /// ROLES is `open` for everyone, `nobody`, or names. The transport is absent.
+    Edit(Text, Edit),
 }
 
 /// What a line asks for, given without its line feed. Its fields stand between single blanks, and a number is one decimal digit or
@@ -75,6 +81,10 @@ fn asked_by(alloc: Global, word: &[u8], rest: &[u8]) -> Result<Option<ScriptLine
         Ok(number(rest).map(ScriptLine::Lost))
     } else if word == b"tick".as_slice() {
         Ok(number(rest).map(ScriptLine::Tick))
+    } else if word == b"append".as_slice() {
+        appending(alloc, rest)
+    } else if word == b"withdraw".as_slice() {
+        withdrawing(alloc, rest)
     } else {
         Ok(None)
     }

@@ -1,12 +1,14 @@
 //! What a replay prints.
 
 ghost use Rattle.std.specs.Prelude.{◌≡◌, ◌++◌, OnOk};
+ghost use Rattle.std.specs.Fmt.{decimal};
 ghost use Rattle.sv_text.specs.Gives.{GivesAnswer};
 ghost use Rattle.sv_script.specs.Printed as spec;
 
 use crate::escape::push_escaped;
 use std::alloc::Global;
 use sv_journal::Entry;
+use sv_policy::EditFault;
 use sv_text::{Bytes, NoMemory};
 
 /// The text of the start: the line `start`, and a line for each entry.
@@ -23,7 +25,7 @@ pub fn start_text(alloc: Global, entries: &[Entry]) -> Result<Bytes, NoMemory>
 }
 
 /// The text of an accepted event by its number from 1: the line `event K`, a line for each entry that it added, `sends TEXT` where it
-/// sent bytes, and `closes` where it closed the connection.
+/// sent bytes, `closes` where it closed the connection, and of an edit `edited N` or `edit refused CODE`.
 ///
 /// # Errors
 /// Memory ran out.
@@ -33,13 +35,15 @@ pub fn event_text(
     entries: &[Entry],
     sends: &[u8],
     closes: bool,
+    edited: Option<Result<u64, EditFault>>,
 ) -> Result<Bytes, NoMemory>
-    ensures { GivesAnswer result (spec.event_text number entries.now sends.now closes) }
+    ensures { GivesAnswer result (spec.event_text number entries.now sends.now closes edited) }
 {
     let mut text = format!(in alloc; "event {number}\n")?.into_bytes();
     push_entries(&mut text, entries)?;
     push_sends(&mut text, sends)?;
     push_closes(&mut text, closes)?;
+    push_edited(&mut text, edited)?;
     Ok(Bytes::from_vec(text))
 }
 
@@ -92,4 +96,34 @@ fn push_closes(text: &mut Vec<u8>, closes: bool) -> Result<(), NoMemory>
         text.extend_from_slice(b"closes\n")?;
     }
     Ok(())
+}
+
+fn push_edited(text: &mut Vec<u8>, edited: Option<Result<u64, EditFault>>) -> Result<(), NoMemory>
+    ensures { OnOk result (text.new.items ≡ text.old.items ++ spec.edited_lines edited) }
+{
+    match edited {
+        None => Ok(()),
+        Some(Ok(number)) => push_number(text, "edited ", number),
+        Some(Err(fault)) => push_number(text, "edit refused ", edit_code(fault)),
+    }
+}
+
+// A line of a word and a number.
+fn push_number(text: &mut Vec<u8>, word: &str, number: u64) -> Result<(), NoMemory>
+    ensures { OnOk result (text.new.items ≡ text.old.items ++ spec.line_of (word.now ++ decimal number)) }
+{
+    let line = format!(in *text.allocator(); "{word}{number}\n")?;
+    text.extend_from_slice(line.as_bytes())?;
+    Ok(())
+}
+
+fn edit_code(fault: EditFault) -> u64
+    ensures { result ≡ spec.edit_code fault }
+{
+    match fault {
+        EditFault::NoSuch => 1,
+        EditFault::TooMany => 2,
+        EditFault::NumberSpent => 3,
+        EditFault::NoMemory => 4,
+    }
 }

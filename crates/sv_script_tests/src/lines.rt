@@ -1,9 +1,11 @@
 //! What lines ask for.
 
 use std::alloc::Global;
+use sv_constraints::{Auth, Collection, Methods};
+use sv_policy::{Edit, NewConstraint};
 use sv_rows::{Asks, Draft, Strays, cell, hold, unescaped};
 use sv_script::{LineFault, ScriptLine, read_line};
-use sv_text::NoMemory;
+use sv_text::{NoMemory, Text};
 
 /// What a line asks for; the bytes of a piece stand in angle brackets.
 struct Lines;
@@ -36,6 +38,52 @@ fn tell(told: &mut Draft, asked: &ScriptLine) {
         ScriptLine::End(connection) => tell_number(told, "end ", *connection),
         ScriptLine::Lost(connection) => tell_number(told, "lost ", *connection),
         ScriptLine::Tick(moment) => tell_number(told, "tick ", *moment),
+        ScriptLine::Edit(context, edit) => {
+            tell_text(told, "edit", context.as_bytes());
+            tell_edit(told, edit);
+        }
+    }
+}
+
+fn tell_text(told: &mut Draft, word: &str, text: &[u8]) {
+    told.add(word);
+    told.add(" <");
+    told.add_bytes(text);
+    told.add(">");
+}
+
+fn tell_edit(told: &mut Draft, edit: &Edit) {
+    match edit {
+        Edit::Append(addition) => tell_addition(told, addition),
+        Edit::Withdraw(number) => tell_number(told, " withdraw ", *number),
+    }
+}
+
+fn tell_addition(told: &mut Draft, addition: &NewConstraint) {
+    for collection in addition.collections.as_slice() {
+        tell_collection(told, collection);
+    }
+    match &addition.auth {
+        Auth::Absent => told.add(" open"),
+        Auth::Roles(roles) => tell_names(told, " roles", roles.as_slice()),
+    }
+}
+
+fn tell_collection(told: &mut Draft, collection: &Collection) {
+    for pattern in collection.patterns.as_slice() {
+        tell_text(told, " append", pattern.text().as_bytes());
+    }
+    match &collection.methods {
+        Methods::All => told.add(" all"),
+        Methods::Only(names) => tell_names(told, " only", names.as_slice()),
+        Methods::Except(names) => tell_names(told, " except", names.as_slice()),
+    }
+}
+
+fn tell_names(told: &mut Draft, word: &str, names: &[Text]) {
+    told.add(word);
+    for name in names {
+        tell_text(told, "", name.as_bytes());
     }
 }
 
@@ -164,4 +212,42 @@ send 1 ok\\r\\q       | unreadable
 #[test]
 fn a_piece_is_the_rest_of_its_line(rt: HostRuntime) -> Result<(), Strays> {
     hold(&rt, &[PIECES], &Lines)
+}
+
+/// Line, what it asks for: the context, and what is appended or withdrawn.
+const EDITS: &str = r#"
+append / /q * open            | edit <> append </q> all open
+append  /q * open             | edit <> append </q> all open
+append /two /q GET,PUT a,b    | edit </two> append </q> only <GET> <PUT> roles <a> <b>
+append / /q !GET nobody       | edit <> append </q> except <GET> roles
+append /  * open              | edit <> append <> all open
+append / *.x POST **          | edit <> append <*.x> only <POST> roles <**>
+-- a star among names, and a mark among omitted ones, are names
+append / /q *,GET *           | edit <> append </q> only <*> <GET> roles <*>
+append / /q !!,* open         | edit <> append </q> except <!> <*> open
+-- the words of roles are words where they are the whole text, which is the rest of the line
+append / /q * open,nobody     | edit <> append </q> all roles <open> <nobody>
+append / /q * a b,c           | edit <> append </q> all roles <a b> <c>
+append / /q * open\x20        | edit <> append </q> all roles <open\x20>
+append /\xC3\xA9 /\xC3\xA9 * \xC3\xA9 | edit </\xC3\xA9> append </\xC3\xA9> all roles <\xC3\xA9>
+withdraw / 2                  | edit <> withdraw 2
+withdraw  2                   | edit <> withdraw 2
+withdraw /two 007             | edit </two> withdraw 7
+withdraw / 18446744073709551615 | edit <> withdraw 18446744073709551615
+-- names at their limits
+append / /q \{15*A} \{64*a}    | edit <> append </q> only <\{15*A}> roles <\{64*a}>
+append / /q \{16*A} a         | unreadable
+append / /q * \{65*a}         | unreadable
+append / /q ! a               | unreadable
+append / /q GET, a            | unreadable
+append / /q * a,              | unreadable
+append / q * a                | unreadable
+append / /q * \xFF            | unreadable
+withdraw \xFF 1               | unreadable
+withdraw /                    | unreadable
+"#;
+
+#[test]
+fn a_line_edits_the_constraints_of_a_context(rt: HostRuntime) -> Result<(), Strays> {
+    hold(&rt, &[EDITS], &Lines)
 }

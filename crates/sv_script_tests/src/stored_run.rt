@@ -2,6 +2,7 @@
 
 use std::alloc::Global;
 use sv_journal::{Answer, CallName, Component, Entry, Event};
+use sv_policy::EditFault;
 use sv_rows::Strays;
 use sv_script::{event_text, shutdown_text, start_text};
 use sv_text::{Bytes, NoMemory, Text};
@@ -70,6 +71,7 @@ fn an_event_is_printed(rt: HostRuntime) -> Result<(), Strays> {
         entries.finish()?.as_slice(),
         SENT.as_bytes(),
         true,
+        None,
     )?;
     expect(&text, ANSWERED)
 }
@@ -81,8 +83,17 @@ fn entered(alloc: Global) -> Result<Entry, NoMemory> {
 
 #[test]
 fn an_event_may_tell_nothing(rt: HostRuntime) -> Result<(), Strays> {
-    let text = event_text(rt.alloc(), 1, &[], b"", false)?;
+    let text = event_text(rt.alloc(), 1, &[], b"", false, None)?;
     expect(&text, "event 1\n")
+}
+
+#[test]
+fn the_answer_to_an_edit_is_printed(rt: HostRuntime) -> Result<(), Strays> {
+    let alloc = rt.alloc();
+    let text = event_text(alloc, 3, &[], b"", false, Some(Ok(2)))?;
+    expect(&text, "event 3\nedited 2\n")?;
+    let greatest = event_text(alloc, 4, &[], b"", false, Some(Err(EditFault::NumberSpent)))?;
+    expect(&greatest, "event 4\nedit refused 3\n")
 }
 
 /// Entries that are added. Whether memory ran out is told at their end.

@@ -1,0 +1,151 @@
+//! The lines that edit the constraints of a context.
+
+ghost use Rattle.std.specs.Prelude.{◌≡◌};
+ghost use Rattle.sv_text.specs.Gives.{GivesAnswer};
+ghost use Rattle.sv_script.specs.Editing as spec;
+
+use crate::fields::{at_blank, number, text_of};
+use crate::line::ScriptLine;
+use crate::names::{NameKind, names_of};
+use std::alloc::Global;
+use sv_constraints::{Auth, Collection, Methods, Transport};
+use sv_mapping::{Pattern, PatternFault};
+use sv_policy::{Edit, NewConstraint};
+use sv_text::{Listed, NoMemory, Text};
+
+/// What `append` asks for with what is behind its blank: a context, a pattern, methods and roles.
+pub(crate) fn appending(alloc: Global, rest: &[u8]) -> Result<Option<ScriptLine>, NoMemory>
+    ensures { GivesAnswer result (spec.appending rest.now) }
+{
+    let Some((context, rest)) = at_blank(rest) else {
+        return Ok(None);
+    };
+    let Some(path) = path_of(alloc, context)? else {
+        return Ok(None);
+    };
+    let Some(addition) = addition_of(alloc, rest)? else {
+        return Ok(None);
+    };
+    Ok(Some(ScriptLine::Edit(path, Edit::Append(addition))))
+}
+
+/// What `withdraw` asks for with what is behind its blank: a context and a number.
+pub(crate) fn withdrawing(alloc: Global, rest: &[u8]) -> Result<Option<ScriptLine>, NoMemory>
+    ensures { GivesAnswer result (spec.withdrawing rest.now) }
+{
+    let Some((context, rest)) = at_blank(rest) else {
+        return Ok(None);
+    };
+    let Some(number) = number(rest) else {
+        return Ok(None);
+    };
+    let Some(path) = path_of(alloc, context)? else {
+        return Ok(None);
+    };
+    Ok(Some(ScriptLine::Edit(path, Edit::Withdraw(number))))
+}
+
+// The path of a context as it is written: `/` is the root's, too.
+fn path_of(alloc: Global, context: &[u8]) -> Result<Option<Text>, NoMemory>
+    ensures { GivesAnswer result (spec.path_of context.now) }
+{
+    let Some(path) = text_of(context) else {
+        return Ok(None);
+    };
+    Ok(Some(Text::copy_of(alloc, shown_path(path))?))
+}
+
+// The path that a text shows.
+fn shown_path(text: &str) -> &str
+    ensures { result.now ≡ spec.shown_path text.now }
+{
+    if text == "/" { "" } else { text }
+}
+
+// A constraint of one pattern: the pattern, methods and roles.
+fn addition_of(alloc: Global, text: &[u8]) -> Result<Option<NewConstraint>, NoMemory>
+    ensures { GivesAnswer result (spec.addition_of text.now) }
+{
+    let Some((pattern, rest)) = at_blank(text) else {
+        return Ok(None);
+    };
+    let Some((methods, roles)) = at_blank(rest) else {
+        return Ok(None);
+    };
+    let Some(auth) = auth_of(alloc, roles)? else {
+        return Ok(None);
+    };
+    let Some(collection) = collection_of(alloc, pattern, methods)? else {
+        return Ok(None);
+    };
+    let mut collections = Vec::new(alloc);
+    collections.push(collection)?;
+    Ok(Some(NewConstraint {
+        collections: Listed::from_vec(collections),
+        auth,
+        transport: Transport::Absent,
+    }))
+}
+
+// A collection of one pattern and its methods.
+fn collection_of(
+    alloc: Global,
+    pattern: &[u8],
+    methods: &[u8],
+) -> Result<Option<Collection>, NoMemory>
+    ensures { GivesAnswer result (spec.collection_of pattern.now methods.now) }
+{
+    let Some(methods) = methods_of(alloc, methods)? else {
+        return Ok(None);
+    };
+    let Some(pattern) = pattern_of(alloc, pattern)? else {
+        return Ok(None);
+    };
+    let mut patterns = Vec::new(alloc);
+    patterns.push(pattern)?;
+    Ok(Some(Collection {
+        patterns: Listed::from_vec(patterns),
+        methods,
+    }))
+}
+
+fn pattern_of(alloc: Global, text: &[u8]) -> Result<Option<Pattern>, NoMemory>
+    ensures { GivesAnswer result (spec.pattern_of text.now) }
+{
+    let Some(text) = text_of(text) else {
+        return Ok(None);
+    };
+    match Pattern::parse(alloc, text) {
+        Ok(pattern) => Ok(Some(pattern)),
+        Err(PatternFault::BadPattern) => Ok(None),
+        Err(PatternFault::NoMemory) => Err(NoMemory),
+    }
+}
+
+// `*` for all, `!` and names for all but these, and names for these alone.
+fn methods_of(alloc: Global, text: &[u8]) -> Result<Option<Methods>, NoMemory>
+    ensures { GivesAnswer result (spec.methods_of text.now) }
+{
+    if text == b"*".as_slice() {
+        return Ok(Some(Methods::All));
+    }
+    match text.split_first() {
+        Some((b'!', omitted)) => {
+            Ok(names_of(alloc, NameKind::Method, omitted)?.map(Methods::Except))
+        }
+        _ => Ok(names_of(alloc, NameKind::Method, text)?.map(Methods::Only)),
+    }
+}
+
+// `open` for everyone, `nobody` for no role, and names for these.
+fn auth_of(alloc: Global, text: &[u8]) -> Result<Option<Auth>, NoMemory>
+    ensures { GivesAnswer result (spec.auth_of text.now) }
+{
+    if text == b"open".as_slice() {
+        Ok(Some(Auth::Absent))
+    } else if text == b"nobody".as_slice() {
+        Ok(Some(Auth::Roles(Listed::from_vec(Vec::new(alloc)))))
+    } else {
+        Ok(names_of(alloc, NameKind::Role, text)?.map(Auth::Roles))
+    }
+}
