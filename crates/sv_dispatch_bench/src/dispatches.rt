@@ -1,5 +1,6 @@
 //! Dispatches over a started context.
 
+use crate::components::INNER_PATH;
 use crate::contexts::{BenchLive, Context};
 use crate::exchanges::{Request, finished_len};
 use std::alloc::Global;
