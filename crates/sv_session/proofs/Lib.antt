@@ -1,3 +1,4 @@
+mod AddLemmas
 mod AttributeLemmas
 mod CallerLemmas
 mod ExpiryLemmas

@@ -1,6 +1,6 @@
 use Rattle.std.proofs.Common.{rules, ◌<◌, sym, subst}
 use Rattle.sv_session.specs.Slots.{AreKept}
-use Rattle.sv_session.proofs.KeptLemmas.{added, added_store, count_below, put_back}
+use Rattle.sv_session.proofs.AddLemmas.{added, added_store, count_below, put_back}
 use Rattle.sv_session.proofs.sessions.Sessions.add.Goals as goal
 
 pub invariant_of-self : goal.invariant_of-self
