@@ -95,11 +95,11 @@ impl PlainList {
             .iter()
             .position(|constraint| constraint.number == number);
         match place {
-            Some(place) => {
+            Some(place) if place < self.constraints.len() => {
                 let _withdrawn = self.constraints.remove(place);
                 true
             }
-            None => false,
+            _ => false,
         }
     }
 
