@@ -11,7 +11,7 @@ use sv_wire::{Inbox, Item, Message};
 /// A request with ten fields, and its path.
 #[derive(Drop)]
 pub struct Request {
-    pub message: Message,
+    message: Message,
     pub canon: Canon,
 }
 

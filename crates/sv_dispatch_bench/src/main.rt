@@ -1,11 +1,10 @@
-//! What exchanges, dispatches, look-ups, decisions, sessions and files cost. With the argument `figures` it prints nanoseconds, without it only what was measured. With the arguments
+//! What exchanges, dispatches, look-ups, sessions and files cost. With the argument `figures` it prints nanoseconds, without it only what was measured. With the arguments
 //! `exchanges N` it begins and finishes N exchanges and says that they were made, so that what they take can be counted from outside.
 #![tactic(auto)]
 
 mod components;
 mod contexts;
 mod cookies;
-mod decisions;
 mod dispatch_figures;
 mod dispatches;
 mod exchange_figures;
@@ -51,7 +50,6 @@ fn measure<R: Clock + Print + AllocGlobal>(rt: &R, figures: bool) -> Option<()> 
     dispatch_figures::dispatches(rt, figures)?;
     lookup_figures::contexts(rt, figures)?;
     lookup_figures::connections(rt, figures)?;
-    decisions::decisions(rt, figures)?;
     sessions::sessions(rt, figures)?;
     cookies::cookies(rt, figures)?;
     files::files(rt, figures)
