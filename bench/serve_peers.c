@@ -1,13 +1,16 @@
-/* The peers of bench/serve, built by it with `cc -O2`:
+/* The peers of bench/serve and bench/run, built by them with `cc -O2`:
  *
  *   keep PORT COUNT   asks COUNT times over one connection, each time when the answer is there, and prints the seconds
  *   anew PORT COUNT   does so over a connection for each request
+ *   many PORT COUNT CONNECTIONS
+ *                     does so over so many connections at once, and prints behind the seconds the microseconds within which 99 of 100 answers came
  *   floor             listens on 127.0.0.1, prints `listening PORT`, and answers each read with one write of the same bytes, a connection after another:
  *                     no server that makes these two calls a request can be faster
  */
 #include <arpa/inet.h>
 #include <netinet/in.h>
 #include <netinet/tcp.h>
+#include <poll.h>
 #include <stdio.h>
 #include <stdlib.h>
 #include <string.h>
@@ -84,6 +87,57 @@ static void anew(int port, long count) {
     }
 }
 
+/* A connection that waits for an answer: what came of it, and when it was asked. */
+struct waiting {
+    char text[1024];
+    size_t have;
+    double since;
+};
+
+static void ask_on(int stream, struct waiting *waiting) {
+    static const char request[] = HEAD "\r\n";
+    waiting->have = 0;
+    waiting->since = seconds();
+    if (send(stream, request, sizeof request - 1, MSG_NOSIGNAL) != sizeof request - 1) fail("send");
+}
+
+/* Reads what came; says whether the answer is whole. */
+static int is_answered(int stream, struct waiting *waiting) {
+    ssize_t count = recv(stream, waiting->text + waiting->have, sizeof waiting->text - 1 - waiting->have, 0);
+    if (count <= 0) fail("recv");
+    waiting->have += count;
+    waiting->text[waiting->have] = 0;
+    size_t length = answer_length(waiting->text);
+    return length && waiting->have >= length;
+}
+
+static int rising(const void *one, const void *other) {
+    double first = *(const double *)one, second = *(const double *)other;
+    return (first > second) - (first < second);
+}
+
+static void many(int port, long count, int connections) {
+    struct pollfd *streams = calloc(connections, sizeof *streams);
+    struct waiting *waiting = calloc(connections, sizeof *waiting);
+    double *times = calloc(count, sizeof *times), start;
+    long asked = 0, answered = 0;
+    for (int i = 0; i < connections; i++) streams[i] = (struct pollfd){.fd = connected(port), .events = POLLIN};
+    start = seconds();
+    for (int i = 0; i < connections && asked < count; i++, asked++) ask_on(streams[i].fd, &waiting[i]);
+    while (answered < count) {
+        if (poll(streams, connections, -1) < 0) fail("poll");
+        for (int i = 0; i < connections; i++) {
+            if (!streams[i].revents || !is_answered(streams[i].fd, &waiting[i])) continue;
+            times[answered++] = seconds() - waiting[i].since;
+            if (asked < count) asked++, ask_on(streams[i].fd, &waiting[i]);
+        }
+    }
+    start = seconds() - start;
+    qsort(times, count, sizeof *times, rising);
+    printf("%.6f\n%.1f\n", start, times[(count - 1) * 99 / 100] * 1e6);
+    exit(0);
+}
+
 /* Answers each read of a connection until a request asks to close it, or the peer does. */
 static void answer_all(int stream) {
     char text[16384];
@@ -113,6 +167,7 @@ int main(int count, char **words) {
     if (count == 2 && !strcmp(words[1], "floor")) floor_server();
     else if (count == 4 && !strcmp(words[1], "keep")) keep(atoi(words[2]), atol(words[3]));
     else if (count == 4 && !strcmp(words[1], "anew")) anew(atoi(words[2]), atol(words[3]));
+    else if (count == 5 && !strcmp(words[1], "many")) many(atoi(words[2]), atol(words[3]), atoi(words[4]));
     else return 2;
     printf("%.6f\n", seconds() - start);
     return 0;

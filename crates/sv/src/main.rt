@@ -6,6 +6,7 @@ mod program_fault;
 use program_fault::ProgramFault;
 use std::net::Net;
 use std::process::ExitCode;
+use std::random::RandomSource;
 use std::rt::{Env, Files};
 use std::time::Clock;
 use std::{env, io};
@@ -24,7 +25,7 @@ fn main(rt: HostRuntime) -> ExitCode {
 }
 
 /// Runs the command that the arguments name. Arguments that cannot be read name none.
-fn run<R: Env + Files + Net + Clock + Input + Print + AllocGlobal + Clone + Drop>(
+fn run<R: Env + Files + Net + Clock + RandomSource + Input + Print + AllocGlobal + Clone + Drop>(
     rt: &R,
 ) -> Result<(), ProgramFault> {
     let Ok(arguments) = env::args(rt) else {

@@ -16,9 +16,10 @@ use Rattle.sv_deployments.specs.declared.configuration.Configuration.{Configurat
 use Rattle.sv_commands.specs.Policy.{RunsPolicy}
 use Rattle.sv_commands.specs.Printed.{Shows}
 use Rattle.sv_commands.specs.Question.{question_words}
+use Rattle.sv_commands.specs.Running.{running_words}
 use Rattle.sv_commands.specs.Service.{service_words}
 use Rattle.sv_commands.specs.declared.command.Command.{Command}
-use Rattle.sv_commands.specs.declared.command.Command.TheVariants.{First, Policy, Uncovered, Replay, Serve, SelfTest, Help, Version}
+use Rattle.sv_commands.specs.declared.command.Command.TheVariants.{First, Policy, Uncovered, Replay, Serve, Run, SelfTest, Help, Version}
 use Rattle.sv_commands.specs.declared.texts.TheConstants.{HELP, VERSION}
 
 -- the arguments that name a command
@@ -28,6 +29,7 @@ words_of (Policy question) = codes "policy" ∷ question_words question
 words_of (Uncovered config) = codes "uncovered" ∷ name_words config
 words_of (Replay config) = codes "replay" ∷ name_words config
 words_of (Serve service) = codes "serve" ∷ service_words service
+words_of (Run running) = codes "run" ∷ running_words running
 words_of (SelfTest config) = codes "selftest" ∷ name_words config
 words_of Help = codes "help" ∷ []
 words_of Version = codes "version" ∷ []
@@ -45,19 +47,21 @@ ReadsFiles gives_text gives_files config result before after =
 abbrev pub ServesNothing : Command → Type 0
 ServesNothing (Replay config) = ⊥
 ServesNothing (Serve service) = ⊥
+ServesNothing (Run running) = ⊥
 ServesNothing (SelfTest config) = ⊥
 ServesNothing other = Unit {0}
 
 module _ (servlet_step : ProgramServlet → Call → ProgramServlet → Type 0) (filter_step : ProgramFilter → Call → ProgramFilter → Type 0)
     (listener_step : ProgramListener → Call → ProgramListener → Type 0) where
   -- what a run of the command answers, by what its store gives and its reader's known bytes, and adds to its writer's; what a container's events
-  -- write is told by the contracts of `replay`, `serve` and `self_test`
+  -- write is told by the contracts of `replay`, `serve`, `run` and `self_test`
   abbrev pub RunsCommand : {S : Type 0} → Giving S → FolderGiving S → Command → Result (Unit {0}) CommandFault → S → S → Option (List ℕ) → Option (List ℕ) → Option (List ℕ) → Type 0
   RunsCommand gives files (First deny_uncovered) result before after stream old new = (after ≡ before) × RunsFirst deny_uncovered result stream old new
   RunsCommand gives files (Policy question) result before after stream old new = RunsPolicy servlet_step filter_step listener_step gives files question result before after old new
   RunsCommand gives files (Uncovered config) result before after stream old new = Prints (AreLines gives config.now) result before after old new
   RunsCommand gives files (Replay config) result before after stream old new = ReadsFiles gives files config.now result before after
   RunsCommand gives files (Serve service) result before after stream old new = ReadsFiles gives files service.config.now result before after
+  RunsCommand gives files (Run running) result before after stream old new = ReadsFiles gives files running.config.now result before after
   RunsCommand gives files (SelfTest config) result before after stream old new = ReadsFiles gives files config.now result before after
   RunsCommand gives files Help result before after stream old new = (after ≡ before) × Shows HELP.now result old new
   RunsCommand gives files Version result before after stream old new = (after ≡ before) × Shows VERSION.now result old new

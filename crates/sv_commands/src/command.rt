@@ -7,17 +7,19 @@ ghost use Rattle.sv_commands.specs.Command.{words_of, ReadsFiles, RunsCommand, S
 use crate::policy_command::policy;
 use crate::question::Question;
 use crate::replay_command::replay;
+use crate::running::Running;
 use crate::service::Service;
 use crate::texts::{HELP, VERSION};
 use std::alloc::Global;
 use std::io::{Read, Write};
 use std::net::Net;
+use std::random::RandomSource;
 use std::time::Clock;
 use sv_application::{ProgramFilter, ProgramListener, ProgramServlet};
 use sv_component::{Filter, Listener, Servlet};
 use sv_deployments::FolderStore;
 use sv_program::{CommandFault, FileStore, denies_uncovered, first, print_text, uncovered};
-use sv_serve::{self_test, serve};
+use sv_serve::{run, self_test, serve};
 use sv_streams::{ReadSource, WriteSink};
 
 /// A command of the program.
@@ -42,6 +44,8 @@ pub enum Command<'a> {
     },
     /// `serve CONFIG N`: serves so many connections, one after another.
     Serve(Service<'a>),
+    /// `run CONFIG [--listen ADDRESS:PORT] [--same-seed]`: serves all connections that come, many at once.
+    Run(Running<'a>),
     /// `selftest CONFIG`: asks a server's container once over a connection of its own, and prints the first line of the answer.
     SelfTest {
         /// The name of the server file.
@@ -77,6 +81,9 @@ impl<'a> Command<'a> {
         if name.as_str() == "serve" {
             return Some(Command::Serve(Service::parse(rest)?));
         }
+        if name.as_str() == "run" {
+            return Some(Command::Run(Running::parse(rest)?));
+        }
         if name.as_str() == "selftest" {
             let config = config_in(rest)?;
             return Some(Command::SelfTest { config });
@@ -90,9 +97,9 @@ impl<'a> Command<'a> {
         None
     }
 
-    /// Runs the command over a store of files and folders, a network with a clock, a reader and a writer: those of the system, or others in their
+    /// Runs the command over a store of files and folders, a network with a clock and a source of random bytes, a reader and a writer: those of the system, or others in their
     /// place. Each command says what it reads and writes and what a fault leaves.
-    pub fn run<S: FileStore + FolderStore, H: Net + Clock, R: Read + Drop, W: Write>(
+    pub fn run<S: FileStore + FolderStore, H: Net + Clock + RandomSource, R: Read + Drop, W: Write>(
         self,
         alloc: Global,
         store: &mut S,
@@ -113,6 +120,7 @@ impl<'a> Command<'a> {
                 let count = service.connections.value();
                 serve(alloc, store, host, writer, service.config, count)
             }
+            Command::Run(running) => run_asked(alloc, store, host, writer, &running),
             Command::SelfTest { config } => self_test(alloc, store, host, writer, config),
             Command::Help => print_text(writer, HELP),
             Command::Version => print_text(writer, VERSION),
@@ -157,4 +165,19 @@ fn replay_streams<S: FileStore + FolderStore, R: Read + Drop, W: Write>(
     let mut script = ReadSource::new(reader);
     let mut output = WriteSink::new(writer);
     replay(alloc, store, &mut script, &mut output, config)
+}
+
+/// Runs a server as it is asked.
+fn run_asked<S: FileStore + FolderStore, H: Net + Clock + RandomSource, W: Write>(
+    alloc: Global,
+    store: &mut S,
+    host: &H,
+    writer: &mut W,
+    running: &Running<'_>,
+) -> Result<(), CommandFault>
+    ensures { ReadsFiles S.gives_text S.gives_files running.now.config.now result store.old store.new }
+{
+    let address = running.address();
+    let seeding = running.seeding();
+    run(alloc, store, host, writer, running.config, address, seeding)
 }

@@ -1,11 +1,10 @@
 -- Which of the records that wait comes first.
-use Rattle.std.specs.Prelude.{◌≡◌, ℕ, ◌+◌, ◌-◌, Bool, false, true, ◌&&◌, ◌||◌, ◌==◌, nat_lt, nat_le, min, List, [], ◌∷◌, Option, None, Some, slice_get, if◌then◌else◌}
+use Rattle.std.specs.Prelude.{◌≡◌, ℕ, ◌-◌, Bool, false, ◌&&◌, ◌||◌, ◌==◌, nat_lt, nat_le, List, Option, None, Some, slice_get, if◌then◌else◌}
 use Rattle.sv_expiry_queue.specs.declared.due.Due.{Due}
 
--- the places of a queue, each with its record or empty, and how many records have been judged
-pub record Waiting : Type 0 where
-  pub places : List (Option Due)
-  pub judged : ℕ
+-- the places of a queue, each with its record or empty
+abbrev pub Waiting : Type 0
+Waiting = List (Option Due)
 
 -- an earlier deadline, or the same and a lesser number
 abbrev pub is_before : Due → Due → Bool
@@ -22,29 +21,12 @@ sooner (Some due) None = Some due
 sooner (Some due) (Some other) = if is_before other due then Some other else Some due
 
 -- the record waits at some place
-abbrev pub Waits : List (Option Due) → Due → Type 0
+abbrev pub Waits : Waiting → Due → Type 0
 Waits places due = (place : ℕ) × (slice_get places place ≡ Some (Some due))
 
-abbrev pub NoneWaits : List (Option Due) → Type 0
+abbrev pub NoneWaits : Waiting → Type 0
 NoneWaits places = (due : Due) → Waits places due → ⊥
 
 -- the record waits, and none that waits is before it
-abbrev pub IsFirst : List (Option Due) → Due → Type 0
+abbrev pub IsFirst : Waiting → Due → Type 0
 IsFirst places due = Waits places due × ((other : Due) → Waits places other → is_before other due ≡ false)
-
--- the first of the records has waited for as long as the interval, or none has
-abbrev pub HasWaited : ℕ → ℕ → List (Option Due) → Due → Type 0
-HasWaited interval now places due = IsFirst places due × (has_waited interval now due ≡ true)
-
-abbrev pub NoneHasWaited : ℕ → ℕ → List (Option Due) → Type 0
-NoneHasWaited interval now places = (due : Due) → Waits places due → has_waited interval now due ≡ false
-
--- some record waits
-abbrev pub some_waits : List (Option Due) → Bool
-some_waits [] = false
-some_waits (None ∷ places) = some_waits places
-some_waits (Some due ∷ places) = true
-
--- one more record was judged, where there is any
-abbrev pub judged_again : Waiting → Waiting
-judged_again waiting = if some_waits waiting.places then record waiting { judged = min (waiting.judged + 1) 18446744073709551615 } else waiting

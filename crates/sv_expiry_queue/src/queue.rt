@@ -1,19 +1,18 @@
 //! The queue.
 
 ghost use Rattle.std.specs.Prelude.{◌≡◌, ◌<◌, ◌++◌, ◌∷◌, [], MatchOption, None, OnErr, OnOk, Some, length, slice_set};
-ghost use Rattle.sv_expiry_queue.specs.Order.{HasWaited, IsFirst, NoneWaits, NoneHasWaited, judged_again};
+ghost use Rattle.sv_expiry_queue.specs.Order.{IsFirst, NoneWaits};
 
 use crate::due::Due;
 use crate::node::{Node, least_at, settle};
 use std::alloc::{AllocError, Global};
 use std::marker::Model;
 
-/// The records that wait, by place. Contracts see the list of the places, each with its record or empty, and how many records have been judged.
+/// The records that wait, by place. Contracts see the list of the places, each with its record or empty.
 /// A change at a place takes as many steps as the number of places has binary digits, and no memory.
 #[derive(Drop)]
 pub struct Queue {
     nodes: Vec<Node>,
-    judged: u64,
 }
 
 impl Model for Queue {
@@ -23,19 +22,18 @@ impl Model for Queue {
 
     ghost Value = { Waiting };
 
-    ghost view = { λ queue. record { places = map (λ node. node.own) queue.nodes.items; judged = queue.judged } };
+    ghost view = { λ queue. map (λ node. node.own) queue.nodes.items };
 
     ghost invariant = { λ queue. (place : ℕ) → IsSettled queue.nodes.items place };
 }
 
 impl Queue {
-    /// No places. So many records have been judged. It takes no memory.
-    pub fn new(alloc: Global, judged: u64) -> Queue
-        ensures { result ≡ record { places = []; judged = judged } }
+    /// No places. It takes no memory.
+    pub fn new(alloc: Global) -> Queue
+        ensures { result ≡ [] }
     {
         Queue {
             nodes: Vec::new(alloc),
-            judged,
         }
     }
 
@@ -44,7 +42,7 @@ impl Queue {
     /// # Errors
     /// `AllocError` where a growth was refused; nothing has changed.
     pub fn push(&mut self, due: Due) -> Result<(), AllocError>
-        ensures added { OnOk result (self.new ≡ record self.old { places = self.old.places ++ Some due ∷ [] }) }
+        ensures added { OnOk result (self.new ≡ self.old ++ Some due ∷ []) }
         ensures refused { OnErr result (self.new ≡ self.old) }
     {
         let place = self.len();
@@ -57,14 +55,14 @@ impl Queue {
 
     /// How many places there are.
     pub fn len(&self) -> usize
-        ensures { result ≡ length self.now.places }
+        ensures { result ≡ length self.now }
     {
         self.nodes.len()
     }
 
     /// Adds an empty place behind the others. Nothing changes where a growth is refused.
     fn widen(&mut self) -> Result<(), AllocError>
-        ensures wider { OnOk result (self.new ≡ record self.old { places = self.old.places ++ None ∷ [] }) }
+        ensures wider { OnOk result (self.new ≡ self.old ++ None ∷ []) }
         ensures refused { OnErr result (self.new ≡ self.old) }
     {
         let empty = Node {
@@ -79,8 +77,8 @@ impl Queue {
 
     /// Puts a record at a place, or empties it.
     pub fn put(&mut self, place: usize, due: Option<Due>)
-        requires { place < length self.old.places }
-        ensures { self.new ≡ record self.old { places = slice_set self.old.places place due } }
+        requires { place < length self.old }
+        ensures { self.new ≡ slice_set self.old place due }
     {
         let least = self.nodes[place].least;
         self.nodes[place] = Node { own: due, least };
@@ -89,30 +87,8 @@ impl Queue {
 
     /// The first of the records that wait.
     pub fn least(&self) -> Option<Due>
-        ensures { MatchOption result (NoneWaits self.now.places) (IsFirst self.now.places) }
+        ensures { MatchOption result (NoneWaits self.now) (IsFirst self.now) }
     {
         least_at(self.nodes.as_slice(), 0)
-    }
-
-    /// Judges the first of the records that wait, if there is one: it is given where it has waited for as long as the interval, in seconds, 0 for
-    /// ever. Each record that is judged is counted, up to the greatest number, where the count stays.
-    pub fn judge(&mut self, interval: u32, now: u64) -> Option<Due>
-        ensures due { MatchOption result (NoneHasWaited interval now self.old.places) (HasWaited interval now self.old.places) }
-        ensures left { self.new ≡ judged_again self.old }
-    {
-        let due = self.least()?;
-        self.judged = self.judged.saturating_add(1);
-        if due.has_waited(interval, now) {
-            Some(due)
-        } else {
-            None
-        }
-    }
-
-    /// How many records have been judged, up to the greatest number.
-    pub fn judged(&self) -> u64
-        ensures { result ≡ self.now.judged }
-    {
-        self.judged
     }
 }

@@ -3,6 +3,7 @@
 use std::io;
 use std::net::{Ipv4Addr, Net, TcpListener};
 use sv_program::CommandFault;
+use sv_run::StepFault;
 use sv_runs::ServeFault;
 
 /// Listens at the port for connections of this machine alone.
@@ -16,5 +17,15 @@ pub(crate) fn fault_of(fault: ServeFault) -> CommandFault {
         ServeFault::Connection => CommandFault::Socket,
         ServeFault::NoMemory => CommandFault::NoMemory,
         ServeFault::Output => CommandFault::Output,
+    }
+}
+
+/// The fault of a command by that of an event.
+pub(crate) fn front_fault_of(fault: StepFault) -> CommandFault {
+    match fault {
+        StepFault::Stopped | StepFault::BadConnection | StepFault::TooManyConnections => {
+            CommandFault::Socket
+        }
+        StepFault::NoMemory => CommandFault::NoMemory,
     }
 }

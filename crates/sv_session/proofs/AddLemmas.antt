@@ -52,12 +52,12 @@ module _ (limit interval serial count : ℕ) (slots : List Slot) (ids : Ids) (qu
 
     pub added : (grown items : List Slot) → grown ≡ slots → items ≡ grown ++ record { live = true; kept = session } ∷ []
         → (due : Due) → due ≡ record { last_access = session.last_access; number = session.number }
-        → (after : Waiting) → after ≡ record queue { places = queue.places ++ Some due ∷ [] } → AreKept (serial + 1) (count + 1) items entered after
+        → (after : Waiting) → after ≡ queue ++ Some due ∷ [] → AreKept (serial + 1) (count + 1) items entered after
     added grown items same more due is_due after waits =
         subst (λ all. AreKept (serial + 1) (count + 1) all entered after)
         (sym (more ∙ (ap (λ all. all ++ record { live = true; kept = session } ∷ []) same ∙ ap (λ s. slots ++ record { live = true; kept = s } ∷ []) is)))
         (kept_more serial count slots ids queue kept words now small entered came after
-        (ap (λ (w : Waiting). w.places) waits ∙ ap (λ d. queue.places ++ Some d ∷ [])
+        (waits ∙ ap (λ d. queue ++ Some d ∷ [])
         (is_due ∙ ap (λ (s : Session). record { last_access = s.last_access; number = s.number }) is)))
 
     pub put_back : (grown : List Slot) → grown ≡ slots → (left : Ids) (gone : List ℕ) → gone ≡ session.id

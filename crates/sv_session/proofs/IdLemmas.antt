@@ -48,6 +48,11 @@ serial_of : (words : ℕ × ℕ) (serial : ℕ) → drop 32 (id_text words seria
 serial_of words serial =
     ap (λ n. drop n (id_text words serial)) (sym (front_len words)) ∙ drop-append_seam (digits_of words.0 ++ digits_of words.1) (digits_of serial)
 
+pub id_len : (words : ℕ × ℕ) (serial : ℕ) → length (id_text words serial) ≡ 48
+id_len words serial =
+    length-append (digits_of words.0 ++ digits_of words.1) (digits_of serial)
+    ∙ omega (arith, front_len words, length-encode_with lower_digits (to_be_bytes w64 serial))
+
 pub serials_tell : (words others : ℕ × ℕ) (a b : ℕ) → a < 2 ^ 64 → b < 2 ^ 64 → id_text words a ≡ id_text others b → a ≡ b
 serials_tell words others a b small_a small_b same =
     digits_tell a b small_a small_b (sym (serial_of words a) ∙ (ap (drop 32) same ∙ serial_of others b))

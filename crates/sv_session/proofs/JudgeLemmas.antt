@@ -1,23 +1,35 @@
 -- The record that is judged first against the sessions that have expired.
-use Rattle.std.proofs.Common.{◌≡◌, ℕ, zero, suc, ◌+◌, Bool, true, false, ◌&&◌, ◌||◌, eqb, ltb, inl, inr, List, [], ◌∷◌, map, None, Some, refl, sym, ◌∙◌, ap, subst, arith}
+use Rattle.std.proofs.Common.{◌≡◌, ◌≢◌, ℕ, zero, suc, ◌+◌, ◌-◌, ◌<◌, Bool, true, false, ◌&&◌, ◌||◌, eqb, ltb, leb, inl, inr, List, [], ◌∷◌, map, min, None, Some, refl, sym, ◌∙◌, ap, subst, arith}
 use Rattle.std.specs.List.{filter, fold, reduce, slice_get}
 use Rattle.std.specs.Option.{option_map}
 use Rattle.std.proofs.lemmas.Bool.{cases_Bool}
 use Rattle.std.proofs.lemmas.Bool.Decides.{nat_tests}
 use Rattle.std.proofs.lemmas.Option.{none-some, same_Some}
 use Rattle.sv_expiry_queue.specs.declared.due.Due.{Due}
-use Rattle.sv_expiry_queue.specs.Order.{HasWaited, NoneHasWaited, Waiting, Waits, has_waited, is_before, judged_again, some_waits}
+use Rattle.sv_expiry_queue.specs.Order.{IsFirst, NoneWaits, Waiting, Waits, has_waited, is_before}
 use Rattle.sv_session.specs.declared.slot.Slot.{Slot}
 use Rattle.sv_session.specs.Expiry.{earlier, ends_before, has_expired}
 use Rattle.sv_session.specs.declared.ids.Ids.{Ids}
-use Rattle.sv_session.specs.Calls.{ending, expired_number, expiring, left_by_expiry, without}
+use Rattle.sv_session.specs.Calls.{ending, expired_number, expiring, judged_among, judged_by_expiry, left_by_expiry, without}
 use Rattle.sv_session.specs.Slots.{AreKept, due_of, living}
 use Rattle.sv_session.specs.Store.{Session, Store}
 use Rattle.sv_session.proofs.ExpiryLemmas.{before_chain_not, first_in}
 use Rattle.sv_session.proofs.OrderLemmas.{IsIn, in_filter}
 
-pub places_judged : (waiting : Waiting) → (judged_again waiting).places ≡ waiting.places
-places_judged waiting = elim (cases_Bool (some_waits waiting.places)) [ inl some ↦ rw some refl | inr none ↦ rw none refl ]
+-- the first of the records has waited for as long as the interval, or none has
+abbrev pub HasWaited : ℕ → ℕ → Waiting → Due → Type 0
+HasWaited interval now places due = IsFirst places due × (has_waited interval now due ≡ true)
+
+abbrev pub NoneHasWaited : ℕ → ℕ → Waiting → Type 0
+NoneHasWaited interval now places = (due : Due) → Waits places due → has_waited interval now due ≡ false
+
+waits_longer : (interval now d n e m : ℕ) → (ltb e d || (eqb e d && ltb m n)) ≡ false → (ltb 0 interval && leb interval (now - d)) ≡ false
+    → (ltb 0 interval && leb interval (now - e)) ≡ false
+waits_longer interval now d n e m behind waits = grind (arith, nat_tests)
+
+none_behind : (interval now : ℕ) (places : Waiting) (due : Due) → IsFirst places due → has_waited interval now due ≡ false → NoneHasWaited interval now places
+none_behind interval now places due first waits other there =
+    waits_longer interval now due.last_access due.number other.last_access other.number (first.1 other there) waits
 
 abbrev due_at : Session → Due
 due_at session = record { last_access = session.last_access; number = session.number }
@@ -137,39 +149,75 @@ module _ (interval now : ℕ) (slots : List Slot) (due : Due) (waited : HasWaite
       by_list at.0 at.2 gone refl (to_filter (has_expired interval now) (living slots) at.0 at.1 passes)
 
 -- ---- what `expire` answers and leaves
-pub kept_judged : (serial count : ℕ) (slots : List Slot) (ids : Ids) (queue after : Waiting) → AreKept serial count slots ids queue → after ≡ judged_again queue
-    → AreKept serial count slots ids after
-kept_judged serial count slots ids queue after kept is = record {
-  fits = kept.fits;
-  rise = kept.rise;
-  differ = kept.differ;
-  named = kept.named;
-  wait = ap (λ (w : Waiting). w.places) is ∙ (places_judged queue ∙ kept.wait);
-  counted = kept.counted;
-}
-
 module _ (limit interval serial count : ℕ) (slots : List Slot) (ids : Ids) (queue : Waiting) (store : Store)
     (view : record { limit = limit; interval = interval; serial = serial; sessions = living slots } ≡ store) (kept : AreKept serial count slots ids queue) (now : ℕ) where
   abbrev seen : Store
   seen = record { limit = limit; interval = interval; serial = serial; sessions = living slots }
 
-  none_number : NoneHasWaited interval now queue.places → expired_number now seen ≡ None
+  none_number : NoneHasWaited interval now queue → expired_number now seen ≡ None
   none_number none =
       ap (λ all. option_map (λ (s : Session). s.number) (reduce (earlier interval) all))
       (unexpired interval now slots (subst (NoneHasWaited interval now) kept.wait none))
 
-  pub ends_none : NoneHasWaited interval now queue.places → None ≡ expiring now store
-  ends_none none = subst (λ s. None ≡ expiring now s) view (rw (none_number none) refl)
+  none_ends : NoneHasWaited interval now queue → None ≡ expiring now store
+  none_ends none = subst (λ s. None ≡ expiring now s) view (rw (none_number none) refl)
 
-  pub leaves_all : NoneHasWaited interval now queue.places → store ≡ left_by_expiry now store
-  leaves_all none = subst (λ s. s ≡ left_by_expiry now s) view (rw (none_number none) refl)
+  all_stay : NoneHasWaited interval now queue → store ≡ left_by_expiry now store
+  all_stay none = subst (λ s. s ≡ left_by_expiry now s) view (rw (none_number none) refl)
 
-  module _ (due : Due) (waited : HasWaited interval now queue.places due) where
-    one_number_due : expired_number now seen ≡ Some due.number
-    one_number_due = first_expired interval now slots due (subst (λ places. HasWaited interval now places due) kept.wait waited)
+  -- no record waits
+  module _ (none : NoneWaits queue) where
+    none_has : NoneHasWaited interval now queue
+    none_has due waits = absurd (none due waits)
 
-    pub ends_due : ending due.number store ≡ expiring now store
-    ends_due = subst (λ s. ending due.number s ≡ expiring now s) view (rw one_number_due refl)
+    pub none_ended : None ≡ expiring now store
+    none_ended = none_ends none_has
 
-    pub leaves_rest : without due.number store ≡ left_by_expiry now store
-    leaves_rest = subst (λ s. without due.number s ≡ left_by_expiry now s) view (rw one_number_due refl)
+    pub none_left : store ≡ left_by_expiry now store
+    none_left = all_stay none_has
+
+    pub none_judged : (judged : ℕ) → judged ≡ judged_by_expiry store judged
+    none_judged judged = subst (λ s. judged ≡ judged_by_expiry s judged) view (by_list (living slots) (session_waits slots))
+      where
+        by_list : (sessions : List Session) → ((session : Session) → IsIn session sessions → Waits (map due_of slots) (due_at session)) → judged ≡ judged_among sessions judged
+        by_list [] waits = refl
+        by_list (x ∷ xs) waits = absurd (none (due_at x) (subst (λ places. Waits places (due_at x)) (sym kept.wait) (waits x (inl refl))))
+
+  -- the first record
+  module _ (due : Due) (first : IsFirst queue due) where
+    pub one_judged : (judged more : ℕ) → more ≡ min (judged + 1) 18446744073709551615 → more ≡ judged_by_expiry store judged
+    one_judged judged more is = subst (λ s. more ≡ judged_by_expiry s judged) view (is ∙ by_list (living slots) at.1)
+      where
+        at : (session : Session) × IsIn session (living slots) × (due_at session ≡ due)
+        at = waits_session slots due first.0.0 (subst (λ places. slice_get places first.0.0 ≡ Some (Some due)) kept.wait first.0.1)
+
+        by_list : (sessions : List Session) → IsIn at.0 sessions → min (judged + 1) 18446744073709551615 ≡ judged_among sessions judged
+        by_list [] here = absurd here
+        by_list (x ∷ xs) here = refl
+
+    -- has not waited
+    module _ (waits : has_waited interval now due ≡ false) where
+      pub later_ended : None ≡ expiring now store
+      later_ended = none_ends (none_behind interval now queue due first waits)
+
+      pub later_left : store ≡ left_by_expiry now store
+      later_left = all_stay (none_behind interval now queue due first waits)
+
+    -- has waited
+    module _ (waited : has_waited interval now due ≡ true) where
+      one_number_due : expired_number now seen ≡ Some due.number
+      one_number_due = first_expired interval now slots due (subst (λ places. HasWaited interval now places due) kept.wait (first, waited))
+
+      pub ends_due : ending due.number store ≡ expiring now store
+      ends_due = subst (λ s. ending due.number s ≡ expiring now s) view (rw one_number_due refl)
+
+      pub leaves_rest : without due.number store ≡ left_by_expiry now store
+      leaves_rest = subst (λ s. without due.number s ≡ left_by_expiry now s) view (rw one_number_due refl)
+
+-- ---- the law of the count
+pub judged_once : (judged : ℕ) (sessions : List Session)
+    → (sessions ≡ [] → judged_among sessions judged ≡ judged)
+    × (sessions ≢ [] → judged < 18446744073709551615 → judged_among sessions judged ≡ judged + 1)
+    × (judged ≡ 18446744073709551615 → judged_among sessions judged ≡ judged)
+judged_once judged [] = (λ _. refl, λ some less. absurd (some refl), λ _. refl)
+judged_once judged (x ∷ xs) = (λ none. cc, λ some less. omega (arith, less), λ greatest. omega (arith, greatest))

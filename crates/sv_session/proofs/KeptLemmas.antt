@@ -172,7 +172,7 @@ module _ (serial count number k : ℕ) (slots : List Slot) (ids : Ids) (queue : 
     (is : slot ≡ get_or slots k slot) (at : IsAt number slots k slot) where
   -- a change that keeps number and id
   pub kept_changed : (f : Session → Session) → ((s : Session) → (f s).number ≡ s.number) → ((s : Session) → (f s).id ≡ s.id) → (new : Session) → new ≡ f slot.kept
-      → (after : Waiting) → after.places ≡ set queue.places k (due_of (record { live = slot.live; kept = f slot.kept }))
+      → (after : Waiting) → after ≡ set queue k (due_of (record { live = slot.live; kept = f slot.kept }))
       → AreKept serial count (set slots k (record { live = slot.live; kept = new })) ids after
   kept_changed f numbers same new is_new after waits =
       subst (λ s. AreKept serial count (set slots k (record { live = slot.live; kept = s })) ids after) (sym is_new)
@@ -192,7 +192,7 @@ module _ (serial count number k : ℕ) (slots : List Slot) (ids : Ids) (queue : 
   kept_same f numbers same accesses new is_new =
       kept_changed f numbers same new is_new queue
       (kept.wait ∙ (waits_same slots k slot is ∙ (ap (λ places. set places k (due_of slot)) (sym kept.wait)
-      ∙ ap (set queue.places k) (sym (same_due (f slot.kept) (numbers slot.kept) (accesses slot.kept))))))
+      ∙ ap (set queue k) (sym (same_due (f slot.kept) (numbers slot.kept) (accesses slot.kept))))))
     where
       same_due : (s : Session) → s.number ≡ slot.kept.number → s.last_access ≡ slot.kept.last_access
           → due_of (record { live = slot.live; kept = s }) ≡ due_of slot
@@ -200,10 +200,10 @@ module _ (serial count number k : ℕ) (slots : List Slot) (ids : Ids) (queue : 
           (ap (λ m. record { last_access = s.last_access; number = m }) n ∙ ap (λ m. record { last_access = m; number = slot.kept.number }) a)
 
   -- what waits behind an access
-  pub accessed : (last : ℕ) (after : Waiting) → after ≡ record queue { places = set queue.places k (Some (record { last_access = last; number = number })) }
-      → after.places ≡ set queue.places k (due_of (record { live = slot.live; kept = record slot.kept { last_access = last } }))
+  pub accessed : (last : ℕ) (after : Waiting) → after ≡ set queue k (Some (record { last_access = last; number = number }))
+      → after ≡ set queue k (due_of (record { live = slot.live; kept = record slot.kept { last_access = last } }))
   accessed last after is =
-      ap (λ (w : Waiting). w.places) is ∙ ap (set queue.places k) (there last)
+      is ∙ ap (set queue k) (there last)
     where
       there : (last : ℕ) → Some (record { last_access = last; number = number }) ≡ due_of (record { live = slot.live; kept = record slot.kept { last_access = last } })
       there last = rw at.lives (ap (λ n. Some (record { last_access = last; number = n })) (sym at.numbered))
@@ -211,7 +211,7 @@ module _ (serial count number k : ℕ) (slots : List Slot) (ids : Ids) (queue : 
   -- the end
   pub kept_left : (new : Session) → new.number ≡ slot.kept.number → (left : Ids)
       → ((id : List ℕ) → number_in left id ≡ cond (bytes_eq slot.kept.id id) None (number_in ids id))
-      → (after : Waiting) → after.places ≡ set queue.places k None → (less : ℕ) → less + 1 ≡ count
+      → (after : Waiting) → after ≡ set queue k None → (less : ℕ) → less + 1 ≡ count
       → AreKept serial less (set slots k (record { live = false; kept = new })) left after
   kept_left new numbered left out after waits less fewer = record {
     fits = kept.fits;
@@ -276,7 +276,7 @@ module _ (serial count : ℕ) (slots : List Slot) (ids : Ids) (queue : Waiting) 
   ]
 
   pub kept_more : (entered : Ids) → ((id : List ℕ) → number_in entered id ≡ cond (bytes_eq new.id id) (Some new.number) (number_in ids id))
-      → (after : Waiting) → after.places ≡ queue.places ++ Some (record { last_access = now; number = serial + 1 }) ∷ []
+      → (after : Waiting) → after ≡ queue ++ Some (record { last_access = now; number = serial + 1 }) ∷ []
       → AreKept (serial + 1) (count + 1) (slots ++ record { live = true; kept = new } ∷ []) entered after
   kept_more entered came after waits = record {
     fits = small;
@@ -305,7 +305,7 @@ living_filtered (x ∷ xs) = elim (cases_Bool x.live) [
 ]
 
 pub kept_gathered : (serial count : ℕ) (slots after : List Slot) (ids : Ids) (queue waiting : Waiting) → AreKept serial count slots ids queue
-    → after ≡ filter (λ (s : Slot). s.live) slots → waiting.places ≡ map due_of (filter (λ (s : Slot). s.live) slots)
+    → after ≡ filter (λ (s : Slot). s.live) slots → waiting ≡ map due_of (filter (λ (s : Slot). s.live) slots)
     → AreKept serial count after ids waiting
 kept_gathered serial count slots after ids queue waiting kept is waits =
     let gone = living_filtered slots in

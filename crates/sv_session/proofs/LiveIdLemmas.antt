@@ -1,7 +1,7 @@
 -- The ids of the sessions that live differ, so each is found by its own.
-use Rattle.std.proofs.Common.{◌≡◌, ◌≢◌, ℕ, ◌+◌, ◌^◌, ◌<◌, ◌≤◌, Bool, true, false, inl, inr, List, [], ◌∷◌, ◌++◌, length, Option, Some, None, refl, sym, ◌∙◌, ap, arith}
+use Rattle.std.proofs.Common.{◌≡◌, ◌≢◌, ℕ, ◌+◌, ◌^◌, ◌<◌, ◌≤◌, Bool, true, false, inl, inr, List, [], ◌∷◌, ◌++◌, length, Option, Some, None, refl, sym, ◌∙◌, ap, subst, arith}
 use Rattle.std.specs.List.{find}
-use Rattle.std.specs.Option.{option_map_or}
+use Rattle.std.specs.Option.{option_map, option_map_or}
 use Rattle.std.specs.Prelude.{nat_le}
 use Rattle.std.specs.Str.{bytes_eq}
 use Rattle.std.proofs.lemmas.Bool.{cases_Bool, eqb-true, false_from_ne_true}
@@ -18,7 +18,7 @@ use Rattle.sv_session.specs.Ids.{IdsDiffer, IsGiven, NoneHas}
 use Rattle.sv_session.specs.Lists.{on_first, without_first}
 use Rattle.sv_session.specs.Runs.{Call, Open, Touch, Expire, End, Rename, EnterCaller, Save, TakeSaved, Set, Remove, left_after, left_by, unless}
 use Rattle.sv_session.specs.Store.{Session, Store, empty_store, has_id, is_numbered, number_of, numbered}
-use Rattle.sv_session.proofs.IdLemmas.{nothing_behind, rises_unspent, serials_tell}
+use Rattle.sv_session.proofs.IdLemmas.{id_len, nothing_behind, rises_unspent, serials_tell}
 
 -- ---- changes of the list
 none_has_changed : (id : List ℕ) (test : Session → Bool) (change : Session → Session) → ((session : Session) → session.id ≢ id → (change session).id ≢ id)
@@ -189,3 +189,16 @@ id_names_session limit interval calls number session found =
     let own : HasOwnIds (empty_store limit interval) = (omega arith, tt) in
     let at = found_by_id number store.serial store.sessions session (own_behind calls (empty_store limit interval) own).1 found in
     rw at.0 (ap Some at.1)
+
+-- ---- an id of another length is no session's
+pub none_of_length : (bound : ℕ) (sessions : List Session) (id : List ℕ) → IdsDiffer bound sessions → length id ≢ 48 → find (has_id id) sessions ≡ None
+none_of_length bound [] id differ other = refl
+none_of_length bound (x ∷ xs) id differ other =
+    let apart : x.id ≢ id = λ same. other (ap length (sym same ∙ differ.0.3) ∙ id_len differ.0.0 differ.0.1) in
+    rw (another x.id id apart) (none_of_length bound xs id differ.2 other)
+
+pub no_number : (limit interval serial : ℕ) (sessions : List Session) (store : Store)
+    → record { limit = limit; interval = interval; serial = serial; sessions = sessions } ≡ store → IdsDiffer serial sessions
+    → (id : List ℕ) → length id ≢ 48 → None ≡ number_of id store
+no_number limit interval serial sessions store view differ id other =
+    subst (λ s. None ≡ number_of id s) view (ap (option_map (λ (s : Session). s.number)) (sym (none_of_length serial sessions id differ other)))

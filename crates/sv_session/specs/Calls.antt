@@ -112,6 +112,14 @@ expiring now store = option_and_then (λ number. ending number store) (expired_n
 abbrev pub left_by_expiry : ℕ → Store → Store
 left_by_expiry now store = option_map_or (λ number. without number store) (expired_number now store) store
 
+-- how many records have been judged with an expiry: one more where there is a session, up to the greatest number
+abbrev pub judged_among : List Session → ℕ → ℕ
+judged_among [] judged = judged
+judged_among (session ∷ sessions) judged = min (judged + 1) 18446744073709551615
+
+abbrev pub judged_by_expiry : Store → ℕ → ℕ
+judged_by_expiry store judged = judged_among store.sessions judged
+
 -- the least number of a session
 abbrev pub least_number : Store → Option ℕ
 least_number store = reduce min (map (λ session. session.number) store.sessions)

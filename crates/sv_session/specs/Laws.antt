@@ -1,9 +1,9 @@
 -- Jakarta Servlet 6.0, chapter 7: the laws of the calls on the sessions of a context.
-use Rattle.std.specs.Prelude.{◌≡◌, ◌≢◌, ◌↔◌, ◌⊎◌, ◌<◌, ℕ, false, List, [], ◌∷◌, length, Some, None, map}
+use Rattle.std.specs.Prelude.{◌≡◌, ◌≢◌, ◌↔◌, ◌⊎◌, ◌<◌, ℕ, ◌+◌, false, List, [], ◌∷◌, length, Some, None, map}
 use Rattle.std.specs.List.{AllPairs}
 use Rattle.sv_session.specs.declared.ended_session.EndedSession.{EndedSession}
 use Rattle.sv_session.specs.declared.session_fault.SessionFault.TheVariants.{SerialSpent}
-use Rattle.sv_session.specs.Calls.{HoldsCaller, caller_of, ended, expiring, opening_faults, renaming_faults, session_opened, touched}
+use Rattle.sv_session.specs.Calls.{HoldsCaller, caller_of, ended, expiring, judged_by_expiry, opening_faults, renaming_faults, session_opened, touched}
 use Rattle.sv_session.specs.Expiry.{HasNoneExpired, by_deadline, expired, has_expired, unexpired}
 use Rattle.sv_session.specs.Runs.{Call, EnterCaller, Expires, IsAt, MovedByComponents, ids_given, left_after, left_by}
 use Rattle.sv_session.specs.Store.{IsOrderly, Session, Store, empty_store, number_of, numbered}
@@ -55,6 +55,13 @@ ExpiryEndsTheExpired = (now : ℕ) (before after : Store) (sessions : List Ended
 -- and at the same moment again it ends none
 abbrev pub ExpiryEndsNoneAgain : Type 0
 ExpiryEndsNoneAgain = (now : ℕ) (before after : Store) (sessions : List EndedSession) → Expires now before sessions after → expiring now after ≡ None
+
+-- it judges no record where there is no session, one more where there is one, and none at the greatest number
+abbrev pub ExpiryJudgesAtMostOneMore : Type 0
+ExpiryJudgesAtMostOneMore = (store : Store) (judged : ℕ)
+    → (store.sessions ≡ [] → judged_by_expiry store judged ≡ judged)
+    × (store.sessions ≢ [] → judged < 18446744073709551615 → judged_by_expiry store judged ≡ judged + 1)
+    × (judged ≡ 18446744073709551615 → judged_by_expiry store judged ≡ judged)
 
 -- no call but the entering of a caller gives a session one
 abbrev pub CallersAreEntered : Type 0

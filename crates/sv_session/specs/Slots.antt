@@ -43,5 +43,5 @@ pub record AreKept (serial count : ℕ) (slots : List Slot) (ids : Ids) (queue :
   pub rise : SlotsRise 0 serial slots
   pub differ : IdsDiffer serial (living slots)
   pub named : (id : List ℕ) → number_in ids id ≡ number_among (living slots) id
-  pub wait : queue.places ≡ map due_of slots
+  pub wait : queue ≡ map due_of slots
   pub counted : count ≡ length (living slots)

@@ -6,6 +6,9 @@ ghost use Rattle.sv_session.specs.Id.{digits_of, id_text};
 use std::alloc::Global;
 use sv_text::{NoMemory, Text};
 
+/// The length of an id, in bytes.
+pub(crate) const ID_BYTES: usize = 48;
+
 /// The id of these random words and this serial: 48 hexadecimal digits.
 pub fn id_of(alloc: Global, words: (u64, u64), serial: u64) -> Result<Text, NoMemory>
     ensures { GivesAnswer result (id_text words serial) }

@@ -9,6 +9,7 @@ ghost use Rattle.sv_session.specs.Laws.{
   ExpiryEndsNoneAgain,
   ExpiryEndsTheExpired,
   ExpiryEndsWhereNoneHasExpired,
+  ExpiryJudgesAtMostOneMore,
   HoldersAreFound,
   IdNamesItsSession,
   MovesGiveNoCaller,
@@ -69,6 +70,11 @@ pub fn expiry_ends_exactly_the_expired_sessions()
     ensures none { ExpiryEndsWhereNoneHasExpired }
     ensures all { ExpiryEndsTheExpired }
     ensures again { ExpiryEndsNoneAgain }
+{}
+
+/// An expiry judges one record more where there is a session, and none where there is none; at the greatest number the count stays.
+pub fn expiry_judges_at_most_one_more()
+    ensures { ExpiryJudgesAtMostOneMore }
 {}
 
 /// No call but the entering of a caller gives a session one. In an orderly store the session that holds a caller is the one that is found by its

@@ -2,6 +2,7 @@
 #![tactic(auto)]
 
 mod attribute;
+mod counted;
 mod ended_session;
 mod id;
 mod ids;
@@ -13,12 +14,13 @@ mod sessions;
 mod slot;
 
 pub use attribute::Attribute;
+pub use counted::Counted;
 pub use ended_session::EndedSession;
 pub use laws::{
     an_accessed_session_has_not_expired, an_id_names_its_session, callers_are_entered,
-    components_keep_the_sessions, expiry_ends_exactly_the_expired_sessions, limits_are_as_stated,
-    no_call_leaves_an_expired_session, no_id_is_given_twice, no_serial_follows_the_greatest,
-    sessions_stay_in_order,
+    components_keep_the_sessions, expiry_ends_exactly_the_expired_sessions,
+    expiry_judges_at_most_one_more, limits_are_as_stated, no_call_leaves_an_expired_session,
+    no_id_is_given_twice, no_serial_follows_the_greatest, sessions_stay_in_order,
 };
 pub use limits::{GREATEST_SERIAL, MAX_ATTRIBUTES, MAX_NAME_BYTES, MAX_VALUE_BYTES};
 pub use session_fault::SessionFault;

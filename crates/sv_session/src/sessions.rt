@@ -4,8 +4,9 @@ ghost use Rattle.std.specs.Prelude.{◌≡◌, ◌+◌, ◌<◌, ◌++◌, ◌�
 ghost use Rattle.std.specs.Option.{option_copied};
 
 use crate::attribute::Attribute;
+use crate::counted::Counted;
 use crate::ended_session::EndedSession;
-use crate::id::id_of;
+use crate::id::{ID_BYTES, id_of};
 use crate::ids::Ids;
 use crate::kept::Kept;
 use crate::limits::{GREATEST_SERIAL, MAX_ATTRIBUTES, MAX_NAME_BYTES, MAX_VALUE_BYTES};
@@ -28,6 +29,7 @@ pub struct Sessions {
     slots: Vec<Slot>,
     ids: Ids,
     queue: Queue,
+    judged: u64,
 }
 
 impl Model for Sessions {
@@ -61,7 +63,8 @@ impl Sessions {
             count: 0,
             slots: Vec::new(alloc),
             ids: Ids::new(alloc),
-            queue: Queue::new(alloc, 0),
+            queue: Queue::new(alloc),
+            judged: 0,
         }
     }
 
@@ -94,7 +97,12 @@ impl Sessions {
     pub fn find(&self, id: &[u8]) -> Option<u64>
         ensures { result ≡ number_of id.now self.now }
     {
-        self.ids.get(id)
+        let ids = &self.ids;
+        // What has another length is no id, and is not hashed: a client may send much of it.
+        if id.len() != ID_BYTES {
+            return None;
+        }
+        ids.get(id)
     }
 
     /// The id of a session.
@@ -153,8 +161,33 @@ impl Sessions {
         ensures ended { result ≡ calls.expiring now self.old }
         ensures left { self.new ≡ calls.left_by_expiry now self.old }
     {
-        let due = self.queue.judge(self.interval, now)?;
-        self.end(due.number)
+        let Counted { ended, judged } = self.expire_counted(now, self.judged);
+        self.judged = judged;
+        ended
+    }
+
+    /// Does what [`expire`](Sessions::expire) does, and counts: before it, so many records have been judged. One more is where there is a session, up to
+    /// the greatest number, where the count stays.
+    pub fn expire_counted(&mut self, now: u64, judged: u64) -> Counted
+        ensures ended { result.ended ≡ calls.expiring now self.old }
+        ensures judged { result.judged ≡ calls.judged_by_expiry self.old judged }
+        ensures left { self.new ≡ calls.left_by_expiry now self.old }
+    {
+        let Some(due) = self.queue.least() else {
+            return Counted {
+                ended: None,
+                judged,
+            };
+        };
+        let judged = judged.saturating_add(1);
+        if !due.has_waited(self.interval, now) {
+            return Counted {
+                ended: None,
+                judged,
+            };
+        }
+        let ended = self.end(due.number);
+        Counted { ended, judged }
     }
 
     /// Ends a session. None where no such session lives.
@@ -303,9 +336,9 @@ impl Sessions {
         self.slots[place].kept.remove_value(name)
     }
 
-    /// How many records [`expire`](Sessions::expire) has tested, up to the greatest number: one wherever it was called and there was a session.
+    /// How many records [`expire`](Sessions::expire) has judged, as [`expire_counted`](Sessions::expire_counted) counts them.
     pub fn judged(&self) -> u64 {
-        self.queue.judged()
+        self.judged
     }
 
     /// Why no session can be opened, if none can.
@@ -357,7 +390,7 @@ impl Sessions {
         if self.slots.len() / 2 < self.count.saturating_add(16) {
             return Ok(());
         }
-        let queue = gathered(self.alloc, self.slots.as_slice(), self.queue.judged())?;
+        let queue = gathered(self.alloc, self.slots.as_slice())?;
         self.slots.retain(|slot| slot.live);
         self.queue = queue;
         Ok(())

@@ -85,10 +85,10 @@ pub(crate) fn push(slots: &mut Vec<Slot>, slot: Slot)
 }
 
 /// The queue of the sessions that live, at the places that they have where the empty slots are taken out.
-pub(crate) fn gathered(alloc: Global, slots: &[Slot], judged: u64) -> Result<Queue, NoMemory>
-    ensures { IfOk result (λ queue. queue.places ≡ map due_of (filter (λ slot. slot.live) slots.now)) }
+pub(crate) fn gathered(alloc: Global, slots: &[Slot]) -> Result<Queue, NoMemory>
+    ensures { IfOk result (λ queue. queue ≡ map due_of (filter (λ slot. slot.live) slots.now)) }
 {
-    let mut queue = Queue::new(alloc, judged);
+    let mut queue = Queue::new(alloc);
     for slot in slots {
         if slot.live {
             queue.push(slot.kept.due())?;

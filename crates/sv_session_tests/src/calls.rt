@@ -32,6 +32,7 @@ pub fn answer(alloc: Global, sessions: &mut Sessions, call: &str) -> Result<Stri
         "get" | "remove" | "find" => named(alloc, sessions, call),
         "open" | "rename" | "id" | "least" | "judged" => identity(alloc, sessions, call),
         "touch" | "expire" | "end" => ending(alloc, sessions, call),
+        "count" => counted(alloc, sessions, call),
         _ => login(alloc, sessions, call),
     }
 }
@@ -58,6 +59,14 @@ fn ending(alloc: Global, sessions: &mut Sessions, call: &str) -> Result<String, 
         "expire" => told_ended(alloc, sessions.expire(number(call, 1))),
         _ => told_ended(alloc, sessions.end(number(call, 1))),
     }
+}
+
+/// `count MOMENT JUDGED`: an expiry before which so many records have been judged. The answer has the number with it last.
+fn counted(alloc: Global, sessions: &mut Sessions, call: &str) -> Result<String, NoMemory> {
+    let counted = sessions.expire_counted(number(call, 1), number(call, 2));
+    let mut told = told_ended(alloc, counted.ended)?;
+    told.push_str(format!(in alloc; " {}", counted.judged)?.as_str())?;
+    Ok(told)
 }
 
 /// `get NUMBER NAME`, `remove NUMBER NAME`, `find ID`.

@@ -20,6 +20,9 @@ const ROWS: &str = r#"
 -- each call for an end tests one record where there is any, and counts it
 10   | 60 | judged; expire 60; judged; open 0; open 0; touch 1 30; expire 60; expire 60; judged; expire 90; judged; expire 90; judged | 0; -; 0; 1; 2; yes; 2; -; 2; 1; 3; -; 3
 10   | 0  | open 0; expire 99; judged; expire 99; judged; touch 1 5; end 1; judged | 1; -; 1; -; 2; yes; 1; 2
+-- it counts one more where there is a session, up to the greatest number, and on its own count nothing where another is given
+10   | 60 | count 0 7; open 0; count 0 7; count 60 18446744073709551614; count 60 18446744073709551614 | - 7; 1; - 8; 1 18446744073709551615; - 18446744073709551614
+10   | 60 | open 0; open 0; count 0 18446744073709551615; count 60 18446744073709551615; judged; expire 60; judged | 1; 2; - 18446744073709551615; 1 18446744073709551615; 0; 2; 1
 -- an interval of 0 is for ever, and the greatest is over at its very second
 10   | 0  | open 0; expire 18446744073709551615; get 1 n; touch 1 1           | 1; -; -; yes
 10   | 4294967295 | open 0; expire 4294967294; expire 4294967295             | 1; -; 1
@@ -50,6 +53,7 @@ const ROWS: &str = r#"
 -- a session is found by its whole id alone, by the one that it has, and for as long as it lives
 10   | 60 | open 0; open 0; find \{47*0}2; find \{47*0}1                     | 1; 2; 2; 1
 10   | 60 | open 0; find \{47*0}2; find \{47*0}; find \{48*0}1; find ""      | 1; -; -; -; -
+10   | 60 | open 0; find \{47*0}10; find \{9999*0}1; find \{47*0}1             | 1; -; -; 1
 10   | 60 | open 0 10 0; find \{15*0}a\{31*0}1; find \{15*0}A\{31*0}1         | 1; 1; -
 10   | 60 | open 0; rename 1; find \{47*0}1; find \{47*0}2                   | 1; ok; -; 1
 10   | 60 | open 0; end 1; find \{47*0}1; id 1                               | 1; 1; -; -

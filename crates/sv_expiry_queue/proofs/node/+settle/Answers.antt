@@ -1,4 +1,4 @@
-use Rattle.std.proofs.Common.{◌+◌, ◌-◌, ◌*◌, ◌/◌, ◌∙◌, None, get_or, arith}
+use Rattle.std.proofs.Common.{◌∙◌, None, get_or, arith}
 use Rattle.sv_expiry_queue.specs.declared.node.Node.{Node}
 use Rattle.sv_expiry_queue.proofs.TreeLemmas.{owns_same, settled_below, settled_root, within_below}
 use Rattle.sv_expiry_queue.proofs.node.+settle.Goals as goal

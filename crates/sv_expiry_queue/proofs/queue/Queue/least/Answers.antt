@@ -6,5 +6,5 @@ use Rattle.sv_expiry_queue.proofs.queue.Queue.least.Goals as goal
 
 pub returns : goal.returns
 returns c =
-    subst (λ (w : Waiting). MatchOption c.least_at.result (NoneWaits w.places) (IsFirst w.places)) c.self.view_is
+    subst (λ (w : Waiting). MatchOption c.least_at.result (NoneWaits w) (IsFirst w)) c.self.view_is
     (root_knows c.self.inside.nodes.items c.self.invariant c.least_at.result (c.least_at.ensures ∙ ap (λ nodes. least_at nodes 0) c.as_slice.ensures.value))

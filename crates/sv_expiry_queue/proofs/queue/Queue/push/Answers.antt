@@ -1,10 +1,9 @@
-use Rattle.std.proofs.Common.{ap, Some, None, ◌++◌, ◌∷◌, [], set, ◌∙◌}
-use Rattle.sv_expiry_queue.specs.Order.{Waiting}
+use Rattle.std.proofs.Common.{Some}
 use Rattle.sv_expiry_queue.proofs.OrderLemmas.{last_place, pushed}
 use Rattle.sv_expiry_queue.proofs.queue.Queue.push.Goals as goal
 
 pub put-requires : goal.put-requires
-put-requires c = rw (c.in-Ok.ensures.wider, c.len-place.ensures) (last_place c.args.self.now.places (Some c.args.due)).0
+put-requires c = rw (c.in-Ok.ensures.wider, c.len-place.ensures) (last_place c.args.self.now (Some c.args.due)).0
 
 pub returns-clause-added : goal.returns-clause-added
 returns-clause-added c =

@@ -11,7 +11,6 @@ settle-requires-clause-others c =
 
 pub returns : goal.returns
 returns c =
-    ap (λ places. record { places = places; judged = c.self.inside.judged })
     (ap owns (with_items_is (with_item c.self.inside.nodes c.args.place (record { own = c.args.due; least = c.index.result.now.least })) c.settle.new.nodes (owns_length c.settle.new.nodes c.as_mut_slice.result.now c.settle.ensures.own ∙ c.as_mut_slice.ensures.len))
     ∙ (c.settle.ensures.own ∙ (ap owns c.as_mut_slice.ensures.value ∙ owns_set c.self.inside.nodes.items c.args.place (record { own = c.args.due; least = c.index.result.now.least }))))
-    ∙ ap (λ (w : Waiting). record w { places = set w.places c.args.place c.args.due }) c.self.view_is
+    ∙ ap (λ (w : Waiting). set w c.args.place c.args.due) c.self.view_is

@@ -1,7 +1,6 @@
 use Rattle.std.proofs.Common.{◌-◌, Some, None, refl, ◌∙◌, sym, ap, subst, set, [], arith, length, ◌<◌}
 use Rattle.sv_session.specs.declared.slot.Slot.{Slot}
 use Rattle.sv_session.specs.Slots.{AreKept, living}
-use Rattle.sv_expiry_queue.specs.Order.{Waiting}
 use Rattle.sv_session.proofs.KeptLemmas.{kept_left, gone_same, some_counted}
 use Rattle.sv_session.proofs.SlotLemmas.{at_there, none_there, same_slot}
 use Rattle.sv_session.proofs.StoreLemmas.{nothing_left_out, ended_at, left_at}
@@ -20,7 +19,7 @@ invariant_of-self c =
     subst (λ slot. AreKept c.self.inside.serial (c.self.inside.count - 1) (set c.self.inside.slots.items c.in_ok-place.place slot) c.remove.new.self c.put.new.self) (sym c.end.ensures.left)
     (kept_left c.self.inside.serial c.self.inside.count c.args.number c.in_ok-place.place c.self.inside.slots.items c.self.inside.ids c.self.inside.queue c.index_mut.result.now c.self.invariant c.index_mut.ensures.value (at_there c.args.number c.self.inside.serial c.self.inside.slots.items c.as_slice.result.now c.in_ok-place.place c.index_mut.result.now c.as_slice.ensures.value c.self.invariant.rise c.in_ok-place.ensures.place c.index_mut.ensures.value) (record c.index_mut.result.now.kept { id = []; saved = None; attributes = [] }) refl c.remove.new.self
     (gone_same c.self.inside.ids c.remove.new.self c.index_mut.result.now.kept.id c.id.result.now (c.id.ensures ∙ ap (λ (s : Slot). s.kept.id) (same_slot c.self.inside.slots.items c.in_ok-place.place c.index.result.now c.index_mut.result.now (subst (λ all. c.in_ok-place.place < length all) c.as_slice.ensures.value c.in_ok-place.ensures.bound) c.index.ensures c.index_mut.ensures.value)) c.remove.ensures)
-    c.put.new.self (ap (λ (w : Waiting). w.places) c.put.ensures) (c.self.inside.count - 1)
+    c.put.new.self c.put.ensures (c.self.inside.count - 1)
     (omega (arith, some_counted c.self.inside.serial c.self.inside.count c.args.number c.in_ok-place.place c.self.inside.slots.items c.self.inside.ids c.self.inside.queue c.index.result.now c.self.invariant (at_there c.args.number c.self.inside.serial c.self.inside.slots.items c.as_slice.result.now c.in_ok-place.place c.index.result.now c.as_slice.ensures.value c.self.invariant.rise c.in_ok-place.ensures.place c.index.ensures))))
 
 pub returns-clause-ended : goal.returns-clause-ended

@@ -1,0 +1,52 @@
+-- What the command `run` is asked.
+use Rattle.std.specs.Prelude.{ℕ, Bool, true, false, List, [], ◌∷◌, Option, None, Some, IsSome, codes, ◌≡◌, if◌then◌else◌}
+use Rattle.std.specs.declared.net.socket_addr.SocketAddr.{SocketAddr}
+use Rattle.sv_serve.specs.declared.seeding.Seeding.{Seeding}
+use Rattle.sv_serve.specs.declared.seeding.Seeding.TheVariants.{Configured, Fresh}
+use Rattle.sv_commands.specs.declared.address.Address.{Address}
+use Rattle.sv_commands.specs.declared.running.ListenFirst.{ListenFirst}
+use Rattle.sv_commands.specs.declared.running.RunOptions.{RunOptions}
+use Rattle.sv_commands.specs.declared.running.RunOptions.TheVariants.{Listen, Plain, SameSeed}
+use Rattle.sv_commands.specs.declared.running.Running.{Running}
+
+-- what is found where the text is that of any address
+abbrev pub IsFound : List ℕ → Option Address → Type 0
+IsFound text found = (address : Address) → address.text.now ≡ text → IsSome found
+
+abbrev pub address_words : Address → List (List ℕ)
+address_words address = address.text.now ∷ []
+
+abbrev pub same_seed_words : Bool → List (List ℕ)
+same_seed_words same_seed = if same_seed then codes "--same-seed" ∷ [] else []
+
+abbrev pub behind_listen : ListenFirst → List (List ℕ)
+behind_listen listen = listen.address.text.now ∷ same_seed_words listen.same_seed
+
+abbrev pub behind_same_seed : Option Address → List (List ℕ)
+behind_same_seed None = []
+behind_same_seed (Some address) = codes "--listen" ∷ address_words address
+
+abbrev pub options_words : RunOptions → List (List ℕ)
+options_words Plain = []
+options_words (Listen listen) = codes "--listen" ∷ behind_listen listen
+options_words (SameSeed address) = codes "--same-seed" ∷ behind_same_seed address
+
+abbrev pub running_words : Running → List (List ℕ)
+running_words running = running.config.now ∷ options_words running.options
+
+-- where it listens, none where that is the port of the server file
+abbrev pub address_of : RunOptions → Option SocketAddr
+address_of Plain = None
+address_of (Listen listen) = Some listen.address.value
+address_of (SameSeed None) = None
+address_of (SameSeed (Some address)) = Some address.value
+
+-- what its random words come of
+abbrev pub seeding_by : Bool → Seeding
+seeding_by true = Configured
+seeding_by false = Fresh
+
+abbrev pub seeding_of : RunOptions → Seeding
+seeding_of Plain = Fresh
+seeding_of (Listen listen) = seeding_by listen.same_seed
+seeding_of (SameSeed address) = Configured

@@ -1,0 +1,162 @@
+//! What the command `run` is asked.
+
+ghost use Rattle.std.specs.Prelude.{◌≡◌, [], true, IfSome, IsSome, map, string_bytes};
+ghost use Rattle.sv_program.specs.Arguments.{Names};
+ghost use Rattle.sv_commands.specs.Running.{address_words, behind_listen, behind_same_seed, options_words, running_words, same_seed_words};
+ghost use Rattle.sv_commands.specs.Running as spec;
+
+use crate::address::Address;
+use std::net::SocketAddr;
+use sv_serve::Seeding;
+
+/// A server, and how it runs.
+#[derive(Clone, Copy)]
+pub struct Running<'a> {
+    /// The name of the server file.
+    pub config: &'a str,
+    /// What was asked for beside it.
+    pub options: RunOptions<'a>,
+}
+
+/// What is asked for beside the server file, as the arguments have it.
+#[derive(Clone, Copy)]
+pub enum RunOptions<'a> {
+    /// Nothing.
+    Plain,
+    /// `--listen ADDRESS:PORT [--same-seed]`.
+    Listen(ListenFirst<'a>),
+    /// `--same-seed [--listen ADDRESS:PORT]`.
+    SameSeed(Option<Address<'a>>),
+}
+
+/// What stands behind `--listen`.
+#[derive(Clone, Copy)]
+pub struct ListenFirst<'a> {
+    /// Where to listen.
+    pub address: Address<'a>,
+    /// Whether random words come of the server file's seed alone.
+    pub same_seed: bool,
+}
+
+impl<'a> Running<'a> {
+    ghost use Rattle.std.specs.Prelude.{◌≡◌, map, string_bytes};
+    ghost use Rattle.sv_commands.specs.Running as spec;
+
+    /// The run that these arguments ask for, `CONFIG [--listen ADDRESS:PORT] [--same-seed]` with the options in either order, or none.
+    pub fn parse(arguments: &'a [String]) -> Option<Running<'a>>
+        ensures { Names running_words (map string_bytes arguments.now) result }
+    {
+        let (config, rest) = arguments.split_first()?;
+        let options = options_in(rest)?;
+        Some(Running {
+            config: config.as_str(),
+            options,
+        })
+    }
+
+    /// Where it listens, none where that is the server file's port on this machine.
+    pub fn address(&self) -> Option<SocketAddr>
+        ensures { result ≡ spec.address_of self.now.options }
+    {
+        match self.options {
+            RunOptions::Plain => None,
+            RunOptions::Listen(listen) => Some(listen.address.value()),
+            RunOptions::SameSeed(None) => None,
+            RunOptions::SameSeed(Some(address)) => Some(address.value()),
+        }
+    }
+
+    /// What its random words come of.
+    pub fn seeding(&self) -> Seeding
+        ensures { result ≡ spec.seeding_of self.now.options }
+    {
+        match self.options {
+            RunOptions::Plain => Seeding::Fresh,
+            RunOptions::Listen(listen) => seeding_by(listen.same_seed),
+            RunOptions::SameSeed(_) => Seeding::Configured,
+        }
+    }
+}
+
+fn seeding_by(same_seed: bool) -> Seeding
+    ensures { result ≡ spec.seeding_by same_seed }
+{
+    if same_seed {
+        Seeding::Configured
+    } else {
+        Seeding::Fresh
+    }
+}
+
+// The options behind the server file.
+fn options_in(arguments: &[String]) -> Option<RunOptions<'_>>
+    ensures { Names options_words (map string_bytes arguments.now) result }
+{
+    let Some((option, rest)) = arguments.split_first() else {
+        return Some(RunOptions::Plain);
+    };
+    if option.as_str() == "--listen" {
+        return Some(RunOptions::Listen(listen_in(rest)?));
+    }
+    if option.as_str() == "--same-seed" {
+        return Some(RunOptions::SameSeed(address_in(rest)?));
+    }
+    None
+}
+
+// What stands behind `--listen`.
+fn listen_in(arguments: &[String]) -> Option<ListenFirst<'_>>
+    ensures { Names behind_listen (map string_bytes arguments.now) result }
+{
+    let (text, rest) = arguments.split_first()?;
+    let address = Address::parse(text.as_str())?;
+    let same_seed = same_seed_in(rest)?;
+    Some(ListenFirst { address, same_seed })
+}
+
+// Whether `--same-seed` stands there; none where anything else does.
+fn same_seed_in(arguments: &[String]) -> Option<bool>
+    ensures { Names same_seed_words (map string_bytes arguments.now) result }
+{
+    let Some((option, rest)) = arguments.split_first() else {
+        return Some(false);
+    };
+    if option.as_str() == "--same-seed" {
+        return true_alone(rest);
+    }
+    None
+}
+
+// True, where there are no arguments behind it.
+fn true_alone(arguments: &[String]) -> Option<bool>
+    ensures it { IfSome result (λ found. (found ≡ true) × (map string_bytes arguments.now ≡ [])) }
+    ensures some { map string_bytes arguments.now ≡ [] → IsSome result }
+{
+    if arguments.is_empty() {
+        Some(true)
+    } else {
+        None
+    }
+}
+
+// The address behind `--listen`, which may be left out; none where anything else stands there.
+fn address_in(arguments: &[String]) -> Option<Option<Address<'_>>>
+    ensures { Names behind_same_seed (map string_bytes arguments.now) result }
+{
+    let Some((option, rest)) = arguments.split_first() else {
+        return Some(None);
+    };
+    if option.as_str() == "--listen" {
+        return Some(Some(last_address(rest)?));
+    }
+    None
+}
+
+// The address that the one argument is.
+fn last_address(arguments: &[String]) -> Option<Address<'_>>
+    ensures { Names address_words (map string_bytes arguments.now) result }
+{
+    let (text, rest) = arguments.split_first()?;
+    let address = Address::parse(text.as_str())?;
+    if rest.is_empty() { Some(address) } else { None }
+}

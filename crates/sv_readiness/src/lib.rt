@@ -1,0 +1,17 @@
+//! Connections over sockets whose calls do not wait: what reports their readiness, accepts them and tells time. What a socket gives and takes,
+//! and what the system reports, is known to no contract.
+#![tactic(auto)]
+
+mod calls;
+mod laws;
+mod limits;
+mod listening;
+mod ready;
+mod sockets;
+mod stream_peer;
+
+pub use laws::limits_are_as_stated;
+pub use limits::{EVENTS_AT_ONCE, MAX_DROPPED_READS};
+pub use listening::Listening;
+pub use sockets::Sockets;
+pub use stream_peer::StreamPeer;

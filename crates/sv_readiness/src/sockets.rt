@@ -1,0 +1,168 @@
+//! A listener and its connections as a network.
+
+use crate::calls::try_read;
+use crate::limits::{DROPPED_READ_BYTES, EVENTS_AT_ONCE, MAX_DROPPED_READS};
+use crate::listening::Listening;
+use crate::ready::Ready;
+use crate::stream_peer::StreamPeer;
+use mio::net::{TcpListener, TcpStream};
+use mio::{Events, Interest, Poll, Registry, Token};
+use std::alloc::{AllocError, Global};
+use std::io;
+use std::io::ErrorKind;
+use std::net::Shutdown;
+use std::time::{Clock, Duration};
+use sv_front::{Network, Told, Tried};
+
+/// A listener and its connections. What the system fails to do for one of them ends that one alone, or is tried again within a second.
+#[derive(Drop)]
+pub struct Sockets<'a, C> {
+    clock: &'a C,
+    registry: &'a Registry,
+    poll: Poll,
+    listener: TcpListener,
+    events: Events,
+    ready: Ready,
+    second: u64,
+    has_failed: bool,
+}
+
+impl<'a, C: Clock> Sockets<'a, C> {
+    /// The connections of a listener, whose registry this is, by the time of a clock.
+    ///
+    /// # Errors
+    /// Memory ran out.
+    pub fn new(
+        alloc: Global,
+        clock: &'a C,
+        registry: &'a Registry,
+        listening: Listening,
+    ) -> Result<Sockets<'a, C>, AllocError> {
+        let Listening { poll, listener } = listening;
+        let events = Events::with_capacity(alloc, EVENTS_AT_ONCE)?;
+        Ok(Sockets {
+            clock,
+            registry,
+            poll,
+            listener,
+            events,
+            ready: Ready::new(),
+            second: 0,
+            has_failed: false,
+        })
+    }
+
+    /// Whether no more could be reported.
+    pub fn has_failed(&self) -> bool {
+        self.has_failed
+    }
+
+    // Waits until something is reported, or the second is over.
+    fn report(&mut self) -> io::Result<()> {
+        let rest = self.rest_of_second();
+        self.poll.poll(&mut self.events, Some(rest))?;
+        self.ready.refill(&self.events);
+        Ok(())
+    }
+
+    // How long it takes until the second is over.
+    fn rest_of_second(&self) -> Duration {
+        match self.clock.monotonic() {
+            Ok(time) => {
+                Duration::from_millis(1000_u64.saturating_sub(u64::from(time.subsec_millis())))
+            }
+            Err(_) => Duration::from_secs(1),
+        }
+    }
+
+    // Whether another second than before is told.
+    fn has_second_passed(&mut self) -> bool {
+        let second = self.seconds();
+        let has_passed = second != self.second;
+        self.second = second;
+        has_passed
+    }
+
+    // The peer of a connection that was accepted, where its readiness can be reported.
+    fn peer_of(&self, stream: TcpStream, number: u64) -> Option<StreamPeer<'a, TcpStream>> {
+        let mut stream = stream;
+        let token = Token(number as usize);
+        let both = Interest::READABLE | Interest::WRITABLE;
+        if self.registry.register(&mut stream, token, both).is_err() {
+            return None;
+        }
+        // An answer is written in one piece; where the system holds it back nevertheless, it is later and the same.
+        let _ = stream.set_nodelay(true);
+        Some(StreamPeer::new(stream, self.registry, token))
+    }
+}
+
+impl<'a, C: Clock> Network for Sockets<'a, C> {
+    type Peer = StreamPeer<'a, TcpStream>;
+
+    fn wait(&mut self) -> Told {
+        for _ in 0..u64::MAX {
+            if let Some(token) = self.ready.next() {
+                return told_of(token);
+            }
+            if self.has_second_passed() {
+                return Told::Second;
+            }
+            if self.report().is_err() {
+                self.has_failed = true;
+                return Told::Stop;
+            }
+        }
+        Told::Stop
+    }
+
+    fn accept(&mut self, number: u64) -> Option<StreamPeer<'a, TcpStream>> {
+        for _ in 0..u64::MAX {
+            match self.listener.accept() {
+                Ok((stream, _)) => return self.peer_of(stream, number),
+                Err(error) if is_passing(error.kind()) => {}
+                Err(_) => return None,
+            }
+        }
+        None
+    }
+
+    fn part(&mut self, _number: u64, peer: StreamPeer<'a, TcpStream>) {
+        let stream = peer.into_stream();
+        // Where the system does not take it, the connection is closed without it.
+        let _ = stream.shutdown(Shutdown::Write);
+        drop_rest(stream);
+    }
+
+    fn seconds(&mut self) -> u64 {
+        match self.clock.monotonic() {
+            Ok(time) => time.as_secs(),
+            Err(_) => self.second,
+        }
+    }
+}
+
+// What a token tells: the connection of that number may be ready, or one may have come.
+fn told_of(token: usize) -> Told {
+    if token == usize::MAX {
+        return Told::Incoming;
+    }
+    Told::Ready(token as u64)
+}
+
+// Whether a further accept may give a connection.
+fn is_passing(kind: ErrorKind) -> bool {
+    matches!(kind, ErrorKind::Interrupted | ErrorKind::ConnectionAborted)
+}
+
+// Reads what has come and drops it, so that closing does not take back what the peer was sent.
+fn drop_rest(stream: TcpStream) {
+    let mut stream = stream;
+    let mut buffer = [0; DROPPED_READ_BYTES];
+    for _ in 0..MAX_DROPPED_READS {
+        match try_read(&mut stream, &mut buffer) {
+            Tried::Done(count) if count > 0 => {}
+            _ => return,
+        }
+    }
+}

@@ -1,0 +1,45 @@
+-- The start of a server's container with random words of its own.
+use Rattle.std.specs.Prelude.{◌≡◌, ℕ, List, Result, Ok, Err}
+use Rattle.sv_component.specs.Call.{Call}
+use Rattle.sv_application.specs.declared.program_filter.ProgramFilter.{ProgramFilter}
+use Rattle.sv_application.specs.declared.program_listener.ProgramListener.{ProgramListener}
+use Rattle.sv_application.specs.declared.program_servlet.ProgramServlet.{ProgramServlet}
+use Rattle.sv_deployments.specs.Configuration.{FindsConfiguration}
+use Rattle.sv_deployments.specs.Folders.{FolderGiving}
+use Rattle.sv_deployments.specs.declared.configuration.Configuration.{Configuration}
+use Rattle.sv_program.specs.FileStore.{Giving}
+use Rattle.sv_program.specs.declared.command_fault.CommandFault.{CommandFault}
+use Rattle.sv_serve.specs.Seeding.{GivesSeed}
+use Rattle.sv_serve.specs.Starting.{StartsWith, UnlessStarted}
+use Rattle.sv_serve.specs.declared.seeding.Seeding.{Seeding}
+use Rattle.sv_serve.specs.declared.starting.StartedServer.{StartedServer}
+
+module _ (servlet_step : ProgramServlet → Call → ProgramServlet → Type 0) (filter_step : ProgramFilter → Call → ProgramFilter → Type 0)
+    (listener_step : ProgramListener → Call → ProgramListener → Type 0) where
+  -- what is configured starts with this seed, or its fault is told
+  abbrev pub BeginsFrom : List ℕ → Configuration → Result StartedServer CommandFault → Type 0
+  BeginsFrom seed configuration (Ok started) =
+      StartsWith servlet_step filter_step listener_step configuration.deployments.items seed (Ok started.container) × (started.port ≡ configuration.port)
+  BeginsFrom seed configuration (Err fault) = StartsWith servlet_step filter_step listener_step configuration.deployments.items seed (Err fault)
+
+  -- a fault of the seed is told; without one, what is configured starts with it
+  abbrev pub BeginsBySeed : Result (List ℕ) CommandFault → Configuration → Result StartedServer CommandFault → Type 0
+  BeginsBySeed (Ok seed) configuration result = BeginsFrom seed configuration result
+  BeginsBySeed (Err fault) configuration result = result ≡ Err fault
+
+  -- a fault of the files is told; without one, what they configure starts with the seed of that seeding
+  abbrev pub GoesOnSeeded : Seeding → Result Configuration CommandFault → Result StartedServer CommandFault → Type 0
+  GoesOnSeeded seeding (Ok configuration) result =
+      (seed : Result (List ℕ) CommandFault) × GivesSeed seeding configuration.seed seed × BeginsBySeed seed configuration result
+  GoesOnSeeded seeding (Err fault) result = result ≡ Err fault
+
+  -- the server starts by what the store gives
+  abbrev pub StartsSeeded : {S : Type 0} → Giving S → FolderGiving S → Seeding → List ℕ → S → Result StartedServer CommandFault → S → Type 0
+  StartsSeeded gives_text gives_files seeding config before result after =
+      (found : Result Configuration CommandFault) × FindsConfiguration gives_text gives_files config found before after × GoesOnSeeded seeding found result
+
+  -- the command begins with the start of the server
+  abbrev pub BeginsRun : {S W : Type 0} → Giving S → FolderGiving S → Seeding → List ℕ → S → W → Result (Unit {0}) CommandFault → S → W → Type 0
+  BeginsRun gives_text gives_files seeding config before writer result after writer_after =
+      (begun : Result StartedServer CommandFault) × StartsSeeded gives_text gives_files seeding config before begun after
+      × UnlessStarted servlet_step filter_step listener_step begun result writer writer_after

@@ -1,0 +1,59 @@
+//! The command `run`: a server's container over many connections at once.
+
+ghost use Rattle.sv_serve.specs.Running.{BeginsRun};
+
+use crate::running::listen_and_run;
+use crate::seeded_start::start_seeded;
+use crate::seeding::Seeding;
+use crate::starting::StartedServer;
+use std::alloc::Global;
+use std::io::Write;
+use std::net::{IpAddr, Ipv4Addr, Net, SocketAddr};
+use std::random::RandomSource;
+use std::time::Clock;
+use sv_application::{ProgramFilter, ProgramListener, ProgramServlet};
+use sv_component::{Filter, Listener, Servlet};
+use sv_deployments::FolderStore;
+use sv_program::{CommandFault, FileStore};
+
+/// Starts the container of the server file with the random words of that seeding, listens at the address, or at the server file's port on this
+/// machine where none is given, writes the line `listening ADDRESS:PORT`, serves all connections that come, none waiting for another, until the process
+/// is ended from outside, and shuts the container down, also where something failed before.
+///
+/// # Errors
+/// The first fault: those of [`start_seeded`], when nothing was written; then [`CommandFault::Socket`], [`CommandFault::Output`] or
+/// [`CommandFault::NoMemory`] as the run meets them.
+pub fn run<S: FileStore + FolderStore, H: Net + Clock + RandomSource, W: Write>(
+    alloc: Global,
+    store: &mut S,
+    host: &H,
+    writer: &mut W,
+    config: &str,
+    address: Option<SocketAddr>,
+    seeding: Seeding,
+) -> Result<(), CommandFault>
+    ensures { BeginsRun ⟦<ProgramServlet as Servlet>⟧.servlet_step ⟦<ProgramFilter as Filter>⟧.filter_step ⟦<ProgramListener as Listener>⟧.listener_step
+        S.gives_text S.gives_files seeding config.now store.old writer.old result store.new writer.new }
+{
+    let StartedServer {
+        port,
+        mut container,
+    } = match start_seeded(alloc, store, host, config, seeding) {
+        Ok(started) => started,
+        Err(fault) => return Err(fault),
+    };
+    let served = listen_and_run(
+        alloc,
+        host,
+        writer,
+        address_or(address, port),
+        &mut container,
+    );
+    let _stopped = container.shutdown();
+    served
+}
+
+// The address, or the port on this machine.
+fn address_or(address: Option<SocketAddr>, port: u16) -> SocketAddr {
+    address.unwrap_or(SocketAddr::new(IpAddr::V4(Ipv4Addr::LOCALHOST), port))
+}

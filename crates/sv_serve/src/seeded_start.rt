@@ -1,0 +1,45 @@
+//! The start of a server's container with random words of its own.
+
+ghost use Rattle.sv_serve.specs.Running.{StartsSeeded};
+
+use crate::seeding::{Seeding, seed_for};
+use crate::starting::{StartedServer, start};
+use std::alloc::Global;
+use std::random::RandomSource;
+use sv_application::{ProgramFilter, ProgramListener, ProgramServlet};
+use sv_component::{Filter, Listener, Servlet};
+use sv_deployments::{Configuration, FolderStore, read_deployments};
+use sv_program::{CommandFault, FileStore};
+
+/// Reads the server file of this name and all that it names, and starts a container with it and the random words of that seeding.
+///
+/// # Errors
+/// The first fault: those of [`read_deployments`]; then those of [`seed_for`]; then [`CommandFault::Start`], where the contexts that had started are
+/// stopped; or [`CommandFault::NoMemory`].
+pub fn start_seeded<S: FileStore + FolderStore, H: RandomSource>(
+    alloc: Global,
+    store: &mut S,
+    host: &H,
+    config: &str,
+    seeding: Seeding,
+) -> Result<StartedServer, CommandFault>
+    ensures { StartsSeeded ⟦<ProgramServlet as Servlet>⟧.servlet_step ⟦<ProgramFilter as Filter>⟧.filter_step ⟦<ProgramListener as Listener>⟧.listener_step
+        S.gives_text S.gives_files seeding config.now store.old result store.new }
+{
+    let Configuration {
+        port,
+        seed,
+        deployments,
+    } = match read_deployments(alloc, store, config) {
+        Ok(configuration) => configuration,
+        Err(fault) => return Err(fault),
+    };
+    let key = match seed_for(alloc, host, seeding, seed.as_slice()) {
+        Ok(key) => key,
+        Err(fault) => return Err(fault),
+    };
+    match start(alloc, deployments, &key) {
+        Ok(container) => Ok(StartedServer { port, container }),
+        Err(fault) => Err(fault),
+    }
+}
