@@ -75,6 +75,13 @@ def room_of_servers():
         yield room, peers
 
 
+@contextlib.contextmanager
+def connections(port, count):
+    """So many connections at once."""
+    with contextlib.ExitStack() as stack:
+        yield [stack.enter_context(socket.create_connection(("127.0.0.1", port))) for _ in range(count)]
+
+
 def answered(port, patience):
     """Asks once over a connection of its own, and reads the answer's first bytes; where nobody listens yet, again."""
     start = time.perf_counter()
