@@ -24,6 +24,7 @@ PAGE = "/admin/x.txt"
 LOGIN = "/j_security_check"
 FORM = "j_username=ann&j_password=bc"
 LOGIN_PAGE, SECRET = "login\n", "secret\n"
+UNAVAILABLE, TOO_MANY = 503, 429
 # How many sessions a context holds: MAX_SESSIONS of sv_context.
 MOST_SESSIONS = 1_000
 
