@@ -15,7 +15,7 @@ import time
 EXAMPLES = os.path.dirname(os.path.realpath(__file__))
 sys.path.insert(0, f"{os.path.dirname(EXAMPLES)}/bench")
 
-from servers import DEMO, TOP, has, memory, running  # noqa: E402, F401
+from servers import DEMO, TOP, end_in_order, has, running  # noqa: E402, F401
 
 RELEASED = f"{TOP}/release/sv"
 SECONDS = 10
@@ -62,7 +62,7 @@ def room(*programs):
     for program in programs:
         if not has(program):
             sys.exit(f"{program} is not installed: nothing was tried")
-    signal.signal(signal.SIGTERM, lambda *_: sys.exit(1))
+    end_in_order()
     with tempfile.TemporaryDirectory(prefix="sv-example-") as folder:
         words = "openssl req -x509 -newkey rsa:2048 -nodes -days 1 -subj /CN=localhost -addext subjectAltName=DNS:localhost -keyout key.pem -out certificate.pem"
         subprocess.run(words.split(), cwd=folder, stdin=subprocess.DEVNULL, stderr=subprocess.DEVNULL, timeout=SECONDS, check=True)
