@@ -27,6 +27,8 @@ LOGIN_PAGE, SECRET = "login\n", "secret\n"
 UNAVAILABLE, TOO_MANY = 503, 429
 # How many sessions a context holds: MAX_SESSIONS of sv_context.
 MOST_SESSIONS = 1_000
+# What the configurations of HAProxy let an address take within a minute; that of nginx lets it take less at once.
+MOST_OF_AN_ADDRESS = 100
 
 
 def see(what, came, wanted):
