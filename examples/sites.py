@@ -109,7 +109,7 @@ class Browser:
     def ask(self, path, *more):
         """The status of the answer, and its body."""
         words = [*self.words, "-w", "%{http_code}", *more, f"{self.base}{path}"]
-        text = subprocess.run(words, stdin=subprocess.DEVNULL, stdout=subprocess.PIPE, text=True, timeout=2 * SECONDS, check=False).stdout
+        text = subprocess.run(words, stdin=subprocess.DEVNULL, stdout=subprocess.PIPE, text=True, timeout=3 * SECONDS, check=False).stdout
         return int(text[-3:]), text[:-3]
 
     def log_in(self):
