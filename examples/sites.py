@@ -18,7 +18,7 @@ sys.path.insert(0, f"{os.path.dirname(EXAMPLES)}/bench")
 from servers import DEMO, TOP, end_in_order, has, running  # noqa: E402, F401
 
 RELEASED = f"{TOP}/release/sv"
-SECONDS = 10
+SECONDS = 20
 # A page of the Demo behind its constraint, and the login of its one user.
 PAGE = "/admin/x.txt"
 LOGIN = "/j_security_check"
