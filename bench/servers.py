@@ -35,6 +35,11 @@ def within(value, most, text):
     return f"{text}, at most {most}"
 
 
+def end_in_order():
+    """Lets what is killed leave no server behind."""
+    signal.signal(signal.SIGTERM, lambda *_: sys.exit(1))
+
+
 @contextlib.contextmanager
 def running(arguments, folder):
     """A server that tells its port by the line `listening PORT` or `listening ADDRESS:PORT`: its number as a process, and the port."""
@@ -64,8 +69,8 @@ def nginx(folder):
 
 @contextlib.contextmanager
 def room_of_servers():
-    """A folder with the configuration of one servlet, and our peers: the folder, and the program of the peers. What is killed meanwhile leaves no server behind."""
-    signal.signal(signal.SIGTERM, lambda *_: sys.exit(1))
+    """A folder with the configuration of one servlet, and our peers: the folder, and the program of the peers."""
+    end_in_order()
     with tempfile.TemporaryDirectory(prefix="sv-bench-") as room:
         peers = f"{room}/peers"
         subprocess.run(["cc", "-O2", "-D_GNU_SOURCE", "-o", peers, f"{TOP}/bench/serve_peers.c"], check=True)
@@ -73,6 +78,13 @@ def room_of_servers():
             with open(f"{room}/{name}", "w") as file:
                 file.write(text)
         yield room, peers
+
+
+@contextlib.contextmanager
+def connections(port, count):
+    """So many connections at once."""
+    with contextlib.ExitStack() as stack:
+        yield [stack.enter_context(socket.create_connection(("127.0.0.1", port))) for _ in range(count)]
 
 
 def answered(port, patience):

@@ -1,0 +1,148 @@
+"""What the scripts `try` of these examples share: proxies in front of servers, a browser that asks them, a flood, and the comparison of what comes."""
+import collections
+import contextlib
+import http.client
+import os
+import re
+import signal
+import socket
+import ssl
+import subprocess
+import sys
+import tempfile
+import time
+
+EXAMPLES = os.path.dirname(os.path.realpath(__file__))
+sys.path.insert(0, f"{os.path.dirname(EXAMPLES)}/bench")
+
+from servers import DEMO, TOP, end_in_order, has, running  # noqa: E402, F401
+
+RELEASED = f"{TOP}/release/sv"
+SECONDS = 20
+# A page of the Demo behind its constraint, and the login of its one user.
+PAGE = "/admin/x.txt"
+LOGIN = "/j_security_check"
+FORM = "j_username=ann&j_password=bc"
+LOGIN_PAGE, SECRET = "login\n", "secret\n"
+UNAVAILABLE, TOO_MANY = 503, 429
+# How many sessions a context holds: MAX_SESSIONS of sv_context.
+MOST_SESSIONS = 1_000
+# What the configurations of HAProxy let an address take within a minute; that of nginx lets it take less at once.
+MOST_OF_AN_ADDRESS = 100
+
+
+def see(what, came, wanted):
+    """Ends the script where what came is not what is wanted."""
+    if came != wanted:
+        sys.exit(f"{what}: {came!r} and not {wanted!r}")
+
+
+def wait_until(what, holds):
+    """Waits until something holds, a while at most."""
+    end = time.monotonic() + SECONDS
+    while not holds():
+        if time.monotonic() > end:
+            sys.exit(f"{what}: not within {SECONDS} seconds")
+        time.sleep(0.05)
+
+
+def free_ports(count):
+    """So many ports that are free."""
+    with contextlib.ExitStack() as stack:
+        return [stack.enter_context(socket.create_server(("127.0.0.1", 0))).getsockname()[1] for _ in range(count)]
+
+
+def accepts(port):
+    """Whether somebody listens at a port."""
+    with socket.socket() as peer:
+        return peer.connect_ex(("127.0.0.1", port)) == 0
+
+
+@contextlib.contextmanager
+def room(*programs):
+    """A folder that is gone afterwards, with a certificate for localhost that is its own authority. Where a program is not there, the script says so and ends."""
+    for program in programs:
+        if not has(program):
+            sys.exit(f"{program} is not installed: nothing was tried")
+    end_in_order()
+    with tempfile.TemporaryDirectory(prefix="sv-example-") as folder:
+        words = "openssl req -x509 -newkey rsa:2048 -nodes -days 1 -subj /CN=localhost -addext subjectAltName=DNS:localhost -keyout key.pem -out certificate.pem"
+        subprocess.run(words.split(), cwd=folder, stdin=subprocess.DEVNULL, stderr=subprocess.DEVNULL, timeout=SECONDS, check=True)
+        with open(f"{folder}/both.pem", "w") as both:
+            for name in ("certificate.pem", "key.pem"):
+                with open(f"{folder}/{name}") as part:
+                    both.write(part.read())
+        yield folder
+
+
+@contextlib.contextmanager
+def proxy(name, source, folder, **places):
+    """nginx or HAProxy by a configuration of these examples, in which the words in capitals are filled in. It is up, and goes when its user does."""
+    places["FOLDER"] = folder
+    with open(source) as file:
+        text = re.sub(rf"\b({'|'.join(places)})\b", lambda it: str(places[it[1]]), file.read())
+    with open(f"{folder}/configuration", "w") as file:
+        file.write(text)
+    words = {"nginx": ["nginx", "-p", folder, "-e", f"{folder}/nginx.log", "-c", f"{folder}/configuration"], "haproxy": ["haproxy", "-f", f"{folder}/configuration"]}
+    with open(f"{folder}/told", "w+") as told, subprocess.Popen(words[name], stdin=subprocess.DEVNULL, stderr=told, start_new_session=True) as server:
+        try:
+            wait_until(f"{name} listens", lambda: server.poll() is not None or accepts(places["TLS_PORT"]))
+            if server.poll() is not None:
+                told.seek(0)
+                sys.exit(f"{name} ends: {told.read()}")
+            yield server
+        finally:
+            # nginx has a process of its own for its work.
+            os.killpg(server.pid, signal.SIGKILL)
+
+
+class Browser:
+    """A client with cookies of its own, which asks by curl from an address of this machine."""
+
+    count = 0
+
+    def __init__(self, base, folder, address="127.0.0.1"):
+        Browser.count += 1
+        self.base, self.jar = base, f"{folder}/jar{Browser.count}"
+        self.words = ["curl", "-s", "--max-time", str(SECONDS), "--cacert", f"{folder}/certificate.pem", "--interface", address, "-b", self.jar, "-c", self.jar]
+
+    def ask(self, path, *more):
+        """The status of the answer, and its body."""
+        words = [*self.words, "-w", "%{http_code}", *more, f"{self.base}{path}"]
+        text = subprocess.run(words, stdin=subprocess.DEVNULL, stdout=subprocess.PIPE, text=True, timeout=3 * SECONDS, check=False).stdout
+        return int(text[-3:]), text[:-3]
+
+    def log_in(self):
+        """What becomes of a request for the page behind the constraint, and of the login that follows."""
+        return self.ask(PAGE), self.ask(LOGIN, "-L", "-d", FORM)
+
+    def cookies(self):
+        """The lines of its jar: host, whether those below it, path, whether TLS alone, end, name, value."""
+        with open(self.jar) as jar:
+            return [line.removeprefix("#HttpOnly_").split() for line in jar if "JSESSIONID" in line]
+
+
+def see_login(what, browser):
+    """Sees that a caller who was not there before logs in."""
+    see(f"{what}, the page behind the constraint", browser.ask(PAGE), (200, LOGIN_PAGE))
+    see(f"{what}, the login", browser.ask(LOGIN, "-L", "-d", FORM), (200, SECRET))
+    see(f"{what}, the caller", browser.ask("/who"), (200, "caller ann\n"))
+
+
+def flood(port, count, folder=None, address="127.0.0.1", path=PAGE, **fields):
+    """Asks so many times over one connection, and takes no cookie: how often each status came, and how many answers gave a session. With a folder, over TLS."""
+    source = (address, 0)
+    if folder:
+        trusted = ssl.create_default_context(cafile=f"{folder}/certificate.pem")
+        peer = http.client.HTTPSConnection("localhost", port, timeout=SECONDS, source_address=source, context=trusted)
+    else:
+        peer = http.client.HTTPConnection("127.0.0.1", port, timeout=SECONDS, source_address=source)
+    statuses, given = collections.Counter(), 0
+    with contextlib.closing(peer):
+        for _ in range(count):
+            peer.request("GET", path, headers=fields)
+            answer = peer.getresponse()
+            answer.read()
+            statuses[answer.status] += 1
+            given += "set-cookie" in answer.headers
+    return dict(statuses), given
