@@ -64,7 +64,7 @@ def corpus(cookie):
         (chunked(b"/nest", b"abc", lines=(b"Expect: 100-Continue\r\n",)), [100, 200]),
         (asked(b"POST", b"/who", b"Transfer-Encoding: chunked\r\n", body=b"003;a=b ; c=\"d\\\"\"\r\nabc\r\n0\r\n\r\n"), [200]),
         (asked(b"GET", b"/who") + asked(b"HEAD", b"/pages/7.txt") + sized(b"/who", b"x") + asked(b"GET", b"/go", b"Connection: close\r\n"), [200, 200, 200, 200]),
-        (b"\r\n" + asked(b"GET", b"/pages") + chunked(b"/who", b"abc") + asked(b"GET", b"/who"), [404, 200, 200]),
+        (b"\r\n" + asked(b"GET", b"/pages") + chunked(b"/who", b"abc") + asked(b"GET", b"/who"), [302, 200, 200]),
     ]
 
 
@@ -171,9 +171,8 @@ def mutated(random, messages):
 
 
 def pieces(random, text):
-    """The text whole, or cut at some places."""
-    count = random.choice([0, 0, 1, 2, 5])
-    places = sorted({0, len(text), *(random.randrange(len(text) + 1) for _ in range(count))})
+    """The text cut at some places."""
+    places = sorted({0, len(text), *(random.randrange(len(text) + 1) for _ in range(random.choice([1, 2, 5, 12])))})
     return [text[first:last] for first, last in zip(places, places[1:])]
 
 

@@ -1,5 +1,6 @@
 """Random bytes and mutated messages, each on a connection of its own."""
 import asyncio
+import re
 import time
 
 from attacking.messages import corpus, mutated, noise, pieces
@@ -9,56 +10,71 @@ from attacking.responses import judged
 from attacking.site import HIDDEN, MARK
 
 AT_ONCE = 12
-# Behind so many misses of an attack the others are counted alone.
-MOST_TOLD = 20
+DIFFERS = "whole it is answered"
+REPEATED = re.compile(r"(.{1,60}?)\1{9,}")
 
 
-async def exchange(port, random, text):
-    """What comes back for the text, which is sent in pieces, with the end of writing behind it or, at times, a second later."""
-    parts, late = pieces(random, text), random.random() < 0.1
+async def exchange(port, random, parts):
+    """What comes back for these parts, behind which writing ends, at times a second later."""
     async with Peer(port) as peer:
         for part in parts:
             if not await peer.send(part):
                 break
             if len(parts) > 1:
                 await asyncio.sleep(random.choice([0, 0.001, 0.01]))
-        if late:
-            data, ended = await peer.read_to_end(1)
-            if ended:
-                return data, ended
-            peer.end_writing()
-            more, ended = await peer.read_to_end(PATIENCE)
-            return data + more, ended
+        first, ended = await peer.read_to_end(1) if random.random() < 0.1 else (b"", False)
+        if ended:
+            return first, True
         peer.end_writing()
-        return await peer.read_to_end(PATIENCE)
+        more, ended = await peer.read_to_end(PATIENCE)
+        return first + more, ended
+
+
+async def judged_once(port, random, tally, parts):
+    """The statuses that come back for these parts, and what is wrong with what came."""
+    data, ended = await exchange(port, random, parts)
+    tally.sent += 1
+    tally.closed += ended
+    answers, wrong = judged(readings(b"".join(parts)), data)
+    tally.count(answers)
+    if HIDDEN in data or MARK in data:
+        wrong = "what is protected was answered"
+    if not ended:
+        wrong = "not ended in time"
+    return [it.status for it in answers], wrong and f"{wrong}; came {shown(data)}"
+
+
+async def judged_both(port, random, tally, text, cuts):
+    """What is wrong with what comes back for the text whole and in pieces; both are to have the same statuses."""
+    whole, wrong = await judged_once(port, random, tally, [text])
+    if wrong:
+        return wrong
+    parts, wrong = await judged_once(port, random, tally, cuts)
+    if wrong:
+        return f"in pieces of {[len(it) for it in cuts]}: {wrong}"
+    return whole != parts and f"{DIFFERS} {whole}, in pieces of {[len(it) for it in cuts]} {parts}"
 
 
 async def attacked(port, random, tally, made, until):
-    """Sends messages until that time, one after another."""
+    """Sends messages until that time, one after another. Where sessions come to be as many as there may be, answers change: so what differs is tried again."""
     while time.monotonic() < until:
         text, names = made(random)
-        data, ended = await exchange(port, random, text)
-        tally.sent += 1
-        tally.closed += ended
-        answers, wrong = judged(readings(text), data)
-        tally.count(answers)
-        if HIDDEN in data or MARK in data:
-            wrong = "what is protected was answered"
-        if wrong or not ended:
-            tally.miss(f"{wrong or 'not ended in time'}; by {', '.join(names)}; sent {shown(text)}; came {shown(data)}")
+        cuts = pieces(random, text)
+        wrong = await judged_both(port, random, tally, text, cuts)
+        if wrong and wrong.startswith(DIFFERS):
+            wrong = await judged_both(port, random, tally, text, cuts)
+        if wrong:
+            tally.miss(f"{wrong}; by {', '.join(names)}; sent {shown(text)}")
 
 
 def shown(text):
-    """Bytes as a line of Python, of long ones the two ends."""
-    return repr(text) if len(text) < 3000 else f"{text[:1500]!r} .. {len(text) - 2500} bytes .. {text[-1000:]!r}"
+    """Bytes as a line of Python, in which `<COUNT*PART>` stands for a part that is repeated."""
+    return REPEATED.sub(lambda it: f"<{len(it[0]) // len(it[1])}*{it[1]}>", repr(text))
 
 
 async def attack(port, random, seconds, tally, made):
     until = time.monotonic() + seconds
     await asyncio.gather(*(attacked(port, random, tally, made, until) for _ in range(AT_ONCE)))
-    told = len(tally.misses)
-    if told > MOST_TOLD:
-        tally.misses[MOST_TOLD:] = [f"{tally.name}: and {told - MOST_TOLD} more"]
     return [tally]
 
 

@@ -1,5 +1,6 @@
 """Peers that are quick: pipelines, ends of writing, resets, connections without a byte, first bytes of other protocols."""
 import asyncio
+import contextlib
 import ssl
 
 from attacking.messages import asked, chunked, corpus, sized
@@ -10,6 +11,8 @@ from attacking.site import PAGES, page
 
 PIPELINE = 10_000
 CONNECTS = 2000
+# docs/OPERATION.md
+ROOM = 1024
 AGAIN = 20
 # A head that has no end is given up behind so many seconds.
 GIVEN_UP = 12.5
@@ -128,33 +131,31 @@ async def resets(port):
 
 
 async def quick_connects(port):
-    """Connections without a byte: closed at once, reset at once, and held, which is more than there is room for."""
-    tally = Tally("connections without a byte", "the server goes on; of those that are held it closes some for new ones")
-    for _ in range(CONNECTS):
-        async with Peer(port):
+    tally = Tally("connections without a byte", "the server goes on")
+    for number in range(CONNECTS):
+        async with Peer(port) as peer:
             tally.sent += 1
-    for _ in range(CONNECTS):
-        peer = await Peer(port).__aenter__()
-        peer.reset()
-        tally.sent += 1
-    held = []
-    try:
-        for _ in range(CONNECTS):
-            held.append(await Peer(port).__aenter__())
-            tally.sent += 1
-        await asyncio.sleep(2)
-        for peer in held:
-            ended = await is_ended(peer)
-            tally.closed += ended
-    finally:
-        for peer in held:
-            peer.socket.close()
+            if number % 2:
+                peer.reset()
     tally.back["nothing"] = tally.sent
-    tally.hold(tally.closed >= CONNECTS - 1024, f"{CONNECTS - tally.closed} are held at once")
     return tally
 
 
-async def is_ended(peer):
+async def beyond_room(port, _random, _seconds, _cookie):
+    """More connections without a byte than there is room for, all of them held: the one that has waited longest goes for each new one."""
+    tally = Tally("connections beyond the room", f"all but {ROOM:,} are closed, those that came first before those that came later")
+    async with contextlib.AsyncExitStack() as stack:
+        held = [await stack.enter_async_context(Peer(port)) for _ in range(CONNECTS)]
+        await asyncio.sleep(2)
+        ended = [it for it, peer in enumerate(held) if is_ended(peer)]
+    tally.sent, tally.closed, tally.back["nothing"] = CONNECTS, len(ended), CONNECTS
+    tally.hold(len(ended) >= CONNECTS - ROOM, f"{CONNECTS - len(ended)} are held at once")
+    early = sum(it >= len(ended) for it in ended)
+    tally.hold(not early, f"{early} of the {len(ended)} that were closed came later than others that were kept")
+    return [tally]
+
+
+def is_ended(peer):
     try:
         return peer.socket.recv(1) == b""
     except BlockingIOError:

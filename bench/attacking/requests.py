@@ -10,10 +10,14 @@ TARGET = rb"(?:/|http://)[A-Za-z0-9\-._~:/?\[\]@!$&'()*+,;=%]*|\*"
 REQUEST_LINE = re.compile(rb"(" + TOKEN + rb") (" + TARGET + rb") HTTP/1\.([01])")
 VERSION = re.compile(rb"HTTP/([0-9])\.([0-9])")
 HOST = re.compile(rb"(?:\[[0-9A-Za-z:.]+\]|(?:[A-Za-z0-9\-._~!$&'()*+,;=]|%[0-9A-Fa-f]{2})*)(?::[0-9]*)?")
+# What a server of ours takes for a host as well (docs/DECISIONS.md), where the RFC would have it refuse the request.
+HOST_BYTES = re.compile(rb"[A-Za-z0-9\-._~%!$&'()*+,;=:\[\]]{0,255}")
 QUOTED = rb'"(?:[\t !#-\[\]-~\x80-\xff]|\\[\t -~\x80-\xff])*"'
 EXTENSIONS = re.compile(rb"(?:[ \t]*;[ \t]*" + TOKEN + rb"(?:[ \t]*=[ \t]*(?:" + TOKEN + rb"|" + QUOTED + rb"))?)*")
 SIZE_LINE = re.compile(rb"([0-9A-Fa-f]+)([ \t]*|[ \t]*;[^\r\n]*)")
 BLANKS = b" \t"
+# Lines that a server drops in front of a request, and perhaps a part of one.
+EMPTY_LINES = re.compile(rb"(?:\r?\n)*\r?")
 NO_TEXT = re.compile(rb"[\x00-\x08\x0a-\x1f\x7f]")
 
 
@@ -120,8 +124,9 @@ class Reader:
 
     def check_host(self, fields, minor):
         hosts = [value for key, value in fields if key == b"host"]
-        if len(hosts) > 1 or minor > 0 and not hosts or any(not HOST.fullmatch(it) for it in hosts):
+        if len(hosts) > 1 or minor > 0 and not hosts or any(not HOST_BYTES.fullmatch(it) for it in hosts):
             raise Fault
+        self.strict = self.strict and all(HOST.fullmatch(it) for it in hosts)
 
     def expect(self, fields, minor):
         wanted = self.listed(fields, b"expect")
@@ -201,7 +206,7 @@ class Reader:
 def read(data, lone_feeds):
     reader, requests = Reader(data, lone_feeds), []
     try:
-        while reader.data[reader.place :].strip(b"\r\n"):
+        while not EMPTY_LINES.fullmatch(data, reader.place):
             requests.append(reader.request())
             if requests[-1].last:
                 break
