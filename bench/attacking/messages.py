@@ -68,90 +68,90 @@ def corpus(cookie):
     ]
 
 
-def flip_bit(random, text):
-    place = random.randrange(len(text))
-    return text[:place] + bytes([text[place] ^ 1 << random.randrange(8)]) + text[place + 1 :]
+def flip_bit(chance, text):
+    place = chance.randrange(len(text))
+    return text[:place] + bytes([text[place] ^ 1 << chance.randrange(8)]) + text[place + 1 :]
 
 
-def delete(random, text):
-    place = random.randrange(len(text))
-    return text[:place] + text[place + random.choice([1, 1, 2, 10]) :]
+def delete(chance, text):
+    place = chance.randrange(len(text))
+    return text[:place] + text[place + chance.choice([1, 1, 2, 10]) :]
 
 
-def double_part(random, text):
-    first, last = sorted(random.randrange(len(text) + 1) for _ in range(2))
-    return text[:last] + text[first:last] * random.choice([1, 1, 1, 40]) + text[last:]
+def double_part(chance, text):
+    first, last = sorted(chance.randrange(len(text) + 1) for _ in range(2))
+    return text[:last] + text[first:last] * chance.choice([1, 1, 1, 40]) + text[last:]
 
 
-def insert_control(random, text):
-    place = random.randrange(len(text) + 1)
-    return text[:place] + random.choice(CONTROLS) * random.choice([1, 1, 1, 2, 200]) + text[place:]
+def insert_control(chance, text):
+    place = chance.randrange(len(text) + 1)
+    return text[:place] + chance.choice(CONTROLS) * chance.choice([1, 1, 1, 2, 200]) + text[place:]
 
 
-def replaced(random, pattern, text, change):
+def replaced(chance, pattern, text, change):
     """The text with one match of the pattern changed."""
     matches = list(re.finditer(pattern, text))
     if not matches:
         return text
-    match = random.choice(matches)
+    match = chance.choice(matches)
     return text[: match.start()] + change(match[0]) + text[match.end() :]
 
 
-def blow_number(random, text):
-    return replaced(random, rb"[0-9]+", text, lambda it: random.choice([*NUMBERS, it + it, b"0" * 20 + it, it + b"0", b"%x" % int(it[-9:])]))
+def blow_number(chance, text):
+    return replaced(chance, rb"[0-9]+", text, lambda it: chance.choice([*NUMBERS, it + it, b"0" * 20 + it, it + b"0", b"%x" % int(it[-9:])]))
 
 
-def change_size(random, text):
-    return replaced(random, rb"(?<=\n)[0-9a-f]+(?=[;\r])", text, lambda it: random.choice([*SIZES, it.upper(), b"0" * random.randrange(30) + it, it + b" " * random.randrange(300)]))
+def change_size(chance, text):
+    return replaced(chance, rb"(?<=\n)[0-9a-f]+(?=[;\r])", text, lambda it: chance.choice([*SIZES, it.upper(), b"0" * chance.randrange(30) + it, it + b" " * chance.randrange(300)]))
 
 
-def double_line(random, text):
-    return replaced(random, rb"[^\r\n]+\r\n", text, lambda it: it + it)
+def double_line(chance, text):
+    return replaced(chance, rb"[^\r\n]+\r\n", text, lambda it: it + it)
 
 
-def add_line(random, text):
-    return replaced(random, rb"(?<=\n)[^\r\n]+:[^\r\n]+\r\n", text, lambda it: random.choice([it + random.choice(LINES), random.choice(LINES) + it]))
+def add_line(chance, text):
+    return replaced(chance, rb"(?<=\n)[^\r\n]+:[^\r\n]+\r\n", text, lambda it: chance.choice([it + chance.choice(LINES), chance.choice(LINES) + it]))
 
 
-def add_framing(random, text):
-    return replaced(random, rb"(?<=\n)[^\r\n]+:[^\r\n]+\r\n", text, lambda it: random.choice([it + random.choice(FRAMINGS), random.choice(FRAMINGS) + it, random.choice(FRAMINGS)]))
+def add_framing(chance, text):
+    return replaced(chance, rb"(?<=\n)[^\r\n]+:[^\r\n]+\r\n", text, lambda it: chance.choice([it + chance.choice(FRAMINGS), chance.choice(FRAMINGS) + it, chance.choice(FRAMINGS)]))
 
 
-def fold_line(random, text):
-    return replaced(random, rb": ?", text, lambda it: random.choice([b":\r\n ", b":\r\n\t", b":\n ", b":\r "]))
+def fold_line(chance, text):
+    return replaced(chance, rb": ?", text, lambda it: chance.choice([b":\r\n ", b":\r\n\t", b":\n ", b":\r "]))
 
 
-def change_end(random, text):
-    return replaced(random, rb"\r\n", text, lambda _: random.choice([b"\n", b"\r", b"\r\r\n", b"\n\r", b" \r\n", b"\0\r\n", b"\r\n\r\n", b"\n\r\n"]))
+def change_end(chance, text):
+    return replaced(chance, rb"\r\n", text, lambda _: chance.choice([b"\n", b"\r", b"\r\r\n", b"\n\r", b" \r\n", b"\0\r\n", b"\r\n\r\n", b"\n\r\n"]))
 
 
-def space_colon(random, text):
-    return replaced(random, rb":", text, lambda _: random.choice([b" :", b"\t:", b"\r\n:", b"\0:", b"::", b""]))
+def space_colon(chance, text):
+    return replaced(chance, rb":", text, lambda _: chance.choice([b" :", b"\t:", b"\r\n:", b"\0:", b"::", b""]))
 
 
-def change_target(random, text):
-    return replaced(random, rb"(?<=[A-Z] )[^ \r\n]+(?= HTTP)", text, lambda it: random.choice([*TARGETS, it + random.choice(CONTROLS), it + b"/.." * random.randrange(4), it + b"x" * random.choice([10, 70_000])]))
+def change_target(chance, text):
+    return replaced(chance, rb"(?<=[A-Z] )[^ \r\n]+(?= HTTP)", text, lambda it: chance.choice([*TARGETS, it + chance.choice(CONTROLS), it + b"/.." * chance.randrange(4), it + b"x" * chance.choice([10, 70_000])]))
 
 
-def change_version(random, text):
-    return replaced(random, rb"HTTP/1\.[01]", text, lambda _: random.choice(VERSIONS))
+def change_version(chance, text):
+    return replaced(chance, rb"HTTP/1\.[01]", text, lambda _: chance.choice(VERSIONS))
 
 
-def change_method(random, text):
-    return replaced(random, rb"(?:(?<=\n)|^)[A-Z]+(?= )", text, lambda _: random.choice(METHODS))
+def change_method(chance, text):
+    return replaced(chance, rb"(?:(?<=\n)|^)[A-Z]+(?= )", text, lambda _: chance.choice(METHODS))
 
 
-def change_case(random, text):
-    return replaced(random, rb"[A-Za-z-]+", text, lambda it: it.swapcase())
+def change_case(chance, text):
+    return replaced(chance, rb"[A-Za-z-]+", text, lambda it: it.swapcase())
 
 
-def cut_end(random, text):
-    return text[: random.randrange(1, len(text) + 1)]
+def cut_end(chance, text):
+    return text[: chance.randrange(1, len(text) + 1)]
 
 
-def go_on(random, text):
+def go_on(chance, text):
     """With a request for the protected path behind it, which must not become one within it."""
-    return text + random.choice([SMUGGLED, b"\r\n" + SMUGGLED, SMUGGLED * 3, SMUGGLED.replace(b"\r\n", b"\n"), SMUGGLED[:-2]])
+    return text + chance.choice([SMUGGLED, b"\r\n" + SMUGGLED, SMUGGLED * 3, SMUGGLED.replace(b"\r\n", b"\n"), SMUGGLED[:-2]])
 
 
 MUTATIONS = [
@@ -160,24 +160,24 @@ MUTATIONS = [
 ]
 
 
-def mutated(random, messages):
+def mutated(chance, messages):
     """A message of these with one to four mutations, and their names."""
-    text, names = random.choice(messages), []
-    for _ in range(random.choice([1, 1, 2, 2, 3, 4])):
-        mutation = random.choice(MUTATIONS)
-        text = mutation(random, text) or b"\r\n"
+    text, names = chance.choice(messages), []
+    for _ in range(chance.choice([1, 1, 2, 2, 3, 4])):
+        mutation = chance.choice(MUTATIONS)
+        text = mutation(chance, text) or b"\r\n"
         names.append(mutation.__name__)
     return text, names
 
 
-def pieces(random, text):
+def pieces(chance, text):
     """The text cut at some places."""
-    places = sorted({0, len(text), *(random.randrange(len(text) + 1) for _ in range(random.choice([1, 2, 5, 12])))})
+    places = sorted({0, len(text), *(chance.randrange(len(text) + 1) for _ in range(chance.choice([1, 2, 5, 12])))})
     return [text[first:last] for first, last in zip(places, places[1:])]
 
 
-def noise(random):
+def noise(chance):
     """Random bytes, some of which begin as a request does, or have ends of lines."""
-    alphabet = random.choice([bytes(range(256)), b"GETPOSH /:.1%\r\n\0abc", b"\r\n \t:", bytes(range(32, 127)) + b"\r\n" * 8])
-    text = bytes(random.choice(alphabet) for _ in range(random.choice([1, 10, 100, 1000, 3000])))
-    return random.choice([b"", b"", b"GET ", b"GET / HTTP/1.1\r\n", asked(b"POST", b"/who", b"Transfer-Encoding: chunked\r\n")]) + text + random.choice([b"", b"\r\n\r\n"])
+    alphabet = chance.choice([bytes(range(256)), b"GETPOSH /:.1%\r\n\0abc", b"\r\n \t:", bytes(range(32, 127)) + b"\r\n" * 8])
+    text = bytes(chance.choice(alphabet) for _ in range(chance.choice([1, 10, 100, 1000, 3000])))
+    return chance.choice([b"", b"", b"GET ", b"GET / HTTP/1.1\r\n", asked(b"POST", b"/who", b"Transfer-Encoding: chunked\r\n")]) + text + chance.choice([b"", b"\r\n\r\n"])

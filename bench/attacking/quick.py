@@ -7,7 +7,7 @@ from attacking.messages import asked, chunked, corpus, sized
 from attacking.peers import PATIENCE, Peer, Tally, asked_once, together
 from attacking.responses import Answers, Wrong, judged
 from attacking.requests import readings
-from attacking.site import PAGES, page
+from attacking.site import LARGE, PAGES, page
 
 PIPELINE = 10_000
 CONNECTS = 2000
@@ -141,7 +141,7 @@ async def quick_connects(port):
     return tally
 
 
-async def beyond_room(port, _random, _seconds, _cookie):
+async def beyond_room(port, _seed, _seconds, _cookie):
     """More connections without a byte than there is room for, all of them held: the one that has waited longest goes for each new one."""
     tally = Tally("connections beyond the room", f"all but {ROOM:,} are closed, those that came first before those that came later")
     async with contextlib.AsyncExitStack() as stack:
@@ -213,6 +213,38 @@ async def other_protocols(port):
     return tally
 
 
-async def all_quick(port, _random, _seconds, cookie):
-    tallies = [await pipelines(port), await half_closed(port, cookie), await resets(port)]
-    return [*tallies, await quick_connects(port), await other_protocols(port)]
+# What is sent so that the server closes behind its answer, the answer's status, and how long its body is at least.
+CLOSING = [
+    (asked(b"POST", b"/who", b"Content-Length: 1100000\r\n", body=b"x" * 1_100_000), 413, 1),
+    (asked(b"POST", b"/who", b"Content-Length: 5000000\r\n", body=b"x" * 5_000_000), 413, 1),
+    (chunked(b"/who", *[b"x" * 100_000] * 20), 413, 1),
+    (asked(b"GET", b"/who", *[b"X: y\r\n"] * 30_000), 431, 1),
+    (asked(b"GET", b"/large.bin", b"Connection: close\r\n", body=b"\r\n"), 200, len(LARGE)),
+    (asked(b"GET", b"/large.bin", version=b"HTTP/1.0", body=b"x" * 10_000), 200, len(LARGE)),
+]
+
+
+async def closing(port):
+    """Where more comes than the server reads before it closes; the peer sends as much as it can, and then reads."""
+    tally = Tally("answers before all was sent", "413, 431 or 200, with its whole body")
+
+    async def attack(number):
+        text, status, least = CLOSING[number % len(CLOSING)]
+        async with Peer(port) as peer:
+            await asyncio.wait_for(peer.send(text), PATIENCE)
+            await asyncio.sleep(0.2)
+            data, ended = await peer.read_to_end(PATIENCE)
+        tally.sent += 1
+        tally.closed += ended
+        answers, wrong = judged(readings(text), data)
+        tally.count(answers)
+        found = [(it.status, len(it.body) >= least) for it in answers]
+        tally.hold(ended and not wrong and found == [(status, True)], f"{text[:60]!r} gives {found}, ended {ended}, {wrong or ''}")
+
+    await together(AGAIN * len(CLOSING), attack)
+    return tally
+
+
+async def all_quick(port, _seed, _seconds, cookie):
+    attacks = [pipelines(port), half_closed(port, cookie), resets(port), closing(port), quick_connects(port), other_protocols(port)]
+    return [await it for it in attacks]

@@ -2,7 +2,7 @@
 import re
 from typing import NamedTuple
 
-from attacking.requests import BLANKS, TOKEN
+from attacking.requests import TOKEN
 
 STATUS_LINE = re.compile(rb"HTTP/1\.1 ([1-5][0-9][0-9]) [\t -~\x80-\xff]*")
 FIELD_LINE = re.compile(rb"(" + TOKEN + rb"):[ \t]*([!-~\x80-\xff](?:[\t -~\x80-\xff]*[!-~\x80-\xff])?)?[ \t]*")

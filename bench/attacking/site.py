@@ -1,10 +1,9 @@
 """The site that is attacked: the Demo, with pages, a large file, and marks in what is protected; and what it must serve before and behind the attacks."""
-import asyncio
 import re
 import shutil
 
 from attacking.messages import FORM_TYPE, asked, sized
-from attacking.peers import Tally, asked_once
+from attacking.peers import asked_once
 from attacking.responses import Answers
 
 PAGES = 100

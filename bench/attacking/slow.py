@@ -90,5 +90,5 @@ async def stopped_readers(port):
     return tally
 
 
-async def all_slow(port, _random, _seconds, _cookie):
+async def all_slow(port, _seed, _seconds, _cookie):
     return await asyncio.gather(slow_heads(port), slow_bodies(port), brisk_bodies(port), stopped_readers(port))

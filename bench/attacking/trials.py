@@ -1,5 +1,5 @@
 """What the readers must say of messages and answers that RFC 9112 and RFC 9110 speak of."""
-from attacking.messages import HOST, SMUGGLED, asked, chunked, sized
+from attacking.messages import HOST, SMUGGLED, asked, chunked, corpus, sized
 from attacking.requests import readings
 from attacking.responses import judged
 
@@ -67,4 +67,11 @@ def tried():
         found = [(it, judged(readings(message), it)[1]) for it in rights + wrongs]
         lines += [f"{name}: {it!r} may come, and the reader says: {wrong}" for it, wrong in found[: len(rights)] if wrong]
         lines += [f"{name}: {it!r} may not come, and the reader lets it" for it, wrong in found[len(rights) :] if not wrong]
-    return lines
+    return lines + [f"{message!r} is in form, and the reader has it otherwise" for message, statuses in corpus(b"JSESSIONID=0") if not is_in_form(message, statuses)]
+
+
+def is_in_form(message, statuses):
+    """Whether a message of the corpus is read in one way, as whole requests that a server has to serve, one for each of its answers."""
+    reading, *others = readings(message)
+    strict = all(it.strict for it in reading.requests)
+    return not others and reading.rest == "nothing" and strict and len(reading.requests) == sum(it >= 200 for it in statuses)
