@@ -31,7 +31,7 @@ def probe(port, request, over, found):
         text = answer(port, request)
         seconds.append(time.monotonic() - start)
         if not (text.startswith(BEGINS) and text.endswith(ENDS)):
-            wrong.append(f"the probe got {text[:200]!r} at second {start - begun:.1f}")
+            wrong.append(f"the probe got {text[:200]!r}; at second {start - begun:.1f}")
     found.put((seconds, wrong))
 
 

@@ -86,7 +86,7 @@ class Reader:
         """The method, and the version's second digit."""
         match = REQUEST_LINE.fullmatch(line)
         if match:
-            self.strict = self.strict and (match[2] != b"*" or match[1] == b"OPTIONS")
+            self.strict = self.strict and (match[2] != b"*" or match[1] == b"OPTIONS") and match[1] != b"CONNECT"
             return match[1], int(match[3])
         self.strict = False
         words = re.split(rb"[ \t\v\f\r]+", line.strip(b" \t\v\f\r"))

@@ -46,6 +46,8 @@ class Answers:
             raise Wrong(f"no status line: {first[:80]!r}")
         fields = self.fields(lines)
         status = int(match[1])
+        if method == b"CONNECT" and 200 <= status < 300 and (b"content-length" in fields or b"transfer-encoding" in fields):
+            raise Wrong(f"{status} to CONNECT, which makes a tunnel, with a body")
         closes = b"close" in fields.get(b"connection", b"").lower()
         bare = status < 200 or status in (204, 304) or method == b"HEAD" and not (status in REFUSALS and closes and self.more())
         return Answer(status, closes, fields, b"" if bare else self.body(fields))

@@ -4,6 +4,7 @@ import time
 
 from attacking.messages import asked
 from attacking.peers import Peer, Tally, together
+from attacking.site import LARGE
 
 HEADS = 200
 BODIES = 100
@@ -12,7 +13,6 @@ STOPPED = 100
 # docs/OPERATION.md: 10 seconds; the clock counts whole ones, and looks once a second.
 GIVEN_UP = (9, 12.5)
 STOPPED_SECONDS = 14
-LARGE = 1 << 20
 PIPELINED = 8
 
 
@@ -37,7 +37,7 @@ async def given_up(port, tally, parts, pause):
         seconds = time.monotonic() - begun
     tally.closed += ended
     tally.back["bytes" if text else "nothing"] += 1
-    tally.hold(ended and not text and GIVEN_UP[0] <= seconds <= GIVEN_UP[1], f"ended {ended} after {seconds:.1f} s with {text[:60]!r}")
+    tally.hold(ended and not text and GIVEN_UP[0] <= seconds <= GIVEN_UP[1], f"not given up in time; ended {ended} after {seconds:.1f} s with {text[:60]!r}")
 
 
 async def slow_heads(port):
@@ -67,7 +67,7 @@ async def brisk_bodies(port):
             text, ended = await peer.read_to_end(3)
         tally.closed += ended
         tally.back[text[9:12].decode() or "nothing"] += 1
-        tally.hold(ended and text.startswith(b"HTTP/1.1 200 ") and text.endswith(b"\r\n\r\ncaller -\n"), f"{text[:60]!r}")
+        tally.hold(ended and text.startswith(b"HTTP/1.1 200 ") and text.endswith(b"\r\n\r\ncaller -\n"), f"not answered; came {text[:60]!r}")
 
     await together(BRISK, attack)
     return tally
@@ -84,7 +84,9 @@ async def stopped_readers(port):
             text, ended = await peer.read_to_end(3)
         tally.closed += ended
         tally.back[text[9:12].decode() or "nothing"] += 1
-        tally.hold(ended and len(text) < PIPELINED * LARGE, f"ended {ended} with {len(text)} bytes")
+        first = text.partition(b"\r\n\r\n")[2][: len(LARGE)]
+        cut = first and LARGE.startswith(first) and len(text) < PIPELINED * len(LARGE)
+        tally.hold(ended and cut, f"not given up with a part; ended {ended} with {len(text)} bytes, {text[:60]!r}")
 
     await together(STOPPED, attack)
     return tally

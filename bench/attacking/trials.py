@@ -50,6 +50,7 @@ TRIALS = [
     ("a part of a head", GET[:30], [b"", NO], [OK]),
     ("a part of a body", post(b"Content-Length: 10\r\n", body=b"abc"), [b"", NO], [OK]),
     ("a HEAD", asked(b"HEAD", b"/who"), [OK, OK.replace(b": 0", b": 9"), NO], [OK.replace(b": 0", b": 2") + b"no", NO.replace(b"400", b"404")]),
+    ("a CONNECT", asked(b"CONNECT", b"/who"), [NO, OK.replace(b"200", b"404"), b""], [OK]),
     ("an expectation", post(b"Expect: 100-continue\r\nContent-Length: 1\r\n", body=b"a"), [b"HTTP/1.1 100 Continue\r\n\r\n" + OK, OK], [b"HTTP/1.1 100 Continue\r\n\r\n"]),
     ("no expectation", GET, [OK], [b"HTTP/1.1 100 Continue\r\n\r\n" + OK]),
     ("an answer behind one that closes", GET + GET, [NO], [NO + OK]),
