@@ -7,23 +7,36 @@ FORM = b"j_username=ann&j_password=no"
 SMUGGLED = b"GET /admin/x.txt HTTP/1.1\r\nHost: localhost\r\n\r\n"
 TARGETS = [
     b"/who", b"/%77ho", b"/a/../who", b"//who", b"/who;x=1?y=2", b"/nest", b"/go", b"/two/keep", b"/login.html", b"/pages/7.txt", b"/pages", b"/none",
-    b"/admin/x.txt", b"/%61dmin/x.txt", b"/who/../admin/x.txt", b"/admin;/x.txt", b"//admin//x.txt", b"/admin/./x.txt", b"/admin/x.txt;jsessionid=0", b"/admin/%78.txt?a",
-    b"/ADMIN/x.txt", b"/two/../admin/x.txt", b"/admin%2Fx.txt", b"/WEB-INF/hidden.txt", b"/web-inf/hidden.txt", b"/./WEB-INF//hidden.txt", b"/%57EB-INF/hidden.txt",
-    b"http://localhost/who", b"http://localhost/admin/x.txt", b"http://localhost:80/a%20b?c=%zz",
+    b"/admin/x.txt", b"/%61dmin/x.txt", b"/who/../admin/x.txt", b"/admin;/x.txt", b"//admin//x.txt", b"/admin/./x.txt", b"/admin/x.txt;jsessionid=0",
+    b"/admin/%78.txt?a", b"/ADMIN/x.txt", b"/two/../admin/x.txt", b"/admin%2Fx.txt", b"/WEB-INF/hidden.txt", b"/web-inf/hidden.txt",
+    b"/./WEB-INF//hidden.txt", b"/%57EB-INF/hidden.txt", b"http://localhost/who", b"http://localhost/admin/x.txt", b"http://localhost:80/a%20b?c=%zz",
 ]
-NUMBERS = [b"0", b"1", b"-1", b"+5", b"05", b"0x5", b"5, 5", b"5,6", b"5 5", b"4294967295", b"4294967301", b"9223372036854775807", b"18446744073709551615", b"18446744073709551621", b"9" * 100, b"9" * 6000]
-SIZES = [b"00000000000000003", b"3" + b" " * 300, b"3;" + b"x" * 300, b"ffffffffffffffff", b"10000000000000003", b"fffffffffffffffff", b"100001", b"-3", b"+3", b"0x3", b" 3", b"3 ", b"3\t;a=b", b"3;a=\"\\\"\"", b""]
-CONTROLS = [b"\r", b"\n", b"\0", b"\r\n", b"\r\n\r\n", b"\n\n", b"\t", b" ", b"\x0b", b"\x7f", b"\x80", b"\xc0\xaf", b"\xff", b":", b"%", b"%00", b"%0d%0a", b"..", b";", b",", b"\\", b"\xe2\x80\xa8"]
+NUMBERS = [
+    b"0", b"1", b"-1", b"+5", b"05", b"0x5", b"5, 5", b"5,6", b"5 5", b"4294967295", b"4294967301", b"9223372036854775807", b"18446744073709551615",
+    b"18446744073709551621", b"9" * 100, b"9" * 6000,
+]
+SIZES = [
+    b"00000000000000003", b"3" + b" " * 300, b"3;" + b"x" * 300, b"ffffffffffffffff", b"10000000000000003", b"fffffffffffffffff", b"100001", b"-3", b"+3",
+    b"0x3", b" 3", b"3 ", b"3\t;a=b", b"3;a=\"\\\"\"", b"",
+]
+CONTROLS = [
+    b"\r", b"\n", b"\0", b"\r\n", b"\r\n\r\n", b"\n\n", b"\t", b" ", b"\x0b", b"\x7f", b"\x80", b"\xc0\xaf", b"\xff", b":", b"%", b"%00", b"%0d%0a", b"..",
+    b";", b",", b"\\", b"\xe2\x80\xa8",
+]
 FRAMINGS = [
-    b"Content-Length: 5\r\n", b"Content-Length: 0\r\n", b"content-length: 47\r\n", b"Content-Length: 5, 5\r\n", b"Transfer-Encoding: chunked\r\n", b"Transfer-Encoding: identity\r\n",
-    b"Transfer-Encoding: gzip, chunked\r\n", b"Transfer-Encoding: chunked, identity\r\n", b"Transfer-Encoding: xchunked\r\n", b"Transfer-Encoding:\tchunked\r\n", b"Transfer-Encoding: ,chunked\r\n",
-    b"Transfer-Encoding: \"chunked\"\r\n", b"Transfer-Encoding: chunked;q=1\r\n", b"Transfer-Encoding:\x0bchunked\r\n", b"Transfer-Encoding:\r\n chunked\r\n", b"Transfer_Encoding: chunked\r\n", b"Transfer-Encoding:\r\n",
+    b"Content-Length: 5\r\n", b"Content-Length: 0\r\n", b"content-length: 47\r\n", b"Content-Length: 5, 5\r\n", b"Transfer-Encoding: chunked\r\n",
+    b"Transfer-Encoding: identity\r\n", b"Transfer-Encoding: gzip, chunked\r\n", b"Transfer-Encoding: chunked, identity\r\n",
+    b"Transfer-Encoding: xchunked\r\n", b"Transfer-Encoding:\tchunked\r\n", b"Transfer-Encoding: ,chunked\r\n", b"Transfer-Encoding: \"chunked\"\r\n",
+    b"Transfer-Encoding: chunked;q=1\r\n", b"Transfer-Encoding:\x0bchunked\r\n", b"Transfer-Encoding:\r\n chunked\r\n", b"Transfer_Encoding: chunked\r\n",
+    b"Transfer-Encoding:\r\n",
 ]
 LINES = [
-    HOST, b"Host: other\r\n", b"Host: a b\r\n", b"Connection: close\r\n", b"Connection: keep-alive, Upgrade\r\n", b"Expect: 100-continue\r\n", b"Expect: 200-ok\r\n", b"Cookie: JSESSIONID=0; JSESSIONID=1\r\n",
-    b"X: " + b"y" * 9000 + b"\r\n", b"X: y\r\n" * 130, b"X: " + b"z" * 70_000 + b"\r\n", b"X-Forwarded-User: ann\r\n", b"Authorization: Basic YW5uOmJj\r\n", b"no colon\r\n", b": none\r\n", b" folded\r\n", b"X\0Y: z\r\n",
+    HOST, b"Host: other\r\n", b"Host: a b\r\n", b"Connection: close\r\n", b"Connection: keep-alive, Upgrade\r\n", b"Expect: 100-continue\r\n",
+    b"Expect: 200-ok\r\n", b"Cookie: JSESSIONID=0; JSESSIONID=1\r\n", b"X: " + b"y" * 9000 + b"\r\n", b"X: y\r\n" * 130, b"X: " + b"z" * 70_000 + b"\r\n",
+    b"X-Forwarded-User: ann\r\n", b"Authorization: Basic YW5uOmJj\r\n", b"no colon\r\n", b": none\r\n", b" folded\r\n", b"X\0Y: z\r\n",
 ]
 VERSIONS = [b"HTTP/1.0", b"HTTP/1.2", b"HTTP/2.0", b"HTTP/0.9", b"http/1.1", b"HTTP/1.10", b"HTTP/11", b"HTTP /1.1", b"", b"HTTP/1.1 HTTP/1.1"]
+FIELD_LINE = rb"(?<=\n)[^\r\n]+:[^\r\n]+\r\n"
 METHODS = [b"GET", b"HEAD", b"POST", b"PUT", b"DELETE", b"OPTIONS", b"TRACE", b"CONNECT", b"get", b"G\0T", b"A" * 16, b"M" * 5000]
 
 
@@ -102,7 +115,8 @@ def blow_number(chance, text):
 
 
 def change_size(chance, text):
-    return replaced(chance, rb"(?<=\n)[0-9a-f]+(?=[;\r])", text, lambda it: chance.choice([*SIZES, it.upper(), b"0" * chance.randrange(30) + it, it + b" " * chance.randrange(300)]))
+    zeros, blanks = b"0" * chance.randrange(30), b" " * chance.randrange(300)
+    return replaced(chance, rb"(?<=\n)[0-9a-f]+(?=[;\r])", text, lambda it: chance.choice([*SIZES, it.upper(), zeros + it, it + blanks]))
 
 
 def double_line(chance, text):
@@ -110,11 +124,13 @@ def double_line(chance, text):
 
 
 def add_line(chance, text):
-    return replaced(chance, rb"(?<=\n)[^\r\n]+:[^\r\n]+\r\n", text, lambda it: chance.choice([it + chance.choice(LINES), chance.choice(LINES) + it]))
+    line = chance.choice(LINES)
+    return replaced(chance, FIELD_LINE, text, lambda it: chance.choice([it + line, line + it]))
 
 
 def add_framing(chance, text):
-    return replaced(chance, rb"(?<=\n)[^\r\n]+:[^\r\n]+\r\n", text, lambda it: chance.choice([it + chance.choice(FRAMINGS), chance.choice(FRAMINGS) + it, chance.choice(FRAMINGS)]))
+    line = chance.choice(FRAMINGS)
+    return replaced(chance, FIELD_LINE, text, lambda it: chance.choice([it + line, line + it, line]))
 
 
 def fold_line(chance, text):
@@ -130,7 +146,8 @@ def space_colon(chance, text):
 
 
 def change_target(chance, text):
-    return replaced(chance, rb"(?<=[A-Z] )[^ \r\n]+(?= HTTP)", text, lambda it: chance.choice([*TARGETS, it + chance.choice(CONTROLS), it + b"/.." * chance.randrange(4), it + b"x" * chance.choice([10, 70_000])]))
+    tails = [chance.choice(CONTROLS), b"/.." * chance.randrange(4), b"x" * chance.choice([10, 70_000])]
+    return replaced(chance, rb"(?<=[A-Z] )[^ \r\n]+(?= HTTP)", text, lambda it: chance.choice([*TARGETS, *(it + tail for tail in tails)]))
 
 
 def change_version(chance, text):
@@ -155,8 +172,8 @@ def go_on(chance, text):
 
 
 MUTATIONS = [
-    flip_bit, delete, double_part, insert_control, blow_number, change_size, double_line, add_line, add_framing, fold_line, change_end, space_colon, change_target, change_version,
-    change_method, change_case, cut_end, go_on,
+    flip_bit, delete, double_part, insert_control, blow_number, change_size, double_line, add_line, add_framing, fold_line, change_end, space_colon,
+    change_target, change_version, change_method, change_case, cut_end, go_on,
 ]
 
 
@@ -180,4 +197,5 @@ def noise(chance):
     """Random bytes, some of which begin as a request does, or have ends of lines."""
     alphabet = chance.choice([bytes(range(256)), b"GETPOSH /:.1%\r\n\0abc", b"\r\n \t:", bytes(range(32, 127)) + b"\r\n" * 8])
     text = bytes(chance.choice(alphabet) for _ in range(chance.choice([1, 10, 100, 1000, 3000])))
-    return chance.choice([b"", b"", b"GET ", b"GET / HTTP/1.1\r\n", asked(b"POST", b"/who", b"Transfer-Encoding: chunked\r\n")]) + text + chance.choice([b"", b"\r\n\r\n"])
+    first = chance.choice([b"", b"", b"GET ", b"GET / HTTP/1.1\r\n", asked(b"POST", b"/who", b"Transfer-Encoding: chunked\r\n")])
+    return first + text + chance.choice([b"", b"\r\n\r\n"])

@@ -1,6 +1,7 @@
 """A probe that asks for a page over a new connection every tenth of a second, beside all attacks."""
 import contextlib
 import multiprocessing
+import os
 import signal
 import socket
 import time
@@ -26,7 +27,8 @@ def probe(port, request, over, found):
     """Asks until it is over, and hands on the seconds that each answer took, and the wrong answers."""
     signal.signal(signal.SIGTERM, signal.SIG_DFL)
     seconds, wrong, begun = [], [], time.monotonic()
-    while not over.wait(PAUSE_SECONDS):
+    parent = os.getppid()
+    while not over.wait(PAUSE_SECONDS) and os.getppid() == parent:
         start = time.monotonic()
         text = answer(port, request)
         seconds.append(time.monotonic() - start)

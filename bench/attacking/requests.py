@@ -1,7 +1,8 @@
 """A reader of requests by RFC 9112, which knows nothing of the server that it is held against.
 
 Where the RFC leaves a choice (a line feed alone as an end of line, a field that goes on in the next line, a length that is there twice, ..) it reads on as
-the RFC allows, and notes that a server may refuse the request. What the RFC has a server refuse, or what is in no form that it names, is a fault, and ends the reading."""
+the RFC allows, and notes that a server may refuse the request. What the RFC has a server refuse, or what is in no form that it names, is a fault, and ends
+the reading."""
 import re
 from typing import NamedTuple
 

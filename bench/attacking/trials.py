@@ -68,7 +68,8 @@ def tried():
         found = [(it, judged(readings(message), it)[1]) for it in rights + wrongs]
         lines += [f"{name}: {it!r} may come, and the reader says: {wrong}" for it, wrong in found[: len(rights)] if wrong]
         lines += [f"{name}: {it!r} may not come, and the reader lets it" for it, wrong in found[len(rights) :] if not wrong]
-    return lines + [f"{message!r} is in form, and the reader has it otherwise" for message, statuses in corpus(b"JSESSIONID=0") if not is_in_form(message, statuses)]
+    forms = corpus(b"JSESSIONID=0")
+    return lines + [f"{message!r} is in form, and the reader has it otherwise" for message, statuses in forms if not is_in_form(message, statuses)]
 
 
 def is_in_form(message, statuses):
