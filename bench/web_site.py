@@ -7,7 +7,8 @@ import zlib
 
 from servers import ROOT, SERVER
 
-USER, PASSWORD, SALT = "ann", "a longer word", "61"
+# What a form escapes is in the password.
+USER, PASSWORD, SALT = "ann", "grün & 100 % + mehr", "61"
 PICTURES = 8
 # The background that the style sheet sets.
 STYLE = "rgb(1, 102, 203)"
