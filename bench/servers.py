@@ -1,7 +1,8 @@
-"""What bench/serve and bench/run measure, and what both measure it with."""
+"""What bench/serve, bench/run and bench/clients share: the servers that they measure, and what they measure them with."""
 import contextlib
 import os
 import re
+import resource
 import shutil
 import signal
 import socket
@@ -68,16 +69,34 @@ def nginx(folder):
 
 
 @contextlib.contextmanager
+def room():
+    """A temporary folder. What is ended meanwhile leaves neither it nor a server behind."""
+    end_in_order()
+    with tempfile.TemporaryDirectory(prefix="sv-bench-") as folder:
+        yield folder
+
+
+@contextlib.contextmanager
 def room_of_servers():
     """A folder with the configuration of one servlet, and our peers: the folder, and the program of the peers."""
-    end_in_order()
-    with tempfile.TemporaryDirectory(prefix="sv-bench-") as room:
-        peers = f"{room}/peers"
+    with room() as folder:
+        peers = f"{folder}/peers"
         subprocess.run(["cc", "-O2", "-D_GNU_SOURCE", "-o", peers, f"{TOP}/bench/serve_peers.c"], check=True)
         for name, text in ("server.toml", SERVER), ("root.toml", ROOT):
-            with open(f"{room}/{name}", "w") as file:
+            with open(f"{folder}/{name}", "w") as file:
                 file.write(text)
-        yield room, peers
+        yield folder, peers
+
+
+def raise_open_files():
+    """As many descriptors as may be had, for this script and for what it starts."""
+    most = resource.getrlimit(resource.RLIMIT_NOFILE)[1]
+    resource.setrlimit(resource.RLIMIT_NOFILE, (most, most))
+
+
+def running_run(program, folder):
+    """The command `run` on the configuration of a folder."""
+    return running([program, "run", "server.toml"], folder)
 
 
 @contextlib.contextmanager
