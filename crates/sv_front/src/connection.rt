@@ -5,6 +5,7 @@ ghost use Rattle.sv_front.specs.Places.{HasPiece, IsIdle, Needs};
 ghost use Rattle.sv_front.specs.Steps.{Drives, HandsOn, SendsOn, StepsOnce, TakesIn};
 
 use crate::cause::Cause;
+use crate::ending::ends_message;
 use crate::limits::{BYTES_A_WINDOW, MAX_IDLE_SECONDS, READS_AT_ONCE, WINDOW_SECONDS};
 use crate::peer::{Peer, Tried};
 use crate::pending::Pending;
@@ -73,7 +74,7 @@ impl<P: Peer> Connection<P> {
         self.until
     }
 
-    /// Whether it stands between requests: nothing was read since its last answer, which was written.
+    /// Whether it stands between requests: no message is under way, as far as answers tell it, and nothing waits.
     pub fn is_between_requests(&self) -> bool {
         !self.begun && self.is_idle()
     }
@@ -240,13 +241,18 @@ impl<P: Peer> Connection<P> {
         }
     }
 
-    // What a piece brought waits to be written.
+    // What a piece brought waits to be written. A message is under way until its answer was brought; `100 Continue` is none.
     fn keep(&mut self, reaction: Reaction)
         ensures { self.new ≡ record self.old { unsent = reaction.sends; closes = reaction.closes; rests = false } }
     {
-        let Reaction { sends, closes, .. } = reaction;
+        let Reaction {
+            sends,
+            closes,
+            journal,
+            ..
+        } = reaction;
+        self.begun = !ends_message(journal.entries(), sends.as_slice());
         self.unsent = Pending::of(sends);
-        self.begun = self.begun && self.unsent.is_empty();
         self.closes = closes;
         self.rests = false;
     }

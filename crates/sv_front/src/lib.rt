@@ -3,6 +3,7 @@
 
 mod cause;
 mod connection;
+mod ending;
 mod front;
 mod laws;
 mod limits;
