@@ -3,6 +3,9 @@
 /// As many events are asked of the system at once.
 pub const EVENTS_AT_ONCE: usize = 256;
 
+/// Behind as many connections that were told as ready it is told that one may have come, so that those that come do not wait for all that are ready.
+pub const MAX_READY_BEFORE_ACCEPT: u32 = 32;
+
 /// As many streams of connections that are over are read on at once.
 pub const MAX_LINGERING: usize = 256;
 

@@ -1,6 +1,6 @@
 //! A listener and its connections as a network.
 
-use crate::limits::EVENTS_AT_ONCE;
+use crate::limits::{EVENTS_AT_ONCE, MAX_READY_BEFORE_ACCEPT};
 use crate::lingering::Lingering;
 use crate::listening::Listening;
 use crate::ready::Ready;
@@ -25,6 +25,7 @@ pub struct Sockets<'a, C> {
     ready: Ready,
     lingering: Lingering<TcpStream>,
     second: u64,
+    told: u32,
     has_failed: bool,
 }
 
@@ -50,6 +51,7 @@ impl<'a, C: Clock> Sockets<'a, C> {
             ready: Ready::new(),
             lingering: Lingering::new(alloc),
             second: 0,
+            told: 0,
             has_failed: false,
         })
     }
@@ -121,10 +123,15 @@ impl<'a, C: Clock> Network for Sockets<'a, C> {
     type Peer = StreamPeer<'a, TcpStream>;
 
     fn wait(&mut self) -> Told {
+        if self.told >= MAX_READY_BEFORE_ACCEPT {
+            self.told = 0;
+            return Told::Incoming;
+        }
         for _ in 0..u64::MAX {
             match self.ready.next() {
                 Some(token) => {
                     if !self.lingers(token) {
+                        self.told = self.told.saturating_add(1);
                         return told_of(token);
                     }
                 }
