@@ -82,7 +82,10 @@ class Steps:
 
     def send(self, name, text):
         with contextlib.suppress(ConnectionError):
-            self.peers[name].stream.sendall(self.with_ids(text))
+            self.put(name, text)
+
+    def put(self, name, text):
+        self.peers[name].stream.sendall(self.with_ids(text))
 
     def expect(self, name, text):
         peer = self.peers[name]

@@ -1,5 +1,6 @@
 pub mod Alone
 pub mod Course
+pub mod Ending
 pub mod Fronts
 pub mod Known
 pub mod Laws

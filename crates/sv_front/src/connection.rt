@@ -5,7 +5,8 @@ ghost use Rattle.sv_front.specs.Places.{HasPiece, IsIdle, Needs};
 ghost use Rattle.sv_front.specs.Steps.{Drives, HandsOn, SendsOn, StepsOnce, TakesIn};
 
 use crate::cause::Cause;
-use crate::limits::{BYTES_A_WINDOW, MAX_IDLE_SECONDS, READS_AT_ONCE, WINDOW_SECONDS};
+use crate::ending::ends_message;
+use crate::limits::{BYTES_A_WINDOW, CALLS_AT_ONCE, MAX_IDLE_SECONDS, WINDOW_SECONDS};
 use crate::peer::{Peer, Tried};
 use crate::pending::Pending;
 use crate::pieces::piece_len;
@@ -28,7 +29,9 @@ pub(crate) struct Connection<P> {
     begun: bool,
     waits: bool,
     moved: usize,
+    stirred: bool,
     until: u64,
+    rested: u64,
 }
 
 impl<P> Model for Connection<P> {
@@ -43,8 +46,8 @@ impl<P: Peer> Connection<P> {
     ghost use Rattle.std.specs.Prelude.{◌≡◌, [], false, true, IsTrue, ◌↔◌};
     ghost use Rattle.sv_front.specs.Places as spec;
 
-    /// A connection that was opened, whose stream is armed.
-    pub fn new(alloc: Global, stream: P, until: u64) -> Connection<P>
+    /// A connection that was opened in that turn, whose stream is armed.
+    pub fn new(alloc: Global, stream: P, until: u64, turn: u64) -> Connection<P>
         ensures { result ≡ record { stream = stream; ahead = []; unsent = []; closes = false; rests = true } }
     {
         Connection {
@@ -57,7 +60,9 @@ impl<P: Peer> Connection<P> {
             begun: false,
             waits: false,
             moved: 0,
+            stirred: false,
             until,
+            rested: turn,
         }
     }
 
@@ -73,18 +78,24 @@ impl<P: Peer> Connection<P> {
         self.until
     }
 
-    /// Whether it stands between requests: nothing was read since its last answer, which was written.
+    /// Whether it stands between requests: no message is under way, as far as answers tell it, and nothing waits.
     pub fn is_between_requests(&self) -> bool {
         !self.begun && self.is_idle()
     }
 
-    /// Does what can be done without waiting, at that time in seconds, until the connection rests, or is over for that cause.
+    /// The turn in which it came to stand between requests, where it does.
+    pub fn rested(&self) -> u64 {
+        self.rested
+    }
+
+    /// Does what can be done without waiting, at that time in seconds and in that turn, until the connection rests, or is over for that cause.
     ///
     /// # Errors
     /// Why an event was refused, or want of memory.
     pub fn drive_at<R: Reactor, C: Clock>(
         &mut self,
         now: u64,
+        turn: u64,
         number: u64,
         reactor: &mut R,
         clock: &mut C,
@@ -92,21 +103,32 @@ impl<P: Peer> Connection<P> {
         ensures { Drives P.ways R.steps C.tells number reactor.old clock.old self.old result reactor.new clock.new self.new }
     {
         let driven = self.drive(number, reactor, clock);
-        self.pace(now);
+        self.pace(now, turn);
         driven
     }
 
     // Puts the moment off at which it is to be given up, where it moved enough bytes or came to stand between requests.
-    fn pace(&mut self, now: u64)
+    fn pace(&mut self, now: u64, turn: u64)
         ensures { self.new ≡ self.old }
     {
         if self.is_between_requests() {
-            self.waits = false;
-            self.until = now.saturating_add(MAX_IDLE_SECONDS);
+            self.rest(now, turn);
         } else if !self.waits || self.moved >= BYTES_A_WINDOW {
             self.waits = true;
             self.moved = 0;
             self.until = now.saturating_add(WINDOW_SECONDS);
+        }
+        self.stirred = false;
+    }
+
+    // Stands between requests from now on, where something came or went of it; else it has done so already.
+    fn rest(&mut self, now: u64, turn: u64)
+        ensures { self.new ≡ self.old }
+    {
+        if self.stirred {
+            self.waits = false;
+            self.until = now.saturating_add(MAX_IDLE_SECONDS);
+            self.rested = turn;
         }
     }
 
@@ -119,13 +141,13 @@ impl<P: Peer> Connection<P> {
     ) -> Result<Option<Cause>, StepFault>
         ensures { Drives P.ways R.steps C.tells number reactor.old clock.old self.old result reactor.new clock.new self.new }
     {
-        let mut reads = 0;
+        let mut calls = 0;
         for _ in 0..u64::MAX {
-            if self.is_idle() {
-                if reads >= READS_AT_ONCE {
+            if self.needs_call() {
+                if calls >= CALLS_AT_ONCE {
                     return Ok(self.arm());
                 }
-                reads += 1;
+                calls += 1;
             }
             match self.step(number, reactor, clock) {
                 Ok(Step::GoesOn) => {}
@@ -171,6 +193,13 @@ impl<P: Peer> Connection<P> {
         !self.closes && self.unsent.is_empty() && self.ahead.is_empty()
     }
 
+    // Whether the connection needs to be read or to be written to.
+    fn needs_call(&self) -> bool
+        ensures { IsTrue result → Needs self.now }
+    {
+        !self.unsent.is_empty() || self.is_idle()
+    }
+
     // Reads once.
     fn take_in(&mut self) -> Result<Step, NoMemory>
         requires { IsIdle self.old }
@@ -181,6 +210,7 @@ impl<P: Peer> Connection<P> {
             Ok(Tried::Done(count)) => {
                 self.begun = true;
                 self.moved = self.moved.saturating_add(count);
+                self.stirred = true;
                 self.rests = false;
                 Ok(Step::GoesOn)
             }
@@ -202,6 +232,7 @@ impl<P: Peer> Connection<P> {
             Tried::Done(count) => {
                 self.unsent.skip(count);
                 self.moved = self.moved.saturating_add(count);
+                self.stirred = true;
                 self.rests = false;
                 Step::GoesOn
             }
@@ -240,20 +271,25 @@ impl<P: Peer> Connection<P> {
         }
     }
 
-    // What a piece brought waits to be written.
+    // What a piece brought waits to be written. A message is under way until its answer was brought; `100 Continue` is none.
     fn keep(&mut self, reaction: Reaction)
         ensures { self.new ≡ record self.old { unsent = reaction.sends; closes = reaction.closes; rests = false } }
     {
-        let Reaction { sends, closes, .. } = reaction;
+        let Reaction {
+            sends,
+            closes,
+            journal,
+            ..
+        } = reaction;
+        self.begun = !ends_message(journal.entries(), sends.as_slice());
         self.unsent = Pending::of(sends);
-        self.begun = self.begun && self.unsent.is_empty();
         self.closes = closes;
         self.rests = false;
     }
 
     // Asks to be told anew of what is ready; where that cannot be had, the connection is given up.
     fn arm(&mut self) -> Option<Cause>
-        requires { IsIdle self.old }
+        requires { Needs self.old }
         ensures { spec.IsArmed P.ways self.old result self.new }
     {
         if self.stream.arm() {

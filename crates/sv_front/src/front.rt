@@ -18,11 +18,13 @@ use std::marker::Model;
 use sv_run::{Happening, Reactor, StepFault};
 use sv_streams::Clock;
 
-/// The connections that are known, by their numbers, and the number of the next. No number is given twice.
+/// The connections that are known, by their numbers, the number of the next, and how often one was opened or driven, which tells apart what was
+/// done within a second. No number is given twice.
 #[derive(Drop)]
 pub(crate) struct Front<P> {
     alloc: Global,
     next: u64,
+    turns: u64,
     connections: HashMap<u64, Connection<P>>,
 }
 
@@ -45,6 +47,7 @@ impl<P: Peer + Drop> Front<P> {
         Front {
             alloc,
             next: 0,
+            turns: 0,
             connections: HashMap::new(alloc),
         }
     }
@@ -96,8 +99,10 @@ impl<P: Peer + Drop> Front<P> {
         if number >= self.next {
             return Ok(None);
         }
+        self.turns = self.turns.saturating_add(1);
+        let turn = self.turns;
         match self.connections.get_mut(&number) {
-            Some(connection) => return connection.drive_at(now, number, reactor, clock),
+            Some(connection) => return connection.drive_at(now, turn, number, reactor, clock),
             None => {}
         }
         Ok(None)
@@ -186,7 +191,8 @@ impl<P: Peer + Drop> Front<P> {
             Err(fault) => return Err(fault),
         }
         let until = now.saturating_add(MAX_IDLE_SECONDS);
-        let connection = Connection::new(self.alloc, stream, until);
+        self.turns = self.turns.saturating_add(1);
+        let connection = Connection::new(self.alloc, stream, until, self.turns);
         match self.connections.insert(self.next, connection) {
             Ok(_) => {}
             Err(_) => return Err(StepFault::NoMemory),
@@ -210,8 +216,8 @@ impl<P: Peer + Drop> Front<P> {
         let mut found = None;
         let mut least = u64::MAX;
         for (number, connection) in self.connections.iter() {
-            if connection.is_between_requests() && connection.until() < least {
-                least = connection.until();
+            if connection.is_between_requests() && connection.rested() < least {
+                least = connection.rested();
                 found = Some(*number);
             }
         }

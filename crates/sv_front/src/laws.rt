@@ -6,7 +6,7 @@ ghost use Rattle.sv_front.specs.Fronts.{RoundsAreOne};
 ghost use Rattle.sv_front.specs.Laws.{BytesAreKept, EndsHaveACause, NumbersAreNotUsedAgain, RestIsForSomething};
 
 use crate::limits::{
-    BYTES_A_WINDOW, MAX_CONNECTIONS, MAX_IDLE_SECONDS, READ_BYTES, READS_AT_ONCE, WINDOW_SECONDS,
+    BYTES_A_WINDOW, CALLS_AT_ONCE, MAX_CONNECTIONS, MAX_IDLE_SECONDS, READ_BYTES, WINDOW_SECONDS,
 };
 use crate::peer::Peer;
 use sv_run::Reactor;
@@ -16,7 +16,7 @@ use sv_streams::Clock;
 pub fn limits_are_as_stated()
     ensures connections { MAX_CONNECTIONS ≡ 1024 }
     ensures read { READ_BYTES ≡ 16384 }
-    ensures reads { READS_AT_ONCE ≡ 8 }
+    ensures calls { CALLS_AT_ONCE ≡ 8 }
     ensures idle { MAX_IDLE_SECONDS ≡ 60 }
     ensures window { WINDOW_SECONDS ≡ 10 }
     ensures bytes { BYTES_A_WINDOW ≡ 10240 }

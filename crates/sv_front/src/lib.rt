@@ -3,6 +3,7 @@
 
 mod cause;
 mod connection;
+mod ending;
 mod front;
 mod laws;
 mod limits;
@@ -19,7 +20,7 @@ pub use laws::{
     numbers_are_not_used_again, rest_is_for_something, rounds_are_one,
 };
 pub use limits::{
-    BYTES_A_WINDOW, MAX_CONNECTIONS, MAX_IDLE_SECONDS, READ_BYTES, READS_AT_ONCE, WINDOW_SECONDS,
+    BYTES_A_WINDOW, CALLS_AT_ONCE, MAX_CONNECTIONS, MAX_IDLE_SECONDS, READ_BYTES, WINDOW_SECONDS,
 };
 pub use network::{Network, Told};
 pub use peer::{Peer, Tried};

@@ -6,8 +6,8 @@ pub const MAX_CONNECTIONS: usize = 1024;
 /// How many bytes a read of a connection takes at most.
 pub const READ_BYTES: usize = 16_384;
 
-/// As many reads are made of a connection before others have their turn.
-pub const READS_AT_ONCE: u32 = 8;
+/// As many reads and writes are made of a connection before others have their turn.
+pub const CALLS_AT_ONCE: u32 = 8;
 
 /// A connection that stands between requests is given up after so many seconds.
 pub const MAX_IDLE_SECONDS: u64 = 60;

@@ -111,12 +111,34 @@ fn expire<R: Reactor, N: Network, C: Clock>(
         let Some(number) = front.due(now) else {
             return Ok(());
         };
-        match front.give_up(number, reactor, clock, network) {
+        match give_up_due(front, number, now, reactor, clock, network) {
             Ok(()) => {}
             Err(fault) => return Err(fault),
         }
     }
     Ok(())
+}
+
+// Gives up a connection whose time is over, unless what can be read and written of it now puts that off: a peer that takes an answer slowly makes
+// room for more of it before the system tells so.
+fn give_up_due<R: Reactor, N: Network, C: Clock>(
+    front: &mut Front<N::Peer>,
+    number: u64,
+    now: u64,
+    reactor: &mut R,
+    clock: &mut C,
+    network: &mut N,
+) -> Result<(), StepFault>
+    ensures { Moves N.Peer.ways R.steps C.tells reactor.old clock.old front.old result reactor.new clock.new front.new }
+{
+    match front.serve(number, reactor, clock, network) {
+        Ok(()) => {}
+        Err(fault) => return Err(fault),
+    }
+    if front.due(now) != Some(number) {
+        return Ok(());
+    }
+    front.give_up(number, reactor, clock, network)
 }
 
 // Accepts the connections that have come.
@@ -157,11 +179,32 @@ fn accept_one<R: Reactor, N: Network, C: Clock>(
         Ok(()) => {}
         Err(fault) => return Err(fault),
     }
-    let now = network.seconds();
-    front.open(peer, now, reactor, clock)
+    open(front, peer, reactor, clock, network)
 }
 
-// Gives up the connection that has stood between requests longest, where there is no room.
+// Opens the next connection, and serves it: what it sends has often come by then. Says whether there was room.
+fn open<R: Reactor, N: Network, C: Clock>(
+    front: &mut Front<N::Peer>,
+    peer: N::Peer,
+    reactor: &mut R,
+    clock: &mut C,
+    network: &mut N,
+) -> Result<bool, StepFault>
+    ensures { Moves N.Peer.ways R.steps C.tells reactor.old clock.old front.old result reactor.new clock.new front.new }
+{
+    let number = front.next();
+    match front.open(peer, network.seconds(), reactor, clock) {
+        Ok(true) => {}
+        Ok(false) => return Ok(false),
+        Err(fault) => return Err(fault),
+    }
+    match front.serve(number, reactor, clock, network) {
+        Ok(()) => Ok(true),
+        Err(fault) => Err(fault),
+    }
+}
+
+// Where there is no room, gives up the connection that has stood between requests longest.
 fn make_room<R: Reactor, N: Network, C: Clock>(
     front: &mut Front<N::Peer>,
     reactor: &mut R,
@@ -170,11 +213,37 @@ fn make_room<R: Reactor, N: Network, C: Clock>(
 ) -> Result<(), StepFault>
     ensures { Moves N.Peer.ways R.steps C.tells reactor.old clock.old front.old result reactor.new clock.new front.new }
 {
-    if front.has_room() {
+    for _ in 0..MAX_CONNECTIONS + 1 {
+        if front.has_room() {
+            return Ok(());
+        }
+        let Some(number) = front.longest_idle() else {
+            return Ok(());
+        };
+        match give_up_idle(front, number, reactor, clock, network) {
+            Ok(()) => {}
+            Err(fault) => return Err(fault),
+        }
+    }
+    Ok(())
+}
+
+// Gives up a connection that stands between requests, unless something has come of it that was not read yet: then it is served.
+fn give_up_idle<R: Reactor, N: Network, C: Clock>(
+    front: &mut Front<N::Peer>,
+    number: u64,
+    reactor: &mut R,
+    clock: &mut C,
+    network: &mut N,
+) -> Result<(), StepFault>
+    ensures { Moves N.Peer.ways R.steps C.tells reactor.old clock.old front.old result reactor.new clock.new front.new }
+{
+    match front.serve(number, reactor, clock, network) {
+        Ok(()) => {}
+        Err(fault) => return Err(fault),
+    }
+    if front.longest_idle() != Some(number) {
         return Ok(());
     }
-    match front.longest_idle() {
-        Some(number) => front.give_up(number, reactor, clock, network),
-        None => Ok(()),
-    }
+    front.give_up(number, reactor, clock, network)
 }

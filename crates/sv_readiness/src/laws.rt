@@ -2,11 +2,18 @@
 
 ghost use Rattle.std.specs.Prelude.{◌≡◌};
 
-use crate::limits::{DROPPED_READ_BYTES, EVENTS_AT_ONCE, MAX_DROPPED_READS};
+use crate::limits::{
+    DROPPED_READ_BYTES, EVENTS_AT_ONCE, LINGER_SECONDS, MAX_DROPPED_BYTES, MAX_DROPPED_READS,
+    MAX_LINGERING, MAX_READY_BEFORE_ACCEPT,
+};
 
-/// The limits of this crate as numbers. What is dropped of a connection that is over is 1 MiB at most.
+/// The limits of this crate as numbers. What is dropped of a connection that is over is 1 MiB at a time, and 16 MiB in all, at most.
 pub fn limits_are_as_stated()
     ensures events { EVENTS_AT_ONCE ≡ 256 }
+    ensures ready { MAX_READY_BEFORE_ACCEPT ≡ 32 }
+    ensures streams { MAX_LINGERING ≡ 256 }
+    ensures seconds { LINGER_SECONDS ≡ 2 }
+    ensures bytes { MAX_DROPPED_BYTES ≡ 16777216 }
     ensures reads { MAX_DROPPED_READS ≡ 64 }
     ensures read { DROPPED_READ_BYTES ≡ 16384 }
 {}

@@ -3,15 +3,20 @@
 #![tactic(auto)]
 
 mod calls;
+mod dropping;
 mod laws;
 mod limits;
+mod lingering;
 mod listening;
 mod ready;
 mod sockets;
 mod stream_peer;
 
 pub use laws::limits_are_as_stated;
-pub use limits::{EVENTS_AT_ONCE, MAX_DROPPED_READS};
+pub use limits::{
+    EVENTS_AT_ONCE, LINGER_SECONDS, MAX_DROPPED_BYTES, MAX_DROPPED_READS, MAX_LINGERING,
+    MAX_READY_BEFORE_ACCEPT,
+};
 pub use listening::Listening;
 pub use sockets::Sockets;
 pub use stream_peer::StreamPeer;

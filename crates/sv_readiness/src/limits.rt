@@ -1,9 +1,21 @@
-//! Limits of what is reported and dropped at once.
+//! Limits of what is reported and dropped at once, and of what is read on.
 
 /// As many events are asked of the system at once.
 pub const EVENTS_AT_ONCE: usize = 256;
 
-/// Where a connection is over, what its peer sent behind that is read and dropped as far as it has come, in at most so many reads.
+/// Behind as many connections that were told as ready it is told that one may have come, so that those that come do not wait for all that are ready.
+pub const MAX_READY_BEFORE_ACCEPT: u32 = 32;
+
+/// As many streams of connections that are over are read on at once.
+pub const MAX_LINGERING: usize = 256;
+
+/// A stream is read on for so many seconds at most.
+pub const LINGER_SECONDS: u64 = 2;
+
+/// As many bytes are dropped of a stream at most.
+pub const MAX_DROPPED_BYTES: usize = 16_777_216;
+
+/// In as many reads what has come of a stream is dropped at most before others have their turn.
 pub const MAX_DROPPED_READS: u32 = 64;
 
 /// How many bytes such a read takes at most.

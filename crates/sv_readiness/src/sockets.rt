@@ -1,7 +1,7 @@
 //! A listener and its connections as a network.
 
-use crate::calls::try_read;
-use crate::limits::{DROPPED_READ_BYTES, EVENTS_AT_ONCE, MAX_DROPPED_READS};
+use crate::limits::{EVENTS_AT_ONCE, MAX_READY_BEFORE_ACCEPT};
+use crate::lingering::Lingering;
 use crate::listening::Listening;
 use crate::ready::Ready;
 use crate::stream_peer::StreamPeer;
@@ -12,7 +12,7 @@ use std::io;
 use std::io::ErrorKind;
 use std::net::Shutdown;
 use std::time::{Clock, Duration};
-use sv_front::{Network, Told, Tried};
+use sv_front::{Network, Told};
 
 /// A listener and its connections. What the system fails to do for one of them ends that one alone, or is tried again within a second.
 #[derive(Drop)]
@@ -23,7 +23,9 @@ pub struct Sockets<'a, C> {
     listener: TcpListener,
     events: Events,
     ready: Ready,
+    lingering: Lingering<TcpStream>,
     second: u64,
+    told: u32,
     has_failed: bool,
 }
 
@@ -47,7 +49,9 @@ impl<'a, C: Clock> Sockets<'a, C> {
             listener,
             events,
             ready: Ready::new(),
+            lingering: Lingering::new(alloc),
             second: 0,
+            told: 0,
             has_failed: false,
         })
     }
@@ -73,6 +77,24 @@ impl<'a, C: Clock> Sockets<'a, C> {
             }
             Err(_) => Duration::from_secs(1),
         }
+    }
+
+    // What is told where nothing reported is left to be: that a second is over, that no more can be reported, or nothing yet.
+    fn report_next(&mut self) -> Option<Told> {
+        if self.has_second_passed() {
+            self.lingering.expire(self.second);
+            return Some(Told::Second);
+        }
+        if self.report().is_err() {
+            self.has_failed = true;
+            return Some(Told::Stop);
+        }
+        None
+    }
+
+    // Whether a token is that of a connection that is over and whose stream is still kept, which is then read on.
+    fn lingers(&mut self, token: usize) -> bool {
+        token != usize::MAX && self.lingering.read_on(token as u64, self.registry)
     }
 
     // Whether another second than before is told.
@@ -101,16 +123,23 @@ impl<'a, C: Clock> Network for Sockets<'a, C> {
     type Peer = StreamPeer<'a, TcpStream>;
 
     fn wait(&mut self) -> Told {
+        if self.told >= MAX_READY_BEFORE_ACCEPT {
+            self.told = 0;
+            return Told::Incoming;
+        }
         for _ in 0..u64::MAX {
-            if let Some(token) = self.ready.next() {
-                return told_of(token);
-            }
-            if self.has_second_passed() {
-                return Told::Second;
-            }
-            if self.report().is_err() {
-                self.has_failed = true;
-                return Told::Stop;
+            match self.ready.next() {
+                Some(token) => {
+                    if !self.lingers(token) {
+                        self.told = self.told.saturating_add(1);
+                        return told_of(token);
+                    }
+                }
+                None => {
+                    if let Some(told) = self.report_next() {
+                        return told;
+                    }
+                }
             }
         }
         Told::Stop
@@ -127,11 +156,13 @@ impl<'a, C: Clock> Network for Sockets<'a, C> {
         None
     }
 
-    fn part(&mut self, _number: u64, peer: StreamPeer<'a, TcpStream>) {
+    fn part(&mut self, number: u64, peer: StreamPeer<'a, TcpStream>) {
         let stream = peer.into_stream();
-        // Where the system does not take it, the connection is closed without it.
-        let _ = stream.shutdown(Shutdown::Write);
-        drop_rest(stream);
+        // A peer that is gone is sent no end.
+        if stream.shutdown(Shutdown::Write).is_ok() {
+            let now = self.seconds();
+            self.lingering.take(number, stream, now, self.registry);
+        }
     }
 
     fn seconds(&mut self) -> u64 {
@@ -153,16 +184,4 @@ fn told_of(token: usize) -> Told {
 // Whether a further accept may give a connection.
 fn is_passing(kind: ErrorKind) -> bool {
     matches!(kind, ErrorKind::Interrupted | ErrorKind::ConnectionAborted)
-}
-
-// Reads what has come and drops it, so that closing does not take back what the peer was sent.
-fn drop_rest(stream: TcpStream) {
-    let mut stream = stream;
-    let mut buffer = [0; DROPPED_READ_BYTES];
-    for _ in 0..MAX_DROPPED_READS {
-        match try_read(&mut stream, &mut buffer) {
-            Tried::Done(count) if count > 0 => {}
-            _ => return,
-        }
-    }
 }

@@ -1,8 +1,8 @@
 use Rattle.sv_front.proofs.Stepping.{armed_then, one_more, over_then, rests_then}
 use Rattle.sv_front.proofs.connection.Connection.drive.Goals as goal
 
-pub returns-then-reads-ge-READS_AT_ONCE : goal.returns-then-reads-ge-READS_AT_ONCE
-returns-then-reads-ge-READS_AT_ONCE g c =
+pub returns-then-calls-ge-CALLS_AT_ONCE : goal.returns-then-calls-ge-CALLS_AT_ONCE
+returns-then-calls-ge-CALLS_AT_ONCE g c =
     armed_then g.R.Reactor.steps g.C.Clock.tells g.P.Peer.ways c.args.number c.args.reactor.now c.args.clock.now c.args.self.now
     c.loop.reactor c.loop.clock c.loop.self c.loop.invariant c.arm.result c.arm.new.self c.arm.ensures
 

@@ -1,0 +1,56 @@
+//! What is read of a connection that is over, and dropped.
+
+ghost use Rattle.std.specs.Prelude.{◌≡◌, ◌<◌, length};
+ghost use Rattle.sv_readiness.specs.Dropping.{Drops};
+
+use crate::calls::try_read;
+use crate::limits::{DROPPED_READ_BYTES, MAX_DROPPED_READS};
+use std::io::Read;
+use sv_front::Tried;
+
+/// What reading on came to.
+#[derive(Clone, Copy, Debug, PartialEq, Eq)]
+pub(crate) enum Dropped {
+    /// Nothing more is to be read: the stream has ended or failed, or enough of it was dropped.
+    All,
+    /// The next read would have to wait.
+    UntilPaused,
+    /// More may have come.
+    Some,
+}
+
+/// Reads what has come and drops it, in so many reads and as many bytes as are left to be dropped at most.
+pub(crate) fn drop_some<R: Read>(reader: &mut R, left: &mut usize) -> Dropped
+    ensures { Drops (R.remaining reader.old) left.old left.new (R.remaining reader.new) }
+{
+    let mut buffer = [0; DROPPED_READ_BYTES];
+    for _ in 0..MAX_DROPPED_READS {
+        match drop_once(reader, &mut buffer, left) {
+            Dropped::Some => {}
+            Dropped::UntilPaused => return Dropped::UntilPaused,
+            Dropped::All => return Dropped::All,
+        }
+    }
+    Dropped::Some
+}
+
+// Reads once.
+fn drop_once<R: Read>(reader: &mut R, buffer: &mut [u8], left: &mut usize) -> Dropped
+    requires { 0 < length buffer.old }
+    ensures bytes { Drops (R.remaining reader.old) left.old left.new (R.remaining reader.new) }
+    ensures buffer { length buffer.new ≡ length buffer.old }
+{
+    let most = buffer.len().min(*left);
+    if most == 0 {
+        return Dropped::All;
+    }
+    match try_read(reader, buffer.split_at_mut(most).0) {
+        Tried::Done(0) => Dropped::All,
+        Tried::Done(count) => {
+            *left -= count;
+            Dropped::Some
+        }
+        Tried::Paused => Dropped::UntilPaused,
+        Tried::Failed => Dropped::All,
+    }
+}
