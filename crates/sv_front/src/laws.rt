@@ -6,7 +6,8 @@ ghost use Rattle.sv_front.specs.Fronts.{RoundsAreOne};
 ghost use Rattle.sv_front.specs.Laws.{BytesAreKept, EndsHaveACause, NumbersAreNotUsedAgain, RestIsForSomething};
 
 use crate::limits::{
-    BYTES_A_WINDOW, CALLS_AT_ONCE, MAX_CONNECTIONS, MAX_IDLE_SECONDS, READ_BYTES, WINDOW_SECONDS,
+    ACCEPTED_AT_ONCE, BYTES_A_WINDOW, CALLS_AT_ONCE, MAX_CONNECTIONS, MAX_IDLE_SECONDS, READ_BYTES,
+    WINDOW_SECONDS,
 };
 use crate::peer::Peer;
 use sv_run::Reactor;
@@ -15,6 +16,7 @@ use sv_streams::Clock;
 /// The limits of this crate as numbers.
 pub fn limits_are_as_stated()
     ensures connections { MAX_CONNECTIONS ≡ 1024 }
+    ensures accepted { ACCEPTED_AT_ONCE ≡ 32 }
     ensures read { READ_BYTES ≡ 16384 }
     ensures calls { CALLS_AT_ONCE ≡ 8 }
     ensures idle { MAX_IDLE_SECONDS ≡ 60 }

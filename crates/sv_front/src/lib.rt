@@ -20,7 +20,8 @@ pub use laws::{
     numbers_are_not_used_again, rest_is_for_something, rounds_are_one,
 };
 pub use limits::{
-    BYTES_A_WINDOW, CALLS_AT_ONCE, MAX_CONNECTIONS, MAX_IDLE_SECONDS, READ_BYTES, WINDOW_SECONDS,
+    ACCEPTED_AT_ONCE, BYTES_A_WINDOW, CALLS_AT_ONCE, MAX_CONNECTIONS, MAX_IDLE_SECONDS, READ_BYTES,
+    WINDOW_SECONDS,
 };
 pub use network::{Network, Told};
 pub use peer::{Peer, Tried};

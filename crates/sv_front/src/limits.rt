@@ -3,6 +3,9 @@
 /// As many connections are known at once.
 pub const MAX_CONNECTIONS: usize = 1024;
 
+/// As many connections are accepted, and served at first, before others have their turn.
+pub const ACCEPTED_AT_ONCE: u32 = 32;
+
 /// How many bytes a read of a connection takes at most.
 pub const READ_BYTES: usize = 16_384;
 

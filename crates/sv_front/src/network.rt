@@ -7,7 +7,7 @@ use crate::peer::Peer;
 pub enum Told {
     /// The connection of this number may be ready.
     Ready(u64),
-    /// A connection may have come.
+    /// A connection may have come. Where one was accepted since, another may have, too: that is told then.
     Incoming,
     /// A second has passed, or more.
     Second,

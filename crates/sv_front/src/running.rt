@@ -4,7 +4,7 @@ ghost use Rattle.sv_front.specs.Fronts.{Moves, Serves};
 ghost use Rattle.sv_front.specs.Known.{Ticked};
 
 use crate::front::Front;
-use crate::limits::MAX_CONNECTIONS;
+use crate::limits::{ACCEPTED_AT_ONCE, MAX_CONNECTIONS};
 use crate::network::{Network, Told};
 use crate::peer::Peer;
 use std::alloc::Global;
@@ -50,7 +50,7 @@ fn take<R: Reactor, N: Network, C: Clock>(
 {
     match told {
         Told::Ready(number) => front.serve(number, reactor, clock, network),
-        Told::Incoming => accept_all(front, reactor, clock, network),
+        Told::Incoming => accept_some(front, reactor, clock, network),
         Told::Second => pass_second(front, reactor, clock, network),
         Told::Stop => Ok(()),
     }
@@ -73,7 +73,7 @@ fn pass_second<R: Reactor, N: Network, C: Clock>(
         Ok(()) => {}
         Err(fault) => return Err(fault),
     }
-    accept_all(front, reactor, clock, network)
+    accept_some(front, reactor, clock, network)
 }
 
 // Tells that time went on.
@@ -141,8 +141,8 @@ fn give_up_due<R: Reactor, N: Network, C: Clock>(
     front.give_up(number, reactor, clock, network)
 }
 
-// Accepts the connections that have come.
-fn accept_all<R: Reactor, N: Network, C: Clock>(
+// Accepts connections that have come, so many at once.
+fn accept_some<R: Reactor, N: Network, C: Clock>(
     front: &mut Front<N::Peer>,
     reactor: &mut R,
     clock: &mut C,
@@ -150,7 +150,7 @@ fn accept_all<R: Reactor, N: Network, C: Clock>(
 ) -> Result<(), StepFault>
     ensures { Moves N.Peer.ways R.steps C.tells reactor.old clock.old front.old result reactor.new clock.new front.new }
 {
-    for _ in 0..MAX_CONNECTIONS {
+    for _ in 0..ACCEPTED_AT_ONCE {
         match accept_one(front, reactor, clock, network) {
             Ok(true) => {}
             Ok(false) => return Ok(()),

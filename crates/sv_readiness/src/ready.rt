@@ -31,6 +31,11 @@ impl Ready {
         token
     }
 
+    /// Whether an event was not told yet.
+    pub fn has_next(&self) -> bool {
+        self.told < self.count
+    }
+
     /// Takes the events of a wait.
     pub fn refill(&mut self, events: &Events) {
         self.told = 0;

@@ -26,6 +26,8 @@ pub struct Sockets<'a, C> {
     lingering: Lingering<TcpStream>,
     second: u64,
     told: u32,
+    may_come: bool,
+    has_reported: bool,
     has_failed: bool,
 }
 
@@ -52,6 +54,8 @@ impl<'a, C: Clock> Sockets<'a, C> {
             lingering: Lingering::new(alloc),
             second: 0,
             told: 0,
+            may_come: false,
+            has_reported: false,
             has_failed: false,
         })
     }
@@ -61,10 +65,22 @@ impl<'a, C: Clock> Sockets<'a, C> {
         self.has_failed
     }
 
-    // Waits until something is reported, or the second is over.
+    // Whether it is to be told that a connection may have come: behind so many that were ready, or where another was accepted and behind that all that
+    // are ready were told.
+    fn is_turn_to_accept(&self) -> bool {
+        let has_told_all = self.has_reported && !self.ready.has_next();
+        self.told >= MAX_READY_BEFORE_ACCEPT || (self.may_come && has_told_all)
+    }
+
+    // Waits until something is reported, or the second is over; not at all, where a connection may have come.
     fn report(&mut self) -> io::Result<()> {
-        let rest = self.rest_of_second();
+        let rest = if self.may_come {
+            Duration::ZERO
+        } else {
+            self.rest_of_second()
+        };
         self.poll.poll(&mut self.events, Some(rest))?;
+        self.has_reported = true;
         self.ready.refill(&self.events);
         Ok(())
     }
@@ -123,11 +139,13 @@ impl<'a, C: Clock> Network for Sockets<'a, C> {
     type Peer = StreamPeer<'a, TcpStream>;
 
     fn wait(&mut self) -> Told {
-        if self.told >= MAX_READY_BEFORE_ACCEPT {
-            self.told = 0;
-            return Told::Incoming;
-        }
         for _ in 0..u64::MAX {
+            if self.is_turn_to_accept() {
+                self.told = 0;
+                self.may_come = false;
+                self.has_reported = false;
+                return Told::Incoming;
+            }
             match self.ready.next() {
                 Some(token) => {
                     if !self.lingers(token) {
@@ -146,9 +164,13 @@ impl<'a, C: Clock> Network for Sockets<'a, C> {
     }
 
     fn accept(&mut self, number: u64) -> Option<StreamPeer<'a, TcpStream>> {
+        self.may_come = false;
         for _ in 0..u64::MAX {
             match self.listener.accept() {
-                Ok((stream, _)) => return self.peer_of(stream, number),
+                Ok((stream, _)) => {
+                    self.may_come = true;
+                    return self.peer_of(stream, number);
+                }
                 Err(error) if is_passing(error.kind()) => {}
                 Err(_) => return None,
             }

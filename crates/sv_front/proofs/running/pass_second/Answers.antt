@@ -9,6 +9,6 @@ returns-in-Err-expire g c =
 
 pub returns : goal.returns
 returns g c =
-    moves_join g.N.Peer.Peer.ways g.R.Reactor.steps g.C.Clock.tells {A = Unit {0}} {B = Unit {0}} tt c.args.reactor.now c.expire.new.reactor c.accept_all.new.reactor c.args.clock.now c.expire.new.clock c.accept_all.new.clock
-    c.args.front.now c.expire.new.front c.accept_all.new.front (moves_join g.N.Peer.Peer.ways g.R.Reactor.steps g.C.Clock.tells {A = Unit {0}} {B = Unit {0}} tt c.args.reactor.now c.tick.new.reactor c.expire.new.reactor c.args.clock.now c.tick.new.clock c.expire.new.clock
-    c.args.front.now c.tick.new.front c.expire.new.front c.in-Ok.ensures (Ok tt) c.in-Ok-expire.ensures) c.accept_all.result c.accept_all.ensures
+    moves_join g.N.Peer.Peer.ways g.R.Reactor.steps g.C.Clock.tells {A = Unit {0}} {B = Unit {0}} tt c.args.reactor.now c.expire.new.reactor c.accept_some.new.reactor c.args.clock.now c.expire.new.clock c.accept_some.new.clock
+    c.args.front.now c.expire.new.front c.accept_some.new.front (moves_join g.N.Peer.Peer.ways g.R.Reactor.steps g.C.Clock.tells {A = Unit {0}} {B = Unit {0}} tt c.args.reactor.now c.tick.new.reactor c.expire.new.reactor c.args.clock.now c.tick.new.clock c.expire.new.clock
+    c.args.front.now c.tick.new.front c.expire.new.front c.in-Ok.ensures (Ok tt) c.in-Ok-expire.ensures) c.accept_some.result c.accept_some.ensures

@@ -1,6 +1,6 @@
 use Rattle.std.proofs.Common.{Err, Ok}
 use Rattle.sv_front.proofs.Fronting.{moves_join}
-use Rattle.sv_front.proofs.running.accept_all.Goals as goal
+use Rattle.sv_front.proofs.running.accept_some.Goals as goal
 
 pub returns-in-Ok-false : goal.returns-in-Ok-false
 returns-in-Ok-false g c =

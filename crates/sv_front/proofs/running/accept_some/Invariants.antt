@@ -1,6 +1,6 @@
 use Rattle.std.proofs.Common.{Ok}
 use Rattle.sv_front.specs.Fronts.{Moves}
-use Rattle.sv_front.proofs.running.accept_all.Given as goal
+use Rattle.sv_front.proofs.running.accept_some.Given as goal
 
 abbrev pub invariant-loop : goal.invariant-loop
 invariant-loop g l =
