@@ -12,8 +12,9 @@ BRISK = 20
 STOPPED = 100
 # docs/OPERATION.md: 10 seconds; the clock counts whole ones, and looks once a second.
 GIVEN_UP = (9, 12.5)
-STOPPED_SECONDS = 14
-PIPELINED = 8
+# The system takes what is left of its buffer when the first window of 10 seconds is over: so a second one follows.
+STOPPED_SECONDS = 24
+PIPELINED = 24
 
 
 async def drip(peer, parts, pause):
