@@ -110,6 +110,6 @@ module _ (law : CallsLeaveNoneExpired) (users : List User) (asked : Asked) where
 
   pub fresh_admission : (content : Content) (standing : Standing) (store : Store) → HasNoneExpired asked.moment store → HasNoneExpired asked.moment (settled_in content standing users asked store).store
   fresh_admission content standing store fresh =
-      let touched = fresh_access law asked.moment (session_held asked store) store fresh in
-      fresh_settled content.context_path (session_held asked store) (outcome_in content standing users asked store) _
-      (fresh_behind_login content.app (session_held asked store) (store_accessed content standing users asked store) touched)
+      let touched = fresh_access law asked.moment (session_held content.app asked store) store fresh in
+      fresh_settled content.context_path (session_held content.app asked store) (outcome_in content standing users asked store) _
+      (fresh_behind_login content.app (session_held content.app asked store) (store_accessed content standing users asked store) touched)

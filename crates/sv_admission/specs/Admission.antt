@@ -16,16 +16,16 @@ use Rattle.sv_admission.specs.declared.admission.Admission.{Admission}
 module _ (content : Content) (standing : Standing) (users : List User) (asked : Asked) (store : Store) where
   -- the sessions behind the access
   abbrev pub store_accessed : Store
-  store_accessed = accessed (session_held asked store) asked.moment store
+  store_accessed = accessed (session_held content.app asked store) asked.moment store
 
   -- what becomes of the message
   abbrev pub outcome_in : Outcome
-  outcome_in = outcome_of content.app standing users asked (session_held asked store) store_accessed
+  outcome_in = outcome_of content.app standing users asked (session_held content.app asked store) store_accessed
 
   -- what it leaves of the sessions
   abbrev pub settled_in : Settled
-  settled_in = settled_by content.context_path asked (session_held asked store) outcome_in
-      (left_by_login content.app users asked (session_held asked store) store_accessed)
+  settled_in = settled_by content.context_path asked (session_held content.app asked store) outcome_in
+      (left_by_login content.app users asked (session_held content.app asked store) store_accessed)
 
   abbrev pub admission : Admission
   admission = record {

@@ -1,6 +1,7 @@
 -- The session that a message holds, and its caller (Jakarta Servlet 6.0, sections 7.1.1, 7.6 and 13.3).
-use Rattle.std.specs.Prelude.{ℕ, List, Option, None, Some, codes, option_and_then}
+use Rattle.std.specs.Prelude.{ℕ, List, Option, None, Some, option_and_then}
 use Rattle.sv_cookies.specs.Held.{held}
+use Rattle.sv_descriptor.specs.declared.web_app.WebApp.{WebApp}
 use Rattle.sv_realm.specs.Realm.{caller_at}
 use Rattle.sv_realm.specs.declared.caller.Caller.{Caller}
 use Rattle.sv_realm.specs.declared.user.User.{User}
@@ -8,9 +9,9 @@ use Rattle.sv_session.specs.Calls.{caller_of, touched}
 use Rattle.sv_session.specs.Store.{Store}
 use Rattle.sv_admission.specs.Asked.{Asked}
 
--- the session that the message's cookies name
-abbrev pub session_held : Asked → Store → Option ℕ
-session_held asked store = held (codes "JSESSIONID") asked.message.fields store
+-- the session that the message's cookies name, of those with the name that the context gives its own
+abbrev pub session_held : WebApp → Asked → Store → Option ℕ
+session_held app asked store = held app.session.cookie.name asked.message.fields store
 
 -- the message is an access to it
 abbrev pub accessed : Option ℕ → ℕ → Store → Store

@@ -18,7 +18,7 @@ use Rattle.sv_site.specs.Site.{Content}
 -- what is found of a message
 abbrev pub found_of : Content → Standing → List User → Asked → Store → Findings
 found_of content standing users asked store =
-    findings content.app standing users asked (session_held asked store) (store_accessed content standing users asked store)
+    findings content.app standing users asked (session_held content.app asked store) (store_accessed content standing users asked store)
 
 -- the journal says of a message that it entered exactly where its path is not hidden, it is no login post, and the verdict is open
 abbrev pub EntersExactlyByAnOpenVerdict : Type 0

@@ -1,6 +1,6 @@
 //! What becomes of a message in its context before any component is called.
 
-ghost use Rattle.std.specs.Prelude.{◌≡◌, OnOk, codes};
+ghost use Rattle.std.specs.Prelude.{◌≡◌, OnOk};
 ghost use Rattle.sv_cookies.specs.Held.{held};
 ghost use Rattle.sv_text.specs.Gives.{GivesAnswer};
 ghost use Rattle.sv_admission.specs.Admission as spec;
@@ -57,7 +57,7 @@ pub fn admit(
     ensures sessions { let asked = asked_by message.now canon.now moment words in
         OnOk result (sessions.new ≡ (spec.settled_in site.now policy.now users.now asked sessions.old).store) }
 {
-    let held = access(message, moment, sessions);
+    let held = access(site, message, moment, sessions);
     let app = site.descriptor().web_app();
     let outcome = judge(
         alloc, app, policy, users, message, canon, moment, words, held, sessions,
@@ -87,12 +87,13 @@ pub fn admit(
     })
 }
 
-// The session that the message holds, and the message is an access to it.
-fn access(message: &Message, moment: u64, sessions: &mut Sessions) -> Option<u64>
-    ensures held { result ≡ held (codes "JSESSIONID") message.now.fields sessions.old }
+// The session that the message holds by the cookie of its context, and the message is an access to it.
+fn access(site: &Site, message: &Message, moment: u64, sessions: &mut Sessions) -> Option<u64>
+    ensures held { result ≡ held site.now.app.session.cookie.name message.now.fields sessions.old }
     ensures accessed { sessions.new ≡ accessed result moment sessions.old }
 {
-    let held = held(message.fields.as_slice(), "JSESSIONID", sessions);
+    let name = site.descriptor().web_app().session.cookie.name.as_str();
+    let held = held(message.fields.as_slice(), name, sessions);
     if let Some(number) = held {
         sessions.touch(number, moment);
     }

@@ -6,7 +6,7 @@ use std::alloc::Global;
 use sv_head::Field;
 use sv_text::{Bytes, Listed, NoMemory, Text};
 use sv_uri::path::Canon;
-use sv_wire::{Message, Target};
+use sv_wire::{CookieSettings, Message, Target};
 
 /// The fields of the request: a Host, two of one name and one without a value.
 const FIELDS: &str = "host:h,x-two:1,x-two:2,x-none:";
@@ -16,13 +16,19 @@ const FIELDS: &str = "host:h,x-two:1,x-two:2,x-none:";
 pub struct Request {
     pub message: Message,
     pub canon: Canon,
+    pub cookie_settings: CookieSettings,
 }
 
 /// A GET of `/app/a/b?q=1`, where `/app` is the context.
 pub fn app_request(alloc: Global) -> Result<Request, NoMemory> {
     let message = message(alloc)?;
     let canon = canon(alloc)?;
-    Ok(Request { message, canon })
+    let cookie_settings = CookieSettings::standard(alloc)?;
+    Ok(Request {
+        message,
+        canon,
+        cookie_settings,
+    })
 }
 
 fn message(alloc: Global) -> Result<Message, NoMemory> {

@@ -54,9 +54,19 @@ fn begin<S: Sees>(
     sees: &S,
     seen: &mut Draft,
 ) {
-    let (message, canon) = (&request.message, &request.canon);
+    let (message, canon, settings) = (&request.message, &request.canon, &request.cookie_settings);
     let sessions = Sessions::new(alloc, 0, 0);
-    match Exchange::begin(alloc, message, canon, "/app", 7, (0, 0), None, sessions) {
+    match Exchange::begin(
+        alloc,
+        message,
+        canon,
+        "/app",
+        settings,
+        7,
+        (0, 0),
+        None,
+        sessions,
+    ) {
         Ok(exchange) => run(alloc, row, calls, exchange, sees, seen),
         Err(_) => seen.fail(),
     }

@@ -185,7 +185,7 @@ left_by_found false (Some pages) step verdict sent store steps = steps (λ numbe
 pub left_by_admission : (content : Content) (standing : Standing) (users : List User) (asked : Asked) (store : Store)
     → IsLeft (IsLoginAs (outcome_in content standing users asked store) (user_sent users (post_in asked))) store (settled_in content standing users asked store).store
 left_by_admission content standing users asked store =
-    let session = session_held asked store in
+    let session = session_held content.app asked store in
     let touched = store_accessed content standing users asked store in
     let found = outcome_in content standing users asked store in
     let sent = user_sent users (post_in asked) in

@@ -13,7 +13,8 @@ use Rattle.sv_context.specs.Handled.{Answers, admitted, exchange_begun, state_in
 use Rattle.sv_context.specs.Laws.{ExpiryLeavesNone, ExpiryOfNoneIsNothing}
 use Rattle.sv_context.specs.State.{ContextState, world_of}
 use Rattle.sv_context.specs.declared.deployment.Deployment.{Deployment}
-use Rattle.sv_context.specs.declared.limits.TheConstants.{MAX_SESSIONS, SECONDS_OF_MINUTE}
+use Rattle.sv_context.specs.declared.limits.TheConstants.{SECONDS_OF_MINUTE}
+use Rattle.sv_descriptor.specs.Version.{max_sessions}
 use Rattle.sv_journal.specs.Journal.{JournalState, new_journal, with_entry}
 use Rattle.sv_lifecycle.specs.Standing.{LiveState}
 use Rattle.sv_lifecycle.specs.declared.start_fault.StartFault.{StartFault}
@@ -78,7 +79,7 @@ module _ {S F L : Type 0} (ss : S → Call → S → Type 0) (fs : F → Call �
   in_order empty call moved_calls moves = record {
     begins = λ deployment context noted noted_after deploys.
         let store = deployed_empty deployment deploys.started context deploys.is in
-        (ap (λ (its : Store). its.sessions) store, subst IsOrderly (sym store) (empty MAX_SESSIONS (deployment.descriptor.session.timeout * SECONDS_OF_MINUTE)));
+        (ap (λ (its : Store). its.sessions) store, subst IsOrderly (sym store) (empty (max_sessions deployment.descriptor.version) (deployment.descriptor.session.timeout * SECONDS_OF_MINUTE)));
     handles = λ handling handles orderly.
         let context = handling.context in
         let asked = asked_of context handling.request in

@@ -3,7 +3,8 @@
 use crate::security::{add_constraint, add_rules};
 use crate::summary::begin;
 use sv_descriptor::{
-    ErrorPage, FilterEntry, FilterMapping, InitParam, PageFor, ServletEntry, ServletMapping, WebApp,
+    ErrorPage, FilterEntry, FilterMapping, InitParam, PageFor, ServletEntry, ServletMapping,
+    Version, WebApp,
 };
 use sv_mapping::{Kind, Pattern};
 use sv_rows::Draft;
@@ -22,11 +23,32 @@ pub fn add_web_app(draft: &mut Draft, app: &WebApp) {
     }
     begin(draft, "timeout ");
     draft.add_shown(&app.session.timeout);
+    if app.version == Version::Two {
+        add_sessions(draft, app);
+    }
     add_pages(draft, app);
     for constraint in app.constraints.as_slice() {
         add_constraint(draft, constraint);
     }
     add_rules(draft, app);
+}
+
+/// Adds what a descriptor of version 2 says of sessions beside their time.
+fn add_sessions(draft: &mut Draft, app: &WebApp) {
+    begin(draft, "sessions ");
+    draft.add_shown(&app.version.max_sessions());
+    let cookie = &app.session.cookie;
+    begin(draft, "cookie ");
+    draft.add(cookie.name.as_str());
+    if let Some(path) = &cookie.path {
+        draft.add(" at ");
+        draft.add(path.as_str());
+    }
+    if let Some(seconds) = cookie.max_age {
+        draft.add(" for ");
+        draft.add_shown(&seconds);
+    }
+    draft.add(if cookie.http_only { " HttpOnly" } else { "" });
 }
 
 fn add_servlets(draft: &mut Draft, app: &WebApp) {

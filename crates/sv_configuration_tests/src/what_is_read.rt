@@ -25,6 +25,15 @@ descriptor | session-config = { session-timeout = -9223372036854775808 } | timeo
 descriptor | session-config = { session-timeout = 0x1E } | timeout 30
 descriptor | session-config.session-timeout = 5 | timeout 5
 
+-- version 2: how many sessions there may be, and how their cookie is set
+descriptor | version = 2 | timeout 30 ; sessions 100000 ; cookie JSESSIONID HttpOnly
+descriptor | version = 2\nsession-config = { session-timeout = 1 } | timeout 1 ; sessions 100000 ; cookie JSESSIONID HttpOnly
+descriptor | version = 2\nsession-config = { cookie-config = {} } | timeout 30 ; sessions 100000 ; cookie JSESSIONID HttpOnly
+descriptor | version = 2\nsession-config.cookie-config = { name = "SID", path = "/app", http-only = false, max-age = 60 } | timeout 30 ; sessions 100000 ; cookie SID at /app for 60
+descriptor | version = 2\nsession-config.cookie-config = { max-age = -1, http-only = true, path = "/a b%20", description = 1 } | timeout 30 ; sessions 100000 ; cookie JSESSIONID at /a b%20 HttpOnly
+descriptor | version = 2\nsession-config.cookie-config = { max-age = 0 } | timeout 30 ; sessions 100000 ; cookie JSESSIONID for 0 HttpOnly
+descriptor | version = 2\nsession-config.cookie-config = { max-age = 2147483647 } | timeout 30 ; sessions 100000 ; cookie JSESSIONID for 2147483647 HttpOnly
+
 -- servlets in the order of the file, parameters in the order of their names
 descriptor | servlet = [{ servlet-name = "b", servlet-class = "B" }, { servlet-name = "a", servlet-class = "B" }] | servlet b B ; servlet a B ; timeout 30
 descriptor | servlet = [{ servlet-name = "a", servlet-class = "A", load-on-startup = 0 }] | servlet a A load 0 ; timeout 30
@@ -102,7 +111,10 @@ descriptor | [[servlet-mapping]]\nservlet-name = "a"\nurl-pattern = ["/x"] | fau
 descriptor | [[filter-mapping]]\nfilter-name = "f"\nurl-pattern = ["/*"] | fault 8 UnknownFilter "filter-name"
 descriptor | [[security-constraint]]\nweb-resource-collection = [{ url-pattern = ["/x"], http-method = ["GET"], http-method-omission = ["PUT"] }] | fault 9 BothMethodLists "http-method-omission"
 descriptor | [[security-role]]\nrole-name = "**" | fault 10 ReservedRole "role-name"
-descriptor | version = 2 | fault 12 BadValue "version"
+descriptor | version = 3 | fault 12 BadValue "version"
+descriptor | session-config = { cookie-config = {} } | fault 2 UnknownKey "cookie-config"
+descriptor | version = 1\nsession-config = { cookie-config = {} } | fault 2 UnknownKey "cookie-config"
+descriptor | version = 2\nsession-config.cookie-config.name = "a b" | fault 12 BadValue "name"
 descriptor | [[servlet]]\nservlet-name = "a"\nservlet-class = "A"\n[[servlet]]\nservlet-name = "a"\nservlet-class = "B" | fault 13 DuplicateName "servlet-name"
 descriptor | \{1001*[[security-role]]\nrole-name = "r"\n} | fault 14 TooMany "security-role"
 "#;

@@ -21,6 +21,7 @@ use Rattle.sv_session.specs.Store.{Store}
 use Rattle.sv_site.specs.Site.{Content, site_of}
 use Rattle.sv_tree.specs.Site.{Site}
 use Rattle.sv_uri.specs.declared.path.Canon.{Canon}
+use Rattle.sv_wire.specs.declared.cookie_settings.CookieSettings.{CookieSettings}
 use Rattle.sv_wire.specs.declared.message.Message.{Message}
 use Rattle.sv_wire.specs.declared.response.Response.{Response}
 use Rattle.sv_context.specs.Answered.{Answered}
@@ -32,9 +33,9 @@ use Rattle.sv_context.proofs.Journals.{taken}
 use Rattle.sv_context.proofs.Statuses.{answered_code}
 
 -- nothing was said yet of an exchange that was begun
-pub begun_code : (message : Message) (canon : Canon) (path : List ℕ) (moment : ℕ) (words : ℕ × ℕ) (held : Option HeldSession) (store : Store) (x : exchanges.State)
-    → x ≡ begun message canon path moment words held store → IsStatusCode x.status
-begun_code message canon path moment words held store x began = subst (λ (e : exchanges.State). IsStatusCode e.status) (sym began) (omega arith, omega arith)
+pub begun_code : (message : Message) (canon : Canon) (path : List ℕ) (settings : CookieSettings) (moment : ℕ) (words : ℕ × ℕ) (held : Option HeldSession) (store : Store) (x : exchanges.State)
+    → x ≡ begun message canon path settings moment words held store → IsStatusCode x.status
+begun_code message canon path settings moment words held store x began = subst (λ (e : exchanges.State). IsStatusCode e.status) (sym began) (omega arith, omega arith)
 
 module _ {S F L : Type 0} (ss : S → Call → S → Type 0) (fs : F → Call → F → Type 0) (ls : L → Call → L → Type 0) where
   -- an answer leaves the components of a content
@@ -80,7 +81,7 @@ module _ {S F L : Type 0} (ss : S → Call → S → Type 0) (fs : F → Call �
     before = context_of content policy users live store
 
     abbrev begun_with : exchanges.State
-    begun_with = begun asked.message asked.canon content.context_path asked.moment asked.words admission.session lent
+    begun_with = begun asked.message asked.canon content.context_path content.app.session.cookie asked.moment asked.words admission.session lent
 
     module _ (components : AreComponentsOf content live) (is : admission ≡ admitted before asked) (settled : lent ≡ (settled_in content policy users asked store).store)
         (x : exchanges.State) (began : x ≡ begun_with) (live' : LiveState S F L) (x' : exchanges.State) (store' : Store) (noted noted' : JournalState) where
@@ -89,7 +90,7 @@ module _ {S F L : Type 0} (ss : S → Call → S → Type 0) (fs : F → Call �
 
       begun_so : x ≡ exchange_begun before asked
       begun_so =
-          began ∙ ap₂ (λ session store. begun asked.message asked.canon content.context_path asked.moment asked.words session store) (ap (λ a. a.session) is) settled
+          began ∙ ap₂ (λ session store. begun asked.message asked.canon content.context_path content.app.session.cookie asked.moment asked.words session store) (ap (λ a. a.session) is) settled
 
       answered_so : (result : Option (Unit {0}))
           → ServedBy ss fs ls (Answered (site_of content) asked.canon admission.event admission.answer) live x (with_entry admission.entry noted) result live' x' noted'

@@ -2,6 +2,7 @@
 use Rattle.std.specs.Prelude.{◌≡◌, ◌*◌, length, Result, Ok, Err}
 use Rattle.sv_component.specs.Call.{Call}
 use Rattle.sv_component.specs.Runs.{Grows}
+use Rattle.sv_descriptor.specs.Version.{max_sessions}
 use Rattle.sv_descriptor.specs.declared.web_app.WebApp.{WebApp}
 use Rattle.sv_journal.specs.Journal.{JournalState}
 use Rattle.sv_lifecycle.specs.Calls.{stop_calls}
@@ -16,7 +17,7 @@ use Rattle.sv_site.specs.Site.{Content}
 use Rattle.sv_context.specs.State.{ContextState, context_of, in_service, world_of}
 use Rattle.sv_context.specs.declared.deployment.DeployFault.{DeployFault}
 use Rattle.sv_context.specs.declared.deployment.Deployment.{Deployment}
-use Rattle.sv_context.specs.declared.limits.TheConstants.{MAX_SESSIONS, SECONDS_OF_MINUTE}
+use Rattle.sv_context.specs.declared.limits.TheConstants.{SECONDS_OF_MINUTE}
 
 abbrev pub content_of : {S F L : Type 0} → Deployment S F L → Content
 content_of deployment = record { context_path = deployment.path; app = deployment.descriptor; files = deployment.files }
@@ -25,9 +26,10 @@ content_of deployment = record { context_path = deployment.path; app = deploymen
 abbrev pub declared_policy : WebApp → Standing
 declared_policy app = compiled app.constraints app.rules
 
--- no session yet; one lives as long without a request as the descriptor says, which counts in minutes
+-- no session yet, and at most as many as the descriptor's version has room for; one lives as long without a request as the descriptor says, which
+-- counts in minutes
 abbrev pub no_sessions : WebApp → Store
-no_sessions app = empty_store MAX_SESSIONS (app.session.timeout * SECONDS_OF_MINUTE)
+no_sessions app = empty_store (max_sessions app.version) (app.session.timeout * SECONDS_OF_MINUTE)
 
 -- the context whose components were started, or the deployment, whose components are as the calls of the start left them
 abbrev pub deployed : {S F L : Type 0} → Deployment S F L → Result (LiveState S F L) (StartFault S F L) → Result (ContextState S F L) (DeployFault S F L)

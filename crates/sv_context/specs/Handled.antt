@@ -32,7 +32,7 @@ module _ {S F L : Type 0} (context : ContextState S F L) (asked : Asked) where
   -- its exchange, of which nothing was said yet, over the sessions as the admission left them
   abbrev pub exchange_begun : exchanges.State
   exchange_begun =
-      begun asked.message asked.canon context.content.context_path asked.moment asked.words admitted.session
+      begun asked.message asked.canon context.content.context_path context.content.app.session.cookie asked.moment asked.words admitted.session
       (settled_in context.content context.policy context.users asked context.store).store
 
 module _ {S F L : Type 0} (servlet_step : S → Call → S → Type 0) (filter_step : F → Call → F → Type 0) (listener_step : L → Call → L → Type 0) where

@@ -8,7 +8,7 @@ ghost use Rattle.sv_context.specs.Deployment.{Deploys, Undeploys, declared_polic
 
 use crate::context::Context;
 use crate::deployment::{DeployFault, Deployment};
-use crate::limits::{MAX_SESSIONS, SECONDS_OF_MINUTE};
+use crate::limits::SECONDS_OF_MINUTE;
 use std::alloc::Global;
 use sv_chain::Chains;
 use sv_component::{Filter, Listener, Servlet};
@@ -137,6 +137,7 @@ fn without_tables<S: Servlet, F: Filter, L: Listener>(
 pub(crate) fn no_sessions(alloc: Global, descriptor: &Descriptor) -> Sessions
     ensures { result ≡ no_sessions descriptor.now }
 {
-    let minutes = descriptor.web_app().session.timeout;
-    Sessions::new(alloc, MAX_SESSIONS, minutes * SECONDS_OF_MINUTE)
+    let app = descriptor.web_app();
+    let limit = app.version.max_sessions();
+    Sessions::new(alloc, limit, app.session.timeout * SECONDS_OF_MINUTE)
 }

@@ -1,12 +1,13 @@
 //! How a context handles a message.
 
-ghost use Rattle.std.specs.Prelude.{◌≡◌, IfOk, IsTrue, List, OnOk, true};
+ghost use Rattle.std.specs.Prelude.{◌≡◌, IfOk, IsTrue, List, MatchResult, OnOk, true};
 ghost use Rattle.std.specs.Option.{option_copied};
 ghost use Rattle.http.specs.StatusCode.{IsStatusCode};
 ghost use Rattle.sv_admission.specs.Admission.{settled_in};
 ghost use Rattle.sv_admission.specs.Asked.{asked_by};
 ghost use Rattle.sv_context_path.specs.Within.{path_within};
 ghost use Rattle.sv_dispatch.specs.Did.{seen};
+ghost use Rattle.sv_exchange.specs.Beginning.{begun};
 ghost use Rattle.sv_mapping.specs.Pattern.{is_at_or_below};
 ghost use Rattle.sv_policy.specs.Compiled.{Standing};
 ghost use Rattle.sv_realm.specs.declared.user.User.{User};
@@ -24,7 +25,7 @@ use std::mem;
 use sv_admission::{Admission, Answer, admit};
 use sv_component::{Event, Exchange, Filter, Listener, Servlet};
 use sv_context_path::path_within;
-use sv_exchange::BeginFault;
+use sv_exchange::{BeginFault, HeldSession};
 use sv_journal::{Entry, Journal};
 use sv_lifecycle::Live;
 use sv_policy::Policy;
@@ -163,16 +164,7 @@ fn answer<S: Servlet, F: Filter, L: Listener>(
         event,
     } = admission;
     let lent = mem::replace(sessions, Sessions::new(alloc, 0, 0));
-    let begun = Exchange::begin(
-        alloc,
-        message,
-        canon,
-        site.context_path(),
-        moment,
-        words,
-        session,
-        lent,
-    );
+    let begun = begin(alloc, site, message, canon, moment, words, session, lent);
     let mut exchange = match begun {
         Ok(exchange) => exchange,
         Err(BeginFault { sessions: back }) => {
@@ -224,4 +216,33 @@ fn respond_noted<S: Servlet, F: Filter, L: Listener>(
         return Err(NoMemory);
     }
     respond(alloc, live, exchange, site, canon, event, answer, journal)
+}
+
+// Begins the exchange of a message in its context.
+fn begin(
+    alloc: Global,
+    site: &Site,
+    message: &Message,
+    canon: &Canon,
+    moment: u64,
+    words: (u64, u64),
+    held: Option<HeldSession>,
+    sessions: Sessions,
+) -> Result<Exchange, BeginFault>
+    ensures { MatchResult result
+        (λ exchange. exchange ≡ begun message.now canon.now site.now.context_path site.now.app.session.cookie moment words held sessions)
+        (λ fault. fault.sessions ≡ sessions) }
+{
+    let settings = &site.descriptor().web_app().session.cookie;
+    Exchange::begin(
+        alloc,
+        message,
+        canon,
+        site.context_path(),
+        settings,
+        moment,
+        words,
+        held,
+        sessions,
+    )
 }

@@ -3,7 +3,7 @@
 ghost use Rattle.std.specs.Prelude.{◌≡◌};
 ghost use Rattle.sv_context.specs.Laws.{ExpiryLeavesNone, ExpiryOfNoneIsNothing};
 
-use crate::limits::{MAX_SESSIONS, SECONDS_OF_MINUTE};
+use crate::limits::SECONDS_OF_MINUTE;
 use sv_component::{Filter, Listener, Servlet};
 use sv_session::expiry_ends_exactly_the_expired_sessions;
 
@@ -23,6 +23,5 @@ pub fn an_expiry_of_none_is_nothing<S: Servlet, F: Filter, L: Listener>()
 
 /// The numbers of this crate: definitions and code cite the constants, so that both would move with one.
 pub fn limits_are_as_stated()
-    ensures sessions { MAX_SESSIONS ≡ 1000 }
-    ensures minute { SECONDS_OF_MINUTE ≡ 60 }
+    ensures { SECONDS_OF_MINUTE ≡ 60 }
 {}

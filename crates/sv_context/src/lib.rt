@@ -17,4 +17,4 @@ mod policy;
 pub use context::Context;
 pub use deployment::{DeployFault, Deployment};
 pub use laws::{an_expiry_leaves_none_expired, an_expiry_of_none_is_nothing, limits_are_as_stated};
-pub use limits::{MAX_SESSIONS, SECONDS_OF_MINUTE};
+pub use limits::SECONDS_OF_MINUTE;

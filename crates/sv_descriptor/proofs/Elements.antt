@@ -26,13 +26,13 @@ use Rattle.sv_descriptor.specs.WebApp.{top_keys, web_app}
 use Rattle.sv_descriptor.specs.WelcomeFile.{welcome_file_list}
 use Rattle.sv_descriptor.specs.WellFormed.{HasShortLists}
 use Rattle.sv_descriptor.specs.declared.components.Components.{Components}
-use Rattle.sv_descriptor.specs.declared.limits.TheConstants.{MAX_SESSION_TIMEOUT}
 use Rattle.sv_descriptor.specs.declared.pages.Pages.{Pages}
 use Rattle.sv_descriptor.specs.declared.security.Security.{Security}
 use Rattle.sv_descriptor.specs.declared.session.SessionConfig.{SessionConfig}
+use Rattle.sv_descriptor.specs.declared.version.Version.{Version}
 use Rattle.sv_descriptor.specs.declared.web_app.WebApp.{WebApp}
 use Rattle.sv_descriptor.proofs.Constraining.{AreConstraints, constraints-yields}
-use Rattle.sv_descriptor.proofs.Entries.{HasPages, error_page-Ok, filter_mapping-Ok, login_config-Ok, security_role-Ok, servlet-Ok, servlet_mapping-Ok, session_config-Ok, welcome_file_list-Ok}
+use Rattle.sv_descriptor.proofs.Entries.{HasPages, HasSessions, error_page-Ok, filter_mapping-Ok, login_config-Ok, security_role-Ok, servlet-Ok, servlet_mapping-Ok, session_config-Ok, standard-Ok, welcome_file_list-Ok}
 
 -- a list of tables at a key that may be missing
 tables-Ok : {A : Type 0} (P : A → Type 0) (reads : Members → Reads A) → ((members : Members) (a : A) → reads members ≡ Ok a → P a)
@@ -100,10 +100,10 @@ security-Ok deny members s e =
       login = optional-Ok HasPages (table_of login_config) (table_of-yields HasPages login_config login_config-Ok) (codes "login-config") members a3 r3;
     }))))
 
-session-Ok : (members : Members) (config : SessionConfig) → session members ≡ Ok config → config.timeout ≤ MAX_SESSION_TIMEOUT
-session-Ok members config e =
-    optional_or-Ok (λ config. config.timeout ≤ MAX_SESSION_TIMEOUT) default_session (table_of session_config) (omega arith)
-    (table_of-yields _ session_config session_config-Ok) (codes "session-config") members config e
+session-Ok : (its_version : Version) (members : Members) (config : SessionConfig) → session its_version members ≡ Ok config → HasSessions config
+session-Ok its_version members config e =
+    optional_or-Ok HasSessions default_session (table_of (session_config its_version)) (record { timeout = omega arith; cookie = standard-Ok })
+    (table_of-yields HasSessions (session_config its_version) (session_config-Ok its_version)) (codes "session-config") members config e
 
 -- what holds of the elements one by one
 pub record HasElements (app : WebApp) : Type 0 where
@@ -112,7 +112,7 @@ pub record HasElements (app : WebApp) : Type 0 where
   pub filters : length app.filters ≤ MAX_LIST_ITEMS
   pub filter_mappings : IsListOf HasShortLists MAX_LIST_ITEMS app.filter_mappings
   pub listeners : length app.listeners ≤ MAX_LIST_ITEMS
-  pub session : app.session.timeout ≤ MAX_SESSION_TIMEOUT
+  pub session : HasSessions app.session
   pub welcome_files : length app.welcome_files ≤ MAX_LIST_ITEMS
   pub error_pages : IsListOf (λ page. is_location page.location ≡ true) MAX_LIST_ITEMS app.error_pages
   pub constraints : AreConstraints app.constraints
@@ -122,10 +122,10 @@ pub record HasElements (app : WebApp) : Type 0 where
 pub web_app-Ok : (members : Members) (app : WebApp) → web_app members ≡ Ok app → HasElements app
 web_app-Ok members app e =
     bind-Ok (element_keys top_keys members) _ _ e (λ _ _ e1.
-    bind-Ok (version members) _ _ e1 (λ _ _ e2.
+    bind-Ok (version members) _ _ e1 (λ its_version _ e2.
     bind-Ok (optional_or false truth (codes "deny-uncovered-http-methods") members) _ _ e2 (λ deny _ e3.
     bind-Ok (components members) _ _ e3 (λ a4 r4 e4.
-    bind-Ok (session members) _ _ e4 (λ a5 r5 e5.
+    bind-Ok (session its_version members) _ _ e4 (λ a5 r5 e5.
     bind-Ok (pages members) _ _ e5 (λ a6 r6 e6.
     bind-Ok (security deny members) _ _ e6 (λ a7 r7 e7.
     let c = components-Ok members a4 r4 in
@@ -137,7 +137,7 @@ web_app-Ok members app e =
       filters = c.filters;
       filter_mappings = c.filter_mappings;
       listeners = c.listeners;
-      session = session-Ok members a5 r5;
+      session = session-Ok its_version members a5 r5;
       welcome_files = p.welcome_files;
       error_pages = p.error_pages;
       constraints = s.constraints;

@@ -1,16 +1,20 @@
 -- What holds of each entry of a descriptor that was read.
-use Rattle.std.proofs.Common.{◌≡◌, ℕ, ℤ, pos, negsuc, ◌≤◌, Bool, true, false, codes, List, [], ◌∷◌, length, Ok, refl, subst, arith}
-use Rattle.std.specs.Prelude.{◌||◌, if◌then◌else◌, int_lt}
+use Rattle.std.proofs.Common.{◌≡◌, ℕ, ℤ, pos, negsuc, ◌≤◌, Bool, true, false, codes, List, [], ◌∷◌, length, Option, None, Some, Ok, refl, subst, arith}
+use Rattle.std.specs.Prelude.{◌||◌, if◌then◌else◌, int_lt, IfSome}
 use Rattle.std.proofs.lemmas.Bool.Decides.{nat_tests}
+use Rattle.http_header.specs.Token.{is_token_byte}
 use Rattle.toml.specs.Data.{Members}
 use Rattle.sv_schema.specs.Fault.{Reads, refuse, check}
 use Rattle.sv_schema.specs.ListOf.{list_of_texts}
 use Rattle.sv_schema.specs.Table.{has_key, optional, optional_or, required}
-use Rattle.sv_schema.specs.Value.{is_text, name, table_of, text_of, whole_of, number_between}
+use Rattle.sv_schema.specs.Value.{is_text, name, table_of, text_of, truth, whole_of, number_between}
 use Rattle.sv_schema.specs.declared.fault.FaultCode.{FaultCode}
 use Rattle.sv_schema.specs.declared.fault.FaultCode.TheVariants.{BadValue, MissingKey, ReservedRole, BadTimeout}
 use Rattle.sv_schema.specs.declared.limits.TheConstants.{MAX_LIST_ITEMS}
-use Rattle.sv_schema.proofs.Yields.{bind-Ok, holds-Ok, list_of-short, text_of-yields, whole_of-yields, table_of-yields, required-Ok, optional_or-Ok}
+use Rattle.sv_schema.proofs.Yields.{bind-Ok, holds-Ok, list_of-short, text_of-yields, whole_of-yields, table_of-yields, required-Ok, optional-Ok, optional_or-Ok}
+use Rattle.sv_wire.specs.Cookies.{standard_settings}
+use Rattle.sv_wire.specs.declared.cookie_settings.CookieSettings.{CookieSettings}
+use Rattle.sv_descriptor.specs.CookieConfig.{age_of, cookie_config, cookie_name, cookie_path, is_cookie_name, is_cookie_path, max_age}
 use Rattle.sv_descriptor.specs.ErrorPage.{error_page, page_for}
 use Rattle.sv_descriptor.specs.Filter.{dispatcher, filter_mapping}
 use Rattle.sv_descriptor.specs.Ignored.{element_keys}
@@ -20,16 +24,17 @@ use Rattle.sv_descriptor.specs.Login.{auth_method, form_login_config, login_conf
 use Rattle.sv_descriptor.specs.Pattern.{pattern, patterns}
 use Rattle.sv_descriptor.specs.Role.{is_reserved_role, role_name, security_role}
 use Rattle.sv_descriptor.specs.Servlet.{is_reserved_servlet, servlet, servlet_mapping, servlet_name, startup_order}
-use Rattle.sv_descriptor.specs.Session.{minutes, session_config, session_timeout}
+use Rattle.sv_descriptor.specs.Session.{minutes, session_config, session_keys, session_timeout}
 use Rattle.sv_descriptor.specs.WelcomeFile.{welcome_file, welcome_file_list}
-use Rattle.sv_descriptor.specs.WellFormed.{HasShortLists}
+use Rattle.sv_descriptor.specs.WellFormed.{CanBeSet, HasShortLists}
 use Rattle.sv_descriptor.specs.declared.error_page.ErrorPage.{ErrorPage}
 use Rattle.sv_descriptor.specs.declared.filter.FilterMapping.{FilterMapping}
-use Rattle.sv_descriptor.specs.declared.limits.TheConstants.{DEFAULT_SESSION_TIMEOUT, MAX_ERROR_CODE, MAX_SESSION_TIMEOUT, MIN_ERROR_CODE}
+use Rattle.sv_descriptor.specs.declared.limits.TheConstants.{DEFAULT_SESSION_TIMEOUT, MAX_COOKIE_AGE, MAX_ERROR_CODE, MAX_SESSION_TIMEOUT, MIN_ERROR_CODE}
 use Rattle.sv_descriptor.specs.declared.login.FormLogin.{FormLogin}
 use Rattle.sv_descriptor.specs.declared.servlet.ServletEntry.{ServletEntry}
 use Rattle.sv_descriptor.specs.declared.servlet.ServletMapping.{ServletMapping}
 use Rattle.sv_descriptor.specs.declared.session.SessionConfig.{SessionConfig}
+use Rattle.sv_descriptor.specs.declared.version.Version.{Version}
 
 -- a list at a key that may be missing
 texts-short : {A : Type 0} (reads : List ℕ → List ℕ → Reads A) (key : List ℕ) (members : Members) (found : List A)
@@ -143,11 +148,59 @@ bounded false key (pos n) a l h =
     subst (λ t. t ≤ MAX_SESSION_TIMEOUT) same short
 bounded false key (negsuc n) a l h = let same : 0 ≡ a = cc in omega arith
 
-pub session_config-Ok : (members : Members) (config : SessionConfig) → session_config members ≡ Ok config → config.timeout ≤ MAX_SESSION_TIMEOUT
-session_config-Ok members config e =
-    bind-Ok (element_keys (codes "session-timeout" ∷ []) members) _ _ e (λ _ _ e1.
-    bind-Ok (optional_or DEFAULT_SESSION_TIMEOUT (whole_of session_timeout) (codes "session-timeout") members) _ _ e1 (λ timeout read e2.
-    holds-Ok (λ config. config.timeout ≤ MAX_SESSION_TIMEOUT) _ config e2
-    (optional_or-Ok (λ t. t ≤ MAX_SESSION_TIMEOUT) DEFAULT_SESSION_TIMEOUT (whole_of session_timeout) (omega arith)
-    (whole_of-yields _ session_timeout (λ key n a h. bounded (int_lt (pos MAX_SESSION_TIMEOUT) n) key n a refl h))
-    (codes "session-timeout") members timeout read)))
+-- the cookie of sessions
+aged : (low high : Bool) (key : List ℕ) (n : ℤ) (a : Option ℕ) → int_lt n (negsuc 0) ≡ low → int_lt (pos MAX_COOKIE_AGE) n ≡ high
+    → (if low || high then refuse BadValue key else Ok (age_of n)) ≡ Ok a → IfSome a (λ seconds. seconds ≤ MAX_COOKIE_AGE)
+aged true high key n a l g h = cc
+aged false true key n a l g h = cc
+aged false false key (pos n) a l g h =
+    let same : Some n ≡ a = cc in
+    let short : n ≤ MAX_COOKIE_AGE = grind (arith, nat_tests) in
+    subst (λ (age : Option ℕ). IfSome age (λ seconds. seconds ≤ MAX_COOKIE_AGE)) same short
+aged false false key (negsuc n) a l g h =
+    let same : None ≡ a = cc in
+    subst (λ (age : Option ℕ). IfSome age (λ seconds. seconds ≤ MAX_COOKIE_AGE)) same tt
+
+standard_name : is_cookie_name (codes "JSESSIONID") ≡ true
+unfolding is_cookie_name is_token_byte
+standard_name = refl
+
+pub standard-Ok : CanBeSet standard_settings
+standard-Ok = record { name = standard_name; path = tt; max_age = tt }
+
+cookie_config-Ok : (members : Members) (settings : CookieSettings) → cookie_config members ≡ Ok settings → CanBeSet settings
+cookie_config-Ok members settings e =
+    bind-Ok (element_keys (codes "name" ∷ codes "path" ∷ codes "http-only" ∷ codes "max-age" ∷ []) members) _ _ e (λ _ _ e1.
+    bind-Ok (optional_or standard_settings.name (text_of cookie_name) (codes "name") members) _ _ e1 (λ its_name named e2.
+    bind-Ok (optional (text_of cookie_path) (codes "path") members) _ _ e2 (λ its_path placed e3.
+    bind-Ok (optional_or true truth (codes "http-only") members) _ _ e3 (λ _ _ e4.
+    bind-Ok (optional_or None (whole_of max_age) (codes "max-age") members) _ _ e4 (λ its_age read e5.
+    holds-Ok CanBeSet _ settings e5 (record {
+      name = optional_or-Ok (λ t. is_cookie_name t ≡ true) standard_settings.name (text_of cookie_name) standard_name
+          (text_of-yields _ cookie_name (λ key text a h. let (f, t) = accepted (is_cookie_name text) BadValue key text a h in subst (λ t. is_cookie_name t ≡ true) t f))
+          (codes "name") members its_name named;
+      path = optional-Ok (λ t. is_cookie_path t ≡ true) (text_of cookie_path)
+          (text_of-yields _ cookie_path (λ key text a h. let (f, t) = accepted (is_cookie_path text) BadValue key text a h in subst (λ t. is_cookie_path t ≡ true) t f))
+          (codes "path") members its_path placed;
+      max_age = optional_or-Ok (λ age. IfSome age (λ seconds. seconds ≤ MAX_COOKIE_AGE)) None (whole_of max_age) tt
+          (whole_of-yields _ max_age (λ key n a h. aged (int_lt n (negsuc 0)) (int_lt (pos MAX_COOKIE_AGE) n) key n a refl refl h))
+          (codes "max-age") members its_age read;
+    }))))))
+
+-- what holds of the sessions
+pub record HasSessions (config : SessionConfig) : Type 0 where
+  pub timeout : config.timeout ≤ MAX_SESSION_TIMEOUT
+  pub cookie : CanBeSet config.cookie
+
+pub session_config-Ok : (its_version : Version) (members : Members) (config : SessionConfig) → session_config its_version members ≡ Ok config → HasSessions config
+session_config-Ok its_version members config e =
+    bind-Ok (element_keys (session_keys its_version) members) _ _ e (λ _ _ e1.
+    bind-Ok (optional_or DEFAULT_SESSION_TIMEOUT (whole_of session_timeout) (codes "session-timeout") members) _ _ e1 (λ its_timeout timed e2.
+    bind-Ok (optional_or standard_settings (table_of cookie_config) (codes "cookie-config") members) _ _ e2 (λ its_cookie cookied e3.
+    holds-Ok HasSessions _ config e3 (record {
+      timeout = optional_or-Ok (λ t. t ≤ MAX_SESSION_TIMEOUT) DEFAULT_SESSION_TIMEOUT (whole_of session_timeout) (omega arith)
+          (whole_of-yields _ session_timeout (λ key n a h. bounded (int_lt (pos MAX_SESSION_TIMEOUT) n) key n a refl h))
+          (codes "session-timeout") members its_timeout timed;
+      cookie = optional_or-Ok CanBeSet standard_settings (table_of cookie_config) standard-Ok (table_of-yields CanBeSet cookie_config cookie_config-Ok)
+          (codes "cookie-config") members its_cookie cookied;
+    }))))

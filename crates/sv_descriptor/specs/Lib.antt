@@ -8,6 +8,7 @@ pub mod WelcomeFile
 pub mod ErrorPage
 pub mod Collection
 pub mod Constraint
+pub mod CookieConfig
 pub mod Role
 pub mod Login
 pub mod Listener

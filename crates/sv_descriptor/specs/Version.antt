@@ -1,15 +1,26 @@
 -- The version of the descriptor's format.
-use Rattle.std.specs.Prelude.{codes, Ok}
+use Rattle.std.specs.Prelude.{ℕ, ◌==◌, codes, if◌then◌else◌, Option, None, Some, Ok}
 use Rattle.toml.specs.Data.{Members}
-use Rattle.sv_text.specs.Steps.{◌>>◌}
+use Rattle.sv_text.specs.Steps.{◌>>=◌}
 use Rattle.sv_schema.specs.Fault.{Reads}
 use Rattle.sv_schema.specs.Table.{optional}
 use Rattle.sv_schema.specs.Value.{number_between, whole_of}
+use Rattle.sv_descriptor.specs.declared.limits.TheConstants.{MAX_SESSIONS_OF_VERSION_1, MAX_SESSIONS_OF_VERSION_2}
 use Rattle.sv_descriptor.specs.declared.version.Version.{Version}
-use Rattle.sv_descriptor.specs.declared.version.Version.TheVariants.{One}
+use Rattle.sv_descriptor.specs.declared.version.Version.TheVariants.{One, Two}
 
--- the version of a table: the first, whether it is written or not
+-- the version of a number; the first where none is written
+abbrev pub numbered : Option ℕ → Version
+numbered None = One
+numbered (Some number) = if number == 2 then Two else One
+
+-- the version of a table
 abbrev pub version : Members → Reads Version
 version table = do
-  optional (whole_of (number_between 1 1)) (codes "version") table
-  Ok One
+  number ← optional (whole_of (number_between 1 2)) (codes "version") table
+  Ok (numbered number)
+
+-- how many sessions there may be at a time
+abbrev pub max_sessions : Version → ℕ
+max_sessions One = MAX_SESSIONS_OF_VERSION_1
+max_sessions Two = MAX_SESSIONS_OF_VERSION_2

@@ -44,7 +44,7 @@ assembled its_version its_components its_session its_pages its_security = record
 -- the elements, where those in front of the sessions have been read
 abbrev pub behind_components : Version → Bool → Components → Members → Reads WebApp
 behind_components its_version deny its_components table = do
-  its_session ← session table
+  its_session ← session its_version table
   its_pages ← pages table
   its_security ← security deny table
   Ok (assembled its_version its_components its_session its_pages its_security)

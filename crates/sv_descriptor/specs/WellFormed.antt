@@ -9,12 +9,14 @@ use Rattle.sv_constraints.specs.declared.constraint.Methods.{Methods}
 use Rattle.sv_constraints.specs.declared.constraint.Methods.TheVariants as methods
 use Rattle.sv_schema.specs.Names.{Differ}
 use Rattle.sv_schema.specs.declared.limits.TheConstants.{MAX_LIST_ITEMS}
+use Rattle.sv_wire.specs.declared.cookie_settings.CookieSettings.{CookieSettings}
 use Rattle.sv_descriptor.specs.Agreement.{servlet_names, filter_names, servlet_patterns, is_known_servlet}
+use Rattle.sv_descriptor.specs.CookieConfig.{is_cookie_name, is_cookie_path}
 use Rattle.sv_descriptor.specs.Location.{is_location}
 use Rattle.sv_descriptor.specs.Role.{is_reserved_role}
 use Rattle.sv_descriptor.specs.Servlet.{is_reserved_servlet}
 use Rattle.sv_descriptor.specs.declared.filter.FilterMapping.{FilterMapping}
-use Rattle.sv_descriptor.specs.declared.limits.TheConstants.{MAX_PATTERNS_OF_CONSTRAINT, MAX_SESSION_TIMEOUT}
+use Rattle.sv_descriptor.specs.declared.limits.TheConstants.{MAX_COOKIE_AGE, MAX_PATTERNS_OF_CONSTRAINT, MAX_SESSION_TIMEOUT}
 use Rattle.sv_descriptor.specs.declared.web_app.WebApp.{WebApp}
 
 -- a list is within the limit of lists
@@ -64,6 +66,12 @@ pub record AllListsAreShort (app : WebApp) : Type 0 where
 abbrev pub AreNumbered : List Constraint → Type 0
 AreNumbered constraints = (i : ℕ) (d : Constraint) → i < length constraints → (slice_index_or constraints i d).number ≡ i + 1
 
+-- a cookie can be set so: its name and its path end no part of the line, and its age has few digits
+pub record CanBeSet (settings : CookieSettings) : Type 0 where
+  pub name : is_cookie_name settings.name ≡ true
+  pub path : IfSome settings.path (λ path. is_cookie_path path ≡ true)
+  pub max_age : IfSome settings.max_age (λ seconds. seconds ≤ MAX_COOKIE_AGE)
+
 pub record IsWellFormed (app : WebApp) : Type 0 where
   pub servlet_names_differ : Differ (servlet_names app)
   pub servlet_names_are_free : All (λ servlet. is_reserved_servlet servlet.servlet_name ≡ false) app.servlets
@@ -79,4 +87,5 @@ pub record IsWellFormed (app : WebApp) : Type 0 where
   pub roles_differ : Differ app.rules.declared
   pub roles_are_free : All (λ role. is_reserved_role role ≡ false) app.rules.declared
   pub session_timeout_is_bounded : app.session.timeout ≤ MAX_SESSION_TIMEOUT
+  pub session_cookie_can_be_set : CanBeSet app.session.cookie
   pub lists_are_short : AllListsAreShort app

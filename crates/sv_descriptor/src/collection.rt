@@ -198,7 +198,8 @@ fn is_method_name(text: &str) -> bool
     is_within(text, 1, MAX_METHOD_BYTES) && is_token_text(text)
 }
 
-fn is_token_text(text: &str) -> bool
+/// Whether each byte of a text is one of a token (RFC 9110 section 5.6.2).
+pub fn is_token_text(text: &str) -> bool
     ensures { result ≡ list_all is_token_byte text.now }
 {
     text.as_bytes().iter().all(|byte| is_token_char(*byte))

@@ -6,6 +6,7 @@ mod agreement;
 mod collection;
 mod components;
 mod constraint;
+mod cookie_config;
 mod descriptor;
 mod error_page;
 mod filter;
@@ -33,8 +34,9 @@ pub use filter::{FilterEntry, FilterMapping};
 pub use init_param::InitParam;
 pub use laws::limits_of_the_descriptor;
 pub use limits::{
-    DEFAULT_SESSION_TIMEOUT, MAX_ERROR_CODE, MAX_METHOD_BYTES, MAX_PATTERNS_OF_CONSTRAINT,
-    MAX_SESSION_TIMEOUT, MIN_ERROR_CODE,
+    DEFAULT_SESSION_TIMEOUT, MAX_COOKIE_AGE, MAX_COOKIE_PATH_BYTES, MAX_ERROR_CODE,
+    MAX_METHOD_BYTES, MAX_PATTERNS_OF_CONSTRAINT, MAX_SESSION_TIMEOUT, MAX_SESSIONS_OF_VERSION_1,
+    MAX_SESSIONS_OF_VERSION_2, MIN_ERROR_CODE,
 };
 pub use listener::ListenerEntry;
 pub use location::Location;

@@ -1,57 +1,91 @@
 //! The sessions of a context.
 
-ghost use Rattle.sv_text.specs.Gives.{Gives};
+ghost use Rattle.sv_text.specs.Gives.{Gives, GivesAnswer};
 ghost use Rattle.toml.specs.View.{table_view};
+ghost use Rattle.sv_descriptor.specs.Ignored.{element_keys};
 ghost use Rattle.sv_descriptor.specs.Session as spec;
 ghost use Rattle.sv_schema.specs.Fault.{fault};
 
+use crate::cookie_config::CookieTable;
 use crate::ignored::element_keys;
 use crate::limits::{DEFAULT_SESSION_TIMEOUT, MAX_SESSION_TIMEOUT};
+use crate::version::Version;
 use std::alloc::Global;
 use sv_schema::{
     FaultCode, ReadFault, TableOf, TableSchema, WholeOf, WholeSchema, optional_or, refuse,
 };
+use sv_text::NoMemory;
+use sv_wire::CookieSettings;
 use toml::Table;
 
-/// How the sessions of a context are kept (`session-config`, Jakarta Servlet 6.0 section 7.5).
-#[derive(Clone, Copy, Debug, PartialEq, Eq)]
+/// How the sessions of a context are kept (`session-config`, Jakarta Servlet 6.0 sections 7.1.1 and 7.5).
+#[derive(Drop)]
 pub struct SessionConfig {
     /// How many minutes a session lives without a request, 0 for ever.
     pub timeout: u32,
+    /// How the session cookie is set.
+    pub cookie: CookieSettings,
 }
-
-/// How sessions are kept where a descriptor does not say.
-const DEFAULT_SESSION: SessionConfig = SessionConfig {
-    timeout: DEFAULT_SESSION_TIMEOUT,
-};
 
 /// Reads how the sessions of a context are kept.
 ///
 /// # Errors
 /// The first fault of the table, or [`ReadFault::NoMemory`].
-pub fn read_session(alloc: Global, table: &Table) -> Result<SessionConfig, ReadFault>
-    ensures { Gives fault result (spec.session (table_view table.now)) }
+pub fn read_session(
+    alloc: Global,
+    version: Version,
+    table: &Table,
+) -> Result<SessionConfig, ReadFault>
+    ensures { Gives fault result (spec.session version (table_view table.now)) }
 {
-    let session = TableOf(SessionTable);
-    optional_or(alloc, table, "session-config", &session, DEFAULT_SESSION)
+    let session = TableOf(SessionTable { version });
+    let default = default_session(alloc)?;
+    optional_or(alloc, table, "session-config", &session, default)
+}
+
+/// How sessions are kept where a descriptor does not say.
+fn default_session(alloc: Global) -> Result<SessionConfig, NoMemory>
+    ensures { GivesAnswer result spec.default_session }
+{
+    Ok(SessionConfig {
+        timeout: DEFAULT_SESSION_TIMEOUT,
+        cookie: CookieSettings::standard(alloc)?,
+    })
 }
 
 /// The table of a context's sessions.
 #[derive(Clone, Copy)]
-struct SessionTable;
+struct SessionTable {
+    /// The version of the descriptor, in which the table stands.
+    version: Version,
+}
 
 impl TableSchema for SessionTable {
     type Output = SessionConfig;
 
-    ghost reads = { λ _. spec.session_config };
+    ghost reads = { λ schema. spec.session_config schema.version };
 
     fn read(&self, alloc: Global, table: &Table) -> Result<SessionConfig, ReadFault> {
-        element_keys(alloc, &["session-timeout"], table)?;
+        session_keys(alloc, self.version, table)?;
         let minutes = WholeOf(SessionTimeout);
         let default = DEFAULT_SESSION_TIMEOUT;
+        let timeout = optional_or(alloc, table, "session-timeout", &minutes, default)?;
+        let standard = CookieSettings::standard(alloc)?;
+        let cookie = TableOf(CookieTable);
         Ok(SessionConfig {
-            timeout: optional_or(alloc, table, "session-timeout", &minutes, default)?,
+            timeout,
+            cookie: optional_or(alloc, table, "cookie-config", &cookie, standard)?,
         })
+    }
+}
+
+/// Sees that the table has no keys but those of the version.
+fn session_keys(alloc: Global, version: Version, table: &Table) -> Result<(), ReadFault>
+    ensures { Gives fault result (element_keys (spec.session_keys version) (table_view table.now)) }
+{
+    match version {
+        Version::One => element_keys(alloc, &["session-timeout"], table),
+        Version::Two => element_keys(alloc, &["session-timeout", "cookie-config"], table),
     }
 }
 

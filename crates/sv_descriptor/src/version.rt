@@ -1,10 +1,12 @@
 //! The version of the descriptor's format.
 
+ghost use Rattle.std.specs.Prelude.{◌≡◌};
 ghost use Rattle.sv_text.specs.Gives.{Gives};
 ghost use Rattle.toml.specs.View.{table_view};
 ghost use Rattle.sv_descriptor.specs.Version as spec;
 ghost use Rattle.sv_schema.specs.Fault.{fault};
 
+use crate::limits::{MAX_SESSIONS_OF_VERSION_1, MAX_SESSIONS_OF_VERSION_2};
 use std::alloc::Global;
 use sv_schema::{NumberBetween, ReadFault, WholeOf, optional};
 use toml::Table;
@@ -14,6 +16,20 @@ use toml::Table;
 pub enum Version {
     /// The first, which a descriptor without a version has.
     One = 1,
+    /// The second, in which the session cookie is set.
+    Two = 2,
+}
+
+impl Version {
+    /// How many sessions a context of such a descriptor may have at a time.
+    pub fn max_sessions(self) -> usize
+        ensures { result ≡ spec.max_sessions self }
+    {
+        match self {
+            Version::One => MAX_SESSIONS_OF_VERSION_1,
+            Version::Two => MAX_SESSIONS_OF_VERSION_2,
+        }
+    }
 }
 
 /// Reads the version of a descriptor.
@@ -23,7 +39,17 @@ pub enum Version {
 pub fn read_version(alloc: Global, table: &Table) -> Result<Version, ReadFault>
     ensures { Gives fault result (spec.version (table_view table.now)) }
 {
-    let first = WholeOf(NumberBetween { least: 1, most: 1 });
-    let _ = optional(alloc, table, "version", &first)?;
-    Ok(Version::One)
+    let numbers = WholeOf(NumberBetween { least: 1, most: 2 });
+    let number = optional(alloc, table, "version", &numbers)?;
+    Ok(numbered(number))
+}
+
+fn numbered(number: Option<u16>) -> Version
+    ensures { result ≡ spec.numbered number }
+{
+    match number {
+        Some(2) => Version::Two,
+        Some(_) => Version::One,
+        None => Version::One,
+    }
 }

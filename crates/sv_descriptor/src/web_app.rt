@@ -91,7 +91,7 @@ fn read_behind_components(
 ) -> Result<WebApp, ReadFault>
     ensures { Gives fault result (spec.behind_components version deny_uncovered components (table_view table.now)) }
 {
-    let session = read_session(alloc, table)?;
+    let session = read_session(alloc, version, table)?;
     let pages = read_pages(alloc, table)?;
     let security = read_security(alloc, table, deny_uncovered)?;
     Ok(assembled(version, components, session, pages, security))

@@ -6,13 +6,14 @@ use sv_measure::{HEAD, Work};
 use sv_session::Sessions;
 use sv_uri::canon;
 use sv_uri::path::Canon;
-use sv_wire::{Inbox, Item, Message};
+use sv_wire::{CookieSettings, Inbox, Item, Message};
 
 /// A request with ten fields, and its path.
 #[derive(Drop)]
 pub struct Request {
     message: Message,
     pub canon: Canon,
+    settings: CookieSettings,
 }
 
 impl Request {
@@ -22,7 +23,12 @@ impl Request {
             return None;
         };
         let message = message(alloc)?;
-        Some(Request { message, canon })
+        let settings = CookieSettings::standard(alloc).ok()?;
+        Some(Request {
+            message,
+            canon,
+            settings,
+        })
     }
 
     /// An exchange of it.
@@ -33,6 +39,7 @@ impl Request {
             &self.message,
             &self.canon,
             "",
+            &self.settings,
             0,
             (0, 0),
             None,

@@ -13,7 +13,7 @@ use sv_session::Sessions;
 use sv_text::{Bytes, Listed, NoMemory, Text};
 use sv_uri::canon;
 use sv_uri::path::Canon;
-use sv_wire::{Message, Target};
+use sv_wire::{CookieSettings, Message, Target};
 
 /// A request: a method and a target in the context, and words: a moment behind `@`, the session that is held behind `#`, its caller behind
 /// `~`, the status of an error that it is answered by without a dispatch behind `!`, the kind of its dispatch, and else the body of a form.
@@ -105,11 +105,15 @@ pub fn exchange(
     let Ok(held) = held(alloc, request) else {
         return None;
     };
+    let Ok(settings) = CookieSettings::standard(alloc) else {
+        return None;
+    };
     Exchange::begin(
         alloc,
         &message,
         canon,
         context,
+        &settings,
         request.moment,
         (0, 1),
         held,

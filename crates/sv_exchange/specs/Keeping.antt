@@ -15,6 +15,7 @@ counted before = record before { calls = suc before.calls }
 pub record SameRequest (before after : State) : Type 0 where
   pub method : after.method ≡ before.method
   pub context_path : after.context_path ≡ before.context_path
+  pub cookie_settings : after.cookie_settings ≡ before.cookie_settings
   pub request_fields : after.request_fields ≡ before.request_fields
   pub body : after.body ≡ before.body
   pub moment : after.moment ≡ before.moment

@@ -13,6 +13,7 @@ use Rattle.sv_session.specs.declared.session_fault.SessionFault.{SessionFault}
 use Rattle.sv_session.specs.declared.session_fault.SessionFault.TheVariants as session_faults
 use Rattle.sv_text.specs.Faults.{when}
 use Rattle.sv_uri.specs.LocationField.{location}
+use Rattle.sv_wire.specs.declared.cookie_settings.CookieSettings.{CookieSettings}
 use Rattle.sv_wire.specs.declared.response.Cookie.{Cookie}
 use Rattle.sv_exchange.specs.declared.exchange_fault.ExchangeFault.{ExchangeFault}
 use Rattle.sv_exchange.specs.declared.exchange_fault.ExchangeFault.TheVariants as faults
@@ -47,17 +48,32 @@ is_in_role role (Some caller) =
 abbrev pub on_session : (ℕ → State → State) → State → State
 on_session change before = option_map_or (λ number. change number before) (session_of before) before
 
--- the path below which the cookie is sent back (section 7.1.1)
-abbrev pub cookie_path : List ℕ → List ℕ
-cookie_path [] = codes "/"
-cookie_path context_path = location context_path
+-- the path of a context, as a cookie has it
+abbrev pub context_cookie_path : List ℕ → List ℕ
+context_cookie_path [] = codes "/"
+context_cookie_path context_path = location context_path
+
+-- the path below which the cookie is sent back (section 7.1.1): the one that the settings have, as it stands, or else the context's
+abbrev pub cookie_path : Option (List ℕ) → List ℕ → List ℕ
+cookie_path (Some path) context_path = path
+cookie_path None context_path = context_cookie_path context_path
+
+-- the cookie of a session of that id
+abbrev pub cookie_of : CookieSettings → List ℕ → List ℕ → Cookie
+cookie_of settings context_path id = record {
+  name = settings.name;
+  id = id;
+  path = cookie_path settings.path context_path;
+  http_only = settings.http_only;
+  max_age = settings.max_age;
+}
 
 -- the number of the session that would be opened, and its cookie
 abbrev pub next_number : State → ℕ
 next_number before = before.store.serial + 1
 
 abbrev pub next_cookie : State → Cookie
-next_cookie before = record { id = id_text before.words (next_number before); path = cookie_path before.context_path }
+next_cookie before = cookie_of before.cookie_settings before.context_path (id_text before.words (next_number before))
 
 -- a session is opened (section 7.2)
 abbrev pub opened : State → State

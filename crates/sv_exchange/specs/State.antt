@@ -1,4 +1,4 @@
--- An exchange as contracts see it: what was asked, the dispatches that are under way, what is answered so far, how many
+-- An exchange as contracts see it: what was asked of which context, the dispatches that are under way, what is answered so far, how many
 -- calls of `before` and of `service` were made, the error of which the answer will speak, and the session with the events that are still to
 -- be told (Jakarta Servlet 6.0, chapters 3, 5, 7, 9, 10 and 11).
 use Rattle.std.specs.Prelude.{ℕ, Bool, List, Option}
@@ -6,6 +6,7 @@ use Rattle.sv_head.specs.declared.field.Field.{Field}
 use Rattle.sv_journal.specs.declared.event.Event.{Event}
 use Rattle.sv_realm.specs.declared.caller.Caller.{Caller}
 use Rattle.sv_session.specs.Store.{Store}
+use Rattle.sv_wire.specs.declared.cookie_settings.CookieSettings.{CookieSettings}
 use Rattle.sv_wire.specs.declared.response.Cookie.{Cookie}
 use Rattle.sv_exchange.specs.declared.attribute.Attribute.{Attribute}
 use Rattle.sv_exchange.specs.declared.dispatch.Dispatch.{Dispatch}
@@ -15,6 +16,7 @@ use Rattle.sv_exchange.specs.declared.kept_error.KeptError.{KeptError}
 pub record State : Type 0 where
   pub method : List ℕ
   pub context_path : List ℕ
+  pub cookie_settings : CookieSettings
   pub request_fields : List Field
   pub body : List ℕ
   pub moment : ℕ

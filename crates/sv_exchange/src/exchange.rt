@@ -20,7 +20,7 @@ use sv_realm::Caller;
 use sv_session::Sessions;
 use sv_text::{Bytes, Listed, Text};
 use sv_uri::path::Canon;
-use sv_wire::{Cookie, Message, Response};
+use sv_wire::{Cookie, CookieSettings, Message, Response};
 
 /// A request with the answer that components make of it (Jakarta Servlet 6.0, chapters 3 and 5). Contracts see it as a `State`.
 #[derive(Drop)]
@@ -28,6 +28,7 @@ pub struct Exchange {
     pub(crate) alloc: Global,
     pub(crate) method: Method,
     pub(crate) context_path: Text,
+    pub(crate) cookie_settings: CookieSettings,
     pub(crate) request_fields: Vec<Field>,
     pub(crate) body: Bytes,
     pub(crate) moment: u64,
@@ -56,6 +57,7 @@ impl Model for Exchange {
     ghost view = { λ e. record {
       method = e.method;
       context_path = e.context_path;
+      cookie_settings = e.cookie_settings;
       request_fields = e.request_fields.items;
       body = e.body;
       moment = e.moment;
@@ -80,8 +82,8 @@ impl Model for Exchange {
 impl Exchange {
     ghost use Rattle.sv_exchange.specs.Beginning.{begun, finished};
 
-    /// Begins an exchange of a request to the context with that path, of which nothing was said yet. The path of the `Canon` is the
-    /// one in the context, the moment is in seconds since 1970, and the words are the two random ones of the message. The context's
+    /// Begins an exchange of a request to the context with that path, whose session cookie is set so, and of which nothing was said yet.
+    /// The path of the `Canon` is the one in the context, the moment is in seconds since 1970, and the words are the two random ones of the message. The context's
     /// sessions are lent to the exchange until [`finish`](Exchange::finish), and the session that the request holds is one of them.
     ///
     /// # Errors
@@ -91,19 +93,20 @@ impl Exchange {
         message: &Message,
         canon: &Canon,
         context_path: &str,
+        cookie_settings: &CookieSettings,
         moment: u64,
         words: (u64, u64),
         held: Option<HeldSession>,
         sessions: Sessions,
     ) -> Result<Exchange, BeginFault>
         ensures { MatchResult result
-            (λ exchange. exchange ≡ begun message.now canon.now context_path.now moment words held sessions)
+            (λ exchange. exchange ≡ begun message.now canon.now context_path.now cookie_settings.now moment words held sessions)
             (λ fault. fault.sessions ≡ sessions) }
     {
-        let Ok(cookie) = held_cookie(alloc, context_path, &sessions, &held) else {
+        let Ok(cookie) = held_cookie(alloc, cookie_settings, context_path, &sessions, &held) else {
             return Err(BeginFault { sessions });
         };
-        let Ok(asked) = Asked::copy_of(alloc, message, canon, context_path) else {
+        let Ok(asked) = Asked::copy_of(alloc, message, canon, context_path, cookie_settings) else {
             return Err(BeginFault { sessions });
         };
         let (session, caller) = parts_of(held);
@@ -111,6 +114,7 @@ impl Exchange {
             alloc,
             method: asked.method,
             context_path: asked.context_path,
+            cookie_settings: asked.cookie_settings,
             request_fields: asked.fields,
             body: asked.body,
             moment,

@@ -5,7 +5,7 @@ ghost use Rattle.std.specs.List.{list_any};
 ghost use Rattle.std.specs.Option.{option_and_then, option_copied, option_map};
 ghost use Rattle.sv_text.specs.Gives.{GivesAnswer};
 ghost use Rattle.sv_exchange.specs.Beginning.{renewed_cookie};
-ghost use Rattle.sv_exchange.specs.Sessions.{cookie_path, is_in_role};
+ghost use Rattle.sv_exchange.specs.Sessions.{context_cookie_path, cookie_of, cookie_path, is_in_role};
 
 use crate::exchange::Exchange;
 use crate::held_session::HeldSession;
@@ -14,7 +14,7 @@ use sv_realm::Caller;
 use sv_session::Sessions;
 use sv_text::{NoMemory, Text};
 use sv_uri::location;
-use sv_wire::Cookie;
+use sv_wire::{Cookie, CookieSettings};
 
 impl Exchange {
     ghost use Rattle.sv_exchange.specs.Sessions.{has_session, session_of, session_value};
@@ -84,41 +84,71 @@ pub(crate) fn parts_of(held: Option<HeldSession>) -> (Option<u64>, Option<Caller
 /// The cookie of a session that a request holds, where its own message opened or renamed it.
 pub(crate) fn held_cookie(
     alloc: Global,
+    settings: &CookieSettings,
     context_path: &str,
     sessions: &Sessions,
     held: &Option<HeldSession>,
 ) -> Result<Option<Cookie>, NoMemory>
-    ensures { GivesAnswer result (option_and_then (renewed_cookie context_path.now sessions.now) held.now) }
+    ensures { GivesAnswer result (option_and_then (renewed_cookie settings.now context_path.now sessions.now) held.now) }
 {
     match held {
-        Some(held) => renewed_cookie(alloc, context_path, sessions, held),
+        Some(held) => renewed_cookie(alloc, settings, context_path, sessions, held),
         None => Ok(None),
     }
 }
 
 fn renewed_cookie(
     alloc: Global,
+    settings: &CookieSettings,
     context_path: &str,
     sessions: &Sessions,
     held: &HeldSession,
 ) -> Result<Option<Cookie>, NoMemory>
-    ensures { GivesAnswer result (renewed_cookie context_path.now sessions.now held.now) }
+    ensures { GivesAnswer result (renewed_cookie settings.now context_path.now sessions.now held.now) }
 {
     if !held.is_renewed {
         return Ok(None);
     }
     match sessions.id(held.number) {
-        Some(id) => Ok(Some(Cookie {
-            id: Text::copy_of(alloc, id)?,
-            path: cookie_path(alloc, context_path)?,
-        })),
+        Some(id) => {
+            let id = Text::copy_of(alloc, id)?;
+            Ok(Some(cookie_of(alloc, settings, context_path, id)?))
+        }
         None => Ok(None),
     }
 }
 
-/// The path below which a context's cookie is sent back.
-pub(crate) fn cookie_path(alloc: Global, context_path: &str) -> Result<Text, NoMemory>
-    ensures { GivesAnswer result (cookie_path context_path.now) }
+/// The cookie of a session of that id.
+pub(crate) fn cookie_of(
+    alloc: Global,
+    settings: &CookieSettings,
+    context_path: &str,
+    id: Text,
+) -> Result<Cookie, NoMemory>
+    ensures { GivesAnswer result (cookie_of settings.now context_path.now id) }
+{
+    Ok(Cookie {
+        name: Text::copy_of(alloc, settings.name.as_str())?,
+        id,
+        path: cookie_path(alloc, &settings.path, context_path)?,
+        http_only: settings.http_only,
+        max_age: settings.max_age,
+    })
+}
+
+// The path below which the cookie is sent back.
+fn cookie_path(alloc: Global, path: &Option<Text>, context_path: &str) -> Result<Text, NoMemory>
+    ensures { GivesAnswer result (cookie_path path.now context_path.now) }
+{
+    match path {
+        Some(path) => Text::copy_of(alloc, path.as_str()),
+        None => context_cookie_path(alloc, context_path),
+    }
+}
+
+// The path of a context, as a cookie has it.
+fn context_cookie_path(alloc: Global, context_path: &str) -> Result<Text, NoMemory>
+    ensures { GivesAnswer result (context_cookie_path context_path.now) }
 {
     if context_path.is_empty() {
         Text::copy_of(alloc, "/")

@@ -7,10 +7,9 @@ ghost use Rattle.sv_exchange.specs.Sessions.{ending_events};
 use crate::events::{ending_events, push};
 use crate::exchange::Exchange;
 use crate::exchange_fault::ExchangeFault;
-use crate::holding::cookie_path;
+use crate::holding::cookie_of;
 use sv_journal::Event;
 use sv_text::Text;
-use sv_wire::Cookie;
 
 impl Exchange {
     ghost use Rattle.sv_exchange.specs.Changing.{Changes, Does, Logout, SessionEnd, SessionOpen, SessionRemove, SessionSet, answer};
@@ -74,11 +73,12 @@ impl Exchange {
             return Err(ExchangeFault::Committed);
         }
         let id = self.sessions.next_id(self.words)?;
-        let path = cookie_path(self.alloc, self.context_path.as_str())?;
+        let path = self.context_path.as_str();
+        let cookie = cookie_of(self.alloc, &self.cookie_settings, path, id)?;
         self.events.reserve(1)?;
         let number = self.sessions.open(self.words, self.moment)?;
         self.session = Some(number);
-        self.cookie = Some(Cookie { id, path });
+        self.cookie = Some(cookie);
         push(&mut self.events, Event::SessionCreated(number));
         Ok(true)
     }

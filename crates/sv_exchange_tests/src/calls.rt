@@ -34,9 +34,20 @@ fn tell_cookie(exchange: Exchange, told: &mut Draft) {
     let (response, _sessions) = exchange.finish();
     if let Some(cookie) = &response.cookie {
         told.add(" | ");
+        told.add(cookie.name.as_str());
+        told.add("=");
         told.add(cookie.id.as_str());
         told.add(" ");
         told.add(cookie.path.as_str());
+        told.add(if cookie.http_only { " HttpOnly" } else { "" });
+        tell_age(cookie.max_age, told);
+    }
+}
+
+fn tell_age(max_age: Option<u32>, told: &mut Draft) {
+    if let Some(seconds) = max_age {
+        told.add(" ");
+        told.add_shown(&seconds);
     }
 }
 

@@ -9,7 +9,7 @@ use sv_realm::Caller;
 use sv_session::Sessions;
 use sv_text::{Bytes, Listed, NoMemory, Text};
 use sv_uri::path::Canon;
-use sv_wire::{Message, Target};
+use sv_wire::{CookieSettings, Message, Target};
 
 /// What a client asks of `/app/a`.
 #[derive(Clone, Copy)]
@@ -20,24 +20,61 @@ pub struct Request<'a> {
     pub body: &'a str,
     /// The session with which it comes: see [`held`].
     pub session: &'a str,
+    /// How the session cookie of its context is set.
+    pub cookie: Cookie<'a>,
 }
+
+/// How a session cookie is set, where `-` stands for no path and no age.
+#[derive(Clone, Copy)]
+pub struct Cookie<'a> {
+    pub name: &'a str,
+    pub path: &'a str,
+    pub http_only: bool,
+    pub max_age: &'a str,
+}
+
+/// As where a descriptor says nothing of it.
+pub const STANDARD: Cookie<'static> = Cookie {
+    name: "JSESSIONID",
+    path: "-",
+    http_only: true,
+    max_age: "-",
+};
 
 /// Its exchange in the context `/app`, at the moment 7.
 pub fn exchange(alloc: Global, request: Request<'_>) -> Result<Exchange, NoMemory> {
     let message = message(alloc, request)?;
     let canon = canon(alloc, request.query)?;
-    exchange_of(alloc, &message, &canon, request.session)
+    let settings = settings(alloc, request.cookie)?;
+    exchange_of(alloc, &message, &canon, &settings, request.session)
+}
+
+fn settings(alloc: Global, cookie: Cookie<'_>) -> Result<CookieSettings, NoMemory> {
+    let path = match cookie.path {
+        "-" => None,
+        path => Some(Text::copy_of(alloc, path)?),
+    };
+    Ok(CookieSettings {
+        name: Text::copy_of(alloc, cookie.name)?,
+        path,
+        http_only: cookie.http_only,
+        max_age: cookie.max_age.parse::<u32>().ok(),
+    })
 }
 
 fn exchange_of(
     alloc: Global,
     message: &Message,
     canon: &Canon,
+    settings: &CookieSettings,
     session: &str,
 ) -> Result<Exchange, NoMemory> {
     let held = held(alloc, session)?;
     let sessions = sessions(alloc, if session == "full" { 1 } else { 2 });
-    match Exchange::begin(alloc, message, canon, "/app", 7, (0, 1), held, sessions) {
+    let words = (0, 1);
+    match Exchange::begin(
+        alloc, message, canon, "/app", settings, 7, words, held, sessions,
+    ) {
         Ok(exchange) => Ok(exchange),
         Err(_) => Err(NoMemory),
     }

@@ -1,7 +1,7 @@
 //! What an exchange answers of its session, of the error that it keeps, and of the parameters of its request.
 
 use crate::calls::answer_all;
-use crate::requests::Request;
+use crate::requests::{Cookie, Request, STANDARD};
 use std::alloc::Global;
 use sv_rows::{Asks, Strays, cell, hold};
 use sv_text::NoMemory;
@@ -18,23 +18,38 @@ held    | logout; role a; role **; logout         | true; no; no; true
 held    | open; session                           | true; 1
 none    | get n; set n=1; remove n; logout        | -; NoSession; NoSession; true
 -- a session is opened; the cookie is that of the last one that still lives, of the context's path
-none    | open; session; caller; set n=2; get n   | true; 2; -; true; 2   | 000000000000000000000000000000010000000000000002 /app
+none    | open; session; caller; set n=2; get n   | true; 2; -; true; 2   | JSESSIONID=000000000000000000000000000000010000000000000002 /app HttpOnly
 none    | open; end                               | true; true
 none    | open; flush; end; open                  | true; true; true; Committed
-renewed | end; open; session                      | true; true; 2         | 000000000000000000000000000000010000000000000002 /app
-renewed | flush; open                             | true; true            | 000000000000000000000000000000000000000000000001 /app
+renewed | end; open; session                      | true; true; 2         | JSESSIONID=000000000000000000000000000000010000000000000002 /app HttpOnly
+renewed | flush; open                             | true; true            | JSESSIONID=000000000000000000000000000000000000000000000001 /app HttpOnly
 -- events, the oldest first; each is told once
 held    | set n=2; set k=1; event; event; event   | true; true; AttributeReplaced 1 n; AttributeAdded 1 k; -
 held    | remove n; end; event; event; event; event | true; true; AttributeRemoved 1 n; SessionDestroyed 1; AttributeRemoved 1 m; -
 held    | set n=2; end; event; event; event; event | true; true; AttributeReplaced 1 n; SessionDestroyed 1; AttributeRemoved 1 n; AttributeRemoved 1 m
-none    | open; event; event                      | true; SessionCreated 2; - | 000000000000000000000000000000010000000000000002 /app
+none    | open; event; event                      | true; SessionCreated 2; - | JSESSIONID=000000000000000000000000000000010000000000000002 /app HttpOnly
 -- limits: two sessions, and names of 64 bytes
-none    | open; end; open; session                | true; true; true; 3   | 000000000000000000000000000000010000000000000003 /app
+none    | open; end; open; session                | true; true; true; 3   | JSESSIONID=000000000000000000000000000000010000000000000003 /app HttpOnly
 full    | open                                    | TooManySessions
 held    | set xxxxxxxxxxxxxxxxxxxxxxxxxxxxxxxxxxxxxxxxxxxxxxxxxxxxxxxxxxxxxxxxx=1; set xxxxxxxxxxxxxxxxxxxxxxxxxxxxxxxxxxxxxxxxxxxxxxxxxxxxxxxxxxxxxxxx=1 | TooLarge; true
 "#;
 
-/// The same with errors: an error is kept with its status, its servlet (`-` for none) and its text. Then attributes of the error page.
+/// How the session cookie is set: its name, its path, whether it is kept from scripts, and for how many seconds it is kept. Then the
+/// same.
+const COOKIES: &str = r#"
+-- Jakarta Servlet 6.0, section 7.1.1: each setting, for a session that is opened and for one that was renamed
+SID        | -    | yes | -          | none    | open       | true       | SID=000000000000000000000000000000010000000000000002 /app HttpOnly
+JSESSIONID | /    | yes | -          | none    | open       | true       | JSESSIONID=000000000000000000000000000000010000000000000002 / HttpOnly
+JSESSIONID | -    | no  | -          | none    | open       | true       | JSESSIONID=000000000000000000000000000000010000000000000002 /app
+JSESSIONID | -    | yes | 60         | none    | open       | true       | JSESSIONID=000000000000000000000000000000010000000000000002 /app HttpOnly 60
+SID        | /x   | no  | 2147483647 | renewed | session    | 1          | SID=000000000000000000000000000000000000000000000001 /x 2147483647
+SID        | /a%b | no  | 0          | renewed | end; open  | true; true | SID=000000000000000000000000000000010000000000000002 /a%b 0
+-- a session that is held, and one that has ended, set none
+SID        | /x   | no  | 60         | held    | session    | 1
+SID        | /x   | no  | 60         | none    | open; end  | true; true
+"#;
+
+/// As with sessions, and with errors: an error is kept with its status, its servlet (`-` for none) and its text. Then attributes of the error page.
 const ERRORS: &str = r#"
 -- Jakarta Servlet 6.0, section 10.9.1; an error that is kept later changes nothing
 none | keep 404 who Not Found; error; keep 500 other later; attribute jakarta.servlet.error.status_code  | done; done; done; 404
@@ -57,6 +72,35 @@ fn a_session_and_an_error_are_those_of_the_calls(rt: HostRuntime) -> Result<(), 
     hold(&rt, &[SESSIONS, ERRORS], &Sessions)
 }
 
+#[test]
+fn a_session_cookie_is_set_as_its_context_has_it(rt: HostRuntime) -> Result<(), Strays> {
+    hold(&rt, &[COOKIES], &Cookies)
+}
+
+/// The answers to calls on a GET that comes with that session, where the cookie is set so.
+struct Cookies;
+
+impl Asks for Cookies {
+    const QUESTION: usize = 6;
+
+    fn answer(&self, alloc: Global, row: &str, answer: &mut Vec<u8>) -> Result<(), NoMemory> {
+        let request = Request {
+            method: "GET",
+            content_type: "",
+            query: "",
+            body: "",
+            session: cell(row, 4),
+            cookie: Cookie {
+                name: cell(row, 0),
+                path: cell(row, 1),
+                http_only: cell(row, 2) == "yes",
+                max_age: cell(row, 3),
+            },
+        };
+        answer_all(alloc, request, cell(row, 5), answer)
+    }
+}
+
 /// The answers to calls on a GET that comes with that session.
 struct Sessions;
 
@@ -70,6 +114,7 @@ impl Asks for Sessions {
             query: "",
             body: "",
             session: cell(row, 0),
+            cookie: STANDARD,
         };
         answer_all(alloc, request, cell(row, 1), answer)
     }
@@ -112,6 +157,7 @@ impl Asks for Parameters {
             query: cell(row, 2),
             body: cell(row, 3),
             session: "none",
+            cookie: STANDARD,
         };
         answer_all(alloc, request, cell(row, 4), answer)
     }

@@ -10,7 +10,7 @@ use sv_rows::{Asks, Draft, Strays, cell, hold};
 use sv_session::Sessions;
 use sv_text::{Bytes, Listed, NoMemory, Text};
 use sv_uri::path::Canon;
-use sv_wire::{Message, Target};
+use sv_wire::{CookieSettings, Message, Target};
 
 /// The calls that are made of a context with a servlet, a filter and two listeners, and the attributes of the second of its two sessions; then
 /// the answers with the standing behind them, and the entries, those of the start before them and those of the stop behind them.
@@ -72,9 +72,19 @@ fn make_on(
     journal: &mut Journal,
     told: &mut Draft,
 ) {
-    let (message, canon) = (&request.message, &request.canon);
+    let (message, canon, settings) = (&request.message, &request.canon, &request.cookie_settings);
     let sessions = Sessions::new(alloc, 0, 0);
-    match Exchange::begin(alloc, message, canon, "", 7, (0, 0), None, sessions) {
+    match Exchange::begin(
+        alloc,
+        message,
+        canon,
+        "",
+        settings,
+        7,
+        (0, 0),
+        None,
+        sessions,
+    ) {
         Ok(exchange) => make_each(alloc, calls, live, exchange, journal, told),
         Err(_) => told.fail(),
     }
@@ -147,11 +157,13 @@ fn change(alloc: Global, live: &mut TestLive, journal: &mut Journal, call: &str)
 struct Request {
     message: Message,
     canon: Canon,
+    cookie_settings: CookieSettings,
 }
 
 /// A GET of the root of a context.
 fn request_of_root(alloc: Global) -> Result<Request, NoMemory> {
     let path = Text::copy_of(alloc, "/")?;
+    let cookie_settings = CookieSettings::standard(alloc)?;
     Ok(Request {
         message: Message {
             method: Method::GET,
@@ -162,5 +174,6 @@ fn request_of_root(alloc: Global) -> Result<Request, NoMemory> {
             keep: true,
         },
         canon: Canon { path, query: None },
+        cookie_settings,
     })
 }

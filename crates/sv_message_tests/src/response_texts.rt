@@ -3,7 +3,7 @@
 use crate::responses::Responses;
 use sv_rows::{Strays, hold};
 
-/// Status, fields with `\n` between them, session cookie, body, how it is written and when, text.
+/// Status, fields with `\n` between them, session cookie with its path, seconds and flag, body, how it is written and when, text.
 const ROWS: &str = r#"
 -- RFC 9112, sections 4 and 5: status line, date, fields, length, empty line, body
 200   | content-type: text/plain   | - | caller -\n   | whole close 0  | HTTP/1.1 200 OK\r\ndate: Thu, 01 Jan 1970 00:00:00 GMT\r\ncontent-type: text/plain\r\ncontent-length: 9\r\nconnection: close\r\n\r\ncaller -\n
@@ -25,10 +25,17 @@ const ROWS: &str = r#"
 503   | content-type: text/plain\nretry-after: 10 | - | x            | whole close 0  | HTTP/1.1 503 Service Unavailable\r\ndate: Thu, 01 Jan 1970 00:00:00 GMT\r\ncontent-type: text/plain\r\nretry-after: 10\r\ncontent-length: 1\r\nconnection: close\r\n\r\nx
 
 -- RFC 6265, section 4.1: the session cookie stands behind the fields
-200   | x-mark: mark\ncontent-type: text/html | 000000000000000000000000000000010000000000000001 at / | login\n      | whole keep 0   | HTTP/1.1 200 OK\r\ndate: Thu, 01 Jan 1970 00:00:00 GMT\r\nx-mark: mark\r\ncontent-type: text/html\r\nset-cookie: JSESSIONID=000000000000000000000000000000010000000000000001; Path=/; HttpOnly\r\ncontent-length: 6\r\n\r\nlogin\n
-303   | location: /admin/x.txt?p=1 | 000000000000000000000000000000020000000000000002 at / | ""           | whole keep 0   | HTTP/1.1 303 See Other\r\ndate: Thu, 01 Jan 1970 00:00:00 GMT\r\nlocation: /admin/x.txt?p=1\r\nset-cookie: JSESSIONID=000000000000000000000000000000020000000000000002; Path=/; HttpOnly\r\ncontent-length: 0\r\n\r\n
-200   | ""                         | 0123456789abcdef at /two | n=1\n        | whole close 0  | HTTP/1.1 200 OK\r\ndate: Thu, 01 Jan 1970 00:00:00 GMT\r\nset-cookie: JSESSIONID=0123456789abcdef; Path=/two; HttpOnly\r\ncontent-length: 4\r\nconnection: close\r\n\r\nn=1\n
-200   | ""                         | a at /b%20c | ""           | head keep 0    | HTTP/1.1 200 OK\r\ndate: Thu, 01 Jan 1970 00:00:00 GMT\r\nset-cookie: JSESSIONID=a; Path=/b%20c; HttpOnly\r\ncontent-length: 0\r\n\r\n
+200   | x-mark: mark\ncontent-type: text/html | JSESSIONID=000000000000000000000000000000010000000000000001 at / HttpOnly | login\n      | whole keep 0   | HTTP/1.1 200 OK\r\ndate: Thu, 01 Jan 1970 00:00:00 GMT\r\nx-mark: mark\r\ncontent-type: text/html\r\nset-cookie: JSESSIONID=000000000000000000000000000000010000000000000001; Path=/; HttpOnly\r\ncontent-length: 6\r\n\r\nlogin\n
+303   | location: /admin/x.txt?p=1 | JSESSIONID=000000000000000000000000000000020000000000000002 at / HttpOnly | ""           | whole keep 0   | HTTP/1.1 303 See Other\r\ndate: Thu, 01 Jan 1970 00:00:00 GMT\r\nlocation: /admin/x.txt?p=1\r\nset-cookie: JSESSIONID=000000000000000000000000000000020000000000000002; Path=/; HttpOnly\r\ncontent-length: 0\r\n\r\n
+200   | ""                         | JSESSIONID=0123456789abcdef at /two HttpOnly | n=1\n        | whole close 0  | HTTP/1.1 200 OK\r\ndate: Thu, 01 Jan 1970 00:00:00 GMT\r\nset-cookie: JSESSIONID=0123456789abcdef; Path=/two; HttpOnly\r\ncontent-length: 4\r\nconnection: close\r\n\r\nn=1\n
+200   | ""                         | JSESSIONID=a at /b%20c HttpOnly | ""           | head keep 0    | HTTP/1.1 200 OK\r\ndate: Thu, 01 Jan 1970 00:00:00 GMT\r\nset-cookie: JSESSIONID=a; Path=/b%20c; HttpOnly\r\ncontent-length: 0\r\n\r\n
+
+-- RFC 6265, sections 4.1.2.2 and 4.1.2.6: Max-Age and HttpOnly stand where the cookie has them
+200   | ""                         | SID=1 at /app | ""           | head keep 0    | HTTP/1.1 200 OK\r\ndate: Thu, 01 Jan 1970 00:00:00 GMT\r\nset-cookie: SID=1; Path=/app\r\ncontent-length: 0\r\n\r\n
+200   | ""                         | SID=1 at /app 60 | ""        | head keep 0    | HTTP/1.1 200 OK\r\ndate: Thu, 01 Jan 1970 00:00:00 GMT\r\nset-cookie: SID=1; Path=/app; Max-Age=60\r\ncontent-length: 0\r\n\r\n
+200   | ""                         | SID=1 at / 60 HttpOnly | ""  | head keep 0    | HTTP/1.1 200 OK\r\ndate: Thu, 01 Jan 1970 00:00:00 GMT\r\nset-cookie: SID=1; Path=/; Max-Age=60; HttpOnly\r\ncontent-length: 0\r\n\r\n
+200   | ""                         | JSESSIONID=1 at / 0 HttpOnly | "" | head keep 0 | HTTP/1.1 200 OK\r\ndate: Thu, 01 Jan 1970 00:00:00 GMT\r\nset-cookie: JSESSIONID=1; Path=/; Max-Age=0; HttpOnly\r\ncontent-length: 0\r\n\r\n
+200   | ""                         | a!#$%&'*+-.^_`~=1 at /b 2147483647 | "" | head keep 0 | HTTP/1.1 200 OK\r\ndate: Thu, 01 Jan 1970 00:00:00 GMT\r\nset-cookie: a!#$%&'*+-.^_`~=1; Path=/b; Max-Age=2147483647\r\ncontent-length: 0\r\n\r\n
 
 -- RFC 9110, section 9.3.2: the answer to HEAD states the length of the body that is left out
 200   | content-type: text/plain   | - | caller -\n   | head keep 784111777 | HTTP/1.1 200 OK\r\ndate: Sun, 06 Nov 1994 08:49:37 GMT\r\ncontent-type: text/plain\r\ncontent-length: 9\r\n\r\n
@@ -38,7 +45,7 @@ const ROWS: &str = r#"
 -- RFC 9110, section 15.3.5: a response with status 204 has neither a length nor a body, and no other status is like it
 204   | x-a: 1                     | - | left out     | whole keep 0   | HTTP/1.1 204 No Content\r\ndate: Thu, 01 Jan 1970 00:00:00 GMT\r\nx-a: 1\r\n\r\n
 204   | ""                         | - | ""           | whole close 0  | HTTP/1.1 204 No Content\r\ndate: Thu, 01 Jan 1970 00:00:00 GMT\r\nconnection: close\r\n\r\n
-204   | x-a: 1                     | a at / | left out     | head close 0   | HTTP/1.1 204 No Content\r\ndate: Thu, 01 Jan 1970 00:00:00 GMT\r\nx-a: 1\r\nset-cookie: JSESSIONID=a; Path=/; HttpOnly\r\nconnection: close\r\n\r\n
+204   | x-a: 1                     | JSESSIONID=a at / HttpOnly | left out     | head close 0   | HTTP/1.1 204 No Content\r\ndate: Thu, 01 Jan 1970 00:00:00 GMT\r\nx-a: 1\r\nset-cookie: JSESSIONID=a; Path=/; HttpOnly\r\nconnection: close\r\n\r\n
 205   | ""                         | - | kept         | whole keep 0   | HTTP/1.1 205 Reset Content\r\ndate: Thu, 01 Jan 1970 00:00:00 GMT\r\ncontent-length: 4\r\n\r\nkept
 304   | ""                         | - | kept         | whole keep 0   | HTTP/1.1 304 Not Modified\r\ndate: Thu, 01 Jan 1970 00:00:00 GMT\r\ncontent-length: 4\r\n\r\nkept
 100   | ""                         | - | ""           | whole keep 0   | HTTP/1.1 100 Continue\r\ndate: Thu, 01 Jan 1970 00:00:00 GMT\r\ncontent-length: 0\r\n\r\n

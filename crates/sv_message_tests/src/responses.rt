@@ -70,11 +70,28 @@ fn field_of(alloc: Global, line: &str) -> Result<Option<Field>, NoMemory> {
     Ok(Some(Field { name, value }))
 }
 
+/// The cookie of a cell, if it has one: its name and id, its path, and words for the seconds that it is kept and that it is kept from scripts.
 fn cookie_of(alloc: Global, cell: &str) -> Result<Option<Cookie>, NoMemory> {
-    let Some((id, path)) = cell.split_once(" at ") else {
+    let Some((name, rest)) = cell.split_once('=') else {
         return Ok(None);
     };
+    let (id, rest) = rest.split_once(" at ").unwrap_or((rest, ""));
+    let (path, words) = rest.split_once(' ').unwrap_or((rest, ""));
+    let name = Text::copy_of(alloc, name)?;
     let id = Text::copy_of(alloc, id)?;
     let path = Text::copy_of(alloc, path)?;
-    Ok(Some(Cookie { id, path }))
+    Ok(Some(Cookie {
+        name,
+        id,
+        path,
+        http_only: words.ends_with("HttpOnly"),
+        max_age: first_word(words).parse::<u32>().ok(),
+    }))
+}
+
+fn first_word(words: &str) -> &str {
+    match words.split_once(' ') {
+        Some((first, _)) => first,
+        None => words,
+    }
 }

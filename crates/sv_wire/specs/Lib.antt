@@ -1,3 +1,4 @@
+pub mod Cookies
 pub mod EmptyLines
 pub mod Head
 pub mod Inbox

@@ -5,6 +5,7 @@ use Rattle.http.specs.StatusCode.{code_digits, reason_phrase}
 use Rattle.httpdate.specs.Date.{date_text, unix_secs}
 use Rattle.httpdate.specs.declared.date.HttpDate.{HttpDate}
 use Rattle.sv_head.specs.declared.field.Field.{Field}
+use Rattle.sv_wire.specs.Cookies.{cookie_text}
 use Rattle.sv_wire.specs.declared.response.Cookie.{Cookie}
 use Rattle.sv_wire.specs.declared.response.Response.{Response}
 use Rattle.sv_wire.specs.declared.response_text.TheConstants.{LAST_SECOND, NO_CONTENT}
@@ -35,8 +36,7 @@ field_lines fields = flat_map (λ field. field_line field.name field.value.bytes
 
 -- the line that sets the session cookie
 abbrev pub cookie_line : Cookie → List ℕ
-cookie_line cookie =
-    codes "set-cookie: JSESSIONID=" ++ cookie.id ++ codes "; Path=" ++ cookie.path ++ codes "; HttpOnly" ++ line_end
+cookie_line cookie = field_line (codes "set-cookie") (cookie_text cookie)
 
 -- that line where there is a cookie
 abbrev pub cookie_lines : Option Cookie → List ℕ

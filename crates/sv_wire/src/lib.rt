@@ -1,6 +1,7 @@
 //! HTTP/1.x messages read from a stream of bytes.
 #![tactic(auto)]
 
+mod cookie_settings;
 mod cut;
 mod empty_lines;
 mod head;
@@ -16,6 +17,7 @@ mod response;
 mod response_text;
 mod wire_fault;
 
+pub use cookie_settings::CookieSettings;
 pub use inbox::{Ended, Inbox};
 pub use item::Item;
 pub use laws::{

@@ -21,10 +21,16 @@ pub struct Response {
 /// A session cookie, as a response sets it (RFC 6265, section 4.1; Jakarta Servlet 6.0, section 7.1.1).
 #[derive(Drop)]
 pub struct Cookie {
+    /// The cookie's name.
+    pub name: Text,
     /// The session's id.
     pub id: Text,
     /// The path below which the cookie is sent back, as it stands in the line.
     pub path: Text,
+    /// Whether the cookie is kept from scripts.
+    pub http_only: bool,
+    /// How many seconds the cookie is kept; where there is no such number, until the client ends.
+    pub max_age: Option<u32>,
 }
 
 impl Response {

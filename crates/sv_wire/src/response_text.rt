@@ -1,8 +1,9 @@
 //! The text of a response.
 
-ghost use Rattle.std.specs.Prelude.{◌≡◌, ◌++◌, vec_capacity, IfOk, OnOk, OnErr};
+ghost use Rattle.std.specs.Prelude.{◌≡◌, ◌++◌, vec_capacity, IfOk, OnOk, OnErr, Some};
 ghost use Rattle.http.specs.StatusCode.{IsStatusCode};
 ghost use Rattle.httpdate.specs.declared.date.HttpDate.{HttpDate as Date};
+ghost use Rattle.sv_wire.specs.Cookies.{cookie_pair, cookie_text, http_only_attribute, max_age_attribute, path_attribute};
 ghost use Rattle.sv_wire.specs.ResponseText.{IsDateAt, ResponseTextsAreUnique, allows_content, connection_lines, cookie_line, cookie_lines, field_line, field_lines, length_lines, phrase_of, response_head, response_text, sent_body, status_line};
 
 use crate::response::{Cookie, Response};
@@ -144,11 +145,64 @@ fn push_cookie_lines(head: &mut Vec<u8>, cookie: &Option<Cookie>) -> Result<(), 
 fn push_cookie_line(head: &mut Vec<u8>, cookie: &Cookie) -> Result<(), AllocError>
     ensures { OnOk result (head.new.items ≡ head.old.items ++ cookie_line cookie.now) }
 {
-    head.extend_from_slice(b"set-cookie: JSESSIONID=")?;
+    head.extend_from_slice(b"set-cookie: ")?;
+    push_cookie_text(head, cookie)?;
+    head.extend_from_slice(CRLF)?;
+    Ok(())
+}
+
+fn push_cookie_text(head: &mut Vec<u8>, cookie: &Cookie) -> Result<(), AllocError>
+    ensures { OnOk result (head.new.items ≡ head.old.items ++ cookie_text cookie.now) }
+{
+    push_cookie_pair(head, cookie)?;
+    push_path_attribute(head, cookie.path.as_bytes())?;
+    push_max_age_attribute(head, cookie.max_age)?;
+    push_http_only_attribute(head, cookie.http_only)?;
+    Ok(())
+}
+
+fn push_cookie_pair(head: &mut Vec<u8>, cookie: &Cookie) -> Result<(), AllocError>
+    ensures { OnOk result (head.new.items ≡ head.old.items ++ cookie_pair cookie.now) }
+{
+    head.extend_from_slice(cookie.name.as_bytes())?;
+    head.extend_from_slice(b"=")?;
     head.extend_from_slice(cookie.id.as_bytes())?;
+    Ok(())
+}
+
+fn push_path_attribute(head: &mut Vec<u8>, path: &[u8]) -> Result<(), AllocError>
+    ensures { OnOk result (head.new.items ≡ head.old.items ++ path_attribute path.now) }
+{
     head.extend_from_slice(b"; Path=")?;
-    head.extend_from_slice(cookie.path.as_bytes())?;
-    head.extend_from_slice(b"; HttpOnly\r\n")?;
+    head.extend_from_slice(path)?;
+    Ok(())
+}
+
+fn push_max_age_attribute(head: &mut Vec<u8>, max_age: Option<u32>) -> Result<(), AllocError>
+    ensures { OnOk result (head.new.items ≡ head.old.items ++ max_age_attribute max_age) }
+{
+    match max_age {
+        Some(seconds) => push_max_age(head, seconds),
+        None => Ok(()),
+    }
+}
+
+fn push_max_age(head: &mut Vec<u8>, seconds: u32) -> Result<(), AllocError>
+    ensures { OnOk result (head.new.items ≡ head.old.items ++ max_age_attribute (Some seconds)) }
+{
+    let mut buffer = Buffer::new();
+    let digits = buffer.format(seconds);
+    head.extend_from_slice(b"; Max-Age=")?;
+    head.extend_from_slice(digits.as_bytes())?;
+    Ok(())
+}
+
+fn push_http_only_attribute(head: &mut Vec<u8>, http_only: bool) -> Result<(), AllocError>
+    ensures { OnOk result (head.new.items ≡ head.old.items ++ http_only_attribute http_only) }
+{
+    if http_only {
+        head.extend_from_slice(b"; HttpOnly")?;
+    }
     Ok(())
 }
 
