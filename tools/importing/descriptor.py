@@ -49,7 +49,8 @@ def read(text: bytes, told: Told) -> Descriptor:
     tell_what_is_not_taken(document.root, told)
     root = taken(document.root)
     _tell_encoding(root, told)
-    descriptor = Descriptor(_top(root, told), _tables(root, told), _is_complete(root))
+    top, tables = _top(root, told), _tables(root, told)
+    descriptor = Descriptor({**_version(tables), **top}, tables, _is_complete(root))
     _check_lists(descriptor, told)
     return descriptor
 
@@ -79,6 +80,11 @@ def _top(root: Element, told: Told) -> Table:
     if not _is_complete(root):
         told.tell(root.line, "metadata-complete is not true: what annotations of classes and web-fragment.xml files would add is not read")
     return {**top, **words(root)}
+
+
+def _version(tables: list[tuple[str, Table]]) -> Table:
+    """The version of a descriptor: the second where it sets the cookie of sessions, and else none, which is the first."""
+    return {"version": 2} if any("cookie-config" in table for _, table in tables) else {}
 
 
 def _tell_encoding(root: Element, told: Told) -> None:

@@ -104,7 +104,7 @@ CONTENT: dict[str, Content] = {
     "cookie-config": {
         "name": ONE,
         "domain": Says("the cookie of a session names no domain"),
-        "path": Says("the cookie of a session has the path of its context"),
+        "path": ONE,
         "comment": Says("the cookie of a session has no comment"),
         "http-only": ONE,
         "secure": ONE,

@@ -10,6 +10,8 @@ MAX_METHOD_BYTES = 15
 MAX_PATTERN_BYTES = 1024
 MAX_PATTERNS_OF_CONSTRAINT = 64
 MAX_SESSION_TIMEOUT = 525_600
+MAX_COOKIE_PATH_BYTES = 1024
+MAX_COOKIE_AGE = 2_147_483_647
 ERROR_CODES = range(400, 600)
 
 SERVLET_CLASSES = frozenset("Who Paths Nest Go Fail Err Gone Keep Bye Out".split())
@@ -33,6 +35,16 @@ def is_name(text: str) -> bool:
 def is_method(text: str) -> bool:
     """Whether a text is a method: a token of RFC 9110, section 5.6.2, that is not too long."""
     return _TOKEN.fullmatch(text) is not None and size(text) <= MAX_METHOD_BYTES
+
+
+def is_cookie_name(text: str) -> bool:
+    """Whether a text is the name of a cookie: a token that is not too long."""
+    return _TOKEN.fullmatch(text) is not None and size(text) <= MAX_NAME_BYTES
+
+
+def is_cookie_path(text: str) -> bool:
+    """Whether a text is the path of a cookie (RFC 6265, section 4.1.1): printable, without a semicolon, from a slash on."""
+    return re.fullmatch(r"/[ -:<-~]*", text) is not None and size(text) <= MAX_COOKIE_PATH_BYTES
 
 
 def is_pattern(text: str) -> bool:

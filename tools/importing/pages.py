@@ -2,27 +2,28 @@
 from __future__ import annotations
 
 from .elements import shortened
-from .limits import ERROR_CODES, MAX_SESSION_TIMEOUT, is_location, is_name
+from .limits import ERROR_CODES, MAX_COOKIE_AGE, MAX_SESSION_TIMEOUT, is_cookie_name, is_cookie_path, is_location, is_name
 from .told import Told
 from .tree import Element
 from .words import Table, truth, whole
 
 _COOKIE = "JSESSIONID"
+_LASTS = "the cookie of a session ends with the browser"
 
 
 def session_config(root: Element, told: Told) -> Table | None:
-    """The table of the sessions, `None` where nothing is said of them."""
+    """The table of the sessions, `None` where nothing is said of them. Where it sets their cookie, the descriptor is of version 2."""
     element = root.first("session-config")
     if element is None:
         return None
     cookie = element.first("cookie-config")
-    if cookie is not None:
-        _tell_cookie(cookie, told)
+    settings = {} if cookie is None else _cookie_config(cookie, told)
     for mode in element.all("tracking-mode"):
         if mode.text != "COOKIE":
             told.tell(mode.line, f"tracking-mode {shortened(mode.text)}: sessions are found by their cookie alone")
     timeout = element.first("session-timeout")
-    return {} if timeout is None else _timeout(timeout, told)
+    table = {} if timeout is None else _timeout(timeout, told)
+    return {**table, "cookie-config": settings} if settings else table
 
 
 def _timeout(element: Element, told: Told) -> Table:
@@ -35,17 +36,44 @@ def _timeout(element: Element, told: Told) -> Table:
     return {"session-timeout": min(minutes, MAX_SESSION_TIMEOUT)}
 
 
-def _tell_cookie(cookie: Element, told: Told) -> None:
-    """Tells what is asked of the cookie of a session and is otherwise here: it has a name of its own and the attributes Path and HttpOnly."""
-    name, secure, http_only, age = (cookie.first(it) for it in ("name", "secure", "http-only", "max-age"))
-    if name is not None and name.text != _COOKIE:
-        told.tell(name.line, f"the cookie of a session is {_COOKIE}, and not {shortened(name.text)}")
+def _cookie_config(cookie: Element, told: Told) -> Table:
+    """How the cookie of a session is set where it is otherwise than without a word. What it cannot carry is told."""
+    secure, http_only = cookie.first("secure"), cookie.first("http-only")
+    settings = {**_cookie_name(cookie.first("name"), told), **_cookie_path(cookie.first("path"), told)}
+    if http_only is not None and not truth(cookie, "http-only", True, told):
+        settings["http-only"] = False
     if secure is not None and truth(cookie, "secure", False, told):
         told.tell(secure.line, "secure: the cookie of a session has no attribute Secure; what gives TLS in front of this program may add it")
-    if http_only is not None and not truth(cookie, "http-only", True, told):
-        told.tell(http_only.line, "http-only: the cookie of a session has the attribute HttpOnly all the same")
-    if age is not None and not (whole(age) or 0) < 0:
-        told.tell(age.line, f"max-age {age.text}: the cookie of a session ends with the browser")
+    return {**settings, **_cookie_age(cookie.first("max-age"), told)}
+
+
+def _cookie_name(name: Element | None, told: Told) -> Table:
+    if name is None or name.text == _COOKIE:
+        return {}
+    if not is_cookie_name(name.text):
+        told.tell(name.line, f"name {shortened(name.text)} is no name of a cookie: the cookie of a session is {_COOKIE}")
+        return {}
+    return {"name": name.text}
+
+
+def _cookie_path(path: Element | None, told: Told) -> Table:
+    if path is None:
+        return {}
+    if not is_cookie_path(path.text):
+        told.tell(path.line, f"path {shortened(path.text)} is no path of a cookie: the cookie of a session has the path of its context")
+        return {}
+    return {"path": path.text}
+
+
+def _cookie_age(age: Element | None, told: Told) -> Table:
+    if age is None:
+        return {}
+    seconds = whole(age)
+    if seconds is None:
+        told.tell(age.line, f"max-age {shortened(age.text)} is no number of seconds: {_LASTS}")
+    elif seconds > MAX_COOKIE_AGE:
+        told.tell(age.line, f"max-age {seconds} is more than {MAX_COOKIE_AGE}, and stands so")
+    return {} if seconds is None or seconds < 0 else {"max-age": min(seconds, MAX_COOKIE_AGE)}
 
 
 def welcome_files(root: Element, told: Told) -> Table | None:
