@@ -5,6 +5,7 @@
 mod components;
 mod contexts;
 mod cookies;
+mod crowds;
 mod dispatch_figures;
 mod dispatches;
 mod exchange_figures;
@@ -51,6 +52,7 @@ fn measure<R: Clock + Print + AllocGlobal>(rt: &R, figures: bool) -> Option<()> 
     lookup_figures::contexts(rt, figures)?;
     lookup_figures::connections(rt, figures)?;
     sessions::sessions(rt, figures)?;
+    crowds::crowds(rt, figures)?;
     cookies::cookies(rt, figures)?;
     files::files(rt, figures)
 }
