@@ -25,7 +25,7 @@ LOGIN = "/j_security_check"
 FORM = "j_username=ann&j_password=bc"
 LOGIN_PAGE, SECRET = "login\n", "secret\n"
 UNAVAILABLE, TOO_MANY = 503, 429
-# How many sessions a context holds: MAX_SESSIONS of sv_context.
+# How many sessions a context holds with a descriptor of version 1: MAX_SESSIONS_OF_VERSION_1 of sv_descriptor.
 MOST_SESSIONS = 1_000
 # What the configurations of HAProxy let an address take within a minute; that of nginx lets it take less at once.
 MOST_OF_AN_ADDRESS = 100
