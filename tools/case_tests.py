@@ -13,6 +13,7 @@ class Answers(socketserver.BaseRequestHandler):
                 os._exit(3)
             if came == b"end":
                 break
+            open("log", "ab").write(b"1234 " + came + b"\\n")
             words = "0" * 48 if sys.argv[2:] == ["same"] else secrets.token_hex(24)
             self.request.sendall(b"date: now\\r\\n" + came.replace(b"id", words.encode()))
 server = socketserver.ThreadingTCPServer(("127.0.0.1", 0), Answers)
@@ -72,6 +73,9 @@ SELF_TESTS = [
     ({**RUNS, "steps": "open a\nput a x\nexpect a date: DATE\\r\\nx\n"}, 1, 0),
     ({**RUNS, "steps": "open a\nput a end\nended a\nput a x\nwait 0.1\nput a x\n"}, 1, 1),
     ({**RUNS, "steps": "open a\nsend a end\nended a\nsend a x\nwait 0.1\nsend a x\n"}, 1, 0),
+    ({**RUNS, "steps": "open a\nsend a x\nholds log MOMENT x\\n\n"}, 1, 0),
+    ({**RUNS, "steps": "open a\nsend a x\nholds log MOMENT y\\n\n"}, 1, 1),
+    ({**RUNS, "steps": "holds log \n"}, 1, 1),
     ({**RUNS, "steps": "open a\nsend a x\nend a\nended a\n"}, 1, 1),
     ({**RUNS, "steps": "open a\nsend a x\nend a\ngone a\n"}, 1, 1),
     ({**RUNS, "steps": "open a\nsend a id\nexpect a date: DATE\\r\\nID1\nsend a ID1\nexpect a date: DATE\\r\\nID1\nsend a id\nexpect a date: DATE\\r\\nID2\n"}, 1, 0),

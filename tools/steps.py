@@ -12,6 +12,8 @@ RESETS = struct.pack("ii", 1, 0)
 ID = re.compile(rb"ID[1-9]")
 # An id has as many.
 DIGITS = 48
+# So often a file is looked at, each tenth of a second, for what it is to hold.
+WAITS = 30
 
 
 class Fault(Exception):
@@ -109,6 +111,16 @@ class Steps:
             digits = came[start : start + DIGITS]
             if it[0] not in self.ids and digits not in self.ids.values() and not digits.strip(b"0123456789abcdef"):
                 self.ids[it[0]] = digits
+
+    def holds(self, name, text):
+        wanted, held = self.with_ids(text), None
+        for _ in range(WAITS):
+            with contextlib.suppress(FileNotFoundError), open(f"{self.program.room}/{name}", "rb") as file:
+                held = re.sub(rb"(?m)^\d+ ", b"MOMENT ", file.read())
+            if held == wanted:
+                return
+            time.sleep(0.1)
+        raise Fault(f"{held!r} is there")
 
     def end(self, name):
         self.peers[name].stream.shutdown(socket.SHUT_WR)

@@ -25,9 +25,19 @@ fn main(rt: HostRuntime) -> ExitCode {
 }
 
 /// Runs the command that the arguments name. Arguments that cannot be read name none.
-fn run<R: Env + Files + Net + Clock + RandomSource + Input + Print + AllocGlobal + Clone + Drop>(
-    rt: &R,
-) -> Result<(), ProgramFault> {
+fn run<
+    R: Env
+        + Files
+        + Net
+        + Clock
+        + RandomSource
+        + Input
+        + Print
+        + Eprint
+        + AllocGlobal
+        + Clone
+        + Drop,
+>(rt: &R) -> Result<(), ProgramFault> {
     let Ok(arguments) = env::args(rt) else {
         return Err(ProgramFault::Usage);
     };

@@ -14,6 +14,7 @@ use std::alloc::Global;
 use std::io::{Read, Write};
 use std::net::Net;
 use std::random::RandomSource;
+use std::rt::Files;
 use std::time::Clock;
 use sv_application::{ProgramFilter, ProgramListener, ProgramServlet};
 use sv_component::{Filter, Listener, Servlet};
@@ -44,7 +45,7 @@ pub enum Command<'a> {
     },
     /// `serve CONFIG N`: serves so many connections, one after another.
     Serve(Service<'a>),
-    /// `run CONFIG [--listen ADDRESS:PORT] [--same-seed]`: serves all connections that come, many at once.
+    /// `run CONFIG [--journal FILE] [--listen ADDRESS:PORT] [--same-seed]`: serves all connections that come, many at once.
     Run(Running<'a>),
     /// `selftest CONFIG`: asks a server's container once over a connection of its own, and prints the first line of the answer.
     SelfTest {
@@ -97,9 +98,14 @@ impl<'a> Command<'a> {
         None
     }
 
-    /// Runs the command over a store of files and folders, a network with a clock and a source of random bytes, a reader and a writer: those of the system, or others in their
-    /// place. Each command says what it reads and writes and what a fault leaves.
-    pub fn run<S: FileStore + FolderStore, H: Net + Clock + RandomSource, R: Read + Drop, W: Write>(
+    /// Runs the command over a store of files and folders, a network with a clock, a source of random bytes, files to write and standard error, a reader and a writer: those of the
+    /// system, or others in their place. Each command says what it reads and writes and what a fault leaves.
+    pub fn run<
+        S: FileStore + FolderStore,
+        H: Net + Clock + RandomSource + Files + Eprint,
+        R: Read + Drop,
+        W: Write,
+    >(
         self,
         alloc: Global,
         store: &mut S,
@@ -168,7 +174,7 @@ fn replay_streams<S: FileStore + FolderStore, R: Read + Drop, W: Write>(
 }
 
 /// Runs a server as it is asked.
-fn run_asked<S: FileStore + FolderStore, H: Net + Clock + RandomSource, W: Write>(
+fn run_asked<S: FileStore + FolderStore, H: Net + Clock + RandomSource + Files + Eprint, W: Write>(
     alloc: Global,
     store: &mut S,
     host: &H,
@@ -179,5 +185,15 @@ fn run_asked<S: FileStore + FolderStore, H: Net + Clock + RandomSource, W: Write
 {
     let address = running.address();
     let seeding = running.seeding();
-    run(alloc, store, host, writer, running.config, address, seeding)
+    let journal = running.journal();
+    run(
+        alloc,
+        store,
+        host,
+        writer,
+        running.config,
+        address,
+        seeding,
+        journal,
+    )
 }

@@ -2,7 +2,7 @@
 
 ghost use Rattle.std.specs.Prelude.{◌≡◌, [], true, IfSome, IsSome, map, string_bytes};
 ghost use Rattle.sv_program.specs.Arguments.{Names};
-ghost use Rattle.sv_commands.specs.Running.{address_words, behind_listen, behind_same_seed, options_words, running_words, same_seed_words};
+ghost use Rattle.sv_commands.specs.Running.{address_words, behind_journal, behind_listen, behind_same_seed, options_words, other_words, running_words, same_seed_words};
 ghost use Rattle.sv_commands.specs.Running as spec;
 
 use crate::address::Address;
@@ -27,6 +27,28 @@ pub enum RunOptions<'a> {
     Listen(ListenFirst<'a>),
     /// `--same-seed [--listen ADDRESS:PORT]`.
     SameSeed(Option<Address<'a>>),
+    /// `--journal FILE`, and the others behind it.
+    Journal(JournalFirst<'a>),
+}
+
+/// What stands behind `--journal`.
+#[derive(Clone, Copy)]
+pub struct JournalFirst<'a> {
+    /// The name of the journal's file.
+    pub name: &'a str,
+    /// What stands behind it.
+    pub others: OtherOptions<'a>,
+}
+
+/// What is asked for beside the server file and the journal, as the arguments have it.
+#[derive(Clone, Copy)]
+pub enum OtherOptions<'a> {
+    /// Nothing.
+    Nothing,
+    /// `--listen ADDRESS:PORT [--same-seed]`.
+    Listening(ListenFirst<'a>),
+    /// `--same-seed [--listen ADDRESS:PORT]`.
+    Seeded(Option<Address<'a>>),
 }
 
 /// What stands behind `--listen`.
@@ -42,7 +64,7 @@ impl<'a> Running<'a> {
     ghost use Rattle.std.specs.Prelude.{◌≡◌, map, string_bytes};
     ghost use Rattle.sv_commands.specs.Running as spec;
 
-    /// The run that these arguments ask for, `CONFIG [--listen ADDRESS:PORT] [--same-seed]` with the options in either order, or none.
+    /// The run that these arguments ask for, `CONFIG [--journal FILE] [--listen ADDRESS:PORT] [--same-seed]` with the last two options in either order, or none.
     pub fn parse(arguments: &'a [String]) -> Option<Running<'a>>
         ensures { Names running_words (map string_bytes arguments.now) result }
     {
@@ -61,8 +83,18 @@ impl<'a> Running<'a> {
         match self.options {
             RunOptions::Plain => None,
             RunOptions::Listen(listen) => Some(listen.address.value()),
-            RunOptions::SameSeed(None) => None,
-            RunOptions::SameSeed(Some(address)) => Some(address.value()),
+            RunOptions::SameSeed(address) => value_of(&address),
+            RunOptions::Journal(journal) => other_address(&journal.others),
+        }
+    }
+
+    /// The name of the journal's file, none where there is to be none.
+    pub fn journal(&self) -> Option<&'a str>
+        ensures { spec.IsJournal self.now.options result }
+    {
+        match self.options {
+            RunOptions::Plain | RunOptions::Listen(_) | RunOptions::SameSeed(_) => None,
+            RunOptions::Journal(journal) => Some(journal.name),
         }
     }
 
@@ -74,7 +106,39 @@ impl<'a> Running<'a> {
             RunOptions::Plain => Seeding::Fresh,
             RunOptions::Listen(listen) => seeding_by(listen.same_seed),
             RunOptions::SameSeed(_) => Seeding::Configured,
+            RunOptions::Journal(journal) => other_seeding(&journal.others),
         }
+    }
+}
+
+fn value_of(address: &Option<Address<'_>>) -> Option<SocketAddr>
+    ensures { result ≡ spec.value_of address.now }
+{
+    match address {
+        Some(address) => Some(address.value()),
+        None => None,
+    }
+}
+
+// Where it listens by what stands behind the journal.
+fn other_address(options: &OtherOptions<'_>) -> Option<SocketAddr>
+    ensures { result ≡ spec.other_address options.now }
+{
+    match options {
+        OtherOptions::Nothing => None,
+        OtherOptions::Listening(listen) => Some(listen.address.value()),
+        OtherOptions::Seeded(address) => value_of(address),
+    }
+}
+
+// What its random words come of by what stands behind the journal.
+fn other_seeding(options: &OtherOptions<'_>) -> Seeding
+    ensures { result ≡ spec.other_seeding options.now }
+{
+    match options {
+        OtherOptions::Nothing => Seeding::Fresh,
+        OtherOptions::Listening(listen) => seeding_by(listen.same_seed),
+        OtherOptions::Seeded(_) => Seeding::Configured,
     }
 }
 
@@ -100,6 +164,37 @@ fn options_in(arguments: &[String]) -> Option<RunOptions<'_>>
     }
     if option.as_str() == "--same-seed" {
         return Some(RunOptions::SameSeed(address_in(rest)?));
+    }
+    if option.as_str() == "--journal" {
+        return Some(RunOptions::Journal(journal_in(rest)?));
+    }
+    None
+}
+
+// What stands behind `--journal`.
+fn journal_in(arguments: &[String]) -> Option<JournalFirst<'_>>
+    ensures { Names behind_journal (map string_bytes arguments.now) result }
+{
+    let (name, rest) = arguments.split_first()?;
+    let others = others_in(rest)?;
+    Some(JournalFirst {
+        name: name.as_str(),
+        others,
+    })
+}
+
+// The options behind the journal.
+fn others_in(arguments: &[String]) -> Option<OtherOptions<'_>>
+    ensures { Names other_words (map string_bytes arguments.now) result }
+{
+    let Some((option, rest)) = arguments.split_first() else {
+        return Some(OtherOptions::Nothing);
+    };
+    if option.as_str() == "--listen" {
+        return Some(OtherOptions::Listening(listen_in(rest)?));
+    }
+    if option.as_str() == "--same-seed" {
+        return Some(OtherOptions::Seeded(address_in(rest)?));
     }
     None
 }

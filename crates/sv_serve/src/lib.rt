@@ -2,6 +2,7 @@
 #![tactic(auto)]
 
 mod listening;
+mod recorded_run;
 mod run_command;
 mod running;
 mod seeded_start;

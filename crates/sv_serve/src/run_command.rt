@@ -2,7 +2,7 @@
 
 ghost use Rattle.sv_serve.specs.Running.{BeginsRun};
 
-use crate::running::listen_and_run;
+use crate::recorded_run::{run_plainly, run_recorded};
 use crate::seeded_start::start_seeded;
 use crate::seeding::Seeding;
 use crate::starting::StartedServer;
@@ -10,6 +10,7 @@ use std::alloc::Global;
 use std::io::Write;
 use std::net::{IpAddr, Ipv4Addr, Net, SocketAddr};
 use std::random::RandomSource;
+use std::rt::Files;
 use std::time::Clock;
 use sv_application::{ProgramFilter, ProgramListener, ProgramServlet};
 use sv_component::{Filter, Listener, Servlet};
@@ -18,12 +19,13 @@ use sv_program::{CommandFault, FileStore};
 
 /// Starts the container of the server file with the random words of that seeding, listens at the address, or at the server file's port on this
 /// machine where none is given, writes the line `listening ADDRESS:PORT`, serves all connections that come, none waiting for another, until the process
-/// is ended from outside, and shuts the container down, also where something failed before.
+/// is ended from outside, and shuts the container down, also where something failed before. Where a journal is named, what the events bring is
+/// appended to that file.
 ///
 /// # Errors
-/// The first fault: those of [`start_seeded`], when nothing was written; then [`CommandFault::Socket`], [`CommandFault::Output`] or
-/// [`CommandFault::NoMemory`] as the run meets them.
-pub fn run<S: FileStore + FolderStore, H: Net + Clock + RandomSource, W: Write>(
+/// The first fault: those of [`start_seeded`], when nothing was written; then [`CommandFault::File`] for a journal that cannot be opened; then
+/// [`CommandFault::Socket`], [`CommandFault::Output`] or [`CommandFault::NoMemory`] as the run meets them.
+pub fn run<S: FileStore + FolderStore, H: Net + Clock + RandomSource + Files + Eprint, W: Write>(
     alloc: Global,
     store: &mut S,
     host: &H,
@@ -31,24 +33,23 @@ pub fn run<S: FileStore + FolderStore, H: Net + Clock + RandomSource, W: Write>(
     config: &str,
     address: Option<SocketAddr>,
     seeding: Seeding,
+    journal: Option<&str>,
 ) -> Result<(), CommandFault>
     ensures { BeginsRun ⟦<ProgramServlet as Servlet>⟧.servlet_step ⟦<ProgramFilter as Filter>⟧.filter_step ⟦<ProgramListener as Listener>⟧.listener_step
         S.gives_text S.gives_files seeding config.now store.old writer.old result store.new writer.new }
 {
-    let StartedServer {
-        port,
-        mut container,
-    } = match start_seeded(alloc, store, host, config, seeding) {
+    let StartedServer { port, container } = match start_seeded(
+        alloc, store, host, config, seeding,
+    ) {
         Ok(started) => started,
         Err(fault) => return Err(fault),
     };
-    let served = listen_and_run(
-        alloc,
-        host,
-        writer,
-        address_or(address, port),
-        &mut container,
-    );
+    let address = address_or(address, port);
+    let (served, container) = match journal {
+        Some(name) => run_recorded(alloc, host, writer, address, name, container),
+        None => run_plainly(alloc, host, writer, address, container),
+    };
+    let mut container = container;
     let _stopped = container.shutdown();
     served
 }

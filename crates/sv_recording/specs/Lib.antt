@@ -1,0 +1,3 @@
+pub mod Laws
+pub mod Lines
+pub mod Recording
