@@ -26,5 +26,5 @@ sv version
 /// The program's name and version, and the toolchain that proves it, as `rt version` names it: what `version` prints.
 pub const VERSION: &str = "\
 sv 0.1.0
-proved by rattle-kit-13b logic dac8208d650f15bf
+proved by rattle-kit-13f logic dac8208d650f15bf
 ";
