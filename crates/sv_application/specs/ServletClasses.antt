@@ -2,7 +2,7 @@
 use Rattle.std.specs.Prelude.{ℕ, List, [], codes, if◌then◌else◌, Option, Some, None}
 use Rattle.std.specs.Str.{bytes_eq}
 use Rattle.sv_application.specs.declared.program_servlet.ProgramServlet.{ProgramServlet}
-use Rattle.sv_application.specs.declared.program_servlet.ProgramServlet.TheVariants.{Who, Paths, Nest, Go, Fail, ErrorCode, Gone, Keep, Bye, Out}
+use Rattle.sv_application.specs.declared.program_servlet.ProgramServlet.TheVariants.{Who, Paths, Nest, Go, Fail, ErrorCode, Gone, Keep, Bye, Out, Stream}
 
 -- a new servlet of the class: it has no parameter yet, and has not been called
 abbrev pub new_servlet : List ℕ → Option ProgramServlet
@@ -17,4 +17,5 @@ new_servlet class =
     else if bytes_eq class (codes "Keep") then Some (Keep (record {}))
     else if bytes_eq class (codes "Bye") then Some (Bye (record {}))
     else if bytes_eq class (codes "Out") then Some (Out (record {}))
+    else if bytes_eq class (codes "Stream") then Some (Stream (record { kind = [] }))
     else None

@@ -4,7 +4,7 @@ ghost use Rattle.std.specs.Prelude.{◌≡◌};
 ghost use Rattle.sv_application.specs.ServletClasses.{new_servlet};
 
 use std::alloc::Global;
-use sv_classes::{Bye, ErrorCode, Fail, Go, Gone, Keep, Nest, Out, Paths, Who};
+use sv_classes::{Bye, ErrorCode, Fail, Go, Gone, Keep, Nest, Out, Paths, Stream, Who};
 use sv_component::{Config, Exchange, Init, Servlet, Step};
 
 /// A servlet of one of the program's classes.
@@ -30,6 +30,8 @@ pub enum ProgramServlet {
     Bye(Bye),
     /// Logs the caller out: the class `Out`.
     Out(Out),
+    /// Writes in pieces: the class `Stream`.
+    Stream(Stream),
 }
 
 impl ProgramServlet {
@@ -48,6 +50,7 @@ impl ProgramServlet {
             "Keep" => ProgramServlet::Keep(Keep::new()),
             "Bye" => ProgramServlet::Bye(Bye::new()),
             "Out" => ProgramServlet::Out(Out::new()),
+            "Stream" => ProgramServlet::Stream(Stream::new(alloc)),
             _ => return None,
         })
     }
@@ -66,6 +69,7 @@ impl Servlet for ProgramServlet {
             ProgramServlet::Keep(servlet) => servlet.init(alloc, config),
             ProgramServlet::Bye(servlet) => servlet.init(alloc, config),
             ProgramServlet::Out(servlet) => servlet.init(alloc, config),
+            ProgramServlet::Stream(servlet) => servlet.init(alloc, config),
         }
     }
 
@@ -81,6 +85,7 @@ impl Servlet for ProgramServlet {
             ProgramServlet::Keep(servlet) => servlet.service(alloc, exchange, turn),
             ProgramServlet::Bye(servlet) => servlet.service(alloc, exchange, turn),
             ProgramServlet::Out(servlet) => servlet.service(alloc, exchange, turn),
+            ProgramServlet::Stream(servlet) => servlet.service(alloc, exchange, turn),
         }
     }
 
@@ -96,6 +101,7 @@ impl Servlet for ProgramServlet {
             ProgramServlet::Keep(servlet) => servlet.destroy(),
             ProgramServlet::Bye(servlet) => servlet.destroy(),
             ProgramServlet::Out(servlet) => servlet.destroy(),
+            ProgramServlet::Stream(servlet) => servlet.destroy(),
         }
     }
 }

@@ -16,6 +16,7 @@ mod out;
 mod parameter;
 mod paths;
 mod plain;
+mod stream;
 mod who;
 
 pub use bad::Bad;
@@ -31,4 +32,5 @@ pub use mark::Mark;
 pub use nest::Nest;
 pub use out::Out;
 pub use paths::Paths;
+pub use stream::Stream;
 pub use who::Who;

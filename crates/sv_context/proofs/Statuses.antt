@@ -9,6 +9,7 @@ use Rattle.sv_admission.specs.declared.answer.Answer.TheVariants.{Entered, Error
 use Rattle.sv_admission.specs.declared.limits.TheConstants.{SEE_OTHER}
 use Rattle.sv_component.specs.Runs.{Record}
 use Rattle.sv_exchange.proofs.Reaching.{reaches_to}
+use Rattle.sv_exchange.specs.Keeping.{broken_off}
 use Rattle.sv_exchange.specs.Changing.{Change, SetStatus, SetHeader, AddHeader, Write, SetAttribute, Flush, SessionOpen, SessionSet, SessionRemove, SessionEnd, Logout, Changes, after_all, answer, changed, is_open, is_settable, left_by}
 use Rattle.sv_exchange.specs.Sessions.{ended, has_session, logged_out, on_session, opened, session_of, session_value, with_attribute, without_attribute, without_caller}
 use Rattle.sv_exchange.specs.declared.exchange_fault.ExchangeFault.{ExchangeFault}
@@ -21,7 +22,7 @@ use Rattle.sv_tree.proofs.Keeping.{FilterSteps, Keeps, Opens, Steps, away_same, 
 use Rattle.sv_tree.proofs.Doing.{chosen_then}
 use Rattle.sv_tree.specs.Does.{Does, ◌>>=◌, ◌>>◌, becomes, gives, makes, wants_memory}
 use Rattle.sv_tree.specs.Endings.{keeps}
-use Rattle.sv_tree.specs.Served.{Pages, Plain, Resets, Served, Settled, Shown, Shows, ShowsError, kept_field, plain_text, reset, sets, unless_committed}
+use Rattle.sv_tree.specs.Served.{Pages, Plain, breaks, Resets, Served, Settled, Shown, Shows, ShowsError, kept_field, plain_text, reset, sets, unless_committed}
 use Rattle.sv_tree.specs.Site.{Site, begun}
 use Rattle.sv_tree.specs.State.{Exchange, KeptError, KeptField, State, counted, on_exchange}
 use Rattle.sv_tree.specs.Telling.{hears}
@@ -168,7 +169,8 @@ module _ (site : Site) where
 
   unless_code : (next : Does (Unit {0})) → KeepsCode next → KeepsCode (unless_committed next)
   unless_code next h x y r result done =
-      chosen_then x.exchange.committed (gives tt) next x y r result (λ _ stayed. gives_keeps site Coded law 0 tt x y r result stayed) (λ _ went. h x y r result went) done
+      chosen_then x.exchange.committed breaks next x y r result
+      (λ _ broke. becomes_keeps site Coded law 0 (on_exchange broken_off) (λ x code. code) x y r result broke) (λ _ went. h x y r result went) done
 
   shown_code : (status : ℕ) (field : Option KeptField) (ended : Finished) → KeepsCode (Shown status field ended)
   shown_code status field finished.Done = gives_keeps site Coded law 0 tt

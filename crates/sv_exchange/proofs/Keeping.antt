@@ -10,7 +10,7 @@ use Rattle.sv_exchange.specs.State.{State}
 use Rattle.sv_exchange.proofs.Reaching.{reaches_to}
 
 pub request_same : (x : State) → SameRequest x x
-request_same x = record { method = refl; context_path = refl; cookie_settings = refl; request_fields = refl; body = refl; moment = refl; client = refl; dispatches = refl; calls = refl; kept = refl; words = refl }
+request_same x = record { method = refl; context_path = refl; cookie_settings = refl; request_fields = refl; body = refl; moment = refl; reads_chunks = refl; client = refl; dispatches = refl; calls = refl; kept = refl; broken = refl; words = refl }
 
 pub request_then : (x y z : State) → SameRequest x y → SameRequest y z → SameRequest x z
 request_then x y z one two = record {
@@ -20,10 +20,12 @@ request_then x y z one two = record {
   request_fields = two.request_fields ∙ one.request_fields;
   body = two.body ∙ one.body;
   moment = two.moment ∙ one.moment;
+  reads_chunks = two.reads_chunks ∙ one.reads_chunks;
   client = two.client ∙ one.client;
   dispatches = two.dispatches ∙ one.dispatches;
   calls = two.calls ∙ one.calls;
   kept = two.kept ∙ one.kept;
+  broken = two.broken ∙ one.broken;
   words = two.words ∙ one.words;
 }
 
@@ -46,21 +48,21 @@ kept_request false x y same = same
 logged_out_request : (x : State) → SameRequest x (logged_out x)
 logged_out_request x =
     let y = on_session without_caller x in
-    request_then x y (logged_out x) (on_session_request without_caller x (λ number. record { method = refl; context_path = refl; cookie_settings = refl; request_fields = refl; body = refl; moment = refl; client = refl; dispatches = refl; calls = refl; kept = refl; words = refl })) record { method = refl; context_path = refl; cookie_settings = refl; request_fields = refl; body = refl; moment = refl; client = refl; dispatches = refl; calls = refl; kept = refl; words = refl }
+    request_then x y (logged_out x) (on_session_request without_caller x (λ number. record { method = refl; context_path = refl; cookie_settings = refl; request_fields = refl; body = refl; moment = refl; reads_chunks = refl; client = refl; dispatches = refl; calls = refl; kept = refl; broken = refl; words = refl })) record { method = refl; context_path = refl; cookie_settings = refl; request_fields = refl; body = refl; moment = refl; reads_chunks = refl; client = refl; dispatches = refl; calls = refl; kept = refl; broken = refl; words = refl }
 
 changed_request : (change : Change) (x : State) → SameRequest x (changed change x)
-changed_request (SetStatus status) x = record { method = refl; context_path = refl; cookie_settings = refl; request_fields = refl; body = refl; moment = refl; client = refl; dispatches = refl; calls = refl; kept = refl; words = refl }
-changed_request (SetHeader name value) x = record { method = refl; context_path = refl; cookie_settings = refl; request_fields = refl; body = refl; moment = refl; client = refl; dispatches = refl; calls = refl; kept = refl; words = refl }
-changed_request (AddHeader name value) x = record { method = refl; context_path = refl; cookie_settings = refl; request_fields = refl; body = refl; moment = refl; client = refl; dispatches = refl; calls = refl; kept = refl; words = refl }
-changed_request (Write bytes) x = record { method = refl; context_path = refl; cookie_settings = refl; request_fields = refl; body = refl; moment = refl; client = refl; dispatches = refl; calls = refl; kept = refl; words = refl }
-changed_request (SetAttribute name value) x = record { method = refl; context_path = refl; cookie_settings = refl; request_fields = refl; body = refl; moment = refl; client = refl; dispatches = refl; calls = refl; kept = refl; words = refl }
-changed_request Flush x = record { method = refl; context_path = refl; cookie_settings = refl; request_fields = refl; body = refl; moment = refl; client = refl; dispatches = refl; calls = refl; kept = refl; words = refl }
-changed_request SessionOpen x = kept_request (has_session x) x (opened x) record { method = refl; context_path = refl; cookie_settings = refl; request_fields = refl; body = refl; moment = refl; client = refl; dispatches = refl; calls = refl; kept = refl; words = refl }
-changed_request (SessionSet name value) x = on_session_request (with_attribute name value) x (λ number. record { method = refl; context_path = refl; cookie_settings = refl; request_fields = refl; body = refl; moment = refl; client = refl; dispatches = refl; calls = refl; kept = refl; words = refl })
+changed_request (SetStatus status) x = record { method = refl; context_path = refl; cookie_settings = refl; request_fields = refl; body = refl; moment = refl; reads_chunks = refl; client = refl; dispatches = refl; calls = refl; kept = refl; broken = refl; words = refl }
+changed_request (SetHeader name value) x = record { method = refl; context_path = refl; cookie_settings = refl; request_fields = refl; body = refl; moment = refl; reads_chunks = refl; client = refl; dispatches = refl; calls = refl; kept = refl; broken = refl; words = refl }
+changed_request (AddHeader name value) x = record { method = refl; context_path = refl; cookie_settings = refl; request_fields = refl; body = refl; moment = refl; reads_chunks = refl; client = refl; dispatches = refl; calls = refl; kept = refl; broken = refl; words = refl }
+changed_request (Write bytes) x = record { method = refl; context_path = refl; cookie_settings = refl; request_fields = refl; body = refl; moment = refl; reads_chunks = refl; client = refl; dispatches = refl; calls = refl; kept = refl; broken = refl; words = refl }
+changed_request (SetAttribute name value) x = record { method = refl; context_path = refl; cookie_settings = refl; request_fields = refl; body = refl; moment = refl; reads_chunks = refl; client = refl; dispatches = refl; calls = refl; kept = refl; broken = refl; words = refl }
+changed_request Flush x = record { method = refl; context_path = refl; cookie_settings = refl; request_fields = refl; body = refl; moment = refl; reads_chunks = refl; client = refl; dispatches = refl; calls = refl; kept = refl; broken = refl; words = refl }
+changed_request SessionOpen x = kept_request (has_session x) x (opened x) record { method = refl; context_path = refl; cookie_settings = refl; request_fields = refl; body = refl; moment = refl; reads_chunks = refl; client = refl; dispatches = refl; calls = refl; kept = refl; broken = refl; words = refl }
+changed_request (SessionSet name value) x = on_session_request (with_attribute name value) x (λ number. record { method = refl; context_path = refl; cookie_settings = refl; request_fields = refl; body = refl; moment = refl; reads_chunks = refl; client = refl; dispatches = refl; calls = refl; kept = refl; broken = refl; words = refl })
 changed_request (SessionRemove name) x =
     chosen_request (is_some (session_value name x)) x (on_session (without_attribute name) x)
-    (on_session_request (without_attribute name) x (λ number. record { method = refl; context_path = refl; cookie_settings = refl; request_fields = refl; body = refl; moment = refl; client = refl; dispatches = refl; calls = refl; kept = refl; words = refl }))
-changed_request SessionEnd x = on_session_request ended x (λ number. record { method = refl; context_path = refl; cookie_settings = refl; request_fields = refl; body = refl; moment = refl; client = refl; dispatches = refl; calls = refl; kept = refl; words = refl })
+    (on_session_request (without_attribute name) x (λ number. record { method = refl; context_path = refl; cookie_settings = refl; request_fields = refl; body = refl; moment = refl; reads_chunks = refl; client = refl; dispatches = refl; calls = refl; kept = refl; broken = refl; words = refl }))
+changed_request SessionEnd x = on_session_request ended x (λ number. record { method = refl; context_path = refl; cookie_settings = refl; request_fields = refl; body = refl; moment = refl; reads_chunks = refl; client = refl; dispatches = refl; calls = refl; kept = refl; broken = refl; words = refl })
 changed_request Logout x = chosen_request (is_some x.caller) x (logged_out x) (logged_out_request x)
 
 left_request : (said : Result Bool ExchangeFault) (change : Change) (x : State) → SameRequest x (left_by said change x)

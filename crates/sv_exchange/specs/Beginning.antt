@@ -1,9 +1,12 @@
 -- How an exchange begins, and the response that it ends with.
-use Rattle.std.specs.Prelude.{ℕ, false, List, [], Option, None, if◌then◌else◌}
+use Rattle.std.specs.Prelude.{ℕ, ◌==◌, Bool, true, false, List, [], ◌++◌, Option, None, if◌then◌else◌}
 use Rattle.std.specs.Option.{option_and_then, option_map}
 use Rattle.sv_session.specs.Calls.{id_of}
 use Rattle.sv_session.specs.Store.{Store}
 use Rattle.sv_uri.specs.declared.path.Canon.{Canon}
+use Rattle.sv_wire.specs.Chunking.{piece_of}
+use Rattle.sv_wire.specs.declared.body.Body.{Body}
+use Rattle.sv_wire.specs.declared.body.Body.TheVariants.{Whole, Flushed}
 use Rattle.sv_wire.specs.declared.cookie_settings.CookieSettings.{CookieSettings}
 use Rattle.sv_wire.specs.declared.message.Message.{Message}
 use Rattle.sv_wire.specs.declared.response.Cookie.{Cookie}
@@ -28,13 +31,16 @@ begun message canon context_path settings moment words held store = record {
   request_fields = message.fields;
   body = message.body;
   moment = moment;
+  reads_chunks = message.minor == 1;
   client = paths_at context_path canon.path None None canon.query;
   dispatches = [];
   attributes = [];
   status = OK;
   fields = [];
+  flushed = [];
   buffer = [];
   committed = false;
+  broken = false;
   calls = 0;
   kept = None;
   words = words;
@@ -45,6 +51,15 @@ begun message canon context_path settings moment words held store = record {
   events = [];
 }
 
+-- what was written behind the last flush leaves as the last piece, and not where the answer broke off
+abbrev pub last_piece : Bool → List ℕ → List (List ℕ)
+last_piece broken buffer = if broken then [] else piece_of buffer
+
+-- the body is whole until the response is committed, and then it leaves in pieces (section 5.5)
+abbrev pub body_of : Bool → List (List ℕ) → List ℕ → Bool → Bool → Body
+body_of false flushed buffer chunked broken = Whole buffer
+body_of true flushed buffer chunked broken = Flushed (flushed ++ last_piece broken buffer) chunked broken
+
 -- the response has the cookie of the session that this message opened or renamed last, where it still lives
 abbrev pub finished : State → Response
-finished x = record { status = x.status; fields = x.fields; cookie = x.cookie; body = x.buffer }
+finished x = record { status = x.status; fields = x.fields; cookie = x.cookie; body = body_of x.committed x.flushed x.buffer x.reads_chunks x.broken }

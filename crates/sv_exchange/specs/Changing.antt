@@ -9,6 +9,7 @@ use Rattle.sv_exchange.specs.Fields.{add_field, is_field, is_reserved_field, set
 use Rattle.sv_exchange.specs.Sessions.{ended, has_session, logged_out, on_session, opened, opening_faults, session_value, setting_faults, wants_session, with_attribute, without_attribute}
 use Rattle.sv_exchange.specs.State.{State}
 use Rattle.sv_text.specs.Faults.{first_or}
+use Rattle.sv_wire.specs.Chunking.{joined, piece_of}
 
 -- a changing call with its arguments
 pub data Change : Type 0 where
@@ -42,9 +43,9 @@ abbrev pub field_answer : List ℕ → List ℕ → State → Result Bool Exchan
 field_answer name value before =
     if is_free name before then (if is_field name value then Ok true else Err faults.BadHeader) else Ok false
 
--- whether the body can take that many bytes more
+-- whether the body can take that many bytes more, beside its pieces
 abbrev pub has_room : ℕ → State → Bool
-has_room count before = nat_le (length before.buffer + count) MAX_BODY_LEN
+has_room count before = nat_le (length (joined before.flushed) + length before.buffer + count) MAX_BODY_LEN
 
 -- what the call answers, unless memory ran out: `false` says that it is ignored
 abbrev pub answer : Change → State → Result Bool ExchangeFault
@@ -67,7 +68,7 @@ changed (SetHeader name value) before = record before { fields = set_field name 
 changed (AddHeader name value) before = record before { fields = add_field name value before.fields }
 changed (Write bytes) before = record before { buffer = before.buffer ++ bytes }
 changed (SetAttribute name value) before = record before { attributes = set_value name value before.attributes }
-changed Flush before = record before { committed = true }
+changed Flush before = record before { flushed = before.flushed ++ piece_of before.buffer; buffer = []; committed = true }
 changed SessionOpen before = if has_session before then before else opened before
 changed (SessionSet name value) before = on_session (with_attribute name value) before
 changed (SessionRemove name) before = if is_some (session_value name before) then on_session (without_attribute name) before else before

@@ -1,5 +1,5 @@
 -- What is kept of a request from its beginning to its answer, whatever components do (Jakarta Servlet 6.0, chapters 6, 9 and 10).
-use Rattle.std.specs.Prelude.{◌≡◌, suc, Some}
+use Rattle.std.specs.Prelude.{◌≡◌, suc, true, Some}
 use Rattle.sv_exchange.specs.declared.kept_error.KeptError.{KeptError}
 use Rattle.sv_exchange.specs.State.{State}
 
@@ -11,7 +11,11 @@ with_kept kept before = record before { kept = Some kept }
 abbrev pub counted : State → State
 counted before = record before { calls = suc before.calls }
 
--- what was asked, the dispatches that are under way, the error that is kept and the count of calls are the same
+-- the answer breaks off behind the last flush
+abbrev pub broken_off : State → State
+broken_off before = record before { broken = true }
+
+-- what was asked, the dispatches that are under way, the error that is kept, the count of calls and whether the answer broke off are the same
 pub record SameRequest (before after : State) : Type 0 where
   pub method : after.method ≡ before.method
   pub context_path : after.context_path ≡ before.context_path
@@ -19,10 +23,12 @@ pub record SameRequest (before after : State) : Type 0 where
   pub request_fields : after.request_fields ≡ before.request_fields
   pub body : after.body ≡ before.body
   pub moment : after.moment ≡ before.moment
+  pub reads_chunks : after.reads_chunks ≡ before.reads_chunks
   pub client : after.client ≡ before.client
   pub dispatches : after.dispatches ≡ before.dispatches
   pub calls : after.calls ≡ before.calls
   pub kept : after.kept ≡ before.kept
+  pub broken : after.broken ≡ before.broken
   pub words : after.words ≡ before.words
 
 -- status and fields are the same

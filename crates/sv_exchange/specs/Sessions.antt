@@ -102,7 +102,7 @@ without_attribute name number before = record before {
   events = before.events ++ AttributeRemoved number name ∷ [];
 }
 
--- the session ends, and its attributes with it (sections 7.6 and 11.3)
+-- the session ends, and its attributes with it (sections 7.6 and 11.3); a cookie that was sent stays sent
 abbrev pub ending_events : ℕ → List Attribute → List Event
 ending_events number attributes = SessionDestroyed number ∷ map (λ attribute. AttributeRemoved number attribute.name) attributes
 
@@ -111,7 +111,7 @@ ended number before = record before {
   store = calls.without number before.store;
   session = None;
   caller = None;
-  cookie = None;
+  cookie = if before.committed then before.cookie else None;
   events = before.events ++ ending_events number (attributes_of number before.store);
 }
 

@@ -1,5 +1,5 @@
--- An exchange as contracts see it: what was asked of which context, the dispatches that are under way, what is answered so far, how many
--- calls of `before` and of `service` were made, the error of which the answer will speak, and the session with the events that are still to
+-- An exchange as contracts see it: what was asked of which context and whether the client reads chunks, the dispatches that are under way,
+-- what is answered so far (its pieces up to the last flush, and what was written since), how many calls of `before` and of `service` were made, the error of which the answer will speak, and the session with the events that are still to
 -- be told (Jakarta Servlet 6.0, chapters 3, 5, 7, 9, 10 and 11).
 use Rattle.std.specs.Prelude.{ℕ, Bool, List, Option}
 use Rattle.sv_head.specs.declared.field.Field.{Field}
@@ -20,13 +20,16 @@ pub record State : Type 0 where
   pub request_fields : List Field
   pub body : List ℕ
   pub moment : ℕ
+  pub reads_chunks : Bool
   pub client : Paths
   pub dispatches : List Dispatch
   pub attributes : List Attribute
   pub status : ℕ
   pub fields : List Field
+  pub flushed : List (List ℕ)
   pub buffer : List ℕ
   pub committed : Bool
+  pub broken : Bool
   pub calls : ℕ
   pub kept : Option KeptError
   pub words : ℕ × ℕ

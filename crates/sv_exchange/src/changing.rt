@@ -59,11 +59,11 @@ impl Exchange {
         self.do_set_attribute(name, value)
     }
 
-    /// Commits the response: its status and fields stay as they are (Jakarta Servlet 6.0, section 5.1). It is never ignored, and no
-    /// fault comes.
+    /// Commits the response: its status, its fields and its cookie stay as they are, and what was written since the last flush leaves as a
+    /// piece, where anything was (Jakarta Servlet 6.0, sections 5.1 and 5.6). It is never ignored. The fault is `NoMemory`; nothing changes
+    /// then.
     pub fn flush(&mut self) -> Result<bool, ExchangeFault>
         ensures does { Does Flush result self.old self.new }
-        ensures answered { result ≡ answer Flush self.old }
         ensures reached { Changes self.old self.new }
     {
         self.do_flush()
@@ -94,7 +94,7 @@ impl Exchange {
     fn has_room(&self, count: usize) -> bool
         ensures { result ≡ has_room count self.now }
     {
-        let length = self.buffer.len();
+        let length = self.flushed.total().saturating_add(self.buffer.len());
         length <= MAX_BODY_LEN && count <= MAX_BODY_LEN - length
     }
 
@@ -157,9 +157,9 @@ impl Exchange {
     }
 
     fn do_flush(&mut self) -> Result<bool, ExchangeFault>
-        ensures does { Does Flush result self.old self.new }
-        ensures answered { result ≡ answer Flush self.old }
+        ensures { Does Flush result self.old self.new }
     {
+        self.flushed.take_piece(&mut self.buffer)?;
         self.committed = true;
         Ok(true)
     }

@@ -13,7 +13,7 @@ use sv_text::{NoMemory, Text};
 
 impl Exchange {
     ghost use Rattle.sv_exchange.specs.Dispatches.{Leaves, entered, error_in, paths_at};
-    ghost use Rattle.sv_exchange.specs.Keeping.{counted, with_kept};
+    ghost use Rattle.sv_exchange.specs.Keeping.{broken_off, counted, with_kept};
 
     /// Begins a dispatch of that kind to that path in the context: its kind, its paths and its attributes are the ones shown until
     /// [`leave`](Exchange::leave) ends it (Jakarta Servlet 6.0, sections 9.3.1, 9.4.2 and 10.9.1). In an include the paths of the includer
@@ -63,14 +63,14 @@ impl Exchange {
         let _ended = self.dispatches.pop();
     }
 
-    /// Empties the body that was written so far, without taking memory.
+    /// Empties what was written behind the last flush, without taking memory.
     pub fn clear(&mut self)
         ensures { self.new ≡ record self.old { buffer = [] } }
     {
         self.buffer.clear();
     }
 
-    /// Empties the body and the fields, without taking memory. The status stays.
+    /// Empties what was written behind the last flush, and the fields, without taking memory. The status stays.
     pub fn reset(&mut self)
         ensures { self.new ≡ record self.old { buffer = []; fields = [] } }
     {
@@ -100,6 +100,14 @@ impl Exchange {
         };
         self.kept = Some(kept);
         Ok(())
+    }
+
+    /// Breaks the answer off, without taking memory: once it is committed, what was written behind the last flush is not sent, and neither
+    /// is the end of the body.
+    pub fn break_off(&mut self)
+        ensures { self.new ≡ broken_off self.old }
+    {
+        self.broken = true;
     }
 
     /// The error that was kept last, `None` where none was.

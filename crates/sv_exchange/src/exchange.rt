@@ -6,6 +6,7 @@ use crate::asked::Asked;
 use crate::attribute::Attribute;
 use crate::begin_fault::BeginFault;
 use crate::dispatch::{Dispatch, Paths};
+use crate::flushed::{Flushed, body_of};
 use crate::held_session::HeldSession;
 use crate::holding::{held_cookie, parts_of};
 use crate::kept_error::KeptError;
@@ -32,13 +33,16 @@ pub struct Exchange {
     pub(crate) request_fields: Vec<Field>,
     pub(crate) body: Bytes,
     pub(crate) moment: u64,
+    pub(crate) reads_chunks: bool,
     pub(crate) client: Paths,
     pub(crate) dispatches: Vec<Dispatch>,
     pub(crate) attributes: Vec<Attribute>,
     pub(crate) status: u16,
     pub(crate) fields: Vec<Field>,
+    pub(crate) flushed: Flushed,
     pub(crate) buffer: Vec<u8>,
     pub(crate) committed: bool,
+    pub(crate) broken: bool,
     pub(crate) calls: u32,
     pub(crate) kept: Option<KeptError>,
     pub(crate) words: (u64, u64),
@@ -61,13 +65,16 @@ impl Model for Exchange {
       request_fields = e.request_fields.items;
       body = e.body;
       moment = e.moment;
+      reads_chunks = e.reads_chunks;
       client = e.client;
       dispatches = e.dispatches.items;
       attributes = e.attributes.items;
       status = e.status;
       fields = e.fields.items;
+      flushed = e.flushed;
       buffer = e.buffer.items;
       committed = e.committed;
+      broken = e.broken;
       calls = e.calls;
       kept = e.kept;
       words = e.words;
@@ -118,13 +125,16 @@ impl Exchange {
             request_fields: asked.fields,
             body: asked.body,
             moment,
+            reads_chunks: message.minor == 1,
             client: asked.client,
             dispatches: Vec::new(alloc),
             attributes: Vec::new(alloc),
             status: OK,
             fields: Vec::new(alloc),
+            flushed: Flushed::new(alloc),
             buffer: Vec::new(alloc),
             committed: false,
+            broken: false,
             calls: 0,
             kept: None,
             words,
@@ -137,16 +147,24 @@ impl Exchange {
     }
 
     /// Ends the exchange with its response and gives the context's sessions back, without taking memory. The response sets the cookie
-    /// of the session that the message opened or renamed last, where that still lives.
+    /// of the session that the message opened or renamed last, where that still lived when the response was committed, or lives at its end.
+    /// What was flushed leaves in pieces, and behind them what was written since, unless the answer broke off.
     pub fn finish(self) -> (Response, Sessions)
         ensures response { result.0 ≡ finished self }
         ensures sessions { result.1 ≡ self.store }
     {
+        let body = body_of(
+            self.committed,
+            self.flushed,
+            self.buffer,
+            self.reads_chunks,
+            self.broken,
+        );
         let response = Response {
             status: self.status,
             fields: Listed::from_vec(self.fields),
             cookie: self.cookie,
-            body: Bytes::from_vec(self.buffer),
+            body,
         };
         (response, self.sessions)
     }

@@ -12,6 +12,7 @@ mod events;
 mod exchange;
 mod exchange_fault;
 mod fields;
+mod flushed;
 mod held_session;
 mod holding;
 mod kept_error;

@@ -129,7 +129,9 @@ impl Exchange {
         let _ended = self.sessions.end(number);
         self.session = None;
         self.caller = None;
-        self.cookie = None;
+        if !self.committed {
+            self.cookie = None;
+        }
         Ok(true)
     }
 

@@ -45,10 +45,11 @@ path_of target = with_slash (drop (authority_len (behind_scheme target)) (behind
 abbrev pub is_authority : List ℕ → Bool
 is_authority text = nat_lt 0 (length text) && is_host text
 
--- the form of a target, by the request's method
+-- the form of a target, by the request's method; CONNECT, which asks for a tunnel, has none here
 abbrev pub target_form : List ℕ → List ℕ → TargetForm
 target_form method target =
-    if is_path target then Origin
+    if bytes_eq method (codes "CONNECT") then Unknown
+    else if is_path target then Origin
     else if has_scheme target && is_authority (authority_of target) then Absolute (authority_len (behind_scheme target))
     else if bytes_eq target (codes "*") && bytes_eq method (codes "OPTIONS") then Star
     else Unknown

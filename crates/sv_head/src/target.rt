@@ -24,11 +24,15 @@ pub enum TargetForm {
     Unknown,
 }
 
-/// The form of a target, by the request's method.
+/// The form of a target, by the request's method. CONNECT asks for a tunnel (RFC 9110, section 9.3.6): whatever its target, it is in no form
+/// that is served.
 pub fn target_form(method: &[u8], target: &[u8]) -> TargetForm
     ensures form { result ≡ target_form method.now target.now }
     ensures fits { FitsForm result target.now }
 {
+    if method == b"CONNECT".as_slice() {
+        return TargetForm::Unknown;
+    }
     if target.starts_with(b"/") {
         return TargetForm::Origin;
     }

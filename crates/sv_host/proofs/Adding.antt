@@ -28,6 +28,10 @@ module _ {Context : Type 0} where
   adds_on start reached next front more first later =
       later ∙ ap (λ r. then_brings r more) first ∙ brings_both (reaction_of start) front more
 
+  -- where it did not close before, it closes where the effect does
+  pub adds_closes : (start reached : Output) (effect : Effect Context) → Adds start effect reached → start.closes ≡ false → reached.closes ≡ effect.closes
+  adds_closes start reached effect adds stays = ap (λ (r : Reaction). r.closes) adds ∙ ap (λ t. t || effect.closes) stays
+
 module _ (Context : Type 0) where
   pub adds_nothing : (output : Output) → Adds output (nothing {Context = Context}) output
   adds_nothing output =

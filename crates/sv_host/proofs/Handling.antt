@@ -1,5 +1,5 @@
 -- What answers a message.
-use Rattle.std.proofs.Common.{◌≡◌, ℕ, zero, suc, ◌<◌, not, ◌||◌, List, [], ◌∷◌, ◌++◌, length, Some, Result, Ok, Err, IfOk, slice_get, slice_index_or, slice_set, refl, sym, ap, ◌∙◌, subst, arith}
+use Rattle.std.proofs.Common.{◌≡◌, ℕ, zero, suc, ◌<◌, ◌||◌, List, [], ◌∷◌, ◌++◌, length, Some, Result, Ok, Err, IfOk, slice_get, slice_index_or, slice_set, refl, sym, ap, ◌∙◌, subst, arith}
 use Rattle.sv_host.specs.Output.{then_brings}
 use Rattle.sv_journal.specs.declared.entry.Entry.{Entry}
 use Rattle.sv_journal.specs.declared.entry.Entry.TheVariants.{Refused}
@@ -7,7 +7,7 @@ use Rattle.sv_journal.specs.declared.refusal_cause.RefusalCause.TheVariants as c
 use Rattle.sv_run.proofs.Effects.{first-at_none}
 use Rattle.sv_run.specs.Contexts.{Handling, Theory, request_of}
 use Rattle.sv_run.specs.Effect.{Effect, answered, handled, noting}
-use Rattle.sv_run.specs.Items.{IsAnswerTo, Responds, TakesMessage}
+use Rattle.sv_run.specs.Items.{IsAnswerTo, Responds, TakesMessage, closes_behind}
 use Rattle.sv_run.specs.Messages.{Destination, Itself, Within, destination, destination_at, destination_in, empty_response, place_for, plain_response}
 use Rattle.sv_run.specs.State.{world_of}
 use Rattle.sv_run.specs.declared.reaction.Reaction.{Reaction}
@@ -42,7 +42,7 @@ module _ {C W : Type 0} (theory : Theory C W) (moment : ℕ) (message : Message)
       }
       → middle ≡ record start { journal = noting entries start.journal }
       → IsAnswerTo message moment response text
-      → end ≡ record middle { sends = middle.sends ++ text; closes = middle.closes || not message.keep }
+      → end ≡ record middle { sends = middle.sends ++ text; closes = middle.closes || closes_behind message response }
       → Answers theory moment (Within place canon) message words before (slice_set before place new) start end
   handles_at place canon old new response middle end entries text within is handles notes answers sent =
       let handling : Handling C = record {
@@ -52,7 +52,7 @@ module _ {C W : Type 0} (theory : Theory C W) (moment : ℕ) (message : Message)
         response = response;
         after = new;
       } in (
-        handled place handling text (not message.keep),
+        handled place handling text (closes_behind message response),
         (
           handling,
           text,
@@ -61,8 +61,8 @@ module _ {C W : Type 0} (theory : Theory C W) (moment : ℕ) (message : Message)
           answers,
           refl,
         ),
-        sent ∙ ap (λ (r : Reaction). record r { sends = r.sends ++ text; closes = r.closes || not message.keep }) notes
-            ∙ (λ i. record (then_brings start (handled place handling text (not message.keep))) { edited = sym (first-at_none start.edited) i }),
+        sent ∙ ap (λ (r : Reaction). record r { sends = r.sends ++ text; closes = r.closes || closes_behind message response }) notes
+            ∙ (λ i. record (then_brings start (handled place handling text (closes_behind message response))) { edited = sym (first-at_none start.edited) i }),
       )
 
   pub sent : {T E : Type 0} (result : Result T E) (place : ℕ) (canon : Canon) (old new : C) (response : Response) (middle end : Reaction)
@@ -76,7 +76,7 @@ module _ {C W : Type 0} (theory : Theory C W) (moment : ℕ) (message : Message)
       }
       → middle ≡ record start { journal = noting entries start.journal }
       → IfOk result (λ _. (text : List ℕ) × IsAnswerTo message moment response text
-      × (end ≡ record middle { sends = middle.sends ++ text; closes = middle.closes || not message.keep }))
+      × (end ≡ record middle { sends = middle.sends ++ text; closes = middle.closes || closes_behind message response }))
       → IfOk result (λ _. Answers theory moment (Within place canon) message words before (slice_set before place new) start end)
   sent (Err fault) place canon old new response middle end entries within is handles notes sends = tt
   sent (Ok done) place canon old new response middle end entries within is handles notes sends =
@@ -84,23 +84,23 @@ module _ {C W : Type 0} (theory : Theory C W) (moment : ℕ) (message : Message)
 
   pub answers_itself : {T E : Type 0} (result : Result T E) (entry : Entry) (given meant : Response) (end : Reaction) → given ≡ meant
       → IfOk result (λ _. (text : List ℕ) × IsAnswerTo message moment given text
-      × (end ≡ then_brings start (answered {Context = C} entry text (not message.keep))))
+      × (end ≡ then_brings start (answered {Context = C} entry text (closes_behind message given))))
       → IfOk result (λ _. Answers theory moment (Itself entry meant) message words before before start end)
   answers_itself (Err fault) entry given meant end same sends = tt
   answers_itself (Ok done) entry given meant end same sends = (
-    answered entry sends.0 (not message.keep),
+    answered entry sends.0 (closes_behind message meant),
     (sends.0, subst (λ response. IsAnswerTo message moment response sends.0) same sends.1, refl, refl),
-    sends.2,
+    sends.2 ∙ ap (λ response. then_brings start (answered {Context = C} entry sends.0 (closes_behind message response))) same,
   )
 
   pub same_fault : {T E : Type 0} (result : Result T E) (given : Response) (end : Reaction) (fault same : PathFault) → same ≡ fault
       → IfOk result (λ _. (text : List ℕ) × IsAnswerTo message moment given text
-      × (end ≡ then_brings start (answered {Context = C} (Refused (causes.Path fault)) text (not message.keep))))
+      × (end ≡ then_brings start (answered {Context = C} (Refused (causes.Path fault)) text (closes_behind message given))))
       → IfOk result (λ _. (text : List ℕ) × IsAnswerTo message moment given text
-      × (end ≡ then_brings start (answered {Context = C} (Refused (causes.Path same)) text (not message.keep))))
+      × (end ≡ then_brings start (answered {Context = C} (Refused (causes.Path same)) text (closes_behind message given))))
   same_fault result given end fault same is sends =
       subst (λ f. IfOk result (λ _. (text : List ℕ) × IsAnswerTo message moment given text
-      × (end ≡ then_brings start (answered {Context = C} (Refused (causes.Path f)) text (not message.keep))))) (sym is) sends
+      × (end ≡ then_brings start (answered {Context = C} (Refused (causes.Path f)) text (closes_behind message given))))) (sym is) sends
 
   pub sent_to : {T E : Type 0} (result : Result T E) (meant given : Destination) (after : List C) (end : Reaction) → meant ≡ given
       → IfOk result (λ _. Answers theory moment given message words before after start end)

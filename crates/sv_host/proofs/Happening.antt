@@ -1,17 +1,30 @@
 -- What the arms of an event come to.
-use Rattle.std.proofs.Common.{◌≡◌, ℕ, false, List, None, Result, Ok, Err, IfOk, refl, sym, subst}
+use Rattle.std.proofs.Common.{◌≡◌, ℕ, true, false, List, [], None, Some, Result, Ok, Err, IfOk, IsSome, refl, sym, ap, ◌∙◌, subst, eqb, append-nil}
+use Rattle.std.proofs.lemmas.Map.{update_here, update-update}
 use Rattle.sv_host.proofs.Adding.{adds_nothing}
 use Rattle.sv_host.specs.Connections.{FeedsOne}
 use Rattle.sv_host.specs.Output.{Adds}
 use Rattle.sv_host.specs.declared.output.Output.{Output}
 use Rattle.sv_journal.specs.declared.entry.Entry.{Entry}
-use Rattle.sv_run.specs.Connections.{Connections, forgotten, opened}
+use Rattle.sv_run.specs.Connections.{Connections, forgotten, opened, with_held}
 use Rattle.sv_run.specs.Contexts.{Theory}
 use Rattle.sv_run.specs.Effect.{Effect, closing, joined, nothing, telling}
 use Rattle.sv_run.specs.Events.{Accepts, Ended, ExpiresAll, Happening, Happens, Lost, Opened, Piece, TakesPiece, Tick, fault_of, moment_after}
+use Rattle.sv_run.specs.Feeding.{held_where}
 use Rattle.sv_run.specs.Items.{Takes}
-use Rattle.sv_run.specs.State.{State, World, settled_at, world_of}
+use Rattle.sv_run.specs.State.{State, World, settled_at}
+use Rattle.sv_wire.specs.Inbox.{Held, spent_for_good}
 use Rattle.sv_wire.specs.declared.item.Item.{Item}
+
+-- only what a connection holds last is seen
+held_twice : (number : ℕ) (one other : Held) (connections : Connections) → with_held number other (with_held number one connections) ≡ with_held number other connections
+held_twice number one other connections =
+    λ i. record { held = λ q. update-update eqb connections.held number (Some one) (Some other) q i; known = connections.known }
+
+-- a connection of which a piece was read is known
+pub fed_known : (before after : Connections) (number : ℕ) (piece : List ℕ) (items : List Item) → FeedsOne before number piece items after → IsSome (after.held number)
+fed_known before after number piece items feeds =
+    subst IsSome (sym (ap (λ (k : Connections). k.held number) feeds.is_after ∙ update_here before.held number (Some feeds.left))) refl
 
 module _ {C W : Type 0} (theory : Theory C W) (state : State C W) where
   module _ (happening : Happening) (number : ℕ) (connections : Connections) where
@@ -40,20 +53,57 @@ module _ {C W : Type 0} (theory : Theory C W) (state : State C W) where
       → happening ≡ Piece number bytes moment → TakesPiece theory state number bytes effect after → Happens theory state happening effect after
   comes_in happening number bytes moment effect after is takes = subst (λ h. Happens theory state h effect after) (sym is) takes
 
-  pub takes_piece : (number : ℕ) (piece : List ℕ) (items : List Item) (connections : Connections) (world : World C W) (effect : Effect C)
-      → FeedsOne state.connections number piece items connections → Takes theory state.moment items state.world effect world
-      → TakesPiece theory state number piece effect (record state { connections = connections; world = world })
-  takes_piece number piece items connections world effect fed takes =
-      record {
-        held = fed.held;
-        holds = fed.holds;
-        items = items;
-        left = fed.left;
-        feeds = fed.feeds;
-        world = world;
-        takes = takes;
-        is_after = λ i. record state { connections = fed.is_after i; world = world };
-      }
+  module _ (number : ℕ) (piece : List ℕ) (items : List Item) (fed connections : Connections) (world : World C W) (effect : Effect C)
+      (feeds : FeedsOne state.connections number piece items fed) (takes : Takes theory state.moment items state.world effect world) where
+    -- a piece behind which the connection stays open
+    pub takes_open : connections ≡ fed → effect.closes ≡ false → TakesPiece theory state number piece effect (record state { connections = connections; world = world })
+    takes_open same stays =
+        record {
+          held = feeds.held;
+          holds = feeds.holds;
+          items = items;
+          left = feeds.left;
+          feeds =
+              record {
+                part = piece;
+                unread = [];
+                is_piece = sym (append-nil piece);
+                is_all = λ none. refl;
+                left = feeds.left;
+                feeds = feeds.feeds;
+                is_after = ap (λ t. held_where t feeds.left) (sym stays);
+              };
+          world = world;
+          takes = takes;
+          is_after = λ i. record state { connections = (same ∙ feeds.is_after) i; world = world };
+        }
+
+    -- a piece behind which it closes
+    pub takes_closing : connections ≡ with_held number spent_for_good fed → effect.closes ≡ true
+        → TakesPiece theory state number piece effect (record state { connections = connections; world = world })
+    takes_closing ended closes =
+        record {
+          held = feeds.held;
+          holds = feeds.holds;
+          items = items;
+          left = spent_for_good;
+          feeds =
+              record {
+                part = piece;
+                unread = [];
+                is_piece = sym (append-nil piece);
+                is_all = λ none. refl;
+                left = feeds.left;
+                feeds = feeds.feeds;
+                is_after = ap (λ t. held_where t feeds.left) (sym closes);
+              };
+          world = world;
+          takes = takes;
+          is_after = λ i. record state {
+            connections = (ended ∙ ap (with_held number spent_for_good) feeds.is_after ∙ held_twice number feeds.left spent_for_good state.connections) i;
+            world = world;
+          };
+        }
 
   pub opens_so : {T E : Type 0} (result : Result T E) (happening : Happening) (number : ℕ) (connections : Connections) (start : Output)
       → happening ≡ Opened number → IfOk result (λ _. connections ≡ opened number state.connections)
@@ -61,23 +111,6 @@ module _ {C W : Type 0} (theory : Theory C W) (state : State C W) where
   opens_so (Err wanted) happening number connections start is opened_so = tt
   opens_so (Ok done) happening number connections start is opened_so =
       (nothing, opens happening number connections is opened_so, adds_nothing C start)
-
-  pub takes_piece_so : {T E : Type 0} (result : Result T E) (number : ℕ) (piece : List ℕ) (items same : List Item) (contexts : List C)
-      (connections : Connections) (world kept : World C W) (start end : Output)
-      → same ≡ items → kept ≡ world → contexts ≡ state.world.contexts → FeedsOne state.connections number piece items connections
-      → IfOk result (λ _. (effect : Effect C)
-      × Takes theory state.moment same (world_of contexts state.world.words) effect world × Adds start effect end)
-      → IfOk result (λ _. (effect : Effect C)
-      × TakesPiece theory state number piece effect (record state { connections = connections; world = kept }) × Adds start effect end)
-  takes_piece_so (Err wanted) number piece items same contexts connections world kept start end is stays are fed takes = tt
-  takes_piece_so (Ok done) number piece items same contexts connections world kept start end is stays are fed takes = (
-    takes.0,
-    subst (λ (w : World C W). TakesPiece theory state number piece takes.0 (record state { connections = connections; world = w })) (sym stays)
-        (takes_piece number piece items connections world takes.0 fed
-        (subst (λ all. Takes theory state.moment all state.world takes.0 world) is
-        (subst (λ these. Takes theory state.moment same (world_of these state.world.words) takes.0 world) are takes.1))),
-    takes.2,
-  )
 
   pub accepts_at : (happening : Happening) (after : State C W) (moment : ℕ) (told : List Entry) (contexts : List C) (brings : Effect C)
       → moment ≡ moment_after state.moment happening → state.stopped ≡ false → fault_of state.connections happening ≡ None

@@ -1,6 +1,7 @@
 -- Items that are handled one after another.
 use Rattle.std.proofs.Common.{◌≡◌, ℕ, ◌+◌, ◌<◌, ◌≤◌, true, false, List, ◌∷◌, Result, Ok, Err, IfOk, length, drop, slice_index_or, refl, sym, ap, ◌∙◌, subst, drop-cons, add-one}
 use Rattle.std.proofs.lemmas.List.{drop_all}
+use Rattle.sv_body.proofs.BoolLemmas.{MatchBool-from_true, MatchBool-from_false}
 use Rattle.sv_run.proofs.Effects.{joined-assoc, joined-nothing}
 use Rattle.sv_host.specs.Output.{then_brings}
 use Rattle.sv_journal.specs.declared.entry.Entry.TheVariants.{Refused}
@@ -22,15 +23,27 @@ module _ {C W : Type 0} (theory : Theory C W) (moment : ℕ) (all : List Item) w
   TakesOn start front reached rest =
       (later : Effect C) (after : World C W) → Takes theory moment rest reached later after → Takes theory moment all start (joined front later) after
 
+  -- an item that does not close the connection is handled behind the others
   pub goes_on : (start reached next : World C W) (front more : Effect C) (place : ℕ) (item : Item)
-      → place < length all → item ≡ slice_index_or all place item → TakesOn start front reached (drop place all)
+      → place < length all → item ≡ slice_index_or all place item → more.closes ≡ false → TakesOn start front reached (drop place all)
       → TakesItem theory moment item reached more next → TakesOn start (joined front more) next (drop (place + 1) all)
-  goes_on start reached next front more place item below is completes takes later after rest =
+  goes_on start reached next front more place item below is stays completes takes later after rest =
       subst (λ r. Takes theory moment all start r after) (sym (joined-assoc front more later))
       (completes (joined more later) after
       (subst (λ left. Takes theory moment left reached (joined more later) after)
       (sym (drop-cons all place item below ∙ ap (λ k. slice_index_or all place item ∷ drop k all) (sym (add-one place))))
-      (next, more, later, subst (λ at. TakesItem theory moment at reached more next) is takes, rest, refl)))
+      (next, more, later, subst (λ at. TakesItem theory moment at reached more next) is takes, MatchBool-from_false more.closes _ _ stays rest, refl)))
+
+  -- behind one that closes it, none is handled
+  pub stops : (start reached next : World C W) (front more : Effect C) (place : ℕ) (item : Item)
+      → place < length all → item ≡ slice_index_or all place item → more.closes ≡ true → TakesOn start front reached (drop place all)
+      → TakesItem theory moment item reached more next → Takes theory moment all start (joined front more) next
+  stops start reached next front more place item below is closes completes takes =
+      subst (λ r. Takes theory moment all start (joined front r) next) (joined-nothing more)
+      (completes (joined more nothing) next
+      (subst (λ left. Takes theory moment left reached (joined more nothing) next)
+      (sym (drop-cons all place item below))
+      (next, more, nothing, subst (λ at. TakesItem theory moment at reached more next) is takes, MatchBool-from_true more.closes _ _ closes (refl, refl), refl)))
 
   pub ends : (start reached : World C W) (front : Effect C) (place : ℕ) → length all ≤ place → TakesOn start front reached (drop place all)
       → Takes theory moment all start front reached

@@ -1,14 +1,14 @@
 //! The answers to messages.
 
-ghost use Rattle.std.specs.Prelude.{◌≡◌, ◌++◌, ◌||◌, ℕ, true, false, List, IfOk, bytes_eq, codes, not};
+ghost use Rattle.std.specs.Prelude.{◌≡◌, ◌++◌, ◌||◌, ℕ, true, false, List, IfOk, bytes_eq, codes};
 ghost use Rattle.http.specs.StatusCode.{IsStatusCode};
 ghost use Rattle.sv_host.specs.Output.{Adds, reaction_of};
 ghost use Rattle.sv_journal.specs.Journal.{with_entry};
 ghost use Rattle.sv_journal.specs.declared.entry.Entry.TheVariants as entries;
 ghost use Rattle.sv_journal.specs.declared.refusal_cause.RefusalCause.TheVariants as causes;
 ghost use Rattle.sv_run.specs.Effect.{answered, sending};
-ghost use Rattle.sv_run.specs.Items.{IsAnswerTo, IsTextAt, continue_text};
-ghost use Rattle.sv_run.specs.Messages.{empty_response, plain_response};
+ghost use Rattle.sv_run.specs.Items.{IsAnswerTo, IsTextAt, closes_behind, continue_text};
+ghost use Rattle.sv_run.specs.Messages.{empty_response, plain_response, plain_text};
 ghost use Rattle.sv_text.specs.Gives.{GivesAnswer};
 ghost use Rattle.sv_wire.specs.ResponseText.{phrase_of};
 ghost use Rattle.sv_wire.specs.WireFault.{fault_status};
@@ -19,7 +19,7 @@ use std::alloc::Global;
 use sv_head::Field;
 use sv_journal::{Entry, RefusalCause};
 use sv_text::{Bytes, Listed, NoMemory};
-use sv_wire::{Message, Response, WireFault, write_response};
+use sv_wire::{Body, Message, Response, WireFault, write_response};
 
 const CONTINUE: &[u8] = b"HTTP/1.1 100 Continue\r\n\r\n";
 
@@ -31,7 +31,7 @@ pub(crate) fn empty_response(alloc: Global) -> Response
         status: 200,
         fields: Listed::from_vec(Vec::new(alloc)),
         cookie: None,
-        body: Bytes::from_vec(Vec::new(alloc)),
+        body: Body::Whole(Bytes::from_vec(Vec::new(alloc))),
     }
 }
 
@@ -46,14 +46,14 @@ pub(crate) fn plain_response(alloc: Global, status: u16) -> Result<Response, NoM
         status,
         fields: Listed::from_vec(fields),
         cookie: None,
-        body: Bytes::from_vec(plain_text(alloc, status)?),
+        body: Body::Whole(Bytes::from_vec(plain_text(alloc, status)?)),
     })
 }
 
 // The status and its phrase, as a line.
 fn plain_text(alloc: Global, status: u16) -> Result<Vec<u8>, NoMemory>
     requires { IsStatusCode status }
-    ensures { IfOk result (λ text. text.items ≡ (plain_response status).body) }
+    ensures { IfOk result (λ text. text.items ≡ plain_text status) }
 {
     let phrase = phrase_of(status);
     Ok(format!(in alloc; "{status} {phrase}\n")?.into_bytes())
@@ -89,7 +89,7 @@ pub(crate) fn send(
     ensures { IfOk result (λ _. (text : List ℕ) × IsAnswerTo message.now moment response.now text
         × (reaction_of output.new ≡ record (reaction_of output.old) {
           sends = output.old.sends.items ++ text;
-          closes = output.old.closes || not message.now.keep;
+          closes = output.old.closes || closes_behind message.now response.now;
         })) }
 {
     write_response(
@@ -99,7 +99,7 @@ pub(crate) fn send(
         moment,
         &mut output.sends,
     )?;
-    output.closes = closes_behind(output.closes, message.keep);
+    output.closes |= closes_behind(message, response);
     Ok(())
 }
 
@@ -110,11 +110,11 @@ fn is_head(message: &Message) -> bool
     message.method.as_str() == "HEAD"
 }
 
-// Whether the connection closes behind a message, where it closes already or the message does not keep it.
-fn closes_behind(closes: bool, keep: bool) -> bool
-    ensures { result ≡ (closes || not keep) }
+// Whether the connection closes behind the response to a message: one of them ends it.
+fn closes_behind(message: &Message, response: &Response) -> bool
+    ensures { result ≡ closes_behind message.now response.now }
 {
-    closes || !keep
+    !message.keep || response.body.ends_connection()
 }
 
 // Answers a message that no context handles.
@@ -127,7 +127,7 @@ pub(crate) fn answer_itself<C>(
 ) -> Result<(), NoMemory>
     requires { IsStatusCode response.now.status }
     ensures { IfOk result (λ _. (text : List ℕ) × IsAnswerTo message.now moment response.now text
-        × Adds {Context = C} output.old (answered entry text (not message.now.keep)) output.new) }
+        × Adds {Context = C} output.old (answered entry text (closes_behind message.now response.now)) output.new) }
 {
     note(entry, output)?;
     send(message, response, moment, output)

@@ -2,8 +2,8 @@
 
 ghost use Rattle.std.specs.Prelude.{◌≡◌, List, ℕ, None, IfOk, IsSome, is_some};
 ghost use Rattle.sv_host.specs.Connections.{FeedsOne};
-ghost use Rattle.sv_run.specs.Connections.{connections_of, forgotten, no_connections, opened};
-ghost use Rattle.sv_wire.specs.Inbox.{Held};
+ghost use Rattle.sv_run.specs.Connections.{connections_of, forgotten, no_connections, opened, with_held};
+ghost use Rattle.sv_wire.specs.Inbox.{Held, spent_for_good};
 
 use std::alloc::Global;
 use std::collections::HashMap;
@@ -79,6 +79,19 @@ impl Connections {
     {
         match self.inboxes.get_mut(&number) {
             Some(inbox) => inbox.feed(piece),
+            None => unreachable!(),
+        }
+    }
+
+    /// Nothing more is read of a connection, which is known until it ends or is lost.
+    pub fn close(&mut self, number: u64)
+        requires { IsSome ((connections_of self.old).held number) }
+        ensures { connections_of self.new ≡ with_held number spent_for_good (connections_of self.old) }
+    {
+        match self.inboxes.get_mut(&number) {
+            Some(inbox) => {
+                inbox.end();
+            }
             None => unreachable!(),
         }
     }

@@ -116,7 +116,8 @@ impl<C: Context, W: Words> Host<C, W> {
 
     // The event itself, at its moment.
     fn happen(&mut self, happening: Happening, output: &mut Output) -> Result<(), NoMemory>
-        requires { fault_of (state_of self.old).connections (happening_of happening) ≡ None }
+        requires fits { fault_of (state_of self.old).connections (happening_of happening) ≡ None }
+        requires unclosed { output.old.closes ≡ false }
         ensures happens { IfOk result (λ _. (effect : Effect C)
             × Happens (theory_of C.path_of C.conduct W.draws) (state_of self.old) (happening_of happening.entry) effect (state_of self.new)
             × Adds output.old effect output.new) }
@@ -159,9 +160,10 @@ impl<C: Context, W: Words> Host<C, W> {
         Ok(())
     }
 
-    // A piece of a connection: the items that it completes are handled.
+    // A piece of a connection: the items that it completes are handled, and behind one that closes the connection nothing more is read.
     fn take_piece(&mut self, number: u64, piece: &[u8], output: &mut Output) -> Result<(), NoMemory>
-        requires { IsSome ((state_of self.old).connections.held number) }
+        requires known { IsSome ((state_of self.old).connections.held number) }
+        requires unclosed { output.old.closes ≡ false }
         ensures takes { IfOk result (λ _. (effect : Effect C)
             × TakesPiece (theory_of C.path_of C.conduct W.draws) (state_of self.old) number piece.now effect (state_of self.new)
             × Adds output.old effect output.new) }
@@ -175,7 +177,12 @@ impl<C: Context, W: Words> Host<C, W> {
             self.moment,
             &items,
             output,
-        )
+        )?;
+        if !output.closes {
+            return Ok(());
+        }
+        self.connections.close(number);
+        Ok(())
     }
 }
 

@@ -1,6 +1,6 @@
 //! The handling of what a stream says, in its order.
 
-ghost use Rattle.std.specs.Prelude.{IfOk};
+ghost use Rattle.std.specs.Prelude.{◌≡◌, IfOk, false};
 ghost use Rattle.sv_host.specs.Output.{Adds};
 ghost use Rattle.sv_run.specs.Contexts.{theory_of};
 ghost use Rattle.sv_run.specs.Effect.{Effect};
@@ -40,7 +40,7 @@ fn take_item<C: Context, W: Words>(
     }
 }
 
-// Handles items in their order.
+// Handles items in their order, and none behind one that closes the connection (RFC 9112, section 9.6).
 pub(crate) fn take_items<C: Context, W: Words>(
     alloc: Global,
     contexts: &mut Indexed<C>,
@@ -49,6 +49,7 @@ pub(crate) fn take_items<C: Context, W: Words>(
     items: &[Item],
     output: &mut Output,
 ) -> Result<(), NoMemory>
+    requires { output.old.closes ≡ false }
     ensures takes { IfOk result (λ _. (effect : Effect C)
         × Takes (theory_of C.path_of C.conduct W.draws) moment items.now (world_of contexts.old words.old) effect (world_of contexts.new words.new)
         × Adds output.old effect output.new) }
@@ -56,6 +57,9 @@ pub(crate) fn take_items<C: Context, W: Words>(
 {
     for item in items {
         take_item::<C, W>(alloc, contexts, words, moment, item, output)?;
+        if output.closes {
+            return Ok(());
+        }
     }
     Ok(())
 }

@@ -16,6 +16,7 @@ use Rattle.sv_run.specs.Runs.{Answer, Run, deeds_of}
 use Rattle.sv_run.specs.State.{State, World}
 use Rattle.sv_run.specs.declared.step_fault.StepFault.TheVariants.{Stopped, BadConnection, TooManyConnections, NoMemory}
 use Rattle.sv_run.proofs.Outcomes.{all_append}
+use Rattle.sv_run.proofs.Taking.{either}
 use Rattle.sv_session.specs.Calls.{HoldsCaller}
 use Rattle.sv_session.specs.Store.{Store}
 use Rattle.sv_wire.specs.declared.item.Item.{Item}
@@ -168,7 +169,10 @@ module _ {Context Words : Type 0} (theory : Theory Context Words) (place number 
         subst (λ (e : Effect Context). Came before.contexts e.deeds after.contexts) (sym takes.5)
         (came_on before.contexts takes.0.contexts after.contexts takes.1.deeds takes.2.deeds
         (came_item moment item before takes.0 takes.1 takes.3)
-        (came_takes moment items takes.0 after takes.2 takes.4))
+        (either takes.1.closes takes.4
+        (λ none. subst (λ (e : Effect Context). Came takes.0.contexts e.deeds after.contexts) (sym none.0)
+        (came_same takes.0.contexts after.contexts (ap (λ (w : World Context Words). w.contexts) none.1)))
+        (λ rest. came_takes moment items takes.0 after takes.2 rest)))
 
     -- an edit keeps the sessions, and with them their callers
     came_edited : (found : Option ℕ) (before after : List Context) (edit : Edit) (answer : Result ℕ EditFault) → EditsIn theory found before edit answer after

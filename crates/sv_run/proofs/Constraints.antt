@@ -25,6 +25,7 @@ use Rattle.sv_run.specs.State.{State, World}
 use Rattle.sv_run.specs.declared.step_fault.StepFault.{StepFault}
 use Rattle.sv_run.specs.declared.step_fault.StepFault.TheVariants.{Stopped, BadConnection, TooManyConnections, NoMemory}
 use Rattle.sv_run.proofs.Callers.{runs_on, stopped_stays}
+use Rattle.sv_run.proofs.Taking.{either}
 use Rattle.sv_wire.specs.declared.item.Item.{Item}
 use Rattle.sv_wire.specs.declared.item.Item.TheVariants.{Continue, Message, Refuse}
 use Rattle.sv_wire.specs.declared.message.Message.{Message as MessageRecord}
@@ -118,7 +119,9 @@ module _ {Context Words : Type 0} (theory : Theory Context Words) where
     takes_keeps moment (item ∷ items) before after effect takes =
         kept_on before.contexts takes.0.contexts after.contexts
         (item_keeps moment item before takes.0 takes.1 takes.3)
-        (takes_keeps moment items takes.0 after takes.2 takes.4)
+        (either takes.1.closes takes.4
+        (λ none. kept_same takes.0.contexts after.contexts (ap (λ (w : World Context Words). w.contexts) none.1))
+        (λ rest. takes_keeps moment items takes.0 after takes.2 rest))
 
     expires_keeps : (contexts after : List Context) (moment : ℕ) (told : List Entry) → ExpiresAll theory.conduct contexts moment told after → Kept contexts after
     expires_keeps [] after moment told expires = kept_same [] after expires.1

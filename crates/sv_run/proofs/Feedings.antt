@@ -11,7 +11,7 @@ use Rattle.sv_wire.specs.Items.{is_last, are_ended}
 use Rattle.sv_wire.specs.Reads.{Reads}
 use Rattle.sv_wire.proofs.ReadsLemmas.{gives_more, readings_join, readings_are_unique, readings_split_at_a_cut}
 use Rattle.sv_run.specs.Laws.{FeedsInParts}
-use Rattle.sv_run.specs.Feeding.{Feeds}
+use Rattle.sv_run.specs.Feeding.{Feeds, FeedsWhere, held_where}
 
 -- a reading that has ended stays as it is, whatever follows
 pub readings_that_end_stay : (owed : Option OwedHead) (first second : List ℕ) (items : List Item) (left : Option OwedHead) (rest : List ℕ)
@@ -120,3 +120,27 @@ feeds_nothing before one other piece items none some = by_spent before.spent ref
     by_spent true spent first second = second.0
     by_spent false goes_on first second =
         sym (readings_are_unique before.owed (before.rest ++ piece) [] items one.owed one.rest other.owed other.rest first.0 second.0).0
+
+-- a piece that is read whole, where the connection does not close
+pub feeds_where : (before after : Held) (piece : List ℕ) (items : List Item) → Feeds before piece items after → FeedsWhere false before piece items after
+feeds_where before after piece items feeds =
+    record { part = piece; unread = []; is_piece = sym (append-nil piece); is_all = λ stays. refl; left = after; feeds = feeds; is_after = refl }
+
+-- where the connection does not close, the piece is read whole
+pub where_all : (closes : Bool) (before after : Held) (piece : List ℕ) (items : List Item) → closes ≡ false → FeedsWhere closes before piece items after
+    → Feeds before piece items after
+where_all closes before after piece items stays fed =
+    subst (λ text. Feeds before text items after) (sym (fed.is_piece ∙ ap (λ more. fed.part ++ more) (fed.is_all stays) ∙ append-nil fed.part))
+    (subst (λ h. Feeds before fed.part items h) (sym (fed.is_after ∙ ap (λ t. held_where t fed.left) stays)) fed.feeds)
+
+-- where a piece completes no item, a part of it completes none
+pub where_nothing : (closes : Bool) (before one other : Held) (piece : List ℕ) (items : List Item) → Feeds before piece [] one → FeedsWhere closes before piece items other
+    → items ≡ []
+where_nothing closes before one other piece items none some =
+    let parts = feeds_in_parts before one some.part some.unread [] (subst (λ text. Feeds before text [] one) some.is_piece none) in
+    feeds_nothing before parts.2 some.left some.part items
+    (subst (λ front. Feeds before some.part front parts.2) (first_none parts.0 parts.1 parts.5) parts.3) some.feeds
+  where
+    first_none : (front more : List Item) → [] ≡ front ++ more → front ≡ []
+    first_none [] more are = refl
+    first_none (item ∷ front) more are = absurd (cc)

@@ -1,5 +1,5 @@
 -- A piece that completes no item, and an event of another connection.
-use Rattle.std.proofs.Common.{◌≡◌, ◌≢◌, ℕ, List, [], ◌++◌, Some, refl, sym, ap, ◌∙◌, subst, append-nil}
+use Rattle.std.proofs.Common.{◌≡◌, ◌≢◌, ℕ, false, List, [], ◌++◌, Some, refl, sym, ap, ◌∙◌, subst, append-nil}
 use Rattle.sv_journal.specs.declared.entry.Entry.{Entry}
 use Rattle.sv_run.specs.Contexts.{Theory}
 use Rattle.sv_run.specs.Effect.{Effect, nothing, telling, joined}
@@ -11,7 +11,7 @@ use Rattle.sv_run.specs.Laws.{AcceptsBoth, AcceptsOtherwise, CompletesNothing, O
 use Rattle.sv_run.specs.State.{State, World, holding, settled_at}
 use Rattle.sv_run.proofs.Beside.{fault_beside, happens_apart, happens_settled, happens_with, happens_without}
 use Rattle.sv_run.proofs.Cuts.{same_held}
-use Rattle.sv_run.proofs.Feedings.{feeds_nothing}
+use Rattle.sv_run.proofs.Feedings.{feeds_where, where_all, where_nothing}
 use Rattle.sv_run.proofs.Stepping.{accepts_now, accepts_settled, now_accepts, settled_accepts}
 use Rattle.sv_run.proofs.Taking.{expiring_settles}
 use Rattle.sv_wire.specs.Inbox.{Held}
@@ -40,10 +40,13 @@ module _ {Context Words : Type 0} (theory : Theory Context Words) where
       → Feeds held bytes [] left → (piece : TakesPiece theory state number bytes effect after) → held ≡ piece.held
       → IsQuiet state number piece.held bytes effect after
   quiet state after number held left bytes effect feeds piece same =
-      let none = feeds_nothing piece.held left piece.left bytes piece.items (subst (λ h. Feeds h bytes [] left) same feeds) piece.feeds in
+      let none = where_nothing effect.closes piece.held left piece.left bytes piece.items (subst (λ h. Feeds h bytes [] left) same feeds) piece.feeds in
+      let takes = subst (λ items. Takes theory state.moment items state.world effect piece.world) none piece.takes in
+      let closes_not : effect.closes ≡ false = ap (λ (r : Effect Context). r.closes) takes.0 in
       quiet_takes state piece.world effect number piece.held piece.left bytes after
-      (subst (λ items. Feeds piece.held bytes items piece.left) none piece.feeds)
-      (subst (λ items. Takes theory state.moment items state.world effect piece.world) none piece.takes)
+      (subst (λ items. Feeds piece.held bytes items piece.left) none
+      (where_all effect.closes piece.held piece.left bytes piece.items closes_not piece.feeds))
+      takes
       piece.is_after
 
   module _ (alone_edits : EditsAlone theory.path_of theory.conduct) (ends : EndsExpired theory) (before after : State Context Words) (number : ℕ) (bytes : List ℕ) (moment : ℕ) (other : Happening)
@@ -96,7 +99,7 @@ module _ {Context Words : Type 0} (theory : Theory Context Words) where
                       holds = own;
                       items = [];
                       left = found.left;
-                      feeds = found.feeds;
+                      feeds = feeds_where piece.held found.left bytes [] found.feeds;
                       world = alone.later.world;
                       takes = (refl, refl);
                       is_after = alone.is_after;
@@ -151,7 +154,7 @@ module _ {Context Words : Type 0} (theory : Theory Context Words) where
                             holds = own;
                             items = [];
                             left = found.left;
-                            feeds = found.feeds;
+                            feeds = feeds_where piece.held found.left bytes [] found.feeds;
                             world = mid.world;
                             takes = (refl, refl);
                             is_after = refl;

@@ -18,6 +18,7 @@ use Rattle.sv_run.specs.Laws.{EntersWhereAllowed, RequestsEnterExactlyWhereAllow
 use Rattle.sv_run.specs.Messages.{Destination, Itself, Within, destination, destination_at, destination_in, destination_of}
 use Rattle.sv_run.specs.Runs.{Answer, Run, deeds_of, journal_of}
 use Rattle.sv_run.specs.State.{State, World}
+use Rattle.sv_run.proofs.Taking.{either}
 use Rattle.sv_uri.specs.Canonical.{canonical}
 use Rattle.sv_uri.specs.declared.fault.PathFault.{PathFault}
 use Rattle.sv_uri.specs.declared.path.Canon.{Canon}
@@ -139,7 +140,9 @@ module _ {Context Words : Type 0} (theory : Theory Context Words) where
         subst TellsOf (sym takes.5)
         (tells_both takes.1.journal takes.2.journal takes.1.deeds takes.2.deeds
         (item_tells moment item before takes.0 takes.1 takes.3)
-        (takes_tells moment items takes.0 after takes.2 takes.4))
+        (either takes.1.closes takes.4
+        (λ none. subst TellsOf (sym none.0) record { told = refl; enters = tt })
+        (λ rest. takes_tells moment items takes.0 after takes.2 rest)))
 
     happens_tells : (before after : State Context Words) (happening : Happening) (effect : Effect Context)
         → Happens theory before happening effect after → TellsOf effect

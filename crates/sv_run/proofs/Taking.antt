@@ -1,17 +1,24 @@
 -- Items that are handled one behind another, and sessions that end.
-use Rattle.std.proofs.Common.{◌≡◌, ℕ, zero, suc, List, [], ◌∷◌, ◌++◌, Some, refl, sym, ap, ◌∙◌, subst, slice_get, slice_set}
+use Rattle.std.proofs.Common.{◌≡◌, ℕ, zero, suc, Bool, true, false, ◌||◌, List, [], ◌∷◌, ◌++◌, Some, refl, sym, ap, ◌∙◌, subst, slice_get, slice_set}
+use Rattle.std.specs.Bool.{MatchBool}
+use Rattle.sv_body.proofs.BoolLemmas.{MatchBool-from_true, MatchBool-from_false}
 use Rattle.sv_journal.specs.declared.entry.Entry.{Entry}
 use Rattle.sv_run.specs.Contexts.{Handling, HasNoneExpired, Request, Theory}
 use Rattle.sv_run.specs.Effect.{Effect, nothing, joined}
 use Rattle.sv_run.specs.Events.{ExpiresAll}
-use Rattle.sv_run.specs.Items.{HandlesAt, Responds, Takes, TakesItem}
+use Rattle.sv_run.specs.Items.{HandlesAt, Responds, Takes, TakesItem, TakesNone}
 use Rattle.sv_run.specs.Lawful.{AreSettled, EndsExpired}
 use Rattle.sv_run.specs.Messages.{Destination, Itself, Within, destination}
 use Rattle.sv_run.specs.State.{World}
-use Rattle.sv_run.proofs.Effects.{joined-assoc}
+use Rattle.sv_run.proofs.Effects.{joined-assoc, joined-nothing}
 use Rattle.sv_wire.specs.declared.item.Item.{Item}
 use Rattle.sv_wire.specs.declared.item.Item.TheVariants.{Continue, Message, Refuse}
 use Rattle.sv_wire.specs.declared.message.Message.{Message as MessageRecord}
+
+-- what follows from both, follows
+pub either : {A B P : Type 0} (t : Bool) → MatchBool t A B → (A → P) → (B → P) → P
+either true holds first second = first holds
+either false holds first second = second holds
 
 module _ {Context Words : Type 0} (theory : Theory Context Words) where
   -- ---- the end of expired sessions
@@ -40,13 +47,17 @@ module _ {Context Words : Type 0} (theory : Theory Context Words) where
   module _ (moment : ℕ) where
     -- ---- items one behind another
 
+    -- behind what closes the connection no item is handled, and behind anything else the items are
+    abbrev pub TakesBehind : Bool → List Item → World Context Words → Effect Context → World Context Words → Type 0
+    TakesBehind closes items before effect after = MatchBool closes (TakesNone theory moment before effect after) (Takes theory moment items before effect after)
+
     -- the items in front are handled, and then the others
     pub record TakesInParts (items more : List Item) (before : World Context Words) (effect : Effect Context) (after : World Context Words) : Type 0 where
       pub between : World Context Words
       pub front : Effect Context
       pub back : Effect Context
       pub begins : Takes theory moment items before front between
-      pub goes_on : Takes theory moment more between back after
+      pub goes_on : TakesBehind front.closes more between back after
       pub is_joined : effect ≡ joined front back
 
     pub takes_in_parts : (items more : List Item) (before after : World Context Words) (effect : Effect Context)
@@ -54,30 +65,67 @@ module _ {Context Words : Type 0} (theory : Theory Context Words) where
     takes_in_parts [] more before after effect takes =
         record { between = before; front = nothing; back = effect; begins = (refl, refl); goes_on = takes; is_joined = refl }
     takes_in_parts (item ∷ items) more before after effect takes =
-        let later = takes_in_parts items more takes.0 after takes.2 takes.4 in
-        record {
-          between = later.between;
-          front = joined takes.1 later.front;
-          back = later.back;
-          begins = (takes.0, takes.1, later.front, takes.3, later.begins, refl);
-          goes_on = later.goes_on;
-          is_joined = takes.5 ∙ ap (joined takes.1) later.is_joined ∙ sym (joined-assoc takes.1 later.front later.back);
-        }
+        by_first takes.1.closes refl takes.4 (takes_in_parts items more takes.0 after takes.2)
+      where
+        by_first : (t : Bool) → takes.1.closes ≡ t → TakesBehind t (items ++ more) takes.0 takes.2 after
+            → (Takes theory moment (items ++ more) takes.0 takes.2 after → TakesInParts items more takes.0 takes.2 after)
+            → TakesInParts (item ∷ items) more before effect after
+        by_first true closes none cut =
+            record {
+              between = after;
+              front = joined takes.1 takes.2;
+              back = nothing;
+              begins = (takes.0, takes.1, takes.2, takes.3, MatchBool-from_true takes.1.closes _ _ closes none, refl);
+              goes_on = MatchBool-from_true (takes.1.closes || takes.2.closes) _ _ (ap (λ t. t || takes.2.closes) closes) (refl, refl);
+              is_joined = takes.5 ∙ sym (joined-nothing (joined takes.1 takes.2));
+            }
+        by_first false stays rest cut =
+            let later = cut rest in
+            record {
+              between = later.between;
+              front = joined takes.1 later.front;
+              back = later.back;
+              begins = (takes.0, takes.1, later.front, takes.3, MatchBool-from_false takes.1.closes _ _ stays later.begins, refl);
+              goes_on = subst (λ t. TakesBehind (t || later.front.closes) more later.between later.back after) (sym stays) later.goes_on;
+              is_joined = takes.5 ∙ ap (joined takes.1) later.is_joined ∙ sym (joined-assoc takes.1 later.front later.back);
+            }
 
     pub takes_whole : (items more : List Item) (before between after : World Context Words) (front back : Effect Context)
-        → Takes theory moment items before front between → Takes theory moment more between back after
+        → Takes theory moment items before front between → TakesBehind front.closes more between back after
         → Takes theory moment (items ++ more) before (joined front back) after
     takes_whole [] more before between after front back begins goes_on =
         subst (λ r. Takes theory moment more before r after) (ap (λ r. joined r back) (sym begins.0))
-        (subst (λ w. Takes theory moment more w back after) begins.1 goes_on)
-    takes_whole (item ∷ items) more before between after front back begins goes_on = (
-      begins.0,
-      begins.1,
-      joined begins.2 back,
-      begins.3,
-      takes_whole items more begins.0 between after begins.2 back begins.4 goes_on,
-      ap (λ r. joined r back) begins.5 ∙ joined-assoc begins.1 begins.2 back,
-    )
+        (subst (λ w. Takes theory moment more w back after) begins.1
+        (subst (λ (r : Effect Context). TakesBehind r.closes more between back after) begins.0 goes_on))
+    takes_whole (item ∷ items) more before between after front back begins goes_on =
+        by_first begins.1.closes refl begins.4 (takes_whole items more begins.0 between after begins.2 back)
+      where
+        behind : (t : Bool) → begins.1.closes ≡ t → TakesBehind (t || begins.2.closes) more between back after
+        behind t is =
+            subst (λ u. TakesBehind (u || begins.2.closes) more between back after) is
+            (subst (λ (r : Effect Context). TakesBehind r.closes more between back after) begins.5 goes_on)
+
+        by_first : (t : Bool) → begins.1.closes ≡ t → TakesBehind t items begins.0 begins.2 between
+            → (Takes theory moment items begins.0 begins.2 between → TakesBehind begins.2.closes more between back after
+            → Takes theory moment (items ++ more) begins.0 (joined begins.2 back) after)
+            → Takes theory moment (item ∷ items ++ more) before (joined front back) after
+        by_first true closes none join = (
+          begins.0,
+          begins.1,
+          joined begins.2 back,
+          begins.3,
+          MatchBool-from_true begins.1.closes _ _ closes
+              ((λ i. joined (none.0 i) ((behind true closes).0 i)), (behind true closes).1 ∙ none.1),
+          ap (λ r. joined r back) begins.5 ∙ joined-assoc begins.1 begins.2 back,
+        )
+        by_first false stays rest join = (
+          begins.0,
+          begins.1,
+          joined begins.2 back,
+          begins.3,
+          MatchBool-from_false begins.1.closes _ _ stays (join rest (behind false stays)),
+          ap (λ r. joined r back) begins.5 ∙ joined-assoc begins.1 begins.2 back,
+        )
 
     -- ---- a message leaves no session that has expired at its moment
 
@@ -128,5 +176,7 @@ module _ {Context Words : Type 0} (theory : Theory Context Words) where
     takes_settled ends [] before after effect takes settled =
         subst (λ (w : World Context Words). AreSettled theory moment w.contexts) (sym takes.1) settled
     takes_settled ends (item ∷ items) before after effect takes settled =
-        takes_settled ends items takes.0 after takes.2 takes.4
-        (item_settled ends item before takes.0 takes.1 takes.3 settled)
+        let first = item_settled ends item before takes.0 takes.1 takes.3 settled in
+        either takes.1.closes takes.4
+        (λ none. subst (λ (w : World Context Words). AreSettled theory moment w.contexts) (sym none.1) first)
+        (λ rest. takes_settled ends items takes.0 after takes.2 rest first)

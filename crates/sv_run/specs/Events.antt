@@ -7,7 +7,7 @@ use Rattle.sv_run.specs.Connections.{Connections, forgotten, opened}
 use Rattle.sv_run.specs.Contexts.{Conduct, Theory}
 use Rattle.sv_run.specs.Editing.{EditsContext}
 use Rattle.sv_run.specs.Effect.{Effect, closing, joined, nothing, telling}
-use Rattle.sv_run.specs.Feeding.{Feeds}
+use Rattle.sv_run.specs.Feeding.{FeedsWhere}
 use Rattle.sv_run.specs.Items.{Takes}
 use Rattle.sv_run.specs.State.{State, World, holding, settled_at}
 use Rattle.sv_run.specs.declared.limits.TheConstants.{LAST_MOMENT, MAX_CONNECTIONS}
@@ -92,13 +92,13 @@ module _ {Context : Type 0} (conduct : Conduct Context) where
       (altered : Context) × (others : List Context) × Alters context altered × AltersAll contexts others × (after ≡ altered ∷ others)
 
 module _ {Context Words : Type 0} (theory : Theory Context Words) where
-  -- a piece of a connection: the items that it completes are handled, and the rest is held
+  -- a piece of a connection: the items that it completes are handled, and the rest is held, unless the connection closes
   pub record TakesPiece (before : State Context Words) (number : ℕ) (piece : List ℕ) (effect : Effect Context) (after : State Context Words) : Type 0 where
     pub held : Held
     pub holds : before.connections.held number ≡ Some held
     pub items : List Item
     pub left : Held
-    pub feeds : Feeds held piece items left
+    pub feeds : FeedsWhere effect.closes held piece items left
     pub world : World Context Words
     pub takes : Takes theory before.moment items before.world effect world
     pub is_after : after ≡ holding number left (record before { world = world })

@@ -1,5 +1,6 @@
--- The handling of what a stream says, in its order (RFC 9112, sections 9.2 and 9.3).
-use Rattle.std.specs.Prelude.{◌≡◌, ℕ, Bool, true, false, not, List, [], ◌∷◌, codes, bytes_eq, slice_get, slice_set, Some}
+-- The handling of what a stream says, in its order (RFC 9112, sections 9.2, 9.3 and 9.6).
+use Rattle.std.specs.Prelude.{◌≡◌, ℕ, Bool, true, false, ◌||◌, not, List, [], ◌∷◌, codes, bytes_eq, slice_get, slice_set, Some}
+use Rattle.std.specs.Bool.{MatchBool}
 use Rattle.httpdate.specs.declared.date.HttpDate.{HttpDate}
 use Rattle.sv_journal.specs.declared.entry.Entry.TheVariants.{Refused}
 use Rattle.sv_journal.specs.declared.refusal_cause.RefusalCause.TheVariants as causes
@@ -7,6 +8,7 @@ use Rattle.sv_run.specs.Contexts.{Handling, Theory, request_of}
 use Rattle.sv_run.specs.Effect.{Effect, answered, handled, nothing, sending, joined}
 use Rattle.sv_run.specs.Messages.{Destination, Itself, Within, destination, plain_response}
 use Rattle.sv_run.specs.State.{World}
+use Rattle.sv_wire.specs.Content.{ends_connection}
 use Rattle.sv_wire.specs.ResponseText.{IsDateAt, response_text}
 use Rattle.sv_wire.specs.WireFault.{fault_status}
 use Rattle.sv_wire.specs.declared.item.Item.{Item}
@@ -26,6 +28,10 @@ IsTextAt moment response head_only keep text = (date : HttpDate) × IsDateAt mom
 abbrev pub IsAnswerTo : MessageRecord → ℕ → Response → List ℕ → Type 0
 IsAnswerTo message moment response text = IsTextAt moment response (bytes_eq message.method (codes "HEAD")) message.keep text
 
+-- whether the connection closes behind the response to a message
+abbrev pub closes_behind : MessageRecord → Response → Bool
+closes_behind message response = not message.keep || ends_connection response.body
+
 module _ {Context Words : Type 0} (theory : Theory Context Words) (moment : ℕ) where
   -- the context at a place handles a message
   pub record HandlesAt (place : ℕ) (before : List Context) (handling : Handling Context) (after : List Context) : Type 0 where
@@ -36,12 +42,12 @@ module _ {Context Words : Type 0} (theory : Theory Context Words) (moment : ℕ)
   -- a message is answered by the container itself, or by the context that it is for
   abbrev pub Responds : Destination → MessageRecord → ℕ × ℕ → List Context → Effect Context → List Context → Type 0
   Responds (Itself entry response) message words before effect after =
-      (text : List ℕ) × IsAnswerTo message moment response text × (effect ≡ answered entry text (not message.keep)) × (after ≡ before)
+      (text : List ℕ) × IsAnswerTo message moment response text × (effect ≡ answered entry text (closes_behind message response)) × (after ≡ before)
   Responds (Within place canon) message words before effect after =
       (handling : Handling Context) × (text : List ℕ)
       × (handling.request ≡ request_of message canon moment words)
       × HandlesAt place before handling after
-      × IsAnswerTo message moment handling.response text × (effect ≡ handled place handling text (not message.keep))
+      × IsAnswerTo message moment handling.response text × (effect ≡ handled place handling text (closes_behind message handling.response))
 
   -- a message draws a pair of words, whoever answers it
   abbrev pub TakesMessage : MessageRecord → World Context Words → Effect Context → World Context Words → Type 0
@@ -59,9 +65,15 @@ module _ {Context Words : Type 0} (theory : Theory Context Words) (moment : ℕ)
   TakesItem (Refuse fault) before effect after = TakesRefusal fault before effect after
   TakesItem (Message message) before effect after = TakesMessage message before effect after
 
-  -- one item behind another
+  -- no item is handled
+  abbrev pub TakesNone : World Context Words → Effect Context → World Context Words → Type 0
+  TakesNone before effect after = (effect ≡ nothing) × (after ≡ before)
+
+  -- one item behind another, and none behind one that closes the connection
   abbrev pub Takes : List Item → World Context Words → Effect Context → World Context Words → Type 0
-  Takes [] before effect after = (effect ≡ nothing) × (after ≡ before)
+  Takes [] before effect after = TakesNone before effect after
   Takes (item ∷ items) before effect after =
       (between : World Context Words) × (first : Effect Context) × (later : Effect Context)
-      × TakesItem item before first between × Takes items between later after × (effect ≡ joined first later)
+      × TakesItem item before first between
+      × MatchBool first.closes (TakesNone between later after) (Takes items between later after)
+      × (effect ≡ joined first later)

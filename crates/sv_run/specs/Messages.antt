@@ -10,9 +10,14 @@ use Rattle.sv_uri.specs.Canonical.{canonical}
 use Rattle.sv_uri.specs.declared.fault.PathFault.{PathFault}
 use Rattle.sv_uri.specs.declared.path.Canon.{Canon}
 use Rattle.sv_wire.specs.ResponseText.{phrase_of}
+use Rattle.sv_wire.specs.declared.body.Body.TheVariants.{Whole}
 use Rattle.sv_wire.specs.declared.message.Target.{Target}
 use Rattle.sv_wire.specs.declared.message.Target.TheVariants.{Star, Path}
 use Rattle.sv_wire.specs.declared.response.Response.{Response}
+
+-- the status and its phrase, as a line
+abbrev pub plain_text : ℕ → List ℕ
+plain_text status = decimal status ++ codes " " ++ phrase_of status ++ codes "\n"
 
 -- the status and its phrase, as plain text
 abbrev pub plain_response : ℕ → Response
@@ -21,11 +26,11 @@ plain_response status =
       status = status;
       fields = record { name = codes "content-type"; value = plain_value (codes "text/plain") } ∷ [];
       cookie = None;
-      body = decimal status ++ codes " " ++ phrase_of status ++ codes "\n";
+      body = Whole (plain_text status);
     }
 
 abbrev pub empty_response : Response
-empty_response = record { status = 200; fields = []; cookie = None; body = [] }
+empty_response = record { status = 200; fields = []; cookie = None; body = Whole [] }
 
 pub data Destination : Type 0 where
   -- the container answers the message itself

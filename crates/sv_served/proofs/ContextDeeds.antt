@@ -13,7 +13,7 @@ use Rattle.sv_mapping.specs.declared.kind.Kind.TheVariants as kinds
 use Rattle.sv_served.specs.ServedBy.{Alone, ServedBy}
 use Rattle.sv_tree.specs.Does.{Does, ◌>>=◌, ◌>>◌, choose, gives, wants_memory}
 use Rattle.sv_tree.specs.Endings.{keeps}
-use Rattle.sv_tree.specs.Served.{Pages, Resets, Served, Settled, Shown, Shows, ShowsError, kept_field}
+use Rattle.sv_tree.specs.Served.{Pages, Resets, breaks, Served, Settled, Shown, Shows, ShowsError, kept_field}
 use Rattle.sv_tree.specs.Site.{Site}
 use Rattle.sv_tree.specs.State.{KeptError, KeptField}
 use Rattle.sv_tree.specs.Tree.{Tree}
@@ -21,7 +21,8 @@ use Rattle.sv_tree.specs.declared.finished.Finished.{Finished}
 use Rattle.sv_tree.specs.declared.limits.TheConstants.{MAX_NESTING}
 use Rattle.sv_uri.specs.declared.path.Canon.{Canon}
 use Rattle.sv_wire.specs.ResponseText.{phrase_of}
-use Rattle.sv_served.proofs.ExchangeDeeds.{alone_not, unless_not, unless_so}
+use Rattle.sv_exchange.specs.Keeping.{broken_off}
+use Rattle.sv_served.proofs.ExchangeDeeds.{alone_not, unless_broken, unless_so}
 
 module _ {S F L : Type 0} (ss : S → Call → S → Type 0) (fs : F → Call → F → Type 0) (ls : L → Call → L → Type 0) where
   -- the dispatch is what it says
@@ -131,9 +132,9 @@ module _ {S F L : Type 0} (ss : S → Call → S → Type 0) (fs : F → Call �
 
     -- what is answered to an error that was kept
     module _ (status : ℕ) (kind : Option (List ℕ)) (x y : exchanges.State) (test : Bool) (is : test ≡ x.committed) where
-      pub kept_done : test ≡ true → ServedBy ss fs ls (Shows site status kind) live x noted (Some tt) live x noted
-      kept_done committed = by_alone (Shows site status kind) live x x noted (Some tt)
-          (unless_not (wants_memory >> (λ state. Pages site status (kept_field state.exchange.kept) (site.page status kind) state)) x test is committed)
+      pub kept_broken : test ≡ true → y ≡ broken_off x → ServedBy ss fs ls (Shows site status kind) live x noted (Some tt) live y noted
+      kept_broken committed broke = by_alone (Shows site status kind) live x y noted (Some tt)
+          (unless_broken (wants_memory >> (λ state. Pages site status (kept_field state.exchange.kept) (site.page status kind) state)) x y test is committed broke)
 
       pub kept_lacks : test ≡ false → ServedBy ss fs ls (Shows site status kind) live x noted None live x noted
       kept_lacks free = by_alone (Shows site status kind) live x x noted None
@@ -146,7 +147,7 @@ module _ {S F L : Type 0} (ss : S → Call → S → Type 0) (fs : F → Call �
           → ServedBy ss fs ls (Shows site status kind) live x noted result live' y noted'
       kept_so field page result free of_kept of_site did =
           by_so (Pages site status field page) (Shows site status kind) live live' x y noted noted' result result
-          (λ made h. subst (λ test. choose test (gives tt) (wants_memory >> (λ state. Pages site status (kept_field state.exchange.kept) (site.page status kind) state))
+          (λ made h. subst (λ test. choose test breaks (wants_memory >> (λ state. Pages site status (kept_field state.exchange.kept) (site.page status kind) state))
           (state_of live x) made (state_of live' y) result) (sym free ∙ is)
           (inl record {
             given = tt;

@@ -12,7 +12,7 @@ use Rattle.sv_text.specs.declared.no_memory.NoMemory.{NoMemory}
 use Rattle.sv_tree.specs.Does as does
 use Rattle.sv_tree.specs.Does.{◌>>=◌, ◌>>◌, becomes, choose, gives, makes}
 use Rattle.sv_tree.specs.Endings.{keeps}
-use Rattle.sv_tree.specs.Served.{Plain, Resets, plain_text, reset, sets, unless_committed}
+use Rattle.sv_tree.specs.Served.{Plain, Resets, breaks, plain_text, reset, sets, unless_committed}
 use Rattle.sv_tree.specs.State.{KeptError, KeptField, on_exchange}
 use Rattle.sv_dispatch.proofs.RunningDeeds.{at, makes_so}
 
@@ -45,7 +45,7 @@ resets_so status field x w y z said made result emptied did is ok rest =
 pub unless_so : (does : does.Does (Unit {0})) (x y : exchanges.State) (test : Bool) (result : Option (Unit {0})) → test ≡ x.committed → test ≡ false
     → Alone does x y result → Alone (unless_committed does) x y result
 unless_so does x y test result is free did standings =
-    subst (λ test. choose test (gives tt) does (at standings x) [] (at standings y) result) (sym free ∙ is) (did standings)
+    subst (λ test. choose test breaks does (at standings x) [] (at standings y) result) (sym free ∙ is) (did standings)
 
 -- a plain answer
 module _ (status : ℕ) (field : Option KeptField) (x y : exchanges.State) where
@@ -78,10 +78,11 @@ module _ (status : ℕ) (field : Option KeptField) (x y : exchanges.State) where
     plain_so bytes w answered result is text did made =
         plain_on w result is (made_so Written z w answered result (subst (λ bytes. Does (Write bytes) answered z w) text did) made)
 
--- a committed answer stays
-pub unless_not : (does : does.Does (Unit {0})) (x : exchanges.State) (test : Bool) → test ≡ x.committed → test ≡ true → Alone (unless_committed does) x x (Some tt)
-unless_not does x test is committed standings =
-    subst (λ test. choose test (gives tt) does (at standings x) [] (at standings x) (Some tt)) (sym committed ∙ is) (refl, refl, refl)
+-- a committed answer breaks off
+pub unless_broken : (does : does.Does (Unit {0})) (x y : exchanges.State) (test : Bool) → test ≡ x.committed → test ≡ true → y ≡ keeping.broken_off x
+    → Alone (unless_committed does) x y (Some tt)
+unless_broken does x y test is committed broke standings =
+    subst (λ test. choose test breaks does (at standings x) [] (at standings y) (Some tt)) (sym committed ∙ is) (refl, ap (at standings) broke, refl)
 
 -- an error is kept
 pub keeps_so : (kept : KeptError) (x y : exchanges.State) → y ≡ keeping.with_kept kept x → Alone (keeps kept) x y (Some tt)

@@ -60,7 +60,7 @@ pub fn show_error<S: Servlet, F: Filter, L: Listener>(
     show(alloc, live, exchange, site, &sought, page, journal)
 }
 
-/// The answer to an error, of the kind where it is a failure: a committed response stays as it is.
+/// The answer to an error, of the kind where it is a failure: a committed response breaks off behind its last flush.
 pub(crate) fn show_kept<S: Servlet, F: Filter, L: Listener>(
     alloc: Global,
     live: &mut Live<S, F, L>,
@@ -78,6 +78,7 @@ pub(crate) fn show_kept<S: Servlet, F: Filter, L: Listener>(
     ensures site { site.new ≡ site.old }
 {
     if exchange.committed() {
+        exchange.break_off();
         return Ok(());
     }
     let Ok(page) = site.page(alloc, status, kind) else {
@@ -139,7 +140,7 @@ fn show_page<S: Servlet, F: Filter, L: Listener>(
     shown(alloc, exchange, sought, &finished)
 }
 
-// What follows a page: where it ends in an error itself, the plain answer of the first error, unless it is committed.
+// What follows a page: where it ends in an error itself, the plain answer of the first error; once it is committed it breaks off.
 fn shown(
     alloc: Global,
     exchange: &mut Exchange,

@@ -39,7 +39,7 @@ pub fn plain(
     made(exchange.write(text.as_bytes()))
 }
 
-/// The plain answer, unless the response is committed.
+/// The plain answer; a committed response breaks off behind its last flush.
 pub(crate) fn plain_unless_committed(
     alloc: Global,
     exchange: &mut Exchange,
@@ -49,6 +49,7 @@ pub(crate) fn plain_unless_committed(
     ensures { Alone (unless_committed (Plain status (option_copied field.entry))) exchange.old exchange.new (seen result) }
 {
     if exchange.committed() {
+        exchange.break_off();
         return Ok(());
     }
     plain(alloc, exchange, status, field)

@@ -37,7 +37,7 @@ plain_silent status field =
 
 unless_silent : (status : ℕ) (field : Option KeptField) → Silent (served.unless_committed (served.Plain status field))
 unless_silent status field x y r result h =
-    chosen_then x.exchange.committed (gives tt) (served.Plain status field) x y r result
+    chosen_then x.exchange.committed served.breaks (served.Plain status field) x y r result
     (λ _ none. none.0) (λ _ made. plain_silent status field x y r result made) h
 
 shown_silent : (status : ℕ) (field : Option KeptField) (finished : Finished) → Silent (served.Shown status field finished)
@@ -65,7 +65,7 @@ module _ (site : Site) where
       → served.Shows site status kind x r y result → PageCalls site r
   shows_calls status kind x y r result h =
       let next = (λ (state : State). served.Pages site status (kept_field state.exchange.kept) (site.page status kind) state) in
-      chosen_then x.exchange.committed (gives tt) (wants_memory >> next) x y r result
+      chosen_then x.exchange.committed served.breaks (wants_memory >> next) x y r result
       (λ _ none. inl none.0)
       (λ _ made. elim (wants_then (λ _. next) x y r result made) [
         | inl shown ↦ pages_calls status (kept_field x.exchange.kept) (site.page status kind) x y r result shown

@@ -3,6 +3,7 @@ use Rattle.std.specs.Prelude.{codes, length}
 use Rattle.std.proofs.Common.{◌≡◌, ℕ, ◌+◌, ◌≤◌, Bool, true, List, [], Option, None, Some, refl, sym, subst, arith, lit≤, zero-add}
 use Rattle.sv_component.specs.Runs.{Record}
 use Rattle.sv_exchange.specs.Changing.{SetHeader, SetStatus, Write}
+use Rattle.sv_exchange.specs.Keeping.{broken_off}
 use Rattle.sv_mapping.specs.declared.kind.Kind.{Kind}
 use Rattle.sv_mapping.specs.declared.kind.Kind.TheVariants as kinds
 use Rattle.sv_tree.specs.Does.{Does, ◌>>=◌, ◌>>◌, becomes, gives, makes, wants_memory}
@@ -26,6 +27,7 @@ use Rattle.sv_wire.specs.ResponseText.{phrase_of}
 
 module _ (site : Site) (Q : ℕ → State → List Record → State → Bool → Type 0) (law : Steps site Q) (room : ℕ)
     (resets : (x : State) → Q room x [] (on_exchange reset x) true)
+    (breaks : (x : State) → Q room x [] (on_exchange broken_off x) true)
     (trees : (kind : Kind) (canon : Canon) → Keeps site Q room (Tree site MAX_NESTING kind canon)) where
   sets_keeps : (field : Option KeptField) → Keeps site Q room (served.sets field)
   sets_keeps None = gives_keeps site Q law room tt
@@ -46,7 +48,8 @@ module _ (site : Site) (Q : ℕ → State → List Record → State → Bool →
 
   unless_keeps : (next : Does (Unit {0})) → Keeps site Q room next → Keeps site Q room (served.unless_committed next)
   unless_keeps next h x y r result done =
-      chosen_then x.exchange.committed (gives tt) next x y r result (λ _ none. gives_keeps site Q law room tt x y r result none) (λ _ made. h x y r result made) done
+      chosen_then x.exchange.committed served.breaks next x y r result
+      (λ _ broke. becomes_keeps site Q law room (on_exchange broken_off) breaks x y r result broke) (λ _ made. h x y r result made) done
 
   shown_keeps : (status : ℕ) (field : Option KeptField) (finished : Finished) → Keeps site Q room (served.Shown status field finished)
   shown_keeps status field Done = gives_keeps site Q law room tt
@@ -82,9 +85,9 @@ module _ (site : Site) (Q : ℕ → State → List Record → State → Bool →
 
 pub requests_are_bounded : (site : Site) → RequestsAreBounded site
 requests_are_bounded site kind canon x y r result fresh outermost h =
-    let counted = served_keeps site Counts (counting.law site) MAX_NESTING (λ x. (sym (zero-add x.exchange.calls), λ below. below))
+    let counted = served_keeps site Counts (counting.law site) MAX_NESTING (λ x. (sym (zero-add x.exchange.calls), λ below. below)) (λ x. (sym (zero-add x.exchange.calls), λ below. below))
     (λ kind canon. calls_are_counted site MAX_NESTING kind canon) kind canon x y r result h in
-    let nested = served_keeps site Nests (nests site) MAX_NESTING (λ x. (λ _. refl, tt)) (λ kind canon. nests_tree site MAX_NESTING kind canon) kind canon x y r result h in
+    let nested = served_keeps site Nests (nests site) MAX_NESTING (λ x. (λ _. refl, tt)) (λ x. (λ _. refl, tt)) (λ kind canon. nests_tree site MAX_NESTING kind canon) kind canon x y r result h in
     let sum : y.exchange.calls ≡ count_all r + x.exchange.calls = counted.0 in
     let below : y.exchange.calls ≤ MAX_CALLS = counted.1 (subst (λ n. n ≤ MAX_CALLS) (sym fresh) (lit≤ tt)) in (
       omega (arith, sum, below, fresh),

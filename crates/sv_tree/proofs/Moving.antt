@@ -3,6 +3,7 @@ use Rattle.std.proofs.Common.{◌≡◌, inl, inr, ℕ, suc, Bool, true, false, 
 use Rattle.sv_component.specs.Runs.{Record}
 use Rattle.sv_exchange.specs.Changing.{Change, Changes, answer, left_by}
 use Rattle.sv_exchange.specs.Dispatches.{Leaves}
+use Rattle.sv_exchange.specs.Keeping.{broken_off}
 use Rattle.sv_exchange.specs.Laws.{ChangesAreCalls, ChangesMoveTheSessions}
 use Rattle.sv_journal.specs.declared.event.Event.{Event}
 use Rattle.sv_mapping.specs.declared.kind.Kind.{Kind}
@@ -126,11 +127,14 @@ module _ (calls : ChangesAreCalls) (moves : ChangesMoveTheSessions) (joins : Mov
     resets : (x : State) → Moves 0 x [] (on_exchange reset x) true
     resets x = record { moment = refl; sessions = ([], tt, refl) }
 
+    breaks : (x : State) → Moves 0 x [] (on_exchange broken_off x) true
+    breaks x = record { moment = refl; sessions = ([], tt, refl) }
+
     pub answers_move : AnswersMoveSessions site
     answers_move = (
       trees,
-      served_keeps site Moves law MAX_NESTING resets (trees MAX_NESTING),
-      error_keeps site Moves law MAX_NESTING resets (trees MAX_NESTING),
+      served_keeps site Moves law MAX_NESTING resets breaks (trees MAX_NESTING),
+      error_keeps site Moves law MAX_NESTING resets breaks (trees MAX_NESTING),
     )
 
 pub moved_find_none : HoldersAreFound → MovesLeaveOrder → MovesGiveNoCaller → (x y : Exchange) → IsMoved x y → IsOrderly x.store

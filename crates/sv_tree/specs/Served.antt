@@ -2,6 +2,7 @@
 -- shown, one of the error's page, or the plain answer.
 use Rattle.std.specs.Prelude.{ℕ, List, [], ◌++◌, codes, decimal, Option, None, Some}
 use Rattle.sv_exchange.specs.Changing.{SetHeader, SetStatus, Write}
+use Rattle.sv_exchange.specs.Keeping.{broken_off}
 use Rattle.sv_mapping.specs.declared.kind.Kind.{Kind}
 use Rattle.sv_mapping.specs.declared.kind.Kind.TheVariants as kinds
 use Rattle.sv_tree.specs.Does.{Does, ◌>>=◌, ◌>>◌, becomes, choose, gives, makes, sees, wants_memory}
@@ -43,9 +44,12 @@ Plain status field = do
   makes (SetHeader (codes "content-type") (codes "text/plain"))
   makes (Write (plain_text status))
 
--- a committed answer stays as it is
+-- a committed answer breaks off behind its last flush
+abbrev pub breaks : Does (Unit {0})
+breaks = becomes (on_exchange broken_off)
+
 abbrev pub unless_committed : Does (Unit {0}) → Does (Unit {0})
-unless_committed next = sees λ state. choose state.exchange.committed (gives tt) next
+unless_committed next = sees λ state. choose state.exchange.committed breaks next
 
 -- an error page that ends in an error itself gives way to the plain answer of the first error
 abbrev pub Shown : ℕ → Option KeptField → Finished → Does (Unit {0})

@@ -1,3 +1,5 @@
+pub mod Chunking
+pub mod Content
 pub mod Cookies
 pub mod EmptyLines
 pub mod Head

@@ -1,11 +1,14 @@
--- The text of a response (RFC 9112, sections 4, 5 and 9.6; RFC 9110, sections 6.6.1, 8.6, 9.3.2 and 15.3.5; RFC 6265, section 4.1).
-use Rattle.std.specs.Prelude.{◌≡◌, ℕ, ◌==◌, min, Bool, ◌||◌, not, List, [], ◌++◌, length, codes, decimal, unwrap_or, Option, Some, None, if◌then◌else◌}
+-- The text of a response (RFC 9112, sections 4 to 7 and 9.6; RFC 9110, sections 6.6.1, 8.6, 9.3.2 and 15.3.5; RFC 6265, section 4.1).
+use Rattle.std.specs.Prelude.{◌≡◌, ℕ, ◌==◌, min, Bool, true, false, ◌&&◌, ◌||◌, not, List, [], ◌++◌, length, codes, decimal, unwrap_or, Option, Some, None, if◌then◌else◌}
 use Rattle.std.specs.List.{flat_map}
 use Rattle.http.specs.StatusCode.{code_digits, reason_phrase}
 use Rattle.httpdate.specs.Date.{date_text, unix_secs}
 use Rattle.httpdate.specs.declared.date.HttpDate.{HttpDate}
 use Rattle.sv_head.specs.declared.field.Field.{Field}
+use Rattle.sv_wire.specs.Content.{content, has_own_end}
 use Rattle.sv_wire.specs.Cookies.{cookie_text}
+use Rattle.sv_wire.specs.declared.body.Body.{Body}
+use Rattle.sv_wire.specs.declared.body.Body.TheVariants.{Whole, Flushed}
 use Rattle.sv_wire.specs.declared.response.Cookie.{Cookie}
 use Rattle.sv_wire.specs.declared.response.Response.{Response}
 use Rattle.sv_wire.specs.declared.response_text.TheConstants.{LAST_SECOND, NO_CONTENT}
@@ -47,10 +50,16 @@ cookie_lines (Some cookie) = cookie_line cookie
 abbrev pub allows_content : ℕ → Bool
 allows_content status = not (status == NO_CONTENT)
 
--- the length of the body, whether it is sent or left out, except where there is no content
-abbrev pub length_lines : Response → List ℕ
-length_lines response =
-    if allows_content response.status then field_line (codes "content-length") (decimal (length response.body)) else []
+-- the line that says how the end of the body is found, whether the body is sent or left out: its length where it is whole, the coding of
+-- chunks, and none where it ends with the connection
+abbrev pub framing_line : Body → List ℕ
+framing_line (Whole bytes) = field_line (codes "content-length") (decimal (length bytes))
+framing_line (Flushed pieces true broken) = field_line (codes "transfer-encoding") (codes "chunked")
+framing_line (Flushed pieces false broken) = []
+
+-- that line, except where there is no content
+abbrev pub framing_lines : Response → List ℕ
+framing_lines response = if allows_content response.status then framing_line response.body else []
 
 -- the line that says that the connection closes, where it is not kept
 abbrev pub connection_lines : Bool → List ℕ
@@ -63,13 +72,13 @@ response_head response keep date =
     ++ field_line (codes "date") (date_text date)
     ++ field_lines response.fields
     ++ cookie_lines response.cookie
-    ++ length_lines response
-    ++ connection_lines keep
+    ++ framing_lines response
+    ++ connection_lines (keep && has_own_end response.body)
     ++ line_end
 
 -- the body, unless the head alone is written or there is no content
 abbrev pub sent_body : Bool → Response → List ℕ
-sent_body head_only response = if head_only || not (allows_content response.status) then [] else response.body
+sent_body head_only response = if head_only || not (allows_content response.status) then [] else content response.body
 
 -- the whole text
 abbrev pub response_text : Response → Bool → Bool → HttpDate → List ℕ

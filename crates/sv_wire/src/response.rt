@@ -3,10 +3,11 @@
 ghost use Rattle.std.specs.Prelude.{◌↔◌, IsTrue};
 ghost use Rattle.http.specs.StatusCode.{IsStatusCode};
 
+use crate::body::Body;
 use sv_head::Field;
-use sv_text::{Bytes, Listed, Text};
+use sv_text::{Listed, Text};
 
-/// A response whose body is whole (RFC 9110, section 6).
+/// A response (RFC 9110, section 6).
 #[derive(Drop)]
 pub struct Response {
     /// The status code. A response is written where it is from 100 to 999.
@@ -15,7 +16,7 @@ pub struct Response {
     pub fields: Listed<Field>,
     /// The session cookie that is set, where one is.
     pub cookie: Option<Cookie>,
-    pub body: Bytes,
+    pub body: Body,
 }
 
 /// A session cookie, as a response sets it (RFC 6265, section 4.1; Jakarta Servlet 6.0, section 7.1.1).

@@ -1,11 +1,13 @@
 //! The text of a response.
 
-ghost use Rattle.std.specs.Prelude.{◌≡◌, ◌++◌, vec_capacity, IfOk, OnOk, OnErr, Some};
+ghost use Rattle.std.specs.Prelude.{◌≡◌, ◌++◌, ◌&&◌, vec_capacity, IfOk, OnOk, OnErr, Some, codes, decimal};
 ghost use Rattle.http.specs.StatusCode.{IsStatusCode};
 ghost use Rattle.httpdate.specs.declared.date.HttpDate.{HttpDate as Date};
+ghost use Rattle.sv_wire.specs.Content.{content, has_own_end};
 ghost use Rattle.sv_wire.specs.Cookies.{cookie_pair, cookie_text, http_only_attribute, max_age_attribute, path_attribute};
-ghost use Rattle.sv_wire.specs.ResponseText.{IsDateAt, ResponseTextsAreUnique, allows_content, connection_lines, cookie_line, cookie_lines, field_line, field_lines, length_lines, phrase_of, response_head, response_text, sent_body, status_line};
+ghost use Rattle.sv_wire.specs.ResponseText.{IsDateAt, ResponseTextsAreUnique, allows_content, connection_lines, cookie_line, cookie_lines, field_line, field_lines, framing_line, framing_lines, phrase_of, response_head, response_text, sent_body, status_line};
 
+use crate::body::{Body, flushed_content};
 use crate::response::{Cookie, Response};
 use http::StatusCode;
 use httpdate::HttpDate;
@@ -26,9 +28,10 @@ const CRLF: &[u8] = b"\r\n";
 /// [`Response::has_status_code`] tests.
 ///
 /// The lines are: the status line; `date`; the response's fields in order; `set-cookie` where there is a cookie;
-/// `content-length`, except with 204; `connection: close` unless `keep` says that a further response may follow
-/// (RFC 9112, section 9.6). An empty line and the body follow. With `head_only`, as in the answer to HEAD (RFC 9110,
-/// section 9.3.2), the body is left out and its length stated; with 204 there is neither.
+/// `content-length` where the body is whole, or `transfer-encoding` where it leaves in chunks, except with 204; `connection: close` unless
+/// `keep` says that a further response may follow (RFC 9112, section 9.6) and the body says itself where it ends. An empty line and the
+/// body follow. With `head_only`, as in the answer to HEAD (RFC 9110, section 9.3.2), the body is left out and the lines are the same; with
+/// 204 there is no body either.
 ///
 /// The moment is in seconds since 1970; behind the year 9999 each counts as that year's last second. The output grows
 /// before the first byte is written: after [`NoMemory`] it is as it was.
@@ -46,7 +49,7 @@ pub fn write_response(
     ensures room { OnErr result (vec_capacity output.new ≡ vec_capacity output.old) }
 {
     let head = head_of(*output.allocator(), response, keep, date_at(moment))?;
-    append_both(output, &head, sent_body(response, head_only))?;
+    append_text(output, &head, response, head_only)?;
     Ok(())
 }
 
@@ -70,10 +73,46 @@ fn head_of(
     push_field_line(&mut head, b"date", &date.to_bytes())?;
     push_field_lines(&mut head, response.fields.as_slice())?;
     push_cookie_lines(&mut head, &response.cookie)?;
-    push_length_lines(&mut head, response)?;
-    push_connection_lines(&mut head, keep)?;
+    push_framing_lines(&mut head, response)?;
+    push_connection_lines(&mut head, is_kept(keep, &response.body))?;
     head.extend_from_slice(CRLF)?;
     Ok(head)
+}
+
+// Appends the head and what is sent of the body, or neither.
+fn append_text(
+    output: &mut Vec<u8>,
+    head: &[u8],
+    response: &Response,
+    head_only: bool,
+) -> Result<(), AllocError>
+    ensures ok { OnOk result (output.new.items ≡ output.old.items ++ head.now ++ sent_body head_only response.now) }
+    ensures err { OnErr result (output.new.items ≡ output.old.items) }
+    ensures room { OnErr result (vec_capacity output.new ≡ vec_capacity output.old) }
+{
+    if head_only || !allows_content(response.status) {
+        return append_both(output, head, &[]);
+    }
+    append_content(output, head, &response.body)
+}
+
+// Appends the head and the body, or neither.
+fn append_content(output: &mut Vec<u8>, head: &[u8], body: &Body) -> Result<(), AllocError>
+    ensures ok { OnOk result (output.new.items ≡ output.old.items ++ head.now ++ content body.now) }
+    ensures err { OnErr result (output.new.items ≡ output.old.items) }
+    ensures room { OnErr result (vec_capacity output.new ≡ vec_capacity output.old) }
+{
+    match body {
+        Body::Whole(bytes) => append_both(output, head, bytes.as_slice()),
+        Body::Flushed {
+            pieces,
+            chunked,
+            broken,
+        } => {
+            let text = flushed_content(*output.allocator(), pieces, *chunked, *broken)?;
+            append_both(output, head, &text)
+        }
+    }
 }
 
 // Appends both texts, or neither.
@@ -206,15 +245,40 @@ fn push_http_only_attribute(head: &mut Vec<u8>, http_only: bool) -> Result<(), A
     Ok(())
 }
 
-fn push_length_lines(head: &mut Vec<u8>, response: &Response) -> Result<(), AllocError>
-    ensures { OnOk result (head.new.items ≡ head.old.items ++ length_lines response.now) }
+fn push_framing_lines(head: &mut Vec<u8>, response: &Response) -> Result<(), AllocError>
+    ensures { OnOk result (head.new.items ≡ head.old.items ++ framing_lines response.now) }
 {
     if allows_content(response.status) {
-        let mut buffer = Buffer::new();
-        let length = buffer.format(response.body.as_slice().len());
-        push_field_line(head, b"content-length", length.as_bytes())?;
+        push_framing_line(head, &response.body)?;
     }
     Ok(())
+}
+
+fn push_framing_line(head: &mut Vec<u8>, body: &Body) -> Result<(), AllocError>
+    ensures { OnOk result (head.new.items ≡ head.old.items ++ framing_line body.now) }
+{
+    match body {
+        Body::Whole(bytes) => push_length_line(head, bytes.as_slice().len()),
+        Body::Flushed { chunked: true, .. } => {
+            push_field_line(head, b"transfer-encoding", b"chunked")
+        }
+        Body::Flushed { chunked: false, .. } => Ok(()),
+    }
+}
+
+fn push_length_line(head: &mut Vec<u8>, length: usize) -> Result<(), AllocError>
+    ensures { OnOk result (head.new.items ≡ head.old.items ++ field_line (codes "content-length") (decimal length)) }
+{
+    let mut buffer = Buffer::new();
+    let digits = buffer.format(length);
+    push_field_line(head, b"content-length", digits.as_bytes())
+}
+
+// Whether a further response may follow behind the body.
+fn is_kept(keep: bool, body: &Body) -> bool
+    ensures { result ≡ (keep && has_own_end body.now) }
+{
+    keep && body.has_own_end()
 }
 
 fn push_connection_lines(head: &mut Vec<u8>, keep: bool) -> Result<(), AllocError>
@@ -224,15 +288,6 @@ fn push_connection_lines(head: &mut Vec<u8>, keep: bool) -> Result<(), AllocErro
         push_field_line(head, b"connection", b"close")?;
     }
     Ok(())
-}
-
-fn sent_body(response: &Response, head_only: bool) -> &[u8]
-    ensures { result.now ≡ sent_body head_only response.now }
-{
-    if head_only || !allows_content(response.status) {
-        return &[];
-    }
-    response.body.as_slice()
 }
 
 fn allows_content(status: u16) -> bool

@@ -1,4 +1,4 @@
-use Rattle.std.proofs.Common.{◌++◌, bytes_eq, codes, refl, ap, ◌∙◌}
+use Rattle.std.proofs.Common.{◌++◌, ◌||◌, bytes_eq, codes, refl, ap, ◌∙◌}
 use Rattle.sv_wire.specs.ResponseText.{response_text}
 use Rattle.sv_host.proofs.answering.send.Goals as goal
 
@@ -11,7 +11,7 @@ returns c =
       λ i. record {
         sends =
             (wrote.2 ∙ ap (λ head_only. c.args.output.now.sends.items ++ response_text c.args.response.now head_only message.keep wrote.0) c.is_head.ensures) i;
-        closes = c.closes_behind-output.ensures i;
+        closes = c.args.output.now.closes || c.closes_behind.ensures i;
         journal = c.args.output.now.journal;
         edited = c.args.output.now.edited;
       },

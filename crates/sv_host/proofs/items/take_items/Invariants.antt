@@ -1,4 +1,4 @@
-use Rattle.std.proofs.Common.{drop}
+use Rattle.std.proofs.Common.{◌≡◌, false, drop}
 use Rattle.sv_host.specs.Output.{Adds}
 use Rattle.sv_host.proofs.Taking.{TakesOn}
 use Rattle.sv_run.specs.Contexts.{theory_of}
@@ -13,5 +13,6 @@ invariant-loop-item g l = record {
       × TakesOn (theory_of g.C.HasContextPath.path_of g.C.Context.conduct g.W.Words.draws) l.moment l.items
       (world_of l.fn.contexts l.fn.words) front (world_of l.contexts l.words) (drop l.item-index l.items)
       × Adds l.fn.output front l.output;
+  stays : l.output.closes ≡ false;
   moves : MovesAll g.C.Context.conduct l.fn.contexts l.contexts;
 }

@@ -3,14 +3,14 @@ use Rattle.std.specs.Option.{option_copied}
 use Rattle.sv_dispatch.specs.Did.{seen}
 use Rattle.sv_site.specs.Site.{site_of}
 use Rattle.sv_tree.specs.Served.{kept_field}
-use Rattle.sv_served.proofs.ContextDeeds.{kept_done, kept_lacks, kept_so}
+use Rattle.sv_served.proofs.ContextDeeds.{kept_broken, kept_lacks, kept_so}
 use Rattle.sv_served.proofs.pages.show_kept.Goals as goal
 
 pub returns-then-committed-clause-does : goal.returns-then-committed-clause-does
 returns-then-committed-clause-does g c =
-    kept_done g.S.Servlet.servlet_step g.F.Filter.filter_step g.L.Listener.listener_step (site_of c.args.site.now)
+    kept_broken g.S.Servlet.servlet_step g.F.Filter.filter_step g.L.Listener.listener_step (site_of c.args.site.now)
     c.args.live.now c.args.live.now c.args.journal.now c.args.journal.now c.args.status (option_copied c.args.kind)
-    c.args.exchange.now c.args.exchange.now c.committed.result c.committed.ensures c.if-committed.true
+    c.args.exchange.now c.break_off.new.self c.committed.result c.committed.ensures c.if-committed.true c.break_off.ensures
 
 pub returns-in_default-clause-does : goal.returns-in_default-clause-does
 returns-in_default-clause-does g c =

@@ -1,20 +1,46 @@
-use Rattle.std.proofs.Common.{refl}
+use Rattle.std.proofs.Common.{refl, sym, ◌∙◌, subst}
 use Rattle.sv_run.specs.Connections.{connections_of}
 use Rattle.sv_run.specs.Contexts.{theory_of}
+use Rattle.sv_run.specs.Items.{Takes}
 use Rattle.sv_run.specs.State.{world_of}
+use Rattle.sv_host.proofs.Adding.{adds_closes}
 use Rattle.sv_host.proofs.Contexts.{moves_none}
-use Rattle.sv_host.proofs.Happening.{takes_piece_so}
+use Rattle.sv_host.proofs.Happening.{fed_known, takes_closing, takes_open}
 use Rattle.sv_host.specs.Host.{state_of}
 use Rattle.sv_host.proofs.host.Host.take_piece.Goals as goal
 
 pub returns-in_err-items-clause-moves : goal.returns-in_err-items-clause-moves
 returns-in_err-items-clause-moves g c = moves_none g.C.Context.conduct g.met.C.Context.is_motion c.args.self.now.contexts
 
+pub close-requires : goal.close-requires
+close-requires g c =
+    fed_known (connections_of c.args.self.now.connections) (connections_of c.feed.new.self) c.args.number c.args.piece.now c.in_ok-items.items.items
+    c.in_ok-items.ensures
+
+pub returns-then-not-output-clause-takes : goal.returns-then-not-output-clause-takes
+returns-then-not-output-clause-takes g c =
+    let theory = theory_of g.C.HasContextPath.path_of g.C.Context.conduct g.W.Words.draws in
+    let host = c.args.self.now in
+    let reached = world_of c.take_items.new.contexts c.take_items.new.words in
+    let taken = c.in_ok-take_items.ensures.takes in (
+      taken.0,
+      takes_open theory (state_of host) c.args.number c.args.piece.now c.in_ok-items.items.items (connections_of c.feed.new.self)
+          (connections_of c.feed.new.self) reached taken.0 c.in_ok-items.ensures
+          (subst (λ all. Takes theory host.moment all (world_of host.contexts host.words) taken.0 reached) c.deref.ensures.value taken.1) refl
+          (sym (adds_closes c.args.output.now c.take_items.new.output taken.0 taken.2 c.requires.unclosed) ∙ c.if-not-output.true),
+      taken.2,
+    )
+
 pub returns-clause-takes : goal.returns-clause-takes
 returns-clause-takes g c =
     let theory = theory_of g.C.HasContextPath.path_of g.C.Context.conduct g.W.Words.draws in
     let host = c.args.self.now in
     let reached = world_of c.take_items.new.contexts c.take_items.new.words in
-    takes_piece_so theory (state_of host) c.take_items.result c.args.number c.args.piece.now c.in_ok-items.items.items c.deref.result.now
-    host.contexts (connections_of c.feed.new.self) reached reached c.args.output.now c.take_items.new.output c.deref.ensures.value refl refl
-    c.in_ok-items.ensures c.take_items.ensures.takes
+    let taken = c.in_ok-take_items.ensures.takes in (
+      taken.0,
+      takes_closing theory (state_of host) c.args.number c.args.piece.now c.in_ok-items.items.items (connections_of c.feed.new.self)
+          (connections_of c.close.new.self) reached taken.0 c.in_ok-items.ensures
+          (subst (λ all. Takes theory host.moment all (world_of host.contexts host.words) taken.0 reached) c.deref.ensures.value taken.1) c.close.ensures
+          (sym (adds_closes c.args.output.now c.take_items.new.output taken.0 taken.2 c.requires.unclosed) ∙ c.if-not-output.false),
+      taken.2,
+    )

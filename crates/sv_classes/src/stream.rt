@@ -1,0 +1,61 @@
+//! A servlet whose answer leaves in pieces.
+
+ghost use Rattle.std.specs.Prelude.{◌≡◌, []};
+ghost use Rattle.sv_exchange.specs.Changing.{Changes};
+
+use crate::parameter::{keep_parameter, no_text};
+use crate::plain::{unless_refused, write_plain};
+use std::alloc::Global;
+use sv_component::{Config, Exchange, Init, Servlet, Step};
+use sv_text::{NoMemory, Text};
+
+/// Writes a line, flushes and writes another; then it fails by the kind of its parameter `kind`, where that is not empty.
+#[derive(Drop)]
+pub struct Stream {
+    kind: Text,
+}
+
+impl Stream {
+    /// A servlet to be initialised.
+    pub fn new(alloc: Global) -> Stream
+        ensures { result ≡ record { kind = [] } }
+    {
+        Stream {
+            kind: no_text(alloc),
+        }
+    }
+
+    fn ending(&self, alloc: Global) -> Result<Step, NoMemory> {
+        if self.kind.as_str().is_empty() {
+            return Ok(Step::Done);
+        }
+        let kind = Text::copy_of(alloc, self.kind.as_str())?;
+        Ok(Step::Failed(kind, Text::copy_of(alloc, "failed")?))
+    }
+}
+
+impl Servlet for Stream {
+    fn init(&mut self, alloc: Global, config: &Config) -> Init {
+        keep_parameter(alloc, config, "kind", &mut self.kind)
+    }
+
+    fn service(&mut self, alloc: Global, exchange: &mut Exchange, _turn: u32) -> Step {
+        let Ok(()) = write_in_pieces(exchange) else {
+            return Step::NoMemory;
+        };
+        match self.ending(alloc) {
+            Ok(step) => step,
+            Err(_) => Step::NoMemory,
+        }
+    }
+
+    fn destroy(&mut self) {}
+}
+
+fn write_in_pieces(exchange: &mut Exchange) -> Result<(), NoMemory>
+    ensures { Changes exchange.old exchange.new }
+{
+    write_plain(exchange, b"one\n")?;
+    unless_refused(exchange.flush())?;
+    unless_refused(exchange.write(b"two\n"))
+}

@@ -1,0 +1,100 @@
+//! What was flushed of a body.
+
+ghost use Rattle.std.specs.Prelude.{◌≡◌, ◌^◌, ◌-◌, ◌++◌, [], OnOk, OnErr, length, min};
+ghost use Rattle.sv_exchange.specs.Beginning.{body_of, last_piece};
+ghost use Rattle.sv_wire.specs.Chunking.{joined, piece_of};
+
+use std::alloc::Global;
+use std::marker::Model;
+use std::mem;
+use sv_text::{Bytes, NoMemory};
+use sv_wire::{Body, Pieces};
+
+/// The pieces of a body that were flushed, and how many bytes they have. Contracts see their list.
+#[derive(Drop)]
+pub(crate) struct Flushed {
+    pieces: Vec<Bytes>,
+    /// The bytes of all pieces; where that is no `usize`, the greatest one.
+    total: usize,
+}
+
+impl Model for Flushed {
+    ghost use Rattle.std.specs.Prelude.{ℕ, List, ◌≡◌, ◌^◌, ◌-◌, length, min};
+    ghost use Rattle.sv_wire.specs.Chunking.{joined};
+
+    ghost Value = { List (List ℕ) };
+
+    ghost view = { λ flushed. flushed.pieces.items };
+
+    ghost invariant = { λ flushed. flushed.total ≡ min (length (joined flushed.pieces.items)) (2 ^ 64 - 1) };
+}
+
+impl Flushed {
+    /// Before the first flush.
+    pub(crate) fn new(alloc: Global) -> Flushed
+        ensures { result ≡ [] }
+    {
+        Flushed {
+            pieces: Vec::new(alloc),
+            total: 0,
+        }
+    }
+
+    /// The bytes of all pieces; where that is no `usize`, the greatest one.
+    pub(crate) fn total(&self) -> usize
+        ensures { result ≡ min (length (joined self.now)) (2 ^ 64 - 1) }
+    {
+        self.total
+    }
+
+    /// Takes what was written as a piece, where anything was. After [`NoMemory`] nothing has changed.
+    pub(crate) fn take_piece(&mut self, written: &mut Vec<u8>) -> Result<(), NoMemory>
+        ensures taken { OnOk result (self.new ≡ self.old ++ piece_of written.old.items) }
+        ensures emptied { OnOk result (written.new.items ≡ []) }
+        ensures refused { OnErr result (self.new ≡ self.old) }
+        ensures stays { OnErr result (written.new.items ≡ written.old.items) }
+    {
+        if written.is_empty() {
+            return Ok(());
+        }
+        self.pieces.reserve(1)?;
+        let alloc = *written.allocator();
+        let total = self.total.saturating_add(written.len());
+        let piece = mem::replace(written, Vec::new(alloc));
+        self.pieces.push(Bytes::from_vec(piece)).unwrap();
+        self.total = total;
+        Ok(())
+    }
+}
+
+/// The body of a response: whole, or where it is committed what was flushed, and behind it what was written since, unless it broke off.
+pub(crate) fn body_of(
+    committed: bool,
+    flushed: Flushed,
+    buffer: Vec<u8>,
+    chunked: bool,
+    broken: bool,
+) -> Body
+    ensures { result ≡ body_of committed flushed buffer.items chunked broken }
+{
+    if !committed {
+        return Body::Whole(Bytes::from_vec(buffer));
+    }
+    let Flushed { pieces, .. } = flushed;
+    let rest = unbroken(buffer, broken);
+    Body::Flushed {
+        pieces: Pieces::of(pieces, rest),
+        chunked,
+        broken,
+    }
+}
+
+// What was written behind the last flush, and nothing where the answer broke off.
+fn unbroken(buffer: Vec<u8>, broken: bool) -> Vec<u8>
+    ensures { piece_of result.items ≡ last_piece broken buffer.items }
+{
+    if broken {
+        return Vec::new(*buffer.allocator());
+    }
+    buffer
+}
