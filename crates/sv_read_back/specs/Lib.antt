@@ -1,0 +1,2 @@
+pub mod ChunkedBody
+pub mod Laws
