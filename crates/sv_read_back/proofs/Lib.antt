@@ -2,7 +2,8 @@ mod BodyLemmas
 mod CutLemmas
 mod DataLemmas
 mod Digits
-mod Lengths
+mod FramingLemmas
 mod ReaderLemmas
 mod SizeLines
+mod WholeLemmas
 mod Written

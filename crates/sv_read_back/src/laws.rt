@@ -1,6 +1,6 @@
 //! The laws that tie the writing of bodies to their reading, each the contract of a function that does nothing.
 
-ghost use Rattle.sv_read_back.specs.Laws.{BrokenChunksAreNoBody, ChunksAreReadBack, CutChunksAreNoBody, CutWholeIsAwaited, LengthsAreReadBack, ReaderAwaitsTheEnd, ReaderDecodes, ReaderReadsChunksBack, WholeIsReadBack};
+ghost use Rattle.sv_read_back.specs.Laws.{BrokenChunksAreNoBody, ChunksAreReadBack, CutChunksAreNoBody, ChunkedFieldsAreReadBack, CutWholeIsAwaited, FramingLinesAreFields, LengthFieldsAreReadBack, ReaderAwaitsTheEnd, ReaderDecodes, ReaderReadsChunksBack, WholeIsReadBack};
 
 /// A body that leaves in chunks, and that did not break off, is its pieces joined to whoever reads it by RFC 9112, section 7.1, however
 /// long it is, and cannot be read in another way. What stands behind it on the connection is what follows it.
@@ -23,9 +23,12 @@ pub fn the_reader_reads_answers_back()
     ensures awaits { ReaderAwaitsTheEnd }
 {}
 
-/// A length is read as it is written.
-pub fn lengths_are_read_back()
-    ensures { LengthsAreReadBack }
+/// The line that says where a body ends is read as saying that, among the lines of other fields: `content-length` as the length of a body
+/// that leaves whole, and `transfer-encoding` as the coding of chunks, without a fault (RFC 9112, sections 6.1 to 6.3).
+pub fn framing_lines_are_read_back()
+    ensures fields { FramingLinesAreFields }
+    ensures chunked { ChunkedFieldsAreReadBack }
+    ensures length { LengthFieldsAreReadBack }
 {}
 
 /// A body that leaves whole is read by its length as its bytes, and what stands behind it is what follows it; where a last part of it is
