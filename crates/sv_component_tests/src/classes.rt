@@ -69,7 +69,7 @@ Bye  | b                 | write x       | Ready | Done | content-type: text/pla
 Bye  | b                 | flush         | Ready | Done | ""                       | 4\r\nbye\n\r\n0\r\n\r\n
 Out  | o                 | write x       | Ready | Done | content-type: text/plain | xout\n
 Out  | o                 | enter INCLUDE | Ready | Done | ""                       | out\n
--- section 5.5: what was written is flushed, and what follows leaves behind it
+-- section 5.1: what was written is flushed, and what follows leaves behind it
 Stream | s               | status 404    | Ready | Done | content-type: text/plain | 4\r\none\n\r\n4\r\ntwo\n\r\n0\r\n\r\n
 Stream | s kind=         | write x       | Ready | Done | content-type: text/plain | 5\r\nxone\n\r\n4\r\ntwo\n\r\n0\r\n\r\n
 Stream | s               | flush         | Ready | Done | ""                       | 4\r\none\n\r\n4\r\ntwo\n\r\n0\r\n\r\n
