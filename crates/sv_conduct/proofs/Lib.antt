@@ -3,3 +3,4 @@ mod Answers
 mod OurContexts
 mod Outcomes
 mod Starting
+mod Undispatched

@@ -1,2 +1,3 @@
 pub mod Order
+pub mod Refused
 pub mod Start

@@ -1,6 +1,6 @@
 -- What runs see of a context, by what its calls do.
 use Rattle.std.proofs.Common.{◌≡◌, ℕ, true, inl, inr, List, [], ◌∷◌, Option, None, Some, Result, Ok, Err, refl, ap, ◌∙◌, length}
-use Rattle.std.specs.Prelude.{IfOk}
+use Rattle.std.specs.Prelude.{IfErr, IfOk}
 use Rattle.sv_admission.specs.Asked.{Asked}
 use Rattle.sv_component.proofs.Running.{runs_grown, runs_join}
 use Rattle.sv_component.specs.Call.{Call}
@@ -12,12 +12,15 @@ use Rattle.sv_journal.specs.declared.entry.Entry.{Entry}
 use Rattle.sv_listeners.specs.Telling.{then_all}
 use Rattle.sv_run.specs.Contexts.{Request}
 use Rattle.sv_run.specs.Effect.{noting, whole}
+use Rattle.sv_site.specs.Site.{site_of}
 use Rattle.sv_text.specs.declared.no_memory.NoMemory.{NoMemory}
 use Rattle.sv_wire.specs.declared.response.Response.{Response}
 use Rattle.sv_context.specs.Conduct.{IsMoved, asked_of, conduct, unnoted}
 use Rattle.sv_context.specs.Expiry.{Expires, ends_told}
-use Rattle.sv_context.specs.Handled.{Answers, Handles, IsAnswered, admitted}
+use Rattle.sv_context.specs.Handled.{Answers, CutShort, Handles, IsAnswered, admitted, exchange_begun, state_in}
 use Rattle.sv_context.specs.State.{ContextState, world_of}
+use Rattle.sv_context.proofs.Retirings.{answered_retires, ends_heard, heard_retires}
+use Rattle.sv_context.specs.Retirement.{retires_none}
 use Rattle.sv_context.proofs.Journals.{NotesSo, noting_more, runs_note, runs_unnoted}
 
 module _ {S F L : Type 0} (ss : S → Call → S → Type 0) (fs : F → Call → F → Type 0) (ls : L → Call → L → Type 0) where
@@ -27,6 +30,8 @@ module _ {S F L : Type 0} (ss : S → Call → S → Type 0) (fs : F → Call �
   answered_moves asked before after noted noted' exchange result did = record {
     made = did.made;
     runs = runs_unnoted ss fs ls (world_of before (with_entry (admitted before asked).entry noted)) did.made (world_of after noted') did.runs;
+    retires = answered_retires (site_of before.content) asked.canon (admitted before asked).event (admitted before asked).answer
+        (state_in before (exchange_begun before asked)) (state_in after exchange) did.made result did.answers;
     stays = did.stays;
   }
 
@@ -35,6 +40,7 @@ module _ {S F L : Type 0} (ss : S → Call → S → Type 0) (fs : F → Call �
   uncalled_moves before after same = record {
     made = [];
     runs = ap (λ context. world_of context unnoted) same;
+    retires = retires_none before.standings after.standings (ap (λ context. context.standings) same);
     stays = record {
       content = ap (λ context. context.content) same;
       policy = ap (λ context. context.policy) same;
@@ -60,7 +66,7 @@ module _ {S F L : Type 0} (ss : S → Call → S → Type 0) (fs : F → Call �
   handling_notes asked before after noted noted' response did =
       let entry = (admitted before asked).entry in
       let notes : NotesSo ss fs ls (world_of before (with_entry entry noted)) did.is_answered.made (world_of after noted') =
-      runs_note ss fs ls (world_of before (with_entry entry noted)) did.is_answered.made (world_of after noted') did.is_answered.runs did.whole in (
+      runs_note ss fs ls (world_of before (with_entry entry noted)) did.is_answered.made (world_of after noted') did.is_answered.runs in (
         entry ∷ notes.entries,
         record {
           exchange = did.exchange;
@@ -74,7 +80,7 @@ module _ {S F L : Type 0} (ss : S → Call → S → Type 0) (fs : F → Call �
           store = did.store;
           whole = refl;
         },
-        notes.journal ∙ noting_more entry notes.entries noted,
+        notes.journal did.whole ∙ noting_more entry notes.entries noted,
       )
 
   -- an expiry moves the components
@@ -87,16 +93,17 @@ module _ {S F L : Type 0} (ss : S → Call → S → Type 0) (fs : F → Call �
   expiry_moves moment before after noted noted' did = record {
     made = ends_told did.ended (length before.listeners);
     runs = runs_unnoted ss fs ls (world_of before noted) (ends_told did.ended (length before.listeners)) (world_of after noted') (expiry_runs moment before after noted noted' did);
+    retires = heard_retires before.standings after.standings (ends_told did.ended (length before.listeners)) (ends_heard did.ended (length before.listeners)) did.standings;
     stays = did.stays;
   }
 
   -- what an expiry notes, and the same from a new journal on
-  pub expiry_notes : (moment : ℕ) (before after : ContextState S F L) (noted noted' : JournalState) → Expires ss fs ls moment before noted after noted' → noted'.whole ≡ true
-      → (told : List Entry) × Expires ss fs ls moment before new_journal after (whole told) × (noted' ≡ noting told noted)
-  expiry_notes moment before after noted noted' did is_whole =
+  pub expiry_notes : (moment : ℕ) (before after : ContextState S F L) (noted noted' : JournalState) → Expires ss fs ls moment before noted after noted'
+      → (told : List Entry) × Expires ss fs ls moment before new_journal after (whole told) × (noted'.whole ≡ true → noted' ≡ noting told noted)
+  expiry_notes moment before after noted noted' did =
       let made = ends_told did.ended (length before.listeners) in
       let notes : NotesSo ss fs ls (world_of before noted) made (world_of after noted') =
-      runs_note ss fs ls (world_of before noted) made (world_of after noted') (expiry_runs moment before after noted noted' did) is_whole in (
+      runs_note ss fs ls (world_of before noted) made (world_of after noted') (expiry_runs moment before after noted noted' did) in (
         notes.entries,
         record {
           ended = did.ended;
@@ -107,6 +114,32 @@ module _ {S F L : Type 0} (ss : S → Call → S → Type 0) (fs : F → Call �
         },
         notes.journal,
       )
+
+  -- a request that was cut short, the same from a new journal on
+  cut_notes : (asked : Asked) (before after : ContextState S F L) (noted noted' : JournalState) → CutShort ss fs ls asked before noted after noted'
+      → (entries : List Entry) × CutShort ss fs ls asked before new_journal after (whole entries)
+  cut_notes asked before after noted noted' (inl ended) = ([], inl record { entry = inl refl; stays = ended.stays })
+  cut_notes asked before after noted noted' (inr did) =
+      let entry = (admitted before asked).entry in
+      let notes : NotesSo ss fs ls (world_of before (with_entry entry noted)) did.1.made (world_of after noted') =
+      runs_note ss fs ls (world_of before (with_entry entry noted)) did.1.made (world_of after noted') did.1.runs in (
+        entry ∷ notes.entries,
+        inr (
+          did.0,
+          record {
+            made = did.1.made;
+            answers = did.1.answers;
+            runs = notes.elsewhere (with_entry entry new_journal) refl;
+            stays = did.1.stays;
+          },
+        ),
+      )
+
+  pub hosted_cuts : (request : Request) (before after : ContextState S F L) (noted noted' : JournalState) (result : Result Response NoMemory)
+      → Handles ss fs ls (asked_of before request) before noted (seen result) after noted'
+      → IfErr result (λ _. (conduct ss fs ls).CutsShort before request after)
+  hosted_cuts request before after noted noted' (Ok response) did = tt
+  hosted_cuts request before after noted noted' (Err refusal) did = cut_notes (asked_of before request) before after noted noted' did
 
   -- what a request brings
   pub hosted_handles : (request : Request) (before after : ContextState S F L) (noted noted' : JournalState) (result : Result Response NoMemory)

@@ -44,17 +44,17 @@ module _ {S F L : Type 0} (ss : S → Call → S → Type 0) (fs : F → Call �
   moves_over before after (OfFilter place call) journal journal' moves takes = record { component = moves.component; journal = takes; context = moves.context }
   moves_over before after (OfListener place event) journal journal' moves takes = record { component = moves.component; journal = takes; context = moves.context }
 
-  -- what a run noted in a journal that stayed whole, and that it notes so in any whole journal
+  -- what a run noted where its journal stayed whole, and that it notes so in any whole journal
   pub record NotesSo (before : World S F L) (records : List Record) (after : World S F L) : Type 0 where
     pub entries : List Entry
-    pub journal : after.journal ≡ noting entries before.journal
+    pub journal : after.journal.whole ≡ true → after.journal ≡ noting entries before.journal
     pub elsewhere : (journal : JournalState) → journal.whole ≡ true → Runs ss fs ls (over journal before) records (over (noting entries journal) after)
 
   none_noted : (before after : World S F L) → after ≡ before → NotesSo before [] after
   unfolding Runs
   none_noted before after same = record {
     entries = [];
-    journal = ap (λ w. w.journal) same ∙ sym (nothing_noted before.journal);
+    journal = λ is_whole. ap (λ w. w.journal) same ∙ sym (nothing_noted before.journal);
     elsewhere = λ journal is_whole. ap₂ over (nothing_noted journal) same;
   }
     where
@@ -62,13 +62,16 @@ module _ {S F L : Type 0} (ss : S → Call → S → Type 0) (fs : F → Call �
       nothing_noted journal = ap (λ (all : List Entry). record { entries = all; whole = journal.whole }) (append-nil journal.entries)
 
   one_noted : (before middle after : World S F L) (made : Record) (others : List Record) → Moves ss fs ls before made middle
-      → middle.journal ≡ with_entry (entry_of before made) before.journal → NotesSo middle others after → NotesSo before (made ∷ others) after
+      → NotesSo middle others after → NotesSo before (made ∷ others) after
   unfolding Runs
-  one_noted before middle after made others moves took rest =
+  one_noted before middle after made others moves rest =
       let entry = entry_of before made in
       record {
         entries = entry ∷ rest.entries;
-        journal = rest.journal ∙ (ap (noting rest.entries) took ∙ noting_more entry rest.entries before.journal);
+        journal = λ is_whole.
+            let whole_then : middle.journal.whole ≡ true = sym (ap (λ j. j.whole) (rest.journal is_whole)) ∙ is_whole in
+            let took = taken before.journal middle.journal entry before.journal.whole refl moves.journal whole_then in
+            rest.journal is_whole ∙ (ap (noting rest.entries) took ∙ noting_more entry rest.entries before.journal);
         elsewhere = λ journal is_whole. (
           over (with_entry entry journal) middle,
           moves_over before middle made journal (with_entry entry journal) moves (takes_whole journal entry is_whole),
@@ -77,15 +80,10 @@ module _ {S F L : Type 0} (ss : S → Call → S → Type 0) (fs : F → Call �
         );
       }
 
-  pub runs_note : (before : World S F L) (records : List Record) (after : World S F L) → Runs ss fs ls before records after → after.journal.whole ≡ true
-      → NotesSo before records after
+  pub runs_note : (before : World S F L) (records : List Record) (after : World S F L) → Runs ss fs ls before records after → NotesSo before records after
   unfolding Runs
-  runs_note before [] after ran is_whole = none_noted before after ran
-  runs_note before (made ∷ others) after ran is_whole =
-      let rest = runs_note ran.0 others after ran.2 is_whole in
-      let whole_then : ran.0.journal.whole ≡ true = sym (ap (λ j. j.whole) rest.journal) ∙ is_whole in
-      one_noted before ran.0 after made others ran.1
-      (taken before.journal ran.0.journal (entry_of before made) before.journal.whole refl ran.1.journal whole_then) rest
+  runs_note before [] after ran = none_noted before after ran
+  runs_note before (made ∷ others) after ran = one_noted before ran.0 after made others ran.1 (runs_note ran.0 others after ran.2)
 
   -- the same run over a journal that takes nothing
   pub runs_unnoted : (before : World S F L) (records : List Record) (after : World S F L) → Runs ss fs ls before records after

@@ -5,4 +5,5 @@ pub mod Expiries
 pub mod Handlings
 pub mod Journals
 pub mod Responses
+pub mod Retirings
 pub mod Statuses

@@ -1,17 +1,19 @@
 -- What runs of a container see of a context (Jakarta Servlet 6.0, sections 2.3, 3.5, 7.5 and 13.6.3).
-use Rattle.std.specs.Prelude.{List, Some}
+use Rattle.std.specs.Prelude.{List, None, Some}
 use Rattle.sv_admission.specs.Asked.{Asked, asked_by}
 use Rattle.sv_admission.specs.Judged.{post_in}
 use Rattle.sv_admission.specs.Laws.{found_of}
 use Rattle.sv_component.specs.Call.{Call}
 use Rattle.sv_component.specs.Runs.{Record, Runs}
 use Rattle.sv_journal.specs.Journal.{JournalState, broken, new_journal}
+use Rattle.sv_journal.specs.declared.entry.Entry.{Entry}
 use Rattle.sv_login.specs.Post.{user_sent}
 use Rattle.sv_run.specs.Contexts.{Conduct, Request}
 use Rattle.sv_run.specs.Effect as effect
 use Rattle.sv_context.specs.Editing as editing
 use Rattle.sv_context.specs.Expiry as expiry
 use Rattle.sv_context.specs.Handled as handled
+use Rattle.sv_context.specs.Retiring.{Retires}
 use Rattle.sv_context.specs.State.{ContextState, IsSameDeployment, world_of}
 
 -- a request as its context receives it
@@ -23,13 +25,15 @@ abbrev pub unnoted : JournalState
 unnoted = broken new_journal
 
 module _ {S F L : Type 0} (servlet_step : S → Call → S → Type 0) (filter_step : F → Call → F → Type 0) (listener_step : L → Call → L → Type 0) where
-  -- some calls move the components, whatever is noted of them
+  -- some calls move the components, whatever is noted of them, and of these only servlets that are gone behind them are destroyed
   pub record IsMoved (before after : ContextState S F L) : Type 0 where
     pub made : List Record
     pub runs : Runs servlet_step filter_step listener_step (world_of before unnoted) made (world_of after unnoted)
+    pub retires : Retires before.standings made after.standings
     pub stays : IsSameDeployment before after
 
-  -- the caller that a request sends is the user whose name and password stand in its login fields; entries are those that a new journal gains
+  -- the caller that a request sends is the user whose name and password stand in its login fields; entries are those that a new journal gains, and of
+  -- a request that is cut short they are lost
   abbrev pub conduct : Conduct (ContextState S F L)
   conduct = record {
     sessions_of = λ context. context.store;
@@ -38,6 +42,8 @@ module _ {S F L : Type 0} (servlet_step : S → Call → S → Type 0) (filter_s
     caller_sent = λ context request. user_sent context.users (post_in (asked_of context request));
     Handles = λ handling. handled.Handles servlet_step filter_step listener_step
         (asked_of handling.context handling.request) handling.context new_journal (Some handling.response) handling.after (effect.whole handling.entries);
+    CutsShort = λ context request after. (entries : List Entry)
+        × handled.Handles servlet_step filter_step listener_step (asked_of context request) context new_journal None after (effect.whole entries);
     Expires = λ context moment told after. expiry.Expires servlet_step filter_step listener_step moment context new_journal after (effect.whole told);
     Edits = λ before edit answer after. editing.Edits before edit answer after;
     Moves = IsMoved;

@@ -8,5 +8,7 @@ pub mod Handled
 pub mod Laws
 pub mod Motion
 pub mod Responding
+pub mod Retirement
+pub mod Retiring
 pub mod State
 pub mod Theory

@@ -6,6 +6,7 @@ use Rattle.sv_component.specs.Runs.{Runs}
 use Rattle.sv_run.specs.Lawful.{EditsAlone, IsMotion, KeepsPath}
 use Rattle.sv_site.specs.Site.{Content}
 use Rattle.sv_context.specs.Conduct.{IsMoved, conduct, unnoted}
+use Rattle.sv_context.specs.Retirement.{retires_join, retires_none}
 use Rattle.sv_context.specs.State.{ContextState, IsSameDeployment, world_of}
 
 same_deployment : {S F L : Type 0} (context : ContextState S F L) → IsSameDeployment context context
@@ -26,12 +27,13 @@ module _ {S F L : Type 0} (ss : S → Call → S → Type 0) (fs : F → Call �
   -- no calls move nothing
   stands : (context : ContextState S F L) → IsMoved ss fs ls context context
   unfolding Runs
-  stands context = record { made = []; runs = refl; stays = same_deployment context }
+  stands context = record { made = []; runs = refl; retires = retires_none context.standings context.standings refl; stays = same_deployment context }
 
   goes_on : (before between after : ContextState S F L) → IsMoved ss fs ls before between → IsMoved ss fs ls between after → IsMoved ss fs ls before after
   goes_on before between after one two = record {
     made = one.made ++ two.made;
     runs = runs_join ss fs ls (world_of before unnoted) (world_of between unnoted) (world_of after unnoted) one.made two.made one.runs two.runs;
+    retires = retires_join before.standings between.standings after.standings one.made two.made one.retires two.retires;
     stays = deployment_then before between after one.stays two.stays;
   }
 

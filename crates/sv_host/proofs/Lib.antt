@@ -1,4 +1,5 @@
 mod Adding
+mod Breaking
 mod Contexts
 mod EditedContexts
 mod Feedings

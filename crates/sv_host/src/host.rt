@@ -1,13 +1,16 @@
 //! Contexts behind connections.
 
-ghost use Rattle.std.specs.Prelude.{◌≡◌, None, IfErr, IfOk, IsSome, false, map};
+ghost use Rattle.std.specs.Prelude.{◌≡◌, ◌⊎◌, List, None, IfErr, IfOk, IsSome, false, map};
 ghost use Rattle.sv_host.specs.Host.{StepsSo, opening, state_of};
 ghost use Rattle.sv_host.specs.Output.{Adds};
+ghost use Rattle.sv_journal.specs.declared.entry.Entry.{Entry};
+ghost use Rattle.sv_run.specs.Breaking.{BreaksPiece, DoesNothing, Given};
 ghost use Rattle.sv_run.specs.Contexts.{theory_of};
 ghost use Rattle.sv_run.specs.Editing.{EditsContext};
 ghost use Rattle.sv_run.specs.Effect.{Effect, shown};
-ghost use Rattle.sv_run.specs.Events.{Accepts, AltersAll, Happens, MovesAll, TakesPiece, fault_of};
+ghost use Rattle.sv_run.specs.Events.{Accepts, AltersAll, BreaksOff, ExpiresAll, Happens, MovesAll, TakesPiece, fault_of, moment_after};
 ghost use Rattle.sv_run.specs.Seen.{happening_of};
+ghost use Rattle.sv_run.specs.State.{settled_at};
 
 use crate::connections::Connections;
 use crate::editing::told_of;
@@ -71,7 +74,8 @@ impl<C: Context, W: Words> Host<C, W> {
     ///
     /// # Errors
     /// [`StepFault`], the first that stands. After one other than `NoMemory` nothing has changed, and after `NoMemory` each event is refused
-    /// as `Stopped`; what the event brought is lost then, and the contexts were moved by some of its calls.
+    /// as `Stopped`; what the event brought is lost then, the sessions that have expired have ended, and the event broke off: a context that was
+    /// given no message of it is as it was then.
     pub fn step(&mut self, happening: Happening) -> Result<Reaction, StepFault>
         ensures steps { StepsSo (theory_of C.path_of C.conduct W.draws) (state_of self.old) (happening_of happening.entry) result (state_of self.new) }
         ensures alters { AltersAll C.conduct (state_of self.old).world.contexts (state_of self.new).world.contexts }
@@ -98,6 +102,11 @@ impl<C: Context, W: Words> Host<C, W> {
         ensures accepts { IfOk result (λ reaction. (effect : Effect C)
             × Accepts (theory_of C.path_of C.conduct W.draws) (state_of self.old) (happening_of happening.entry) effect (state_of self.new)
             × (reaction ≡ shown effect)) }
+        ensures breaks { IfErr result (λ _. (told : List Entry) × (contexts : List C) × (given : List (Given C))
+            × ExpiresAll C.conduct (state_of self.old).world.contexts (moment_after (state_of self.old).moment (happening_of happening.entry)) told contexts
+            × BreaksOff (theory_of C.path_of C.conduct W.draws)
+            (settled_at (moment_after (state_of self.old).moment (happening_of happening.entry)) contexts (state_of self.old))
+            (happening_of happening.entry) given (state_of self.new).world) }
         ensures moves { IfErr result (λ _. MovesAll C.conduct (state_of self.old).world.contexts (state_of self.new).world.contexts) }
         ensures alters { AltersAll C.conduct (state_of self.old).world.contexts (state_of self.new).world.contexts }
     {
@@ -121,6 +130,8 @@ impl<C: Context, W: Words> Host<C, W> {
         ensures happens { IfOk result (λ _. (effect : Effect C)
             × Happens (theory_of C.path_of C.conduct W.draws) (state_of self.old) (happening_of happening.entry) effect (state_of self.new)
             × Adds output.old effect output.new) }
+        ensures breaks { IfErr result (λ _. (given : List (Given C))
+            × BreaksOff (theory_of C.path_of C.conduct W.draws) (state_of self.old) (happening_of happening.entry) given (state_of self.new).world) }
         ensures moves { IfErr result (λ _. MovesAll C.conduct (state_of self.old).world.contexts (state_of self.new).world.contexts) }
         ensures alters { AltersAll C.conduct (state_of self.old).world.contexts (state_of self.new).world.contexts }
     {
@@ -150,6 +161,7 @@ impl<C: Context, W: Words> Host<C, W> {
         ensures edits { IfOk result (λ _. (effect : Effect C)
             × EditsContext (theory_of C.path_of C.conduct W.draws) (state_of self.old) path.now edit.now effect (state_of self.new)
             × Adds output.old effect output.new) }
+        ensures refused { IfErr result (λ _. (state_of self.new).world ≡ (state_of self.old).world) }
         ensures moves { IfErr result (λ _. MovesAll C.conduct (state_of self.old).world.contexts (state_of self.new).world.contexts) }
         ensures alters { AltersAll C.conduct (state_of self.old).world.contexts (state_of self.new).world.contexts }
     {
@@ -167,6 +179,9 @@ impl<C: Context, W: Words> Host<C, W> {
         ensures takes { IfOk result (λ _. (effect : Effect C)
             × TakesPiece (theory_of C.path_of C.conduct W.draws) (state_of self.old) number piece.now effect (state_of self.new)
             × Adds output.old effect output.new) }
+        ensures breaks { IfErr result (λ _. (given : List (Given C))
+            × (DoesNothing (state_of self.old).world given (state_of self.new).world
+            ⊎ BreaksPiece (theory_of C.path_of C.conduct W.draws) (state_of self.old) number piece.now given (state_of self.new).world)) }
         ensures moves { MovesAll C.conduct (state_of self.old).world.contexts (state_of self.new).world.contexts }
     {
         let items = self.connections.feed(number, piece)?;

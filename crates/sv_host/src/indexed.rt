@@ -1,11 +1,12 @@
 //! Contexts that are found by their paths.
 
-ghost use Rattle.std.specs.Prelude.{◌≡◌, ◌≢◌, ◌<◌, ℕ, true, Err, IfOk, IfSome, IsTrue, List, Some, length, map, position, slice_get};
+ghost use Rattle.std.specs.Prelude.{◌≡◌, ◌≢◌, ◌<◌, ℕ, true, Err, IfErr, IfOk, IfSome, IsTrue, List, Some, length, map, position, slice_get};
 ghost use Rattle.sv_context_path.specs.Chosen.{is_chosen};
 ghost use Rattle.sv_host.specs.Output.{Adds};
 ghost use Rattle.sv_journal.specs.declared.entry.Entry.{Entry};
 ghost use Rattle.sv_mapping.specs.Pattern.{is_at_or_below};
 ghost use Rattle.sv_policy.specs.declared.edit_fault.EditFault.TheVariants as fault;
+ghost use Rattle.sv_run.specs.Breaking.{BreaksAnswer, Given};
 ghost use Rattle.sv_run.specs.Contexts.{theory_of};
 ghost use Rattle.sv_run.specs.Editing.{EditsIn, place_with};
 ghost use Rattle.sv_run.specs.Effect.{Effect, noting};
@@ -82,8 +83,8 @@ impl<C: HasContextPath> Indexed<C> {
 impl<C: Context> Indexed<C> {
     /// Ends the sessions that have expired at the moment, context by context.
     pub(crate) fn expire_all(&mut self, alloc: Global, moment: u64, journal: &mut Journal)
-        ensures expires { journal.new.whole ≡ true
-            → (told : List Entry) × ExpiresAll C.conduct self.old moment told self.new × (journal.new ≡ noting told journal.old) }
+        ensures expires { (told : List Entry) × ExpiresAll C.conduct self.old moment told self.new
+            × (journal.new.whole ≡ true → journal.new ≡ noting told journal.old) }
         ensures moves { MovesAll C.conduct self.old self.new }
     {
         expire_all(alloc, self.contexts.as_mut_slice(), moment, journal);
@@ -120,6 +121,8 @@ impl<C: Context> Indexed<C> {
         ensures responds { IfOk result (λ _. (effect : Effect C)
             × Responds (theory_of C.path_of C.conduct W.draws) moment (Within place canon.now) message.now words self.old effect self.new
             × Adds output.old effect output.new) }
+        ensures breaks { IfErr result (λ _. (given : List (Given C))
+            × BreaksAnswer (theory_of C.path_of C.conduct W.draws) moment (Within place canon.now) message.now words self.old given self.new) }
         ensures moves { MovesAll C.conduct self.old self.new }
     {
         handle_at::<C, W>(

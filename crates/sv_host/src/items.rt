@@ -1,7 +1,8 @@
 //! The handling of what a stream says, in its order.
 
-ghost use Rattle.std.specs.Prelude.{◌≡◌, IfOk, false};
+ghost use Rattle.std.specs.Prelude.{◌≡◌, IfErr, IfOk, List, false};
 ghost use Rattle.sv_host.specs.Output.{Adds};
+ghost use Rattle.sv_run.specs.Breaking.{BreaksItem, BreaksItems, Given};
 ghost use Rattle.sv_run.specs.Contexts.{theory_of};
 ghost use Rattle.sv_run.specs.Effect.{Effect};
 ghost use Rattle.sv_run.specs.Events.{MovesAll};
@@ -29,6 +30,8 @@ fn take_item<C: Context, W: Words>(
     ensures takes { IfOk result (λ _. (effect : Effect C)
         × TakesItem (theory_of C.path_of C.conduct W.draws) moment item.now (world_of contexts.old words.old) effect (world_of contexts.new words.new)
         × Adds output.old effect output.new) }
+    ensures breaks { IfErr result (λ _. (given : List (Given C))
+        × BreaksItem (theory_of C.path_of C.conduct W.draws) moment item.now (world_of contexts.old words.old) given (world_of contexts.new words.new)) }
     ensures moves { MovesAll C.conduct contexts.old contexts.new }
 {
     match item {
@@ -53,6 +56,8 @@ pub(crate) fn take_items<C: Context, W: Words>(
     ensures takes { IfOk result (λ _. (effect : Effect C)
         × Takes (theory_of C.path_of C.conduct W.draws) moment items.now (world_of contexts.old words.old) effect (world_of contexts.new words.new)
         × Adds output.old effect output.new) }
+    ensures breaks { IfErr result (λ _. (given : List (Given C))
+        × BreaksItems (theory_of C.path_of C.conduct W.draws) moment items.now (world_of contexts.old words.old) given (world_of contexts.new words.new)) }
     ensures moves { MovesAll C.conduct contexts.old contexts.new }
 {
     for item in items {

@@ -1,13 +1,15 @@
 //! The handling of messages: by the container itself, or by the context that a message is for.
 
-ghost use Rattle.std.specs.Prelude.{IfOk};
+ghost use Rattle.std.specs.Prelude.{IfErr, IfOk, List};
 ghost use Rattle.sv_host.specs.Output.{Adds};
+ghost use Rattle.sv_run.specs.Breaking.{BreaksAnswer, BreaksItem, Given};
 ghost use Rattle.sv_run.specs.Contexts.{theory_of};
 ghost use Rattle.sv_run.specs.Effect.{Effect};
 ghost use Rattle.sv_run.specs.Events.{MovesAll};
 ghost use Rattle.sv_run.specs.Items.{Responds, TakesMessage};
 ghost use Rattle.sv_run.specs.Messages.{destination, destination_in, place_for};
 ghost use Rattle.sv_run.specs.State.{world_of};
+ghost use Rattle.sv_wire.specs.declared.item.Item.TheVariants as item;
 
 use crate::answering::{answer_itself, empty_response, plain_response};
 use crate::indexed::Indexed;
@@ -33,6 +35,8 @@ pub(crate) fn take_message<C: Context, W: Words>(
     ensures takes { IfOk result (λ _. (effect : Effect C)
         × TakesMessage (theory_of C.path_of C.conduct W.draws) moment message.now (world_of contexts.old words.old) effect (world_of contexts.new words.new)
         × Adds output.old effect output.new) }
+    ensures breaks { IfErr result (λ _. (given : List (Given C))
+        × BreaksItem (theory_of C.path_of C.conduct W.draws) moment (item.Message message.now) (world_of contexts.old words.old) given (world_of contexts.new words.new)) }
     ensures moves { MovesAll C.conduct contexts.old contexts.new }
 {
     let pair = words.pair();
@@ -52,6 +56,9 @@ fn respond<C: Context, W: Words>(
         × Responds (theory_of C.path_of C.conduct W.draws) moment (destination (theory_of C.path_of C.conduct W.draws) contexts.old message.now.target)
         message.now words contexts.old effect contexts.new
         × Adds output.old effect output.new) }
+    ensures breaks { IfErr result (λ _. (given : List (Given C))
+        × BreaksAnswer (theory_of C.path_of C.conduct W.draws) moment (destination (theory_of C.path_of C.conduct W.draws) contexts.old message.now.target)
+        message.now words contexts.old given contexts.new) }
     ensures moves { MovesAll C.conduct contexts.old contexts.new }
 {
     match &message.target {
@@ -89,6 +96,10 @@ fn respond_at<C: Context, W: Words>(
         (destination_in canon.now (place_for (theory_of C.path_of C.conduct W.draws) contexts.old canon.now.path))
         message.now words contexts.old effect contexts.new
         × Adds output.old effect output.new) }
+    ensures breaks { IfErr result (λ _. (given : List (Given C))
+        × BreaksAnswer (theory_of C.path_of C.conduct W.draws) moment
+        (destination_in canon.now (place_for (theory_of C.path_of C.conduct W.draws) contexts.old canon.now.path))
+        message.now words contexts.old given contexts.new) }
     ensures moves { MovesAll C.conduct contexts.old contexts.new }
 {
     match contexts.place(canon.path.as_str()) {

@@ -1,8 +1,9 @@
 //! The handling of a message by a context.
 
-ghost use Rattle.std.specs.Prelude.{◌≡◌, ◌<◌, IfOk, IsTrue, Some, length, slice_get};
+ghost use Rattle.std.specs.Prelude.{◌≡◌, ◌<◌, IfErr, IfOk, List, IsTrue, Some, length, slice_get};
 ghost use Rattle.sv_host.specs.Output.{Adds};
 ghost use Rattle.sv_mapping.specs.Pattern.{is_at_or_below};
+ghost use Rattle.sv_run.specs.Breaking.{BreaksAnswer, Given};
 ghost use Rattle.sv_run.specs.Contexts.{theory_of};
 ghost use Rattle.sv_run.specs.Effect.{Effect};
 ghost use Rattle.sv_run.specs.Events.{MovesAll};
@@ -33,6 +34,8 @@ pub(crate) fn handle_at<C: Context, W: Words>(
     ensures responds { IfOk result (λ _. (effect : Effect C)
         × Responds (theory_of C.path_of C.conduct W.draws) moment (Within place canon.now) message.now words contexts.old effect contexts.new
         × Adds output.old effect output.new) }
+    ensures breaks { IfErr result (λ _. (given : List (Given C))
+        × BreaksAnswer (theory_of C.path_of C.conduct W.draws) moment (Within place canon.now) message.now words contexts.old given contexts.new) }
     ensures moves { MovesAll C.conduct contexts.old contexts.new }
 {
     let response = contexts[place].handle(

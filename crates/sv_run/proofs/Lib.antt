@@ -1,4 +1,5 @@
 mod Beside
+pub mod Breaking
 mod Callers
 mod Constraints
 mod Cuts
@@ -9,4 +10,4 @@ mod Orders
 mod Outcomes
 pub mod Reactions
 mod Stepping
-mod Taking
+pub mod Taking

@@ -37,6 +37,8 @@ pub record Conduct (Context : Type 0) : Type 1 where
   pub caller_sent : Context → Request → Option ℕ
   -- a request is handled so
   pub Handles : Handling Context → Type 0
+  -- memory ends the handling of a request, and that is what it leaves of the context
+  pub CutsShort : Context → Request → Context → Type 0
   -- the sessions that have expired at the moment end, of which the entries tell
   pub Expires : Context → ℕ → List Entry → Context → Type 0
   -- its constraints are edited, and that is the answer

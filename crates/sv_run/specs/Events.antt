@@ -3,6 +3,7 @@ use Rattle.std.specs.Prelude.{◌≡◌, ◌⊎◌, ℕ, min, max, true, false, 
 use Rattle.sv_journal.specs.declared.entry.Entry.{Entry}
 use Rattle.sv_policy.specs.declared.edit.Edit.{Edit}
 use Rattle.sv_policy.specs.declared.edit_fault.EditFault.{EditFault}
+use Rattle.sv_run.specs.Breaking.{BreaksPiece, DoesNothing, Given}
 use Rattle.sv_run.specs.Connections.{Connections, forgotten, opened}
 use Rattle.sv_run.specs.Contexts.{Conduct, Theory}
 use Rattle.sv_run.specs.Editing.{EditsContext}
@@ -129,11 +130,25 @@ module _ {Context Words : Type 0} (theory : Theory Context Words) where
     pub is_fault : fault_of before.connections happening ≡ Some fault
     pub stays : after ≡ before
 
-  -- want of memory stops the container
+  -- how far the event itself came, at its moment: a piece was handled up to an item, and of anything else nothing was done
+  abbrev pub BreaksOff : State Context Words → Happening → List (Given Context) → World Context Words → Type 0
+  BreaksOff before (Piece number bytes moment) given after = DoesNothing before.world given after ⊎ BreaksPiece theory before number bytes given after
+  BreaksOff before (Opened number) given after = DoesNothing before.world given after
+  BreaksOff before (Ended number) given after = DoesNothing before.world given after
+  BreaksOff before (Lost number) given after = DoesNothing before.world given after
+  BreaksOff before (Tick moment) given after = DoesNothing before.world given after
+  BreaksOff before (Edited path edit) given after = DoesNothing before.world given after
+
+  -- want of memory stops the container: the expired sessions end all the same, and the event broke off, with those requests given to contexts
   pub record Breaks (before : State Context Words) (happening : Happening) (after : State Context Words) : Type 0 where
     pub runs : before.stopped ≡ false
     pub no_fault : fault_of before.connections happening ≡ None
     pub stops : after.stopped ≡ true
+    pub told : List Entry
+    pub contexts : List Context
+    pub expires : ExpiresAll theory.conduct before.world.contexts (moment_after before.moment happening) told contexts
+    pub given : List (Given Context)
+    pub breaks : BreaksOff (settled_at (moment_after before.moment happening) contexts before) happening given after.world
     pub moves : MovesAll theory.conduct before.world.contexts after.world.contexts
 
   -- an event with what it brings, or why it is refused

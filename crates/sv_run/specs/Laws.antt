@@ -13,13 +13,13 @@ use Rattle.sv_policy.specs.declared.edit.Edit.{Edit}
 use Rattle.sv_run.specs.Contexts.{Handling, Theory}
 use Rattle.sv_run.specs.Editing.{place_with}
 use Rattle.sv_run.specs.Effect.{Answered, Deed, Effect, Handled, joined, joined_all}
-use Rattle.sv_run.specs.Events.{Accepts, Edited, Ended, Happening, Lost, Opened, Piece, Steps, Tick, connection_of, moment_after}
+use Rattle.sv_run.specs.Events.{Accepts, Breaks, Edited, Ended, Happening, Lost, Opened, Piece, Steps, Tick, connection_of, moment_after}
 use Rattle.sv_run.specs.Feeding.{Feeds}
 use Rattle.sv_run.specs.Lawful.{Holds, LogsIn, entry_of, is_outcome}
 use Rattle.sv_run.specs.Runs.{Answer, Run, deeds_of, journal_of}
 use Rattle.sv_run.specs.State.{State}
 use Rattle.sv_run.specs.declared.step_fault.StepFault.{StepFault}
-use Rattle.sv_run.specs.declared.step_fault.StepFault.TheVariants.{NoMemory}
+use Rattle.sv_run.specs.declared.step_fault.StepFault.TheVariants.{NoMemory, Stopped}
 use Rattle.sv_wire.specs.Inbox.{Held}
 use Rattle.sv_wire.specs.Items.{are_ended}
 use Rattle.sv_wire.specs.Reads.{Reads}
@@ -139,6 +139,20 @@ module _ {Context Words : Type 0} (theory : Theory Context Words) where
   RefusedEventsChangeNothing =
       (before after : State Context Words) (happening : Happening) (fault : StepFault)
       → Steps theory before happening (Err fault) after → fault ≢ NoMemory → after ≡ before
+
+  -- behind an event that wanted memory each one is refused as Stopped, and nothing changes any more
+  abbrev pub WantOfMemoryStops : Type 0
+  WantOfMemoryStops =
+      (before between after : State Context Words) (happening : Happening) (happenings : List Happening) (answers : List (Answer Context))
+      → Steps theory before happening (Err NoMemory) between → Run theory between happenings answers after
+      → AllByRecursion (λ answer. answer ≡ Err Stopped) answers × (after ≡ between)
+
+  -- in an event that wants memory, a context that was given no request is as the end of its expired sessions left it
+  abbrev pub OthersStay : Type 0
+  OthersStay =
+      (before after : State Context Words) (happening : Happening) (breaks : Breaks theory before happening after) (place : ℕ)
+      → AllByRecursion (λ given. given.place ≢ place) breaks.given
+      → slice_get after.world.contexts place ≡ slice_get breaks.contexts place
 
   -- runs one behind another are a run
   abbrev pub RunsJoin : Type 0

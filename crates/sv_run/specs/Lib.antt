@@ -1,3 +1,4 @@
+pub mod Breaking
 pub mod Connections
 pub mod Contexts
 pub mod Editing

@@ -1,6 +1,6 @@
 //! What a container wants of a context, and of a source of random words.
 
-ghost use Rattle.std.specs.Prelude.{◌≡◌, ℕ, true, List, Err, IfOk, IsTrue};
+ghost use Rattle.std.specs.Prelude.{◌≡◌, ℕ, true, List, Err, IfErr, IfOk, IsTrue};
 ghost use Rattle.http.specs.StatusCode.{IsStatusCode};
 ghost use Rattle.sv_journal.specs.declared.entry.Entry.{Entry};
 ghost use Rattle.sv_mapping.specs.Pattern.{is_at_or_below};
@@ -24,7 +24,8 @@ pub trait Context: HasContextPath + Sized {
     /// Handles a message whose target has that canonical path, which the context serves. The moment is the container's, and the words are the
     /// message's own.
     ///
-    /// `NoMemory` says that a growth was refused, or that a component wants memory: the context can then be undeployed, and no more.
+    /// `NoMemory` says that a growth was refused, or that a component wants memory: the handling was cut short, and the context can then be
+    /// undeployed, and no more.
     fn handle(
         &mut self,
         alloc: Global,
@@ -45,12 +46,13 @@ pub trait Context: HasContextPath + Sized {
             })
             × (journal.new ≡ noting entries journal.old)) }
         ensures status { IfOk result (λ response. IsStatusCode response.status) }
+        ensures cut_short { IfErr result (λ _. conduct.CutsShort self.old (request_of message.now canon.now moment words) self.new) }
         ensures moves { conduct.Moves self.old self.new };
 
     /// Ends the sessions that have expired at the moment. It takes no memory but the journal's, and ends them also where that breaks.
     fn expire(&mut self, alloc: Global, moment: u64, journal: &mut Journal)
-        ensures expires { journal.new.whole ≡ true
-            → (told : List Entry) × conduct.Expires self.old moment told self.new × (journal.new ≡ noting told journal.old) }
+        ensures expires { (told : List Entry) × conduct.Expires self.old moment told self.new
+            × (journal.new.whole ≡ true → journal.new ≡ noting told journal.old) }
         ensures moves { conduct.Moves self.old self.new };
 
     /// Edits the constraints: the number of the one that is appended or withdrawn. The next request is decided by them as they stand then. No component

@@ -3,7 +3,7 @@
 ghost use Rattle.std.specs.Prelude.{◌≡◌};
 ghost use Rattle.sv_run.specs.Contexts.{theory_of};
 ghost use Rattle.sv_run.specs.Lawful.{ChangesConstraintsByEdits, EndsExpired, GivesCallersByLogin, TellsOutcomes};
-ghost use Rattle.sv_run.specs.Laws.{CallersLoggedIn, ConstraintsChangeByEditsAlone, EndedReadingsStay, FeedingsMayBeCut, OrdersAreAlike, PiecesMayBeCut, PiecesMayComeInParts, RefusedEventsChangeNothing, RequestsEnterExactlyWhereAllowed, RunsJoin, RunsSplit};
+ghost use Rattle.sv_run.specs.Laws.{CallersLoggedIn, ConstraintsChangeByEditsAlone, EndedReadingsStay, FeedingsMayBeCut, OrdersAreAlike, OthersStay, PiecesMayBeCut, PiecesMayComeInParts, RefusedEventsChangeNothing, RequestsEnterExactlyWhereAllowed, RunsJoin, RunsSplit, WantOfMemoryStops};
 
 use crate::context::{Context, Words};
 use crate::limits::{LAST_MOMENT, MAX_CONNECTIONS};
@@ -59,6 +59,17 @@ pub fn orders_are_alike<C: Context, W: Words>()
 /// A refused event changes nothing, unless it wants memory.
 pub fn refused_events_change_nothing<C: Context, W: Words>()
     ensures { RefusedEventsChangeNothing (theory_of C.path_of C.conduct W.draws) }
+{}
+
+/// Behind an event that wanted memory each one is refused as `Stopped`, and nothing changes any more.
+pub fn want_of_memory_stops<C: Context, W: Words>()
+    ensures { WantOfMemoryStops (theory_of C.path_of C.conduct W.draws) }
+{}
+
+/// In an event that wants memory, a context that was given no request is as the end of its expired sessions left it: nothing of it is called for what
+/// is given to others.
+pub fn others_stay<C: Context, W: Words>()
+    ensures { OthersStay (theory_of C.path_of C.conduct W.draws) }
 {}
 
 /// Runs one behind another are a run.

@@ -17,8 +17,8 @@ pub enum StepFault {
     BadConnection = 2,
     /// As many connections are known as there may be. Nothing has changed.
     TooManyConnections = 3,
-    /// A growth was refused, or a component wants memory: the container is stopped, and what the event brought is lost. The components of each
-    /// context were moved by some of the calls.
+    /// A growth was refused, or a component wants memory: the container is stopped, and what the event brought is lost. The sessions that have
+    /// expired have ended; the event itself broke off, and the components of each context were moved by the calls made so far.
     NoMemory = 4,
 }
 

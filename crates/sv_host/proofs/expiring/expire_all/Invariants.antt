@@ -8,7 +8,7 @@ use Rattle.sv_host.proofs.expiring.expire_all.Given as goal
 abbrev pub invariant-loop-place : goal.invariant-loop-place
 invariant-loop-place g l = record {
   count : length l.contexts ≡ length l.initial.contexts;
-  expires : l.journal.whole ≡ true
-      → (told : List Entry) × ExpiresTo g.C.Context.conduct l.moment l.place l.initial.contexts told l.contexts × (l.journal ≡ noting told l.initial.journal);
+  expires : (told : List Entry) × ExpiresTo g.C.Context.conduct l.moment l.place l.initial.contexts told l.contexts
+      × (l.journal.whole ≡ true → l.journal ≡ noting told l.initial.journal);
   moves : MovesAll g.C.Context.conduct l.initial.contexts l.contexts;
 }

@@ -1,9 +1,10 @@
-use Rattle.std.proofs.Common.{◌≡◌, false, drop}
+use Rattle.std.proofs.Common.{◌≡◌, false, drop, take}
 use Rattle.sv_host.specs.Output.{Adds}
 use Rattle.sv_host.proofs.Taking.{TakesOn}
 use Rattle.sv_run.specs.Contexts.{theory_of}
 use Rattle.sv_run.specs.Effect.{Effect}
 use Rattle.sv_run.specs.Events.{MovesAll}
+use Rattle.sv_run.specs.Items.{Takes}
 use Rattle.sv_run.specs.State.{world_of}
 use Rattle.sv_host.proofs.items.take_items.Given as goal
 
@@ -12,7 +13,9 @@ invariant-loop-item g l = record {
   takes : (front : Effect g.row.C.Denot)
       × TakesOn (theory_of g.C.HasContextPath.path_of g.C.Context.conduct g.W.Words.draws) l.moment l.items
       (world_of l.fn.contexts l.fn.words) front (world_of l.contexts l.words) (drop l.item-index l.items)
-      × Adds l.fn.output front l.output;
+      × Adds l.fn.output front l.output
+      × Takes (theory_of g.C.HasContextPath.path_of g.C.Context.conduct g.W.Words.draws) l.moment (take l.item-index l.items)
+      (world_of l.fn.contexts l.fn.words) front (world_of l.contexts l.words);
   stays : l.output.closes ≡ false;
   moves : MovesAll g.C.Context.conduct l.fn.contexts l.contexts;
 }

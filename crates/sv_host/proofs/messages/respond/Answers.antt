@@ -3,7 +3,8 @@ use Rattle.sv_journal.specs.declared.entry.Entry.TheVariants.{Refused}
 use Rattle.sv_journal.specs.declared.refusal_cause.RefusalCause.TheVariants as causes
 use Rattle.sv_run.specs.Contexts.{theory_of}
 use Rattle.sv_run.specs.Messages.{Itself, destination, empty_response, plain_response}
-use Rattle.sv_host.proofs.Contexts.{moves_none}
+use Rattle.sv_host.proofs.Breaking.{none_given, none_given_if}
+use Rattle.sv_host.proofs.Contexts.{if_err, moves_none}
 use Rattle.sv_host.proofs.Handling.{answers_itself, at_fault, at_star, same_fault, sent_to}
 use Rattle.sv_host.specs.Output.{reaction_of}
 use Rattle.sv_host.proofs.messages.respond.Goals as goal
@@ -48,3 +49,26 @@ returns-in_ok-response-in-Err-Path-clause-responds g c =
     (same_fault theory c.args.moment message c.args.words before (reaction_of c.args.output.now) c.answer_itself-in-Err-Path.result
     c.in_ok-response-in-Err-Path.response (reaction_of c.answer_itself-in-Err-Path.new.output) _ c.in-Err-Path.fault (sym c.in-Err-Path.fault-is)
     c.answer_itself-in-Err-Path.ensures))
+
+pub returns-in_err-response-in-Err-Path-clause-breaks : goal.returns-in_err-response-in-Err-Path-clause-breaks
+returns-in_err-response-in-Err-Path-clause-breaks g c =
+    let theory = theory_of g.C.HasContextPath.path_of g.C.Context.conduct g.W.Words.draws in
+    if_err _
+    (none_given theory c.args.moment c.args.message.now c.args.words c.args.contexts.now (destination theory c.args.contexts.now c.args.message.now.target))
+
+pub returns-in-Star-clause-breaks : goal.returns-in-Star-clause-breaks
+returns-in-Star-clause-breaks g c =
+    let theory = theory_of g.C.HasContextPath.path_of g.C.Context.conduct g.W.Words.draws in
+    none_given_if theory c.args.moment c.args.message.now c.args.words c.args.contexts.now c.answer_itself.result
+    (destination theory c.args.contexts.now c.args.message.now.target)
+
+pub returns-in_ok-response-in-Err-Path-clause-breaks : goal.returns-in_ok-response-in-Err-Path-clause-breaks
+returns-in_ok-response-in-Err-Path-clause-breaks g c =
+    let theory = theory_of g.C.HasContextPath.path_of g.C.Context.conduct g.W.Words.draws in
+    none_given_if theory c.args.moment c.args.message.now c.args.words c.args.contexts.now c.answer_itself-in-Err-Path.result
+    (destination theory c.args.contexts.now c.args.message.now.target)
+
+pub returns-in-Err-NoMemory-clause-breaks : goal.returns-in-Err-NoMemory-clause-breaks
+returns-in-Err-NoMemory-clause-breaks g c =
+    let theory = theory_of g.C.HasContextPath.path_of g.C.Context.conduct g.W.Words.draws in
+    none_given theory c.args.moment c.args.message.now c.args.words c.args.contexts.now (destination theory c.args.contexts.now c.args.message.now.target)

@@ -1,6 +1,7 @@
 use Rattle.std.proofs.Common.{◌≡◌, slice_index_or, ap}
 use Rattle.sv_run.specs.Contexts.{theory_of}
-use Rattle.sv_host.proofs.Contexts.{moves_next, moves_none}
+use Rattle.sv_host.proofs.Breaking.{cut_at, unsent}
+use Rattle.sv_host.proofs.Contexts.{if_err, moves_next, moves_none}
 use Rattle.sv_host.proofs.Handling.{sent}
 use Rattle.sv_host.specs.Output.{reaction_of}
 use Rattle.sv_run.specs.declared.reaction.Reaction.{Reaction}
@@ -36,3 +37,23 @@ returns-clause-responds g c =
     sent theory c.args.moment c.args.message.now c.args.words before start c.send.result c.args.place c.args.canon.now old c.handle.new.self
     c.in_ok-response.response middle (reaction_of c.send.new.output) handled.0 c.requires.there is_old handled.1
     (λ i. record start { journal = handled.2 i }) c.send.ensures
+
+pub returns-in_err-response-clause-breaks : goal.returns-in_err-response-clause-breaks
+returns-in_err-response-clause-breaks g c =
+    let theory = theory_of g.C.HasContextPath.path_of g.C.Context.conduct g.W.Words.draws in
+    let before = c.args.contexts.now in
+    let old = slice_index_or before c.args.place c.index-contexts-place.result in
+    let is_old : old ≡ slice_index_or before c.args.place old = ap (λ d. slice_index_or before c.args.place d) c.index-contexts-place.is in
+    if_err c.from_residual.result
+    (cut_at theory c.args.moment c.args.message.now c.args.words before c.args.place c.args.canon.now old c.handle.new.self c.requires.there is_old
+    c.in_err-response.ensures.cut_short)
+
+pub returns-clause-breaks : goal.returns-clause-breaks
+returns-clause-breaks g c =
+    let theory = theory_of g.C.HasContextPath.path_of g.C.Context.conduct g.W.Words.draws in
+    let before = c.args.contexts.now in
+    let old = slice_index_or before c.args.place c.index-contexts-place.result in
+    let is_old : old ≡ slice_index_or before c.args.place old = ap (λ d. slice_index_or before c.args.place d) c.index-contexts-place.is in
+    let handled = c.in_ok-response.ensures.handles in
+    unsent theory c.args.moment c.args.message.now c.args.words before c.args.place c.args.canon.now old c.handle.new.self c.requires.there is_old
+    c.send.result c.in_ok-response.response handled.0 handled.1

@@ -1,8 +1,10 @@
-use Rattle.std.proofs.Common.{sym, ◌∙◌}
+use Rattle.std.proofs.Common.{[], sym, ◌∙◌}
 use Rattle.sv_run.specs.Contexts.{theory_of}
 use Rattle.sv_run.specs.Effect.{joined, telling}
 use Rattle.sv_run.specs.Seen.{happening_of}
+use Rattle.sv_run.specs.State.{settled_at}
 use Rattle.sv_host.proofs.Adding.{brings_all}
+use Rattle.sv_host.proofs.Breaking.{broken_event, not_begun}
 use Rattle.sv_host.proofs.Contexts.{alters_behind, moves_alter, moves_join}
 use Rattle.sv_host.proofs.Happening.{accepts_at}
 use Rattle.sv_host.specs.Host.{state_of}
@@ -30,10 +32,29 @@ returns-clause-alters g c =
 pub returns-clause-accepts : goal.returns-clause-accepts
 returns-clause-accepts g c =
     let theory = theory_of g.C.HasContextPath.path_of g.C.Context.conduct g.W.Words.draws in
-    let told = c.expire_all.ensures.expires (sym c.whole.ensures ∙ c.if-not-whole.false) in
+    let told = c.expire_all.ensures.expires in
+    let noted = told.2 (sym c.whole.ensures ∙ c.if-not-whole.false) in
     let happened = c.in-Ok.ensures.happens in (
       joined (telling told.0) happened.0,
       accepts_at theory (state_of c.args.self.now) (happening_of c.args.happening) (state_of c.happen.new.self) c.moment_after-self.result told.0
           c.expire_all.new.self happened.0 c.moment_after-self.ensures c.requires.runs c.requires.fits told.1 happened.1,
-      c.into_reaction.ensures ∙ brings_all c.new-output.result c.expire_all.new.journal told.0 happened.0 _ c.new-output.ensures told.2 happened.2,
+      c.into_reaction.ensures ∙ brings_all c.new-output.result c.expire_all.new.journal told.0 happened.0 _ c.new-output.ensures noted happened.2,
     )
+
+pub returns-then-not-whole-clause-breaks : goal.returns-then-not-whole-clause-breaks
+returns-then-not-whole-clause-breaks g c =
+    let theory = theory_of g.C.HasContextPath.path_of g.C.Context.conduct g.W.Words.draws in
+    let state = state_of c.args.self.now in
+    let happening = happening_of c.args.happening in
+    let told = c.expire_all.ensures.expires in
+    let settled = settled_at c.moment_after-self.result c.expire_all.new.self state in
+    broken_event theory state happening c.moment_after-self.result told.0 c.expire_all.new.self settled.world c.moment_after-self.ensures told.1
+    ([], not_begun theory settled happening)
+
+pub returns-in_default-clause-breaks : goal.returns-in_default-clause-breaks
+returns-in_default-clause-breaks g c =
+    let theory = theory_of g.C.HasContextPath.path_of g.C.Context.conduct g.W.Words.draws in
+    let state = state_of c.args.self.now in
+    let told = c.expire_all.ensures.expires in
+    broken_event theory state (happening_of c.args.happening) c.moment_after-self.result told.0 c.expire_all.new.self (state_of c.happen.new.self).world
+    c.moment_after-self.ensures told.1 c.in_default.ensures.breaks

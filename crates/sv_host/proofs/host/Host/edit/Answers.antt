@@ -1,7 +1,8 @@
-use Rattle.std.proofs.Common.{List, sym, subst}
+use Rattle.std.proofs.Common.{List, ap, sym, subst}
 use Rattle.sv_run.specs.Contexts.{theory_of}
 use Rattle.sv_run.specs.Effect.{editing}
 use Rattle.sv_run.specs.Events.{MovesAll}
+use Rattle.sv_run.specs.State.{world_of}
 use Rattle.sv_host.proofs.Contexts.{moves_none}
 use Rattle.sv_host.proofs.EditedContexts.{edits_state}
 use Rattle.sv_host.specs.Host.{state_of}
@@ -21,3 +22,7 @@ returns-clause-edits g c =
           (c.edit.ensures.edits c.in-Ok.ensures.1),
       c.tell_edited.ensures,
     )
+
+pub returns-in_default-clause-refused : goal.returns-in_default-clause-refused
+returns-in_default-clause-refused g c =
+    ap (λ (contexts : List g.row.C.Denot). world_of contexts c.args.self.now.words) (c.edit.ensures.refused c.in_default.ensures)

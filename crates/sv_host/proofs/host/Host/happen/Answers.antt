@@ -1,9 +1,10 @@
-use Rattle.std.proofs.Common.{ap}
+use Rattle.std.proofs.Common.{ap, refl}
 use Rattle.sv_run.specs.Connections.{connections_of}
 use Rattle.sv_run.specs.Contexts.{theory_of}
 use Rattle.sv_run.specs.Effect.{closing, nothing}
 use Rattle.sv_run.specs.Seen.{happening_of}
 use Rattle.sv_host.proofs.Adding.{adds_closing, adds_nothing}
+use Rattle.sv_host.proofs.Breaking.{broken_off, not_begun_if}
 use Rattle.sv_host.proofs.Contexts.{alters_none, if_err, moves_alter, moves_none}
 use Rattle.sv_host.proofs.EditedContexts.{edits_happen_so}
 use Rattle.sv_host.proofs.Happening.{ends, loses, opens_so, ticks}
@@ -70,3 +71,20 @@ returns-in-Tick-clause-happens g c =
       ticks theory (state_of c.args.self.now) (happening_of c.args.happening) c.in-Tick.moment (ap happening_of c.in-Tick.is),
       adds_nothing g.row.C.Denot c.args.output.now,
     )
+
+pub returns-in-Opened-clause-breaks : goal.returns-in-Opened-clause-breaks
+returns-in-Opened-clause-breaks g c =
+    let theory = theory_of g.C.HasContextPath.path_of g.C.Context.conduct g.W.Words.draws in
+    let state = state_of c.args.self.now in
+    not_begun_if theory state c.open.result (happening_of c.args.happening) state.world (if_err c.open.result refl)
+
+pub returns-in-Piece-clause-breaks : goal.returns-in-Piece-clause-breaks
+returns-in-Piece-clause-breaks g c =
+    let theory = theory_of g.C.HasContextPath.path_of g.C.Context.conduct g.W.Words.draws in
+    broken_off theory (state_of c.args.self.now) c.take_piece.result (happening_of c.args.happening) c.in-Piece.connection c.in-Piece.bytes.now _
+    (state_of c.take_piece.new.self).world (ap happening_of c.in-Piece.is) c.take_piece.ensures.breaks
+
+pub returns-in-Edit-clause-breaks : goal.returns-in-Edit-clause-breaks
+returns-in-Edit-clause-breaks g c =
+    let theory = theory_of g.C.HasContextPath.path_of g.C.Context.conduct g.W.Words.draws in
+    not_begun_if theory (state_of c.args.self.now) c.edit.result (happening_of c.args.happening) (state_of c.edit.new.self).world c.edit.ensures.refused

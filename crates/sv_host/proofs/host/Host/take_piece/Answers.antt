@@ -1,10 +1,12 @@
-use Rattle.std.proofs.Common.{refl, sym, ◌∙◌, subst}
+use Rattle.std.proofs.Common.{List, refl, sym, ◌∙◌, subst}
 use Rattle.sv_run.specs.Connections.{connections_of}
+use Rattle.sv_run.specs.Breaking.{BreaksItems, Given}
 use Rattle.sv_run.specs.Contexts.{theory_of}
 use Rattle.sv_run.specs.Items.{Takes}
 use Rattle.sv_run.specs.State.{world_of}
 use Rattle.sv_host.proofs.Adding.{adds_closes}
-use Rattle.sv_host.proofs.Contexts.{moves_none}
+use Rattle.sv_host.proofs.Breaking.{broken_piece, none_read}
+use Rattle.sv_host.proofs.Contexts.{if_err, moves_none}
 use Rattle.sv_host.proofs.Happening.{fed_known, takes_closing, takes_open}
 use Rattle.sv_host.specs.Host.{state_of}
 use Rattle.sv_host.proofs.host.Host.take_piece.Goals as goal
@@ -44,3 +46,17 @@ returns-clause-takes g c =
           (sym (adds_closes c.args.output.now c.take_items.new.output taken.0 taken.2 c.requires.unclosed) ∙ c.if-not-output.false),
       taken.2,
     )
+
+pub returns-in_err-items-clause-breaks : goal.returns-in_err-items-clause-breaks
+returns-in_err-items-clause-breaks g c =
+    none_read (theory_of g.C.HasContextPath.path_of g.C.Context.conduct g.W.Words.draws) (state_of c.args.self.now) _ c.args.number c.args.piece.now
+
+pub returns-in_err-take_items-clause-breaks : goal.returns-in_err-take_items-clause-breaks
+returns-in_err-take_items-clause-breaks g c =
+    let theory = theory_of g.C.HasContextPath.path_of g.C.Context.conduct g.W.Words.draws in
+    let host = c.args.self.now in
+    let reached = world_of c.take_items.new.contexts c.take_items.new.words in
+    if_err _
+    (broken_piece theory (state_of host) c.args.number c.args.piece.now c.in_ok-items.items.items (connections_of c.feed.new.self) reached c.in_ok-items.ensures
+    (subst (λ all. (given : List (Given g.row.C.Denot)) × BreaksItems theory host.moment all (world_of host.contexts host.words) given reached)
+    c.deref.ensures.value c.in_err-take_items.ensures.breaks))

@@ -21,12 +21,12 @@ returns-clause-moves g c =
     (moves_lent conduct held c.as_mut_slice.result.now c.expire_all.new.contexts all c.as_mut_slice.ensures.value c.expire_all.ensures.moves)
 
 pub returns-clause-expires : goal.returns-clause-expires
-returns-clause-expires g c = λ whole.
+returns-clause-expires g c =
     let conduct = g.C.Context.conduct in
     let held = c.self.inside.contexts in
     let settled = c.expire_all.new.contexts in
     let all : length settled ≡ held.len = omega (arith, c.expire_all.auto.contexts, c.as_mut_slice.ensures.len) in
-    let ended = c.expire_all.ensures.expires whole in (
+    let ended = c.expire_all.ensures.expires in (
       ended.0,
       subst (λ after. ExpiresAll conduct c.args.self.now c.args.moment ended.0 after) (sym (with_items_is held settled all))
           (subst (λ before. ExpiresAll conduct before c.args.moment ended.0 settled) c.self.view_is

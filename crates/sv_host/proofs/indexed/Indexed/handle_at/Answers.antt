@@ -1,6 +1,7 @@
-use Rattle.std.proofs.Common.{◌≡◌, ◌<◌, List, length, IfOk, slice_get, subst, sym, ap, ◌∙◌, arith}
+use Rattle.std.proofs.Common.{◌≡◌, ◌<◌, List, length, IfErr, IfOk, slice_get, subst, sym, ap, ◌∙◌, arith}
 use Rattle.std.proofs.lemmas.List.{with_items_is}
 use Rattle.std.specs.Vec.{with_items}
+use Rattle.sv_run.specs.Breaking.{BreaksAnswer, Given}
 use Rattle.sv_run.specs.Contexts.{theory_of}
 use Rattle.sv_run.specs.Effect.{Effect}
 use Rattle.sv_run.specs.Events.{MovesAll}
@@ -47,3 +48,18 @@ returns-clause-responds g c =
     × Responds theory c.args.moment (Within c.args.place c.args.canon.now) c.args.message.now c.args.words start effect after
     × Adds c.args.output.now effect c.handle_at.new.output))
     (c.as_mut_slice.ensures.value ∙ c.self.view_is) c.handle_at.ensures.responds)
+
+pub returns-clause-breaks : goal.returns-clause-breaks
+returns-clause-breaks g c =
+    let theory = theory_of g.C.HasContextPath.path_of g.C.Context.conduct g.W.Words.draws in
+    let held = c.self.inside.contexts in
+    let after = c.handle_at.new.contexts in
+    let all : length after ≡ held.len = omega (arith, c.handle_at.auto.contexts, c.as_mut_slice.ensures.len) in
+    subst
+    (λ (end : List g.row.C.Denot). IfErr c.handle_at.result (λ _. (given : List (Given g.row.C.Denot))
+    × BreaksAnswer theory c.args.moment (Within c.args.place c.args.canon.now) c.args.message.now c.args.words c.args.self.now given end))
+    (sym (with_items_is held after all))
+    (subst
+    (λ (start : List g.row.C.Denot). IfErr c.handle_at.result (λ _. (given : List (Given g.row.C.Denot))
+    × BreaksAnswer theory c.args.moment (Within c.args.place c.args.canon.now) c.args.message.now c.args.words start given after))
+    (c.as_mut_slice.ensures.value ∙ c.self.view_is) c.handle_at.ensures.breaks)

@@ -1,0 +1,5 @@
+use Rattle.sv_conduct.proofs.Undispatched as lemmas
+use Rattle.sv_conduct.proofs.refused.the_undispatched_call_none.Goals as goal
+
+pub returns : goal.returns
+returns g c = lemmas.the_undispatched_call_none g.S.Servlet.servlet_step g.F.Filter.filter_step g.L.Listener.listener_step g.W.Words.draws
