@@ -60,7 +60,8 @@ fn message(alloc: Global) -> Option<Message> {
 
 /// Ends an exchange: the length of its body.
 pub fn finished_len(exchange: Exchange) -> usize {
-    match exchange.finish().0.body {
+    let (response, _sessions) = exchange.finish();
+    match &response.body {
         Body::Whole(body) => body.as_slice().len(),
         Body::Flushed { .. } => 0,
     }
