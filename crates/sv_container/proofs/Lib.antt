@@ -2,4 +2,5 @@ mod Counting
 mod Deploying
 mod Mapping
 mod Moving
+mod Quiet
 mod Repeating

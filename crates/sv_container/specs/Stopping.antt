@@ -1,11 +1,14 @@
 -- The stop of a container (Jakarta Servlet 6.0, sections 2.3.4, 6.2.1 and 11.3.4).
-use Rattle.std.specs.Prelude.{◌≡◌, Bool, true, false, List, map}
+use Rattle.std.specs.Prelude.{◌≡◌, Bool, true, false, List, [], ◌∷◌, length, map}
 use Rattle.sv_component.specs.Call.{Call}
+use Rattle.sv_component.specs.Runs.{Runs}
 use Rattle.sv_container.specs.Deploying.{UndeploysAll}
 use Rattle.sv_context.specs.Forgetting.{without_sessions}
-use Rattle.sv_context.specs.State.{ContextState}
+use Rattle.sv_context.specs.State.{ContextState, in_service, world_of}
 use Rattle.sv_context.specs.declared.deployment.Deployment.{Deployment}
 use Rattle.sv_journal.specs.Journal.{JournalState, broken, new_journal}
+use Rattle.sv_lifecycle.specs.Calls.{stop_calls}
+use Rattle.sv_lifecycle.specs.World.{world}
 use Rattle.sv_lifecycle.specs.declared.parts.Parts.{Parts}
 use Rattle.sv_run.specs.State.{State}
 
@@ -26,3 +29,22 @@ module _ {S F L : Type 0} (servlet_step : S → Call → S → Type 0) (filter_s
     pub undeploys : UndeploysAll servlet_step filter_step listener_step
         (contexts_to_stop state.stopped state.world.contexts) (journal_to_stop state.stopped) back journal
     pub are : parts ≡ map (λ deployment. deployment.parts) back
+
+  -- a context stops as if it had no session: what was initialised and is not gone is destroyed, in the reverse of the order of the inits, and then
+  -- each listener hears in reverse that the context stops
+  abbrev pub StopsQuietly : ContextState S F L → JournalState → Parts S F L → JournalState → Type 0
+  StopsQuietly context before parts after =
+      Runs servlet_step filter_step listener_step (world_of context before)
+      (stop_calls (length context.listeners) (in_service context) []) (world context.content.context_path parts after)
+
+  abbrev pub AllStopQuietly : List (ContextState S F L) → JournalState → List (Parts S F L) → JournalState → Type 0
+  AllStopQuietly [] before parts after = (parts ≡ []) × (after ≡ before)
+  AllStopQuietly (context ∷ contexts) before parts after =
+      (first : Parts S F L) × (others : List (Parts S F L)) × (between : JournalState)
+      × StopsQuietly context before first between × AllStopQuietly contexts between others after × (parts ≡ first ∷ others)
+
+  -- so each context of a container stops that an event has stopped which wanted memory
+  abbrev pub StoppedContainersStopQuietly : Type 0 → Type 0
+  StoppedContainersStopQuietly Words =
+      (state : State (ContextState S F L) Words) (parts : List (Parts S F L)) (journal : JournalState) → state.stopped ≡ true
+      → ShutsDown state parts journal → AllStopQuietly state.world.contexts (broken new_journal) parts journal

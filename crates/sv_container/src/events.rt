@@ -1,8 +1,10 @@
 //! The events of a container.
 
 ghost use Rattle.sv_container.specs.Container.{state_of};
+ghost use Rattle.sv_context.specs.Conduct.{conduct};
 ghost use Rattle.sv_context.specs.Theory.{theory};
 ghost use Rattle.sv_host.specs.Host.{StepsSo};
+ghost use Rattle.sv_run.specs.Events.{AltersAll};
 ghost use Rattle.sv_run.specs.Seen.{happening_of};
 
 use crate::container::Container;
@@ -15,10 +17,12 @@ impl<S: Servlet, F: Filter, L: Listener, W: Words> Container<S, F, L, W> {
     ///
     /// # Errors
     /// [`StepFault`], the first that stands. After one other than `NoMemory` nothing has changed. After `NoMemory` what the event brought is
-    /// lost, the components were moved by some of the calls, each further event is refused as `Stopped`, and the container can be shut down.
+    /// lost: the sessions that have expired have ended, the event broke off, each further event is refused as `Stopped`, and the container can be
+    /// shut down. Each context was moved by the calls made so far, of which those that put a servlet out of service for good destroyed it, once.
     pub fn step(&mut self, happening: Happening) -> Result<Reaction, StepFault>
-        ensures { StepsSo (theory S.servlet_step F.filter_step L.listener_step W.draws)
+        ensures steps { StepsSo (theory S.servlet_step F.filter_step L.listener_step W.draws)
             (state_of self.old) (happening_of happening.entry) result (state_of self.new) }
+        ensures alters { AltersAll (conduct S.servlet_step F.filter_step L.listener_step) (state_of self.old).world.contexts (state_of self.new).world.contexts }
     {
         self.host.step(happening)
     }

@@ -14,7 +14,9 @@ mod starting;
 mod stopping;
 
 pub use container::Container;
-pub use laws::{containers_explain_what_was_deployed, limits_are_as_stated};
+pub use laws::{
+    containers_explain_what_was_deployed, limits_are_as_stated, stopped_containers_stop_quietly,
+};
 pub use limits::MAX_CONTEXTS;
 pub use new_fault::{NewCode, NewFault};
 pub use stopping::Shutdown;

@@ -1,0 +1,5 @@
+use Rattle.sv_container.proofs.Quiet.{stopped_stop_quietly}
+use Rattle.sv_container.proofs.laws.stopped_containers_stop_quietly.Goals as goal
+
+pub returns : goal.returns
+returns g c = stopped_stop_quietly g.S.Servlet.servlet_step g.F.Filter.filter_step g.L.Listener.listener_step g.row.W.Denot
