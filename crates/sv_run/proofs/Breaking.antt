@@ -113,7 +113,7 @@ module _ {Context Words : Type 0} (theory : Theory Context Words) {X : Type 0} (
         → Untouched given → Same before.contexts after.contexts
     items_same moment items before after given breaks untouched =
         let both = all_parts (λ (it : Given Context). it.place ≡ place → touches it.context it.request ≡ false) (given_for_all breaks.effect.deeds) breaks.last
-            (subst Untouched breaks.is_given untouched) in
+        (subst Untouched breaks.is_given untouched) in
         broken_same moment breaks.item breaks.between after breaks.last breaks.breaks both.1
         ∙ takes_same moment breaks.front before breaks.between breaks.effect breaks.takes both.0
 
