@@ -24,7 +24,7 @@ fn main(rt: HostRuntime) -> ExitCode {
     }
 }
 
-/// Runs the command that the arguments name. Arguments that cannot be read name none.
+/// Runs the command that the arguments name. Arguments that cannot be read name none, and where there is no memory for them that is the fault.
 fn run<
     R: Env
         + Files
@@ -38,10 +38,8 @@ fn run<
         + Clone
         + Drop,
 >(rt: &R) -> Result<(), ProgramFault> {
-    let Ok(arguments) = env::args(rt) else {
-        return Err(ProgramFault::Usage);
-    };
-    let arguments: Vec<String> = arguments
+    let arguments: Vec<String> = env::args(rt)
+        .map_err(ProgramFault::of_arguments)?
         .skip(1)
         .collect(rt.alloc())
         .map_err(CommandFault::from)?;

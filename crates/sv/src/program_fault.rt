@@ -1,21 +1,33 @@
 //! Why the program ended early: its line on standard error and its exit status.
 
 ghost use Rattle.std.specs.Prelude.{◌≡◌, Some};
-ghost use Rattle.sv.specs.ProgramFault.{program_fault_line, program_status};
+ghost use Rattle.std.specs.IoError.{error_kind};
+ghost use Rattle.sv.specs.ProgramFault.{arguments_fault, program_fault_line, program_status};
 
-use std::fmt;
+use std::io::ErrorKind;
+use std::{fmt, io};
 use sv_program::CommandFault;
 
 /// Why the program ended early. Its text is the line that it writes on standard error.
 #[derive(Drop)]
 pub enum ProgramFault {
-    /// The arguments name no command, or cannot be read: `sv: usage`, status 2. Nothing was read or written.
+    /// The arguments name no command, or one of them is not UTF-8: `sv: usage`, status 2. Nothing was read or written.
     Usage,
     /// The command ended with this fault: its line and its status.
     Command(CommandFault),
 }
 
 impl ProgramFault {
+    /// The fault of arguments that could not be read: want of memory where that was the error, else that they name no command.
+    pub fn of_arguments(error: io::Error) -> ProgramFault
+        ensures { result ≡ arguments_fault (error_kind error) }
+    {
+        match error.kind() {
+            ErrorKind::OutOfMemory => ProgramFault::Command(CommandFault::NoMemory),
+            _ => ProgramFault::Usage,
+        }
+    }
+
     /// The exit status of the program that ends with this fault.
     pub fn status(&self) -> u8
         ensures { result ≡ program_status self.now }

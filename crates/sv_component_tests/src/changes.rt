@@ -6,7 +6,7 @@ use sv_exchange::Exchange;
 use sv_head::Field;
 use sv_rows::{Asks, Draft, Strays, cell, hold};
 use sv_text::NoMemory;
-use sv_wire::Response;
+use sv_wire::{Body, Response, write_response};
 
 /// Calls, the answer to the last one, and the response: its status, its fields, its body.
 const STATUSES: &str = r#"
@@ -15,8 +15,8 @@ status 404                     | done      | 404 | ""                | ""
 status 200                     | done      | 200 | ""                | ""
 status 599                     | done      | 599 | ""                | ""
 status 404; status 403         | done      | 403 | ""                | ""
-flush; status 404              | ignored   | 200 | ""                | ""
-status 403; flush; status 404  | ignored   | 403 | ""                | ""
+flush; status 404              | ignored   | 200 | ""                | 0\r\n\r\n
+status 403; flush; status 404  | ignored   | 403 | ""                | 0\r\n\r\n
 enter INCLUDE; status 404      | ignored   | 200 | ""                | ""
 enter INCLUDE; enter FORWARD; status 404 | ignored | 200 | ""        | ""
 visit INCLUDE; status 404      | done      | 404 | ""                | ""
@@ -54,9 +54,9 @@ set set-cookie=k=v             | done      | 200 | set-cookie: k=v   | ""
 set location=/x                | done      | 200 | location: /x      | ""
 set allow=GET                  | done      | 200 | allow: GET        | ""
 set retry-after=1              | done      | 200 | retry-after: 1    | ""
-flush; set a=1                 | ignored   | 200 | ""                | ""
-flush; add a=1                 | ignored   | 200 | ""                | ""
-set a=1; flush; set a=2        | ignored   | 200 | a: 1              | ""
+flush; set a=1                 | ignored   | 200 | ""                | 0\r\n\r\n
+flush; add a=1                 | ignored   | 200 | ""                | 0\r\n\r\n
+set a=1; flush; set a=2        | ignored   | 200 | a: 1              | 0\r\n\r\n
 enter INCLUDE; set a=1         | ignored   | 200 | ""                | ""
 enter INCLUDE; add a=1         | ignored   | 200 | ""                | ""
 enter FORWARD; set a=1         | done      | 200 | a: 1              | ""
@@ -86,34 +86,41 @@ add a=\x00                     | BadHeader | 200 | ""                | ""
 set a=\x7F                     | BadHeader | 200 | ""                | ""
 set a=1; set a=1\n2            | BadHeader | 200 | a: 1              | ""
 set date=1\n2                  | ignored   | 200 | ""                | ""
-flush; set a b=1               | ignored   | 200 | ""                | ""
+flush; set a b=1               | ignored   | 200 | ""                | 0\r\n\r\n
 enter INCLUDE; add a=1\n2      | ignored   | 200 | ""                | ""
 "#;
 
 /// The same of bodies. One of more than a hundred bytes is told by its length.
 const BODIES: &str = r#"
--- a body is written whatever else is under way, and emptied for dispatches
+-- a body is written whatever else is under way, and emptied for dispatches; behind a flush it leaves in chunks (RFC 9112, section 7.1)
 write x                        | done      | 200 | ""                | x
 write x; write                 | done      | 200 | ""                | x
 write x; write yz              | done      | 200 | ""                | xyz
-flush; write x                 | done      | 200 | ""                | x
+flush; write x                 | done      | 200 | ""                | 1\r\nx\r\n0\r\n\r\n
+write x; flush; write yz       | done      | 200 | ""                | 1\r\nx\r\n2\r\nyz\r\n0\r\n\r\n
+write x; flush; flush; write y; flush | done | 200 | ""              | 1\r\nx\r\n1\r\ny\r\n0\r\n\r\n
+write 0123456789ab; flush      | done      | 200 | ""                | c\r\n0123456789ab\r\n0\r\n\r\n
+write x; flush; clear; write y | done      | 200 | ""                | 1\r\nx\r\n1\r\ny\r\n0\r\n\r\n
+write x; flush; reset; write y | done      | 200 | ""                | 1\r\nx\r\n1\r\ny\r\n0\r\n\r\n
 enter INCLUDE; write x         | done      | 200 | ""                | x
 visit INCLUDE; write x         | done      | 200 | ""                | x
-flush                          | done      | 200 | ""                | ""
-flush; flush                   | done      | 200 | ""                | ""
-enter INCLUDE; flush           | done      | 200 | ""                | ""
-enter INCLUDE; flush; status 404 | ignored | 200 | ""                | ""
+flush                          | done      | 200 | ""                | 0\r\n\r\n
+flush; flush                   | done      | 200 | ""                | 0\r\n\r\n
+enter INCLUDE; flush           | done      | 200 | ""                | 0\r\n\r\n
+enter INCLUDE; flush; status 404 | ignored | 200 | ""                | 0\r\n\r\n
 status 404; set a=1; write x; clear | done | 404 | a: 1              | ""
 status 404; set a=1; write x; reset | done | 404 | ""                | ""
-status 404; flush; reset; status 403 | ignored | 404 | ""            | ""
--- at most 4 MiB: a write that would pass them writes nothing
+status 404; flush; reset; status 403 | ignored | 404 | ""            | 0\r\n\r\n
+-- at most 4 MiB, with what was flushed: a write that would pass them writes nothing
 fill 4194304                   | done      | 200 | ""                | 4194304 bytes
 fill 4194305                   | TooLarge  | 200 | ""                | ""
 write ab; fill 4194303         | TooLarge  | 200 | ""                | ab
 write ab; fill 4194302         | done      | 200 | ""                | 4194304 bytes
 fill 4194304; write y          | TooLarge  | 200 | ""                | 4194304 bytes
 fill 4194304; write            | done      | 200 | ""                | 4194304 bytes
-flush; enter INCLUDE; fill 4194305 | TooLarge | 200 | ""             | ""
+flush; enter INCLUDE; fill 4194305 | TooLarge | 200 | ""             | 0\r\n\r\n
+write ab; flush; fill 4194303  | TooLarge  | 200 | ""                | 2\r\nab\r\n0\r\n\r\n
+write ab; flush; fill 4194302  | done      | 200 | ""                | 4194324 bytes
 write ab; clear; fill 4194304  | done      | 200 | ""                | 4194304 bytes
 "#;
 
@@ -146,18 +153,33 @@ impl Sees for Changes {
         seen.add(" | ");
     }
 
-    fn add_response(&self, response: &Response, seen: &mut Draft) {
+    fn add_response(&self, alloc: Global, response: &Response, seen: &mut Draft) {
         seen.add_shown(&response.status);
         seen.add(" | ");
-        add_fields_and_body(seen, response);
+        add_fields_and_body(alloc, seen, response);
     }
 }
 
 /// Adds the fields and the body of a response.
-pub fn add_fields_and_body(text: &mut Draft, response: &Response) {
+pub fn add_fields_and_body(alloc: Global, text: &mut Draft, response: &Response) {
     add_fields(text, response.fields.as_slice());
     text.add(" | ");
-    add_body(text, response.body.as_slice());
+    match &response.body {
+        Body::Whole(body) => add_body(text, body.as_slice()),
+        Body::Flushed { .. } => add_sent(alloc, text, response),
+    }
+}
+
+/// Adds what is sent behind the head of a response.
+fn add_sent(alloc: Global, text: &mut Draft, response: &Response) {
+    let mut sent = Vec::new(alloc);
+    if !response.has_status_code() || write_response(response, false, true, 0, &mut sent).is_err() {
+        text.fail();
+        return;
+    }
+    let sent = std::str::from_utf8(sent.as_slice()).unwrap_or("");
+    let (_, body) = sent.split_once("\r\n\r\n").unwrap_or((sent, ""));
+    add_body(text, body.as_bytes());
 }
 
 /// Adds fields with commas between them.

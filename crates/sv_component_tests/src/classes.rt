@@ -4,7 +4,7 @@ use crate::changes::add_fields_and_body;
 use crate::runs::{Sees, add_seen};
 use std::alloc::Global;
 use sv_classes::{
-    Bad, Bye, ErrorCode, Fail, Go, Gone, Halt, Keep, Log, Mark, Nest, Out, Paths, Who,
+    Bad, Bye, ErrorCode, Fail, Go, Gone, Halt, Keep, Log, Mark, Nest, Out, Paths, Stream, Who,
 };
 use sv_component::{
     Config, Event, Exchange, Filter, Init, Listener, Param, Servlet, gate_answer, init_answer,
@@ -19,7 +19,7 @@ use sv_wire::Response;
 /// `before`, the fields and the body of the response.
 const CLASSES: &str = r#"
 -- the component classes of the program
-Who  | who  | flush                 | Ready  | Done | ""                       | caller -\n
+Who  | who  | flush                 | Ready  | Done | ""                       | 9\r\ncaller -\n\r\n0\r\n\r\n
 Who  | who  | status 404            | Ready  | Done | content-type: text/plain | caller -\n
 Who  | who  | enter INCLUDE         | Ready  | Done | ""                       | caller -\n
 Who  | who  | write x               | Ready  | Done | content-type: text/plain | xcaller -\n
@@ -29,7 +29,7 @@ Halt | h    | status 404            | Ready  | Stop | content-type: text/plain |
 Halt | h    | enter INCLUDE         | Ready  | Stop | ""                       | halt\n
 Mark | f1   | status 404            | Ready  | Pass | x-mark: f1               | ""
 Mark | f1   | add X-Mark=f0         | Ready  | Pass | x-mark: f0, x-mark: f1   | ""
-Mark | f1   | flush                 | Ready  | Pass | ""                       | ""
+Mark | f1   | flush                 | Ready  | Pass | ""                       | 0\r\n\r\n
 Mark | f\n1 | status 404            | Ready  | Pass | ""                       | ""
 Bad  | b    | status 404            | Failed | Pass | ""                       | ""
 -- Jakarta Servlet 6.0, section 3.5: the paths of the request, in an include those of the includer
@@ -64,11 +64,17 @@ Err  | e code=           | status 404    | Ready | Error 0        | ""          
 Err  | e                 | status 404    | Ready | Error 0        | ""                       | ""
 -- without a session, and without room for one
 Keep | k                 | write x       | Ready | Error 503      | ""                       | x
-Keep | k                 | flush         | Ready | Error 503      | ""                       | ""
+Keep | k                 | flush         | Ready | Error 503      | ""                       | 0\r\n\r\n
 Bye  | b                 | write x       | Ready | Done | content-type: text/plain | xbye\n
-Bye  | b                 | flush         | Ready | Done | ""                       | bye\n
+Bye  | b                 | flush         | Ready | Done | ""                       | 4\r\nbye\n\r\n0\r\n\r\n
 Out  | o                 | write x       | Ready | Done | content-type: text/plain | xout\n
 Out  | o                 | enter INCLUDE | Ready | Done | ""                       | out\n
+-- section 5.1: what was written is flushed, and what follows leaves behind it
+Stream | s               | status 404    | Ready | Done | content-type: text/plain | 4\r\none\n\r\n4\r\ntwo\n\r\n0\r\n\r\n
+Stream | s kind=         | write x       | Ready | Done | content-type: text/plain | 5\r\nxone\n\r\n4\r\ntwo\n\r\n0\r\n\r\n
+Stream | s               | flush         | Ready | Done | ""                       | 4\r\none\n\r\n4\r\ntwo\n\r\n0\r\n\r\n
+Stream | s               | enter INCLUDE | Ready | Done | ""                       | 4\r\none\n\r\n4\r\ntwo\n\r\n0\r\n\r\n
+Stream | s kind=K kind=L | status 404    | Ready | Failed K | content-type: text/plain | 4\r\none\n\r\n4\r\ntwo\n\r\n0\r\n\r\n
 "#;
 
 #[test]
@@ -102,8 +108,8 @@ impl Sees for Classes {
         }
     }
 
-    fn add_response(&self, response: &Response, seen: &mut Draft) {
-        add_fields_and_body(seen, response);
+    fn add_response(&self, alloc: Global, response: &Response, seen: &mut Draft) {
+        add_fields_and_body(alloc, seen, response);
     }
 }
 
@@ -152,6 +158,7 @@ fn add_calls_of_other(
         "Gone" => served(alloc, Gone::new(), config, exchange, told),
         "Keep" => served(alloc, Keep::new(), config, exchange, told),
         "Bye" => served(alloc, Bye::new(), config, exchange, told),
+        "Stream" => served(alloc, Stream::new(alloc), config, exchange, told),
         _ => served(alloc, Out::new(), config, exchange, told),
     }
 }

@@ -138,7 +138,7 @@ impl Sees for Readings {
         add_reading(seen, exchange, said, cell(row, 1));
     }
 
-    fn add_response(&self, _response: &Response, _seen: &mut Draft) {}
+    fn add_response(&self, _alloc: Global, _response: &Response, _seen: &mut Draft) {}
 }
 
 fn add_reading(reading: &mut Draft, exchange: &Exchange, said: &str, asked: &str) {

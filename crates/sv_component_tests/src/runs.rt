@@ -22,7 +22,7 @@ pub trait Sees {
     );
 
     /// Adds what is seen of its response.
-    fn add_response(&self, response: &Response, seen: &mut Draft);
+    fn add_response(&self, alloc: Global, response: &Response, seen: &mut Draft);
 }
 
 /// Makes calls on an exchange, which stand between semicolons, and adds what is seen behind them.
@@ -83,5 +83,5 @@ fn run<S: Sees>(
     let said = call_all(alloc, &mut exchange, calls);
     sees.add_exchange(alloc, row, said, &mut exchange, seen);
     let (response, _sessions) = exchange.finish();
-    sees.add_response(&response, seen);
+    sees.add_response(alloc, &response, seen);
 }

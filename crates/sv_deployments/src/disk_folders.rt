@@ -1,4 +1,7 @@
-//! The folders of the operating system. What they hold is known to no contract.
+//! The folders of the operating system. What they hold is known to no contract, but how much of it is taken is.
+
+ghost use Rattle.std.specs.Prelude.{◌≡◌, ◌+◌, ◌≤◌, IfOk, IfSome, length, nat_lt};
+ghost use Rattle.sv_files.specs.declared.limits.TheConstants.{MAX_FILES};
 
 use crate::folder_store::FolderStore;
 use std::alloc::Global;
@@ -6,26 +9,37 @@ use std::fs::{DirEntry, read_dir};
 use std::io::{ErrorKind, Read};
 use std::rt::Files;
 use std::{fs, io};
-use sv_files::{File, MAX_FILE_BYTES};
+use sv_files::{File, MAX_FILE_BYTES, MAX_FILES};
 use sv_program::Disk;
 use sv_text::{Bytes, Listed, NoMemory, Text};
 
 impl<F: Files + AllocGlobal + Clone + Drop> FolderStore for Disk<'_, F> {
     fn read_files(&mut self, alloc: Global, name: &str) -> Result<Option<Listed<File>>, NoMemory> {
-        let mut walk = Walk {
-            folder: name,
-            waiting: Vec::new(alloc),
-            files: Vec::new(alloc),
-        };
-        match walk.read_all(alloc, self.handle()) {
-            Ok(()) => Ok(Some(Listed::from_vec(walk.files))),
-            Err(error) if error.kind() == ErrorKind::OutOfMemory => Err(NoMemory),
-            Err(_) => Ok(None),
-        }
+        read_folder(alloc, self.handle(), name)
     }
 }
 
-/// A walk through a folder and those below it. Paths are from the folder on; its own is empty.
+// The files in the folder of this name, up to the first too many.
+fn read_folder<F: Files + AllocGlobal + Clone + Drop>(
+    alloc: Global,
+    files: &F,
+    name: &str,
+) -> Result<Option<Listed<File>>, NoMemory>
+    ensures { IfOk result (λ found. IfSome found (λ list. length list ≤ MAX_FILES + 1)) }
+{
+    let mut walk = Walk {
+        folder: name,
+        waiting: Vec::new(alloc),
+        files: Vec::new(alloc),
+    };
+    match walk.read_all(alloc, files) {
+        Ok(()) => Ok(Some(Listed::from_vec(walk.files))),
+        Err(error) if error.kind() == ErrorKind::OutOfMemory => Err(NoMemory),
+        Err(_) => Ok(None),
+    }
+}
+
+/// A walk through a folder and those below it, which ends at the first file too many. Paths are from the folder on; its own is empty.
 #[derive(Drop)]
 struct Walk<'a> {
     folder: &'a str,
@@ -39,31 +53,49 @@ impl Walk<'_> {
         &mut self,
         alloc: Global,
         files: &F,
-    ) -> io::Result<()> {
+    ) -> io::Result<()>
+        requires { length self.old.files.items ≤ MAX_FILES + 1 }
+        ensures { length self.new.files.items ≤ MAX_FILES + 1 }
+    {
         self.waiting.push(String::new(alloc))?;
         for _ in 0..u64::MAX {
             let Some(path) = self.waiting.pop() else {
                 return Ok(());
             };
             self.read_entries(alloc, files, path.as_str())?;
+            if self.has_too_many() {
+                return Ok(());
+            }
         }
         Err(io::Error::from(ErrorKind::Other))
     }
 
-    // Reads the entries of the folder of this path.
+    // Reads the entries of the folder of this path, up to the first file too many.
     fn read_entries<F: Files + AllocGlobal + Clone + Drop>(
         &mut self,
         alloc: Global,
         files: &F,
         path: &str,
-    ) -> io::Result<()> {
+    ) -> io::Result<()>
+        requires { length self.old.files.items ≤ MAX_FILES + 1 }
+        ensures { length self.new.files.items ≤ MAX_FILES + 1 }
+    {
         let folder = format!(in alloc; "{}{path}", self.folder)?;
         for entry in read_dir(files, folder.as_str())? {
+            if self.has_too_many() {
+                return Ok(());
+            }
             let entry = entry?;
             let path = format!(in alloc; "{path}/{}", entry.file_name())?;
             self.take(alloc, files, &entry, path)?;
         }
         Ok(())
+    }
+
+    fn has_too_many(&self) -> bool
+        ensures { result ≡ nat_lt MAX_FILES (length self.now.files.items) }
+    {
+        self.files.len() > MAX_FILES
     }
 
     // Takes an entry of this path: a folder is to be read, and a regular file is read.
@@ -73,7 +105,10 @@ impl Walk<'_> {
         files: &F,
         entry: &DirEntry<F>,
         path: String,
-    ) -> io::Result<()> {
+    ) -> io::Result<()>
+        requires { length self.old.files.items ≤ MAX_FILES }
+        ensures { length self.new.files.items ≤ MAX_FILES + 1 }
+    {
         let kind = entry.file_type()?;
         if kind.is_dir() {
             self.waiting.push(path)?;

@@ -15,7 +15,8 @@ pub trait FolderStore {
 
     /// The regular files in the folder of this name and in the folders below it, each by its path from the folder on, which begins with `/`. None
     /// where the folder or one below it cannot be read, or holds an entry that is neither a regular file nor a folder, or whose name is not UTF-8.
-    /// A file of more than [`MAX_FILE_BYTES`](sv_files::MAX_FILE_BYTES) bytes may be cut behind one byte more.
+    /// A file of more than [`MAX_FILE_BYTES`](sv_files::MAX_FILE_BYTES) bytes may be cut behind one byte more, and a list of more than
+    /// [`MAX_FILES`](sv_files::MAX_FILES) files behind one file more.
     fn read_files(&mut self, alloc: Global, name: &str) -> Result<Option<Listed<File>>, NoMemory>
         ensures { IfOk result (λ files. gives_files self.old name.now files self.new) };
 }

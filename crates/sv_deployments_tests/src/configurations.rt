@@ -7,7 +7,8 @@ use sv_program::CommandFault;
 use sv_rows::{Asks, Draft, Strays, cell, hold};
 use sv_text::NoMemory;
 
-/// The line of the fault, or what is deployed: the port, and of each context its path, and how many files, users and servlets it has.
+/// The line of the fault, or what is deployed: the port, and of each context its path, and how many files, users and servlets it has. Where the
+/// row has a further cell, the names that are asked for follow.
 struct Deployed;
 
 impl Asks for Deployed {
@@ -21,23 +22,11 @@ impl Asks for Deployed {
             Err(CommandFault::NoMemory) => return Err(NoMemory),
             Err(fault) => draft.add_shown(&fault),
         }
-        draft.add_to(answer)
-    }
-}
-
-/// The names that are asked for.
-struct Asked;
-
-impl Asks for Asked {
-    const QUESTION: usize = 4;
-
-    fn answer(&self, alloc: Global, row: &str, answer: &mut Vec<u8>) -> Result<(), NoMemory> {
-        let mut store = store_of(alloc, row);
-        if let Err(CommandFault::NoMemory) = read_deployments(alloc, &mut store, "in/server.toml") {
-            return Err(NoMemory);
+        if !cell(row, 5).is_empty() {
+            draft.add(" | ");
+            draft.add(store.asked.as_str().trim_end());
         }
-        answer.extend_from_slice(store.asked.as_str().trim_end().as_bytes())?;
-        Ok(())
+        draft.add_to(answer)
     }
 }
 
@@ -63,11 +52,13 @@ fn show(draft: &mut Draft, configuration: &Configuration) {
     }
 }
 
-/// What is missing; the classes of the two contexts' servlets; the static files of the first; what is deployed, or the fault.
+/// What is missing; the classes of the two contexts' servlets; the static files of the first; what is deployed, or the fault; what is asked for.
 const DEPLOYED: &str = r#"
 -              | Who  | Keep | /a.txt /b/c.txt | 7 :2:1 /two:0:1
+-- names are taken from the folder of the server file, each is asked for once, and an empty name of a folder is not asked for
+-              | Who  | Keep | /a.txt          | 7 :1:1 /two:0:1 | in/server.toml in/root.toml in/users.toml in/two.toml in/files
+in/server.toml | Who  | Keep | /a.txt          | sv: file in/server.toml | in/server.toml
 -- a file or a folder that is not to be had is told by its name as it was written
-in/server.toml | Who  | Keep | /a.txt          | sv: file in/server.toml
 in/root.toml   | Who  | Keep | /a.txt          | sv: file root.toml
 in/users.toml  | Who  | Keep | /a.txt          | sv: file users.toml
 in/files       | Who  | Keep | /a.txt          | sv: file files
@@ -89,19 +80,7 @@ in/two.toml    | Nope | Keep | /a.txt          | sv: class Nope
 -              | Who  | ""   | /a.txt          | sv: descriptor /two 12 servlet-class
 "#;
 
-/// What is missing; the classes of the two contexts' servlets; the static files of the first; the names that are asked for.
-const ASKED: &str = r#"
--- names are taken from the folder of the server file; an empty name of a folder is not asked for
--              | Who  | Keep | /a.txt | in/server.toml in/root.toml in/users.toml in/two.toml in/files
-in/server.toml | Who  | Keep | /a.txt | in/server.toml
-"#;
-
 #[test]
 fn a_server_deploys_its_contexts_or_has_a_first_fault(rt: HostRuntime) -> Result<(), Strays> {
     hold(&rt, &[DEPLOYED], &Deployed)
-}
-
-#[test]
-fn each_file_and_folder_is_asked_for_once(rt: HostRuntime) -> Result<(), Strays> {
-    hold(&rt, &[ASKED], &Asked)
 }

@@ -6,7 +6,7 @@ use sv_measure::{HEAD, Work};
 use sv_session::Sessions;
 use sv_uri::canon;
 use sv_uri::path::Canon;
-use sv_wire::{CookieSettings, Inbox, Item, Message};
+use sv_wire::{Body, CookieSettings, Inbox, Item, Message};
 
 /// A request with ten fields, and its path.
 #[derive(Drop)]
@@ -60,7 +60,10 @@ fn message(alloc: Global) -> Option<Message> {
 
 /// Ends an exchange: the length of its body.
 pub fn finished_len(exchange: Exchange) -> usize {
-    exchange.finish().0.body.as_slice().len()
+    match exchange.finish().0.body {
+        Body::Whole(body) => body.as_slice().len(),
+        Body::Flushed { .. } => 0,
+    }
 }
 
 /// Beginning an exchange, which is let go.

@@ -14,7 +14,7 @@ use sv_site::Site;
 use sv_text::NoMemory;
 use sv_tree::Finished;
 use sv_uri::path::Canon;
-use sv_wire::Response;
+use sv_wire::{Body, Response, write_response};
 
 /// What is asked of a context.
 #[derive(Clone, Copy)]
@@ -126,7 +126,7 @@ fn ask(
         Err(_) => told.fail(),
     }
     let (response, sessions) = exchange.finish();
-    add_response(told, &response);
+    add_response(alloc, told, &response);
     sessions
 }
 
@@ -233,7 +233,7 @@ fn name_of(kept: &KeptError) -> &str {
     }
 }
 
-fn add_response(told: &mut Draft, response: &Response) {
+fn add_response(alloc: Global, told: &mut Draft, response: &Response) {
     told.add_shown(&response.status);
     for field in response.fields.as_slice() {
         told.add(", ");
@@ -248,7 +248,22 @@ fn add_response(told: &mut Draft, response: &Response) {
         told.add(cookie.path.as_str());
     }
     told.add(" | ");
-    add_body(told, response.body.as_slice());
+    match &response.body {
+        Body::Whole(body) => add_body(told, body.as_slice()),
+        Body::Flushed { .. } => add_sent(alloc, told, response),
+    }
+}
+
+/// Adds what is sent behind the head of a response.
+fn add_sent(alloc: Global, told: &mut Draft, response: &Response) {
+    let mut sent = Vec::new(alloc);
+    if !response.has_status_code() || write_response(response, false, true, 0, &mut sent).is_err() {
+        told.fail();
+        return;
+    }
+    let sent = std::str::from_utf8(sent.as_slice()).unwrap_or("");
+    let (_, body) = sent.split_once("\r\n\r\n").unwrap_or((sent, ""));
+    add_body(told, body.as_bytes());
 }
 
 /// Adds a body, or its length where that is more than two hundred bytes.

@@ -12,16 +12,16 @@ n Nest path=/n /n | - | - | GET /n | servlet n service 0 Include /n, servlet n s
 n Nest path=/i.txt /n | - | file /i.txt x | GET /n; POST /n | servlet n service 0 Include /i.txt, servlet n service 1 Done | Done | 200, content-type: text/plain | a1\nxc2\n | servlet n service 0 Include /i.txt, servlet n service 1 Done | Done | 200, content-type: text/plain | a3\nxc4\n
 s Script does=include:/a then=set:x-a=1 /s; a Script does=status:404,set:x-b=1,write:y /a | - | - | GET /s | servlet s service 0 Include /a, servlet a service 0 Done, servlet s service 1 Done | Done | 200, x-a: 1 | y
 s Script does=include:/g /s; g Go path=/a /g; a Script does=status:404,set:x-b=1,write:y /a | - | - | GET /s | servlet s service 0 Include /g, servlet g service 0 Forward /a, servlet a service 0 Done, servlet s service 1 Done | Done | 200 | y
-s Script does=write:x,flush,include:/a then=write:y /s; a Who /a | - | - | GET /s | servlet s service 0 Include /a, servlet a service 0 Done, servlet s service 1 Done | Done | 200 | xcaller -\ny
+s Script does=write:x,flush,include:/a then=write:y /s; a Who /a | - | - | GET /s | servlet s service 0 Include /a, servlet a service 0 Done, servlet s service 1 Done | Done | 200 | 1\r\nx\r\na\r\ncaller -\ny\r\n0\r\n\r\n
 -- section 9.4: a forward finds an empty body, and the fields and the status as they were
 s Script does=write:x,set:x-a=1,status:202,forward:/a /s; a Script does=write:y /a | - | - | GET /s | servlet s service 0 Forward /a, servlet a service 0 Done | Done | 202, x-a: 1 | y
 s Script does=write:x,include:/g then=write:z /s; g Script does=write:w,forward:/a /g; a Script does=write:y /a | - | - | GET /s | servlet s service 0 Include /g, servlet g service 0 Forward /a, servlet a service 0 Done, servlet s service 1 Done | Done | 200 | yz
 g Go path=/i.txt /g | - | file /i.txt x | POST /g; GET /g | servlet g service 0 Forward /i.txt | Done | 200, content-type: text/plain | x | servlet g service 0 Forward /i.txt | Done | 200, content-type: text/plain | x
 -- a forward of a committed answer; that comes before a path that cannot be read
-s Script does=write:x,flush,forward:/a /s; a Who /a | - | - | GET /s | servlet s service 0 Forward /a | Failed Committed Committed in s | 200 | x
-s Script does=flush,forward:a /s | - | - | GET /s | servlet s service 0 Forward a | Failed Committed Committed in s | 200 | ""
-s Script does=flush,include:a /s | - | - | GET /s | servlet s service 0 Include a | Failed BadDispatchPath BadDispatchPath in s | 200 | ""
-g Go path=/s /g; s Script does=flush,forward:/a /s | f Mark; f: /* FORWARD | - | GET /g | servlet g service 0 Forward /s, filter f before Pass, servlet s service 0 Forward /a, filter f after | Failed Committed Committed in s | 200, x-mark: f | ""
+s Script does=write:x,flush,forward:/a /s; a Who /a | - | - | GET /s | servlet s service 0 Forward /a | Failed Committed Committed in s | 200 | 1\r\nx\r\n0\r\n\r\n
+s Script does=flush,forward:a /s | - | - | GET /s | servlet s service 0 Forward a | Failed Committed Committed in s | 200 | 0\r\n\r\n
+s Script does=flush,include:a /s | - | - | GET /s | servlet s service 0 Include a | Failed BadDispatchPath BadDispatchPath in s | 200 | 0\r\n\r\n
+g Go path=/s /g; s Script does=flush,forward:/a /s | f Mark; f: /* FORWARD | - | GET /g | servlet g service 0 Forward /s, filter f before Pass, servlet s service 0 Forward /a, filter f after | Failed Committed Committed in s | 200, x-mark: f | 0\r\n\r\n
 -- section 9.1: a path in the context, which begins with a slash and can be read
 s Go path=a /s        | - | - | GET /s | servlet s service 0 Forward a | Failed BadDispatchPath BadDispatchPath in s | 200 | ""
 s Go /s               | - | - | GET /s | servlet s service 0 Forward\x20 | Failed BadDispatchPath BadDispatchPath in s | 200 | ""

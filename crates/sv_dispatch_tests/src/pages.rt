@@ -25,9 +25,13 @@ e Err code=410 /e | - | page 410 /none | GET /e | servlet e service 0 Error 410 
 e Err code=410 /e; p Err code=404 /p | - | page 410 /p; page 404 /e | GET /e | servlet e service 0 Error 410, servlet p service 0 Error 404 | 410, content-type: text/plain | 410 Gone\n
 e Err code=410 /e; p Gone /p | - | page 410 /p | GET /e; GET /e | servlet e service 0 Error 410, servlet p service 0 Unavailable, servlet p destroy | 410, content-type: text/plain | 410 Gone\n | servlet e service 0 Error 410 | 410, content-type: text/plain | 410 Gone\n
 e Err code=599 /e | - | - | GET /e; GET /none | servlet e service 0 Error 599 | 599, content-type: text/plain | 599 \n | "" | 404, content-type: text/plain | 404 Not Found\n
--- a committed answer stays as it is
-e Script does=write:x,flush,error:404 /e; p Script does=write:p /p | - | page 404 /p | GET /e | servlet e service 0 Error 404 | 200 | x
-e Err code=404 /e; p Script does=write:p,flush,error:500 /p | - | page 404 /p | GET /e | servlet e service 0 Error 404, servlet p service 0 Error 500 | 404 | p
+-- section 5.5: a committed answer has no page, and breaks off behind what was flushed last, without its end (RFC 9112, section 7.1)
+e Script does=write:x,flush,error:404 /e; p Script does=write:p /p | - | page 404 /p | GET /e | servlet e service 0 Error 404 | 200 | 1\r\nx\r\n
+e Script does=write:x,flush,write:y,fail:K /e; p Script does=write:p /p | - | page K /p | GET /e | servlet e service 0 Failed K | 200 | 1\r\nx\r\n
+s Script does=write:x,flush,write:y,forward:/a /s; a Who /a | - | - | GET /s | servlet s service 0 Forward /a | 200 | 1\r\nx\r\n
+e Err code=404 /e; p Script does=write:p,flush,error:500 /p | - | page 404 /p | GET /e | servlet e service 0 Error 404, servlet p service 0 Error 500 | 404 | 1\r\np\r\n
+-- an error within an include ends the include alone (section 9.3)
+s Script does=write:x,flush,include:/e then=write:z /s; e Err code=404 /e | - | - | GET /s | servlet s service 0 Include /e, servlet e service 0 Error 404, servlet s service 1 Done | 200 | 1\r\nx\r\n1\r\nz\r\n0\r\n\r\n
 -- RFC 9110, sections 10.2.1 and 10.2.3: the field that goes with the error, in front of those of its page, and of the first error
 - | - | file /x t | PUT /x | "" | 405, allow: GET, HEAD, content-type: text/plain | 405 Method Not Allowed\n
 p Script does=set:x-a=1,write:p /p | - | page 405 /p; file /x t | PUT /x | servlet p service 0 Done | 405, allow: GET, HEAD, x-a: 1 | p

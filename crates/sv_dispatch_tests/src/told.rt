@@ -47,9 +47,9 @@ g Go path=/a/ /g; h Go path=/a /h | - | welcome i; file /a/i x | GET /g; GET /h 
 - | - | welcome i; file /a/i x | GET /a/ ERROR; GET /a ERROR; POST /a/i ERROR | "" | Error 404 Not Found in default | 200 | "" | "" | Error 404 Not Found in default | 200 | "" | "" | Done | 200, content-type: application/octet-stream | x
 -- a redirect empties what was not committed, and is ignored where it was; a file's type takes the place of another
 - | f Script does=write:x,set:x-a=1 then=write:y; f: /* | file /a/i x | GET /a | filter f before Pass, filter f after | Done | 302, x-a: 1, location: /a/ | y
-- | f Script does=write:x,flush; f: /* | file /a/i x | GET /a | filter f before Pass, filter f after | Done | 200 | x
+- | f Script does=write:x,flush; f: /* | file /a/i x | GET /a | filter f before Pass, filter f after | Done | 200 | 1\r\nx\r\n0\r\n\r\n
 - | f Script does=write:x,set:Content-Type=text/plain; f: /* | file /a.css b | GET /a.css | filter f before Pass, filter f after | Done | 200, content-type: text/css | xb
-- | f Script does=flush; f: /* | file /a.css b | GET /a.css; PUT /a.css | filter f before Pass, filter f after | Done | 200 | b | filter f before Pass, filter f after | Error 405 Method Not Allowed in default, allow: GET, HEAD | 200 | ""
+- | f Script does=flush; f: /* | file /a.css b | GET /a.css; PUT /a.css | filter f before Pass, filter f after | Done | 200 | 1\r\nb\r\n0\r\n\r\n | filter f before Pass, filter f after | Error 405 Method Not Allowed in default, allow: GET, HEAD | 200 | 0\r\n\r\n
 -- hidden folders are hidden from clients alone, and not by dispatches
 - | - | file /WEB-INF/x.txt t | GET /WEB-INF/x.txt FORWARD; GET /WEB-INF/x.txt ERROR | "" | Done | 200, content-type: text/plain | t | "" | Done | 200, content-type: text/plain | t
 "#;

@@ -20,7 +20,11 @@ none    | get n; set n=1; remove n; logout        | -; NoSession; NoSession; tru
 -- a session is opened; the cookie is that of the last one that still lives, of the context's path
 none    | open; session; caller; set n=2; get n   | true; 2; -; true; 2   | JSESSIONID=000000000000000000000000000000010000000000000002 /app HttpOnly
 none    | open; end                               | true; true
-none    | open; flush; end; open                  | true; true; true; Committed
+-- section 5.1: the cookie is that of the first flush
+none    | open; flush; end; open                  | true; true; true; Committed | JSESSIONID=000000000000000000000000000000010000000000000002 /app HttpOnly
+none    | open; end; flush; open                  | true; true; true; Committed
+renewed | flush; end; session                     | true; true; -         | JSESSIONID=000000000000000000000000000000000000000000000001 /app HttpOnly
+renewed | end; flush; session                     | true; true; -
 renewed | end; open; session                      | true; true; 2         | JSESSIONID=000000000000000000000000000000010000000000000002 /app HttpOnly
 renewed | flush; open                             | true; true            | JSESSIONID=000000000000000000000000000000000000000000000001 /app HttpOnly
 -- events, the oldest first; each is told once

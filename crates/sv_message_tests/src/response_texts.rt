@@ -154,7 +154,33 @@ const ROWS: &str = r#"
 200 | "" | - | "" | head keep 18446744073709551615 | HTTP/1.1 200 OK\r\ndate: Fri, 31 Dec 9999 23:59:59 GMT\r\ncontent-length: 0\r\n\r\n
 "#;
 
+/// The same of bodies in pieces.
+const PIECES: &str = r#"
+-- RFC 9112, sections 6.1 and 7.1: chunks in place of a length, each with its size in hexadecimal, and the last one with an empty trailer
+200 | content-type: text/plain | - | flushed 1.1: one\n/two\n | whole keep 0 | HTTP/1.1 200 OK\r\ndate: Thu, 01 Jan 1970 00:00:00 GMT\r\ncontent-type: text/plain\r\ntransfer-encoding: chunked\r\n\r\n4\r\none\n\r\n4\r\ntwo\n\r\n0\r\n\r\n
+200 | "" | - | flushed 1.1: \{9*x}/\{10*x}/\{15*x}/\{16*x} | whole keep 0 | HTTP/1.1 200 OK\r\ndate: Thu, 01 Jan 1970 00:00:00 GMT\r\ntransfer-encoding: chunked\r\n\r\n9\r\n\{9*x}\r\na\r\n\{10*x}\r\nf\r\n\{15*x}\r\n10\r\n\{16*x}\r\n0\r\n\r\n
+200 | "" | - | flushed 1.1: \{255*x}/\{256*y}/\{43981*z} | whole keep 0 | HTTP/1.1 200 OK\r\ndate: Thu, 01 Jan 1970 00:00:00 GMT\r\ntransfer-encoding: chunked\r\n\r\nff\r\n\{255*x}\r\n100\r\n\{256*y}\r\nabcd\r\n\{43981*z}\r\n0\r\n\r\n
+200 | "" | - | flushed 1.1: \x00\r\n/\xFF | whole close 0 | HTTP/1.1 200 OK\r\ndate: Thu, 01 Jan 1970 00:00:00 GMT\r\ntransfer-encoding: chunked\r\nconnection: close\r\n\r\n3\r\n\x00\r\n\r\n1\r\n\xFF\r\n0\r\n\r\n
+200 | "" | JSESSIONID=a at / HttpOnly | flushed 1.1: x | whole keep 0 | HTTP/1.1 200 OK\r\ndate: Thu, 01 Jan 1970 00:00:00 GMT\r\nset-cookie: JSESSIONID=a; Path=/; HttpOnly\r\ntransfer-encoding: chunked\r\n\r\n1\r\nx\r\n0\r\n\r\n
+-- a piece without bytes would be the last chunk, and is none
+200 | "" | - | flushed 1.1: / | whole keep 0 | HTTP/1.1 200 OK\r\ndate: Thu, 01 Jan 1970 00:00:00 GMT\r\ntransfer-encoding: chunked\r\n\r\n0\r\n\r\n
+200 | "" | - | flushed 1.1: x//y | whole keep 0 | HTTP/1.1 200 OK\r\ndate: Thu, 01 Jan 1970 00:00:00 GMT\r\ntransfer-encoding: chunked\r\n\r\n1\r\nx\r\n1\r\ny\r\n0\r\n\r\n
+-- what broke off has no last chunk, and the head that it would have had
+200 | "" | - | broken 1.1: one\n/ | whole keep 0 | HTTP/1.1 200 OK\r\ndate: Thu, 01 Jan 1970 00:00:00 GMT\r\ntransfer-encoding: chunked\r\n\r\n4\r\none\n\r\n
+200 | "" | - | broken 1.1: / | whole keep 0 | HTTP/1.1 200 OK\r\ndate: Thu, 01 Jan 1970 00:00:00 GMT\r\ntransfer-encoding: chunked\r\n\r\n
+-- RFC 9112, section 6.3: a client that reads no chunks finds the end where the connection closes
+200 | "" | - | flushed 1.0: one\n/two\n | whole close 0 | HTTP/1.1 200 OK\r\ndate: Thu, 01 Jan 1970 00:00:00 GMT\r\nconnection: close\r\n\r\none\ntwo\n
+200 | "" | - | flushed 1.0: one\n/two\n | whole keep 0 | HTTP/1.1 200 OK\r\ndate: Thu, 01 Jan 1970 00:00:00 GMT\r\nconnection: close\r\n\r\none\ntwo\n
+200 | "" | - | broken 1.0: one\n/ | whole close 0 | HTTP/1.1 200 OK\r\ndate: Thu, 01 Jan 1970 00:00:00 GMT\r\nconnection: close\r\n\r\none\n
+-- RFC 9110, sections 9.3.2 and 15.3.5: the head alone, and no content
+200 | "" | - | flushed 1.1: one\n/two\n | head keep 0 | HTTP/1.1 200 OK\r\ndate: Thu, 01 Jan 1970 00:00:00 GMT\r\ntransfer-encoding: chunked\r\n\r\n
+200 | "" | - | flushed 1.0: one\n/two\n | head close 0 | HTTP/1.1 200 OK\r\ndate: Thu, 01 Jan 1970 00:00:00 GMT\r\nconnection: close\r\n\r\n
+200 | "" | - | broken 1.1: one\n/ | head keep 0 | HTTP/1.1 200 OK\r\ndate: Thu, 01 Jan 1970 00:00:00 GMT\r\ntransfer-encoding: chunked\r\n\r\n
+204 | x-a: 1 | - | flushed 1.1: one\n/two\n | whole keep 0 | HTTP/1.1 204 No Content\r\ndate: Thu, 01 Jan 1970 00:00:00 GMT\r\nx-a: 1\r\n\r\n
+204 | "" | - | flushed 1.0: one\n/two\n | whole close 0 | HTTP/1.1 204 No Content\r\ndate: Thu, 01 Jan 1970 00:00:00 GMT\r\nconnection: close\r\n\r\n
+"#;
+
 #[test]
 fn a_response_is_written_behind_what_stands_there(rt: HostRuntime) -> Result<(), Strays> {
-    hold(&rt, &[ROWS], &Responses)
+    hold(&rt, &[ROWS, PIECES], &Responses)
 }

@@ -4,7 +4,7 @@ use http::{HeaderName, HeaderValue};
 use std::alloc::Global;
 use sv_rows::{Asks, cell, unescaped};
 use sv_text::{Bytes, Listed, NoMemory, Text};
-use sv_wire::{Cookie, Field, Response, write_response};
+use sv_wire::{Body, Cookie, Field, Pieces, Response, write_response};
 
 /// The text of a response, which is written behind a word.
 pub struct Responses;
@@ -35,15 +35,39 @@ fn written(alloc: Global, response: &Response, manner: &str) -> Result<Vec<u8>, 
 
 /// The response of a row.
 fn response_of(alloc: Global, row: &str) -> Result<Response, NoMemory> {
-    let body = unescaped(alloc, cell(row, 3))?;
+    let body = body_of(alloc, cell(row, 3))?;
     let cookie = cookie_of(alloc, cell(row, 2))?;
     let fields = fields_of(alloc, cell(row, 1))?;
     Ok(Response {
         status: cell(row, 0).parse::<u16>().unwrap_or(0),
         fields: Listed::from_vec(fields),
         cookie,
-        body: Bytes::from_vec(body),
+        body,
     })
+}
+
+/// The body of a cell: whole, or in pieces with `/` between them, behind a word for whether it broke off and the version of the client.
+fn body_of(alloc: Global, cell: &str) -> Result<Body, NoMemory> {
+    let (words, pieces) = cell.split_once(": ").unwrap_or(("", cell));
+    let (ending, version) = words.split_once(' ').unwrap_or(("", ""));
+    if !matches!(ending, "flushed" | "broken") {
+        return Ok(Body::Whole(Bytes::from_vec(unescaped(alloc, cell)?)));
+    }
+    Ok(Body::Flushed {
+        pieces: pieces_of(alloc, pieces)?,
+        chunked: version == "1.1",
+        broken: ending == "broken",
+    })
+}
+
+/// The pieces of a text, of which the last was not flushed.
+fn pieces_of(alloc: Global, text: &str) -> Result<Pieces, NoMemory> {
+    let mut flushed = Vec::new(alloc);
+    let (front, rest) = text.rsplit_once('/').unwrap_or(("", text));
+    for piece in front.split('/') {
+        flushed.push(Bytes::from_vec(unescaped(alloc, piece)?))?;
+    }
+    Ok(Pieces::of(flushed, unescaped(alloc, rest)?))
 }
 
 /// The fields of a cell. One that is no field is left out.

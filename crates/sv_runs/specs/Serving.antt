@@ -10,12 +10,15 @@ use Rattle.sv_runs.specs.declared.acceptor.AcceptFailed.{AcceptFailed}
 use Rattle.sv_runs.specs.declared.serve_fault.ServeFault.{ServeFault}
 use Rattle.sv_runs.specs.declared.serve_fault.ServeFault.TheVariants.{Connection}
 
-module _ {R A P C : Type 0} (steps : Reacting R) (accepts : A → Result P AcceptFailed → A → Type 0) (makes : Making P) (tells : C → ℕ → C → Type 0) where
-  -- a connection was accepted, and its course by its number had this answer
+module _ {R A P C : Type 0} (steps : Reacting R) (accepts : A → Result P AcceptFailed → A → Type 0) (parts : A → P → A → Type 0) (makes : Making P)
+    (tells : C → ℕ → C → Type 0) where
+  -- a connection was accepted, its course by its number had this answer, and its stream was given to a parting
   pub record Courses (number : ℕ) (before : R) (acceptor : A) (clock : C) (answer : Result Over StepFault) (after : R) (acceptor_after : A) (clock_after : C) : Type 0 where
     pub peer : P
-    pub is_accepted : accepts acceptor (Ok peer) acceptor_after
+    pub acceptor_between : A
+    pub is_accepted : accepts acceptor (Ok peer) acceptor_between
     pub peer_after : P
+    pub parted : parts acceptor_between peer_after acceptor_after
     pub connects : Connects steps makes tells number before peer clock answer after peer_after clock_after
 
   -- none was accepted

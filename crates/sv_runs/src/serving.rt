@@ -9,8 +9,8 @@ use sv_connection::run_connection;
 use sv_run::Reactor;
 use sv_streams::Clock;
 
-/// Accepts so many connections one after another, numbered from 1, and serves each until it is over, before the next is accepted. A connection
-/// that is lost ends by itself alone. Reads are made into the buffer, which is not empty.
+/// Accepts so many connections one after another, numbered from 1, and serves each until it is over and its stream is closed, before the next is
+/// accepted. A connection that is lost ends by itself alone. Reads are made into the buffer, which is not empty.
 ///
 /// # Errors
 /// As [`ServeFault`] says. Nothing is accepted behind it.
@@ -22,7 +22,7 @@ pub fn serve_connections<R: Reactor, A: Acceptor, C: Clock>(
     buffer: &mut [u8],
 ) -> Result<(), ServeFault>
     requires { 0 < length buffer.old }
-    ensures { Serves R.steps A.accepts A.Peer.makes C.tells count reactor.old acceptor.old clock.old result reactor.new acceptor.new clock.new }
+    ensures { Serves R.steps A.accepts A.parts A.Peer.makes C.tells count reactor.old acceptor.old clock.old result reactor.new acceptor.new clock.new }
 {
     for served in 0..count {
         match serve_next(reactor, acceptor, clock, served + 1, buffer) {
@@ -33,7 +33,7 @@ pub fn serve_connections<R: Reactor, A: Acceptor, C: Clock>(
     Ok(())
 }
 
-// Accepts a connection, and serves it by its number until it is over.
+// Accepts a connection, serves it by its number until it is over, and closes its stream.
 fn serve_next<R: Reactor, A: Acceptor, C: Clock>(
     reactor: &mut R,
     acceptor: &mut A,
@@ -42,13 +42,15 @@ fn serve_next<R: Reactor, A: Acceptor, C: Clock>(
     buffer: &mut [u8],
 ) -> Result<(), ServeFault>
     requires { 0 < length buffer.old }
-    ensures { ServesNext R.steps A.accepts A.Peer.makes C.tells number reactor.old acceptor.old clock.old result reactor.new acceptor.new clock.new }
+    ensures { ServesNext R.steps A.accepts A.parts A.Peer.makes C.tells number reactor.old acceptor.old clock.old result reactor.new acceptor.new clock.new }
 {
     let mut peer = match acceptor.accept() {
         Ok(peer) => peer,
         Err(_) => return Err(ServeFault::Connection),
     };
-    match run_connection(reactor, number, &mut peer, clock, buffer) {
+    let served = run_connection(reactor, number, &mut peer, clock, buffer);
+    acceptor.part(peer);
+    match served {
         Ok(_) => Ok(()),
         Err(refusal) => Err(fault_of(refusal)),
     }

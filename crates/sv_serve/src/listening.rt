@@ -28,7 +28,15 @@ pub fn listen_and_serve<H: Net + Clock, W: Write, R: Reactor>(
     };
     let mut clock = SystemClock::new(host);
     let mut output = WriteSink::new(writer);
-    match serve_on(alloc, &listener, count, container, &mut clock, &mut output) {
+    match serve_on(
+        alloc,
+        &listener,
+        host,
+        count,
+        container,
+        &mut clock,
+        &mut output,
+    ) {
         Ok(()) => Ok(()),
         Err(fault) => Err(fault_of(fault)),
     }

@@ -7,7 +7,7 @@ use crate::starting::{StartedServer, start_server};
 use std::alloc::Global;
 use std::io;
 use std::io::{ErrorKind, Write};
-use std::net::{Net, OpenListener, TcpStream};
+use std::net::{Net, OpenListener, OpenStream, SocketAddr};
 use std::time::Clock;
 use sv_application::{ProgramFilter, ProgramListener, ProgramServlet};
 use sv_component::{Filter, Listener, Servlet};
@@ -15,11 +15,12 @@ use sv_deployments::FolderStore;
 use sv_program::{CommandFault, FileStore};
 use sv_run::Reactor;
 use sv_runs::serve_connections;
-use sv_sockets::{READ_BYTES, SocketAcceptor, ask, first_line};
+use sv_sockets::{OwnAcceptor, READ_BYTES, ask, first_line};
 use sv_streams::SystemClock;
 
 /// Starts the container of the server file, listens at its port on this machine, connects to it, asks for the root path by `HEAD`, serves that
-/// connection, shuts the container down, and writes the line `selftest ` with the first line of the answer behind it.
+/// connection and no other, shuts the container down, and writes the line `selftest ` with the first line of the answer behind it. No call waits for
+/// ever.
 ///
 /// # Errors
 /// The first fault: those of [`start_server`]; then [`CommandFault::Socket`] or [`CommandFault::NoMemory`], when nothing was written; then
@@ -59,10 +60,10 @@ fn own_answer<H: Net + Clock, R: Reactor>(
     let Ok(listener) = listen(host, port) else {
         return Err(CommandFault::Socket);
     };
-    let Ok(client) = connected(host, &listener) else {
+    let Ok((client, address)) = connected(host, &listener) else {
         return Err(CommandFault::Socket);
     };
-    let mut acceptor = SocketAcceptor::new(&listener);
+    let mut acceptor = OwnAcceptor::new(&listener, host, address);
     let mut clock = SystemClock::new(host);
     let mut buffer = [0; READ_BYTES];
     match serve_connections(reactor, &mut acceptor, &mut clock, 1, &mut buffer) {
@@ -71,11 +72,12 @@ fn own_answer<H: Net + Clock, R: Reactor>(
     }
 }
 
-// A connection to the listener, on which the request is written.
-fn connected<H: Net>(host: &H, listener: &H::Listener) -> io::Result<H::Stream> {
-    let mut client = TcpStream::connect(host, listener.local_addr()?)?;
-    ask(&mut client)?;
-    Ok(client)
+// A connection to the listener, which then waits for no other, and the address that it has.
+fn connected<H: Net>(host: &H, listener: &H::Listener) -> io::Result<(H::Stream, SocketAddr)> {
+    let client = ask(host, listener.local_addr()?)?;
+    let address = client.local_addr()?;
+    listener.set_nonblocking(true)?;
+    Ok((client, address))
 }
 
 fn answered<T: io::Read + Drop>(alloc: Global, client: T) -> Result<Vec<u8>, CommandFault> {

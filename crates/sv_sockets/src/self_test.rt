@@ -1,21 +1,28 @@
 //! What the self-test asks, and what it reads of its answer.
 
-use crate::limits::MAX_ANSWER_BYTES;
+use crate::limits::{MAX_ANSWER_BYTES, SELF_TEST_SECONDS};
 use std::alloc::Global;
 use std::io;
 use std::io::{Read, Write};
+use std::net::{Net, OpenStream, SocketAddr, TcpStream};
+use std::time::Duration;
 
 /// The request of the self-test (RFC 9112, section 3).
 pub const SELF_TEST_REQUEST: &str =
     "HEAD / HTTP/1.1\r\nHost: localhost\r\nConnection: close\r\n\r\n";
 
-/// Writes the request of the self-test.
+/// A connection to this address, on which the request of the self-test was written. No call of it waits longer than [`SELF_TEST_SECONDS`].
 ///
 /// # Errors
-/// The stream's. A part may have been written.
-pub fn ask<W: Write>(stream: &mut W) -> io::Result<()> {
-    stream.write_all(SELF_TEST_REQUEST.as_bytes())?;
-    stream.flush()
+/// The system's.
+pub fn ask<H: Net>(host: &H, address: SocketAddr) -> io::Result<H::Stream> {
+    let most = Duration::from_secs(SELF_TEST_SECONDS);
+    let mut client = TcpStream::connect_timeout(host, &address, most)?;
+    client.set_read_timeout(Some(most))?;
+    client.set_write_timeout(Some(most))?;
+    client.write_all(SELF_TEST_REQUEST.as_bytes())?;
+    client.flush()?;
+    Ok(client)
 }
 
 /// The first line of what a stream gives until it ends, without the line feed and what is left of its CRLF; at most [`MAX_ANSWER_BYTES`] bytes

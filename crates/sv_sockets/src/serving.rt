@@ -11,14 +11,15 @@ use sv_streams::{Clock, Sink, write_all};
 use sv_text::{NoMemory, Text};
 
 /// Writes the line `listening PORT`, accepts so many connections of the listener one after another and serves each until it is over, and writes
-/// the line `served COUNT`.
+/// the line `served COUNT`. How long a connection may take is told by the host's clock that never goes back, the moments of its pieces by the other.
 ///
 /// # Errors
 /// [`ServeFault::Output`], [`ServeFault::NoMemory`], or [`ServeFault::Connection`] where no connection could be accepted or an event of one was refused
 /// otherwise than for memory.
-pub fn serve_on<N: OpenListener, R: Reactor, C: Clock, O: Sink>(
+pub fn serve_on<N: OpenListener, H: std::time::Clock, R: Reactor, C: Clock, O: Sink>(
     alloc: Global,
     listener: &N,
+    host: &H,
     count: u64,
     reactor: &mut R,
     clock: &mut C,
@@ -32,7 +33,7 @@ where
         return Err(ServeFault::Connection);
     };
     print(output, line(alloc, "listening", u64::from(address.port())))?;
-    let mut acceptor = SocketAcceptor::new(listener);
+    let mut acceptor = SocketAcceptor::new(listener, host);
     serve_connections(reactor, &mut acceptor, clock, count, &mut buffer)?;
     print(output, line(alloc, "served", count))
 }

@@ -2,67 +2,65 @@
 
 ghost use Rattle.std.specs.Prelude.{◌≡◌};
 
-use crate::limits::MAX_IDLE_SECONDS;
-use std::io;
+use crate::part_stream::PartStream;
+use crate::parting::part_from;
+use crate::socket_stream::SocketStream;
 use std::io::{ErrorKind, Read, Write};
 use std::net::{OpenListener, OpenStream};
-use std::time::Duration;
+use std::time::Clock;
 use sv_runs::{AcceptFailed, Acceptor};
-use sv_streams::ReadWriteStream;
 
-/// What accepts the connections of a listener. An accept that was interrupted, or whose peer is gone already, is made again.
+/// What accepts the connections of a listener. An accept that was interrupted, or whose peer is gone already, is made again. Connections are read in
+/// parts, and behind its end each is read on for a while.
 #[derive(Clone, Copy)]
-pub struct SocketAcceptor<'a, N> {
+pub struct SocketAcceptor<'a, N, H> {
     listener: &'a N,
+    clock: &'a H,
 }
 
-impl<'a, N: OpenListener> SocketAcceptor<'a, N> {
-    /// What accepts the connections of this listener.
-    pub fn new(listener: &'a N) -> SocketAcceptor<'a, N>
-        ensures { result.listener ≡ listener.entry }
+impl<'a, N: OpenListener, H: Clock> SocketAcceptor<'a, N, H> {
+    /// What accepts the connections of this listener, by the time of a clock.
+    pub fn new(listener: &'a N, clock: &'a H) -> SocketAcceptor<'a, N, H>
+        ensures listener { result.listener ≡ listener.entry }
+        ensures clock { result.clock ≡ clock.entry }
     {
-        SocketAcceptor { listener }
+        SocketAcceptor { listener, clock }
     }
 }
 
-impl<N: OpenListener> Acceptor for SocketAcceptor<'_, N>
+impl<'a, N: OpenListener, H: Clock> Acceptor for SocketAcceptor<'a, N, H>
 where
     N::Stream: Read + Write + OpenStream,
 {
-    type Peer = ReadWriteStream<N::Stream>;
+    type Peer = PartStream<SocketStream<'a, N::Stream, H>>;
 
-    fn accept(&mut self) -> Result<ReadWriteStream<N::Stream>, AcceptFailed> {
+    fn accept(&mut self) -> Result<PartStream<SocketStream<'a, N::Stream, H>>, AcceptFailed> {
         for _ in 0..u64::MAX {
             match self.listener.accept() {
-                Ok((stream, _)) => return ready(stream),
+                Ok((stream, _)) => return Ok(connection(stream, self.clock)),
                 Err(error) if is_passing(error.kind()) => {}
                 Err(_) => return Err(AcceptFailed),
             }
         }
         Err(AcceptFailed)
     }
-}
 
-// Whether a further accept may give a connection.
-fn is_passing(kind: ErrorKind) -> bool {
-    matches!(kind, ErrorKind::Interrupted | ErrorKind::ConnectionAborted)
-}
-
-// The stream of a connection whose reads and writes do not wait for ever.
-fn ready<T: Read + Write + OpenStream + Drop>(
-    stream: T,
-) -> Result<ReadWriteStream<T>, AcceptFailed> {
-    match bound_waits(&stream) {
-        Ok(()) => Ok(ReadWriteStream::new(stream)),
-        Err(_) => Err(AcceptFailed),
+    fn part(&mut self, peer: PartStream<SocketStream<'a, N::Stream, H>>) {
+        part_from(self.clock, peer.into_stream().into_stream());
     }
 }
 
-fn bound_waits<T: OpenStream>(stream: &T) -> io::Result<()> {
-    let idle = Duration::from_secs(MAX_IDLE_SECONDS);
-    stream.set_read_timeout(Some(idle))?;
-    stream.set_write_timeout(Some(idle))?;
+/// Whether a further accept may give a connection.
+pub(crate) fn is_passing(kind: ErrorKind) -> bool {
+    matches!(kind, ErrorKind::Interrupted | ErrorKind::ConnectionAborted)
+}
+
+/// The connection of a socket.
+pub(crate) fn connection<T: Read + Write + OpenStream + Drop, H: Clock>(
+    stream: T,
+    clock: &H,
+) -> PartStream<SocketStream<'_, T, H>> {
     // An answer is written in one piece; where the system holds it back nevertheless, it is later and the same.
     let _ = stream.set_nodelay(true);
-    Ok(())
+    PartStream::new(SocketStream::new(stream, clock))
 }

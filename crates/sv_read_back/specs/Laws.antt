@@ -1,0 +1,87 @@
+-- The laws that tie the writing of bodies to their reading (RFC 9112, sections 6.2, 6.3, 7.1 and 8).
+use Rattle.std.specs.Prelude.{◌≡◌, ◌↔◌, ℕ, ◌<◌, ◌≤◌, ◌^◌, Bool, true, false, List, [], ◌++◌, length, All, Some}
+use Rattle.sv_body.specs.declared.framing.Framing.TheVariants.{Chunked, Length}
+use Rattle.sv_body.specs.declared.limits.TheConstants.{MAX_BODY_LEN}
+use Rattle.sv_body.specs.Body.{ReadsBody}
+use Rattle.sv_body.specs.Chunks.{Body, complete, unfinished}
+use Rattle.sv_head.specs.declared.limits.TheConstants.{MAX_LENGTH_DIGITS}
+use Rattle.sv_head.specs.declared.field.Field.{Field}
+use Rattle.sv_head.specs.Length.{content_length}
+use Rattle.sv_read_back.specs.ChunkedBody.{Decodes}
+use Rattle.sv_read_back.specs.FramingFields.{SaysNoEnd, framed, framing_fields}
+use Rattle.sv_wire.specs.declared.body.Body.{Body as Sent}
+use Rattle.sv_wire.specs.declared.body.Body.TheVariants.{Flushed, Whole}
+use Rattle.sv_wire.specs.Chunking.{joined}
+use Rattle.sv_wire.specs.Content.{content}
+use Rattle.sv_wire.specs.Head.{framing_faults, framing_of}
+use Rattle.sv_wire.specs.ResponseText.{field_lines, framing_line}
+
+-- a piece has fewer than 2^64 bytes, as whatever is in memory has
+abbrev pub FitsMemory : List ℕ → Type 0
+FitsMemory piece = length piece < 2 ^ 64
+
+-- what leaves in chunks has one reading: its bytes are the pieces joined, and what stands behind it is what follows it
+abbrev pub ChunksAreReadBack : Type 0
+ChunksAreReadBack =
+    (pieces : List (List ℕ)) (later bytes behind : List ℕ) → All FitsMemory pieces
+    → (Decodes (content (Flushed pieces true false) ++ later) bytes behind ↔ ((bytes ≡ joined pieces) × (behind ≡ later)))
+
+-- of what left in chunks, where a last part of it is lost, nothing is a body
+abbrev pub CutChunksAreNoBody : Type 0
+CutChunksAreNoBody =
+    (pieces : List (List ℕ)) (came lost bytes behind : List ℕ) → All FitsMemory pieces
+    → came ++ lost ≡ content (Flushed pieces true false) → 0 < length lost → ¬ (Decodes came bytes behind)
+
+-- nor of what left in chunks and broke off, whether all of it has come or a part
+abbrev pub BrokenChunksAreNoBody : Type 0
+BrokenChunksAreNoBody =
+    (pieces : List (List ℕ)) (came lost bytes behind : List ℕ) → All FitsMemory pieces
+    → came ++ lost ≡ content (Flushed pieces true true) → ¬ (Decodes came bytes behind)
+
+-- the reader of bodies reads a whole body in chunks exactly where one stands that is within the reader's limit
+abbrev pub ReaderDecodes : Type 0
+ReaderDecodes =
+    (text bytes behind : List ℕ)
+    → (ReadsBody Chunked text (complete bytes behind) ↔ (Decodes text bytes behind × (length bytes ≤ MAX_BODY_LEN)))
+
+-- of what leaves in chunks, where the pieces joined are within its limit, it reads the pieces joined, and what stands behind them
+abbrev pub ReaderReadsChunksBack : Type 0
+ReaderReadsChunksBack =
+    (pieces : List (List ℕ)) (later : List ℕ) (body : Body) → length (joined pieces) ≤ MAX_BODY_LEN
+    → (ReadsBody Chunked (content (Flushed pieces true false) ++ later) body ↔ (body ≡ complete (joined pieces) later))
+
+-- where a last part of that is lost, as the last chunk is where the body broke off, it awaits more
+abbrev pub ReaderAwaitsTheEnd : Type 0
+ReaderAwaitsTheEnd =
+    (pieces : List (List ℕ)) (came lost : List ℕ) (body : Body) → length (joined pieces) ≤ MAX_BODY_LEN
+    → came ++ lost ≡ content (Flushed pieces true false) → 0 < length lost → (ReadsBody Chunked came body ↔ (body ≡ unfinished))
+
+-- the line that says where a body ends is that of its field
+abbrev pub FramingLinesAreFields : Type 0
+FramingLinesAreFields = (body : Sent) → framing_line body ≡ field_lines (framing_fields body)
+
+-- among other fields, that of what leaves in chunks is read without a fault as that
+abbrev pub ChunkedFieldsAreReadBack : Type 0
+ChunkedFieldsAreReadBack =
+    (pieces : List (List ℕ)) (broken : Bool) (before after : List Field) → All SaysNoEnd before → All SaysNoEnd after
+    → (framing_of (framed before (Flushed pieces true broken) after) ≡ Chunked)
+    × (framing_faults 1 (framed before (Flushed pieces true broken) after) ≡ [])
+
+-- among other fields, that of what leaves whole is read as its length
+abbrev pub LengthFieldsAreReadBack : Type 0
+LengthFieldsAreReadBack =
+    (bytes : List ℕ) (before after : List Field) → All SaysNoEnd before → All SaysNoEnd after → length bytes < 10 ^ MAX_LENGTH_DIGITS
+    → (framing_of (framed before (Whole bytes) after) ≡ Length (length bytes))
+    × (content_length (framed before (Whole bytes) after) ≡ Some (length bytes))
+
+-- of what leaves whole, its bytes are read by its length, and what stands behind them
+abbrev pub WholeIsReadBack : Type 0
+WholeIsReadBack =
+    (bytes later : List ℕ) (body : Body)
+    → (ReadsBody (Length (length bytes)) (content (Whole bytes) ++ later) body ↔ (body ≡ complete bytes later))
+
+-- where a last part of that is lost, more is awaited
+abbrev pub CutWholeIsAwaited : Type 0
+CutWholeIsAwaited =
+    (bytes came lost : List ℕ) (body : Body) → came ++ lost ≡ content (Whole bytes) → 0 < length lost
+    → (ReadsBody (Length (length bytes)) came body ↔ (body ≡ unfinished))

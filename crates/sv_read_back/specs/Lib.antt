@@ -1,0 +1,3 @@
+pub mod ChunkedBody
+pub mod FramingFields
+pub mod Laws

@@ -1,0 +1,9 @@
+//! Bodies as they are written are read as what they were written from.
+#![tactic(auto)]
+
+mod laws;
+
+pub use laws::{
+    broken_answers_are_no_bodies, flushed_answers_are_read_back, framing_lines_are_read_back,
+    the_reader_reads_answers_back, whole_answers_are_read_back,
+};

@@ -1,0 +1,2 @@
+mod DroppingLemmas
+mod PartLemmas

@@ -1,0 +1,4 @@
+pub mod Laws
+pub mod Parting
+pub mod Parts
+pub mod Pacing
