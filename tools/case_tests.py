@@ -1,8 +1,10 @@
 """What `tools/cases --selftest` runs: a program that shows what it is given, and cases for it."""
 # Shows its arguments, its standard input and its files, each on a line, and on standard error the number of the arguments, its status. With the argument
 # `serve` it answers two connections by what comes on them; with `run` each that comes, until `stop` does, with an id in the place of `id`, each time
-# another, or with `run same` the same. With `limits` it shows its limits.
+# another, or with `run same` the same. With `limits` it shows its limits,
+# with `tells` its file `told` on standard error.
 SHOWS = """#!/bin/sh
+[ "$1" != tells ] || exec cat told >&2
 [ "$1" != limits ] || { ulimit -v; exec sh -c "ulimit -n"; }
 [ "$1" != run ] || exec python3 -c '
 import os, secrets, socketserver, sys
@@ -39,6 +41,7 @@ exit $#
 STARTS = "listening 127.0.0.1:PORT\n"
 RUNS = {"args": "run\n", "stdout": STARTS}
 TWICE = "open a\nsend a id\nexpect a date: DATE\\r\\nID1\nrestart\nopen a\nsend a id\nexpect a date: DATE\\r\\n"
+TELLS = {"args": "tells\n", "stderr": "  f%2!\n"}
 # What each case of the self-test holds, the number of its rows, and how many of them the program must fail.
 SELF_TESTS = [
     ({"args": "a\nb  c\n", "stdin": "x\n\n", "files/f": "%1", "stdout": "[a][b  c]{f %1}x\n\n", "stderr": "2", "status": "2\n"}, 1, 0),
@@ -51,6 +54,11 @@ SELF_TESTS = [
     ({"stdin": "%2", "rows": "-- no row\n\na b| \"\"\nc |d\n", "stdout": "d", "stderr": "0"}, 2, 1),
     ({"args": "%1\n", "rows": "x <3*@:> ; y | w", "w/stdout": "[x 0:1:2:][y]", "w/stderr": "2", "w/status": "2\n"}, 1, 0),
     ({"files/f": "<%1>", "rows": "NotToml | w\nTooMany a.b | v\n", "w/stdout": "{f <1 ->}", "w/stderr": "0", "v/stdout": "{f <14 a.b>}", "v/stderr": "0"}, 2, 0),
+    ({**TELLS, "files/told": "  f: the key `a b` is missing\n", "rows": "x | MissingKey a b\n"}, 1, 0),
+    ({**TELLS, "files/told": "  f: the key `a` is missing\n", "rows": "x | MissingKey b\n"}, 1, 1),
+    ({**TELLS, "files/told": "  f:1:23: a word\n", "rows": "x | NotToml\n"}, 1, 0),
+    ({**TELLS, "files/told": "  f:1: a word\n", "rows": "x | NotToml\n"}, 1, 1),
+    ({**TELLS, "files/told": "  f:1:23: a word\n", "stderr": "  f:1:24: a word\n"}, 1, 1),
     ({"stdin": "%1", "forms": "%\nreversed\n", "rows": "a ; b | w", "w/stdout": "a\nb", "w/stderr": "0"}, 1, 1),
     ({"stdin": "%1", "forms": "reversed\n", "rows": "a ; b | w", "w/stdout": "b\na", "w/stderr": "0"}, 1, 0),
     ({"stdin": "%1%2", "forms": "x ; % ; y\n", "rows": "a ; b | - | w", "w/stdout": "x\na\nb\ny-", "w/stderr": "0"}, 1, 0),

@@ -1,1 +1,2 @@
 pub mod ProgramFault
+pub mod Ended

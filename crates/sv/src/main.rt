@@ -1,8 +1,10 @@
 //! The program `sv`: its arguments, its standard streams and its exit status.
 #![tactic(auto)]
 
+mod ended;
 mod program_fault;
 
+use ended::Ended;
 use program_fault::ProgramFault;
 use std::net::Net;
 use std::process::ExitCode;
@@ -16,10 +18,13 @@ use sv_program::{CommandFault, Disk};
 fn main(rt: HostRuntime) -> ExitCode {
     match run(&rt) {
         Ok(()) => ExitCode::SUCCESS,
-        Err(fault) => {
+        Err(ended) => {
             // Where standard error cannot be written, the exit status still tells the fault.
-            let _ = eprintln!(rt; "{fault}");
-            ExitCode::from(fault.status())
+            let _ = eprintln!(rt; "{}", ended.fault);
+            if let Some(detail) = &ended.detail {
+                let _ = eprintln!(rt; "{detail}");
+            }
+            ExitCode::from(ended.fault.status())
         }
     }
 }
@@ -37,19 +42,22 @@ fn run<
         + AllocGlobal
         + Clone
         + Drop,
->(rt: &R) -> Result<(), ProgramFault> {
+>(rt: &R) -> Result<(), Ended> {
     let arguments: Vec<String> = env::args(rt)
         .map_err(ProgramFault::of_arguments)?
         .skip(1)
         .collect(rt.alloc())
         .map_err(CommandFault::from)?;
     let command = Command::parse(arguments.as_slice()).ok_or(ProgramFault::Usage)?;
-    command.run(
+    let ran = command.run(
         rt.alloc(),
         &mut Disk::new(rt),
         rt,
         rt.reader(),
         &mut io::writer(rt),
-    )?;
-    Ok(())
+    );
+    match ran {
+        Ok(()) => Ok(()),
+        Err(fault) => Err(Ended::of(rt.alloc(), &mut Disk::new(rt), &command, fault)),
+    }
 }

@@ -1,0 +1,43 @@
+-- The second line of a fault of a configuration file: the file, the place where it is known, and what is wrong.
+use Rattle.std.specs.Prelude.{◌≡◌, ◌≤◌, ℕ, List, ◌++◌, codes, length, take, Option, Some, None, IfSome, MatchOption}
+use Rattle.std.specs.Fmt.{decimal}
+use Rattle.toml.specs.Parse.{parse_document}
+use Rattle.sv_schema.specs.declared.fault.DescriptorFault.{DescriptorFault}
+use Rattle.sv_schema.specs.declared.fault.FaultCode.{FaultCode}
+use Rattle.sv_schema.specs.declared.fault.FaultCode.TheVariants.{NotToml}
+use Rattle.sv_program.specs.declared.command_fault.CommandFault.{CommandFault}
+use Rattle.sv_program.specs.declared.command_fault.CommandFault.TheVariants as fault
+use Rattle.sv_fault_detail.specs.Place.{line_behind, column_behind}
+use Rattle.sv_fault_detail.specs.Sentence.{sentence}
+
+-- the line without a place
+abbrev pub plain_line : List ℕ → DescriptorFault → List ℕ
+plain_line name fault = codes "  " ++ name ++ codes ": " ++ sentence fault
+
+-- the line with the place behind these bytes of the text
+abbrev pub line_with_place : List ℕ → List ℕ → List ℕ → List ℕ
+line_with_place name before message =
+    codes "  " ++ name ++ codes ":" ++ decimal (line_behind before) ++ codes ":" ++ decimal (column_behind before) ++ codes ": " ++ message
+
+-- a place in the text, and what the reader of TOML says there
+abbrev pub IsPlaced : List ℕ → List ℕ → List ℕ → Type 0
+IsPlaced name text line = (at : ℕ) × (message : List ℕ) × (at ≤ length text) × (line ≡ line_with_place name (take at text) message)
+
+-- the line of a text that is no TOML has a place, where the file has such a text still
+abbrev pub IsTextLine : List ℕ → List ℕ → DescriptorFault → List ℕ → Type 0
+IsTextLine name text found line = MatchOption (parse_document text) (IsPlaced name text line) (λ _. line ≡ plain_line name found)
+
+abbrev pub IsLineOf : FaultCode → List ℕ → List ℕ → DescriptorFault → List ℕ → Type 0
+IsLineOf NotToml name text found line = IsTextLine name text found line
+IsLineOf other name text found line = line ≡ plain_line name found
+
+-- the line for a fault of a file of this name and text
+abbrev pub IsLine : List ℕ → List ℕ → DescriptorFault → List ℕ → Type 0
+IsLine name text found line = IsLineOf found.code name text found line
+
+-- of a fault of a file, where a line is given, it is that for some text of a file, which has this name if it is the server file
+abbrev pub IsDetail : List ℕ → CommandFault → Option (List ℕ) → Type 0
+IsDetail config (fault.Server found) given = IfSome given (λ line. (text : List ℕ) × IsLine config text found line)
+IsDetail config (fault.Descriptor context found) given = IfSome given (λ line. (name : List ℕ) × (text : List ℕ) × IsLine name text found line)
+IsDetail config (fault.Users context found) given = IfSome given (λ line. (name : List ℕ) × (text : List ℕ) × IsLine name text found line)
+IsDetail config other given = given ≡ None

@@ -1,0 +1,3 @@
+pub mod Detail
+pub mod Place
+pub mod Sentence
