@@ -1,5 +1,5 @@
 -- The second line of a fault of a configuration file: the file, the place where it is known, and what is wrong.
-use Rattle.std.specs.Prelude.{◌≡◌, ◌≤◌, ℕ, List, ◌++◌, codes, length, take, Option, Some, None, IfSome, MatchOption}
+use Rattle.std.specs.Prelude.{◌≡◌, ◌≤◌, ℕ, List, ◌++◌, codes, length, take, Option, None, IfSome, MatchOption}
 use Rattle.std.specs.Fmt.{decimal}
 use Rattle.toml.specs.Parse.{parse_document}
 use Rattle.sv_schema.specs.declared.fault.DescriptorFault.{DescriptorFault}

@@ -35,16 +35,14 @@ fn text_line(
 ) -> Result<Text, NoMemory>
     ensures { IfOk result (spec.IsTextLine name.now text.now fault.now) }
 {
-    match toml::table_from_str(alloc, text) {
-        Ok(_) => plain_line(alloc, name, fault),
-        Err(error) => {
-            let Some(span) = error.span() else {
-                return Err(NoMemory);
-            };
-            let before = &text.as_bytes()[..span.start];
-            line_with_place(alloc, name, before, error.message())
-        }
-    }
+    let Err(error) = toml::table_from_str(alloc, text) else {
+        return plain_line(alloc, name, fault);
+    };
+    let Some(span) = error.span() else {
+        return Err(NoMemory);
+    };
+    let before = &text.as_bytes()[..span.start];
+    line_with_place(alloc, name, before, error.message())
 }
 
 /// The line with the place behind these bytes.
