@@ -1,16 +1,19 @@
-//! The events of connections.
+//! The events of connections, edits, and explanations.
 
 use crate::containers::{Does, TestContainer, answer_with};
+use crate::results::{Tells, tell};
 use std::alloc::Global;
+use sv_explain::{ExplainFault, Explanation};
+use sv_policy::Edit;
 use sv_rows::{Asks, Draft, Strays, cell, hold};
-use sv_run::{Happening, Reaction};
+use sv_run::{Happening, Reaction, StepFault};
 use sv_text::NoMemory;
 
 /// What events bring, with `, ` between.
 struct Events;
 
 impl Does for Events {
-    fn act(&self, _alloc: Global, row: &str, container: &mut TestContainer, told: &mut Draft) {
+    fn act(&self, row: &str, container: &mut TestContainer, told: &mut Draft) {
         for event in cell(row, 1).split(", ") {
             if !told.is_empty() {
                 told.add(", ");
@@ -28,29 +31,44 @@ impl Asks for Events {
     }
 }
 
-/// `open`, `piece`, `end`, `lost` and `tick` with a number, or `many` with how many connections are opened, from 1 on, and the last answer is told.
+/// `open`, `piece`, `end`, `lost`, `tick` and `withdraw` with a number, `many` with how many connections are opened, from 1 on, where the last answer is told, or
+/// `explain`: what would become of a request for `/admin/x` from the user who has the role a.
 fn take(event: &str, container: &mut TestContainer, told: &mut Draft) {
     let (name, number) = event.split_once(' ').unwrap_or((event, ""));
     let number = number.parse::<u64>().unwrap_or(0);
-    if name == "many" {
-        open_many(number, container);
-    }
-    match container.step(happening(name, number)) {
-        Ok(reaction) => tell_reaction(&reaction, told),
-        Err(fault) => told.add_shown(&fault),
+    match name {
+        "explain" => tell(container.explain("GET", b"/admin/x", Some("ann")), told),
+        "withdraw" => withdraw(number, container, told),
+        "many" => open_many(number, container, told),
+        _ => tell(container.step(happening(name, number)), told),
     }
 }
 
-/// Opens all of so many connections but the last.
-fn open_many(number: u64, container: &mut TestContainer) {
-    for connection in 1..number {
-        let _reaction = container.step(Happening::Opened { connection });
-    }
+fn withdraw(number: u64, container: &mut TestContainer, told: &mut Draft) {
+    let edit = Edit::Withdraw(number);
+    let happening = Happening::Edit {
+        context: "",
+        edit: &edit,
+    };
+    tell(container.step(happening), told);
 }
+
+/// Opens so many connections, and tells of the last one.
+fn open_many(number: u64, container: &mut TestContainer, told: &mut Draft) {
+    for connection in 1..number {
+        let_go(container.step(Happening::Opened { connection }));
+    }
+    tell(
+        container.step(Happening::Opened { connection: number }),
+        told,
+    );
+}
+
+fn let_go<T: Drop>(_value: T) {}
 
 fn happening(name: &str, connection: u64) -> Happening<'_> {
     match name {
-        "open" | "many" => Happening::Opened { connection },
+        "open" => Happening::Opened { connection },
         "end" => Happening::Ended { connection },
         "lost" => Happening::Lost { connection },
         "tick" => Happening::Tick { moment: connection },
@@ -62,8 +80,30 @@ fn happening(name: &str, connection: u64) -> Happening<'_> {
     }
 }
 
+impl Tells for Result<Reaction, StepFault> {
+    fn tell(&self, told: &mut Draft) {
+        match self {
+            Ok(reaction) => tell_reaction(reaction, told),
+            Err(fault) => told.add_shown(fault),
+        }
+    }
+}
+
 fn tell_reaction(reaction: &Reaction, told: &mut Draft) {
-    told.add(if reaction.closes { "closes" } else { "goes on" });
+    match &reaction.edited {
+        None => told.add(if reaction.closes { "closes" } else { "goes on" }),
+        Some(Ok(number)) => told.add_shown(number),
+        Some(Err(fault)) => told.add_shown(fault),
+    }
+}
+
+impl Tells for Result<Explanation, ExplainFault> {
+    fn tell(&self, told: &mut Draft) {
+        match self {
+            Ok(explanation) => told.add_shown(explanation),
+            Err(fault) => told.add_shown(fault),
+        }
+    }
 }
 
 /// The deployments, the events; what each brings, and how many contexts have their components handed back.
@@ -82,6 +122,8 @@ who@ | open 1, piece 2, end 2, lost 2, piece 1   | goes on, BadConnection, BadCo
 who@ | many 1024, open 1025                      | goes on, TooManyConnections                    | 1
 who@ | many 1025, piece 1024, piece 1025         | TooManyConnections, goes on, BadConnection     | 1
 who@ | many 1024, open 7, end 7, open 1025, open 7 | goes on, BadConnection, closes, goes on, TooManyConnections | 1
+-- Jakarta Servlet 6.0, section 13.8: an explanation is that of the constraints as they stand
+edited@ | explain, withdraw 1, explain, withdraw 1 | open context=/ path=/admin/x pattern=/admin/* constraint=1 cause=Role, 1, open context=/ path=/admin/x pattern=- constraint=- cause=NoPattern, NoSuch | 1
 "#;
 
 #[test]
