@@ -3,16 +3,15 @@
 ghost use Rattle.std.specs.Prelude.{◌≡◌, ◌++◌, reverse, IfOk, OnOk};
 ghost use Rattle.std.specs.List.{flat_map};
 ghost use Rattle.std.specs.Option.{option_copied};
-ghost use Rattle.sv_text.specs.Gives.{GivesAnswer};
 ghost use Rattle.sv_parameters.specs.Form.{form_parameters};
-ghost use Rattle.sv_parameters.specs.Parameters.{parameters_of, text_of};
+ghost use Rattle.sv_parameters.specs.Parameters.{parameters_of};
 ghost use Rattle.sv_exchange.specs.Parameters.{dispatch_parameters, query_parameters};
 
 use crate::dispatch::Dispatch;
 use crate::exchange::Exchange;
-use form_urlencoded::{decode, raw_pairs};
+use form_urlencoded::raw_pairs;
 use std::alloc::Global;
-use sv_parameters::is_form;
+use sv_parameters::{is_form, text_of};
 use sv_text::{NoMemory, Text};
 
 impl Exchange {
@@ -105,12 +104,4 @@ fn push_query(
         parameters.push((name, value))?;
     }
     Ok(())
-}
-
-// The text that is written so.
-fn text_of(alloc: Global, written: &[u8]) -> Result<Text, NoMemory>
-    ensures { GivesAnswer result (text_of written.now) }
-{
-    let text = decode(alloc, written)?;
-    Ok(Text::from_string(text.into_owned(alloc)?))
 }

@@ -2,11 +2,11 @@
 
 ghost use Rattle.std.specs.Prelude.{◌≡◌};
 ghost use Rattle.std.specs.Option.{option_copied};
-ghost use Rattle.sv_parameters.specs.Form.{before_parameters, media_type};
 
 use crate::exchange::Exchange;
 use crate::fields::is_called;
-use sv_head::{Field, trim_blanks};
+use sv_head::Field;
+use sv_parameters::media_type;
 
 impl Exchange {
     ghost use Rattle.sv_exchange.specs.Request.{client_path_of, client_uri_of, media_type_of, value_at};
@@ -70,21 +70,5 @@ impl Exchange {
         ensures { result.now ≡ client_uri_of self.now }
     {
         self.client.uri.as_str()
-    }
-}
-
-// The type that a Content-Type names, without its parameters.
-fn media_type(value: &[u8]) -> &[u8]
-    ensures { result.now ≡ media_type value.now }
-{
-    trim_blanks(before_parameters(value))
-}
-
-fn before_parameters(value: &[u8]) -> &[u8]
-    ensures { result.now ≡ before_parameters value.now }
-{
-    match value.iter().position(|b| *b == b';') {
-        Some(end) => &value[..end],
-        None => value,
     }
 }
