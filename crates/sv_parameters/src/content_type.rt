@@ -12,8 +12,9 @@ pub(crate) fn is_form_type(value: &[u8]) -> bool
     media_type(value).eq_ignore_ascii_case(b"application/x-www-form-urlencoded")
 }
 
-// The type without its parameters.
-fn media_type(value: &[u8]) -> &[u8]
+/// The media type that the value of a Content-Type names, without its parameters and the blanks around it, in the case in which it came (RFC 9110,
+/// section 8.3.1).
+pub fn media_type(value: &[u8]) -> &[u8]
     ensures { result.now ≡ media_type value.now }
 {
     trim_blanks(before_parameters(value))

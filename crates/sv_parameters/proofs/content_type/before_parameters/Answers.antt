@@ -1,7 +1,7 @@
 use Rattle.std.proofs.Common.{ℕ, ◌==◌, length, take, sym, ap, ◌∙◌, arith, rules, take_all}
 use Rattle.std.proofs.lemmas.List.Sums.{position_or_len_is}
 use Rattle.sv_parameters.specs.Form.{semicolon}
-use Rattle.sv_parameters.proofs.media_type.before_parameters.Goals as goal
+use Rattle.sv_parameters.proofs.content_type.before_parameters.Goals as goal
 
 pub returns-in-Some : goal.returns-in-Some
 returns-in-Some c =
