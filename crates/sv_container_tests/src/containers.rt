@@ -34,7 +34,7 @@ type TestShutdown = Shutdown<
 /// What is done with the container of a row.
 pub trait Does {
     /// Does it, and tells what came of it.
-    fn act(&self, row: &str, container: &mut TestContainer, told: &mut Draft);
+    fn act(&self, alloc: Global, row: &str, container: &mut TestContainer, told: &mut Draft);
 }
 
 /// Starts a container with the deployments of the first cell, does something with it, and shuts it down: how many contexts have their components
@@ -61,7 +61,7 @@ fn start<D: Does>(
 ) {
     let mut journal = Journal::new(alloc);
     match Container::new(alloc, deployments, CountedWords::new(), &mut journal) {
-        Ok(container) => run(row, container, does, told),
+        Ok(container) => run(alloc, row, container, does, told),
         Err(fault) => {
             tell(fault, told);
             tell_entries(&journal, told);
@@ -69,8 +69,14 @@ fn start<D: Does>(
     }
 }
 
-fn run<D: Does>(row: &str, mut container: TestContainer, does: &D, told: &mut Draft) {
-    does.act(row, &mut container, told);
+fn run<D: Does>(
+    alloc: Global,
+    row: &str,
+    mut container: TestContainer,
+    does: &D,
+    told: &mut Draft,
+) {
+    does.act(alloc, row, &mut container, told);
     told.add(" | ");
     tell(container.shutdown(), told);
 }

@@ -2,7 +2,7 @@
 
 use crate::counted::{Counted, Counts};
 use crate::descriptors::descriptor_text;
-use crate::results::{beside, both, made};
+use crate::results::{beside, both, made, push};
 use std::alloc::Global;
 use sv_application::{ProgramFilter, ProgramListener, ProgramServlet, parts_of};
 use sv_component::Named;
@@ -51,15 +51,14 @@ pub fn deployments(
 fn add(
     alloc: Global,
     word: &str,
-    made: &mut Vec<TestDeployment>,
+    list: &mut Vec<TestDeployment>,
     counts: &mut Counts,
 ) -> Result<(), NoMemory> {
     match word.strip_prefix("*") {
-        Some(count) => add_many(alloc, count.parse::<u32>().unwrap_or(0), made, counts),
+        Some(count) => add_many(alloc, count.parse::<u32>().unwrap_or(0), list, counts),
         None => {
             let (name, path) = word.split_once('@').unwrap_or((word, ""));
-            made.push(deployment(alloc, name, path, counts)?)?;
-            Ok(())
+            push(list, deployment(alloc, name, path, counts))
         }
     }
 }
@@ -67,12 +66,12 @@ fn add(
 fn add_many(
     alloc: Global,
     count: u32,
-    made: &mut Vec<TestDeployment>,
+    list: &mut Vec<TestDeployment>,
     counts: &mut Counts,
 ) -> Result<(), NoMemory> {
     for number in 0..count {
         let path = format!(in alloc; "/{}", number.saturating_add(1))?;
-        made.push(deployment(alloc, "", path.as_str(), counts)?)?;
+        push(list, deployment(alloc, "", path.as_str(), counts))?;
     }
     Ok(())
 }

@@ -1,24 +1,27 @@
 //! The events of connections, edits, and explanations.
 
 use crate::containers::{Does, TestContainer, answer_with};
-use crate::results::{Tells, tell};
+use crate::results::{Tells, made};
 use std::alloc::Global;
-use sv_explain::{ExplainFault, Explanation};
-use sv_policy::Edit;
+use std::fmt::Display;
+use sv_constraints::{Auth, Collection, Methods, Transport};
+use sv_explain::Explanation;
+use sv_mapping::Pattern;
+use sv_policy::{Edit, NewConstraint};
 use sv_rows::{Asks, Draft, Strays, cell, hold};
-use sv_run::{Happening, Reaction, StepFault};
-use sv_text::NoMemory;
+use sv_run::{Happening, Reaction};
+use sv_text::{Listed, NoMemory};
 
 /// What events bring, with `, ` between.
 struct Events;
 
 impl Does for Events {
-    fn act(&self, row: &str, container: &mut TestContainer, told: &mut Draft) {
+    fn act(&self, alloc: Global, row: &str, container: &mut TestContainer, told: &mut Draft) {
         for event in cell(row, 1).split(", ") {
             if !told.is_empty() {
                 told.add(", ");
             }
-            take(event, container, told);
+            take(alloc, event, container, told);
         }
     }
 }
@@ -31,26 +34,50 @@ impl Asks for Events {
     }
 }
 
-/// `open`, `piece`, `end`, `lost`, `tick` and `withdraw` with a number, `many` with how many connections are opened, from 1 on, where the last answer is told, or
-/// `explain`: what would become of a request for `/admin/x` from the user who has the role a.
-fn take(event: &str, container: &mut TestContainer, told: &mut Draft) {
+/// `open`, `piece`, `end`, `lost`, `tick` and `withdraw` with a number; `many` with how many connections are opened, from 1 on, where the last answer
+/// is told; `append`; or `explain`: what would become of a request for `/admin/x` from the user who has the role a.
+fn take(alloc: Global, event: &str, container: &mut TestContainer, told: &mut Draft) {
     let (name, number) = event.split_once(' ').unwrap_or((event, ""));
     let number = number.parse::<u64>().unwrap_or(0);
     match name {
-        "explain" => tell(container.explain("GET", b"/admin/x", Some("ann")), told),
-        "withdraw" => withdraw(number, container, told),
+        "explain" => tell_either(container.explain("GET", b"/admin/x", Some("ann")), told),
+        "append" => append(alloc, container, told),
+        "withdraw" => edit_root(&Edit::Withdraw(number), container, told),
         "many" => open_many(number, container, told),
-        _ => tell(container.step(happening(name, number)), told),
+        _ => tell_either(container.step(happening(name, number)), told),
     }
 }
 
-fn withdraw(number: u64, container: &mut TestContainer, told: &mut Draft) {
-    let edit = Edit::Withdraw(number);
-    let happening = Happening::Edit {
-        context: "",
-        edit: &edit,
-    };
-    tell(container.step(happening), told);
+fn append(alloc: Global, container: &mut TestContainer, told: &mut Draft) {
+    match addition(alloc) {
+        Ok(addition) => edit_root(&Edit::Append(addition), container, told),
+        Err(NoMemory) => told.fail(),
+    }
+}
+
+fn edit_root(edit: &Edit, container: &mut TestContainer, told: &mut Draft) {
+    tell_either(container.step(Happening::Edit { context: "", edit }), told);
+}
+
+/// A constraint of two collections, which wants a confidential connection.
+fn addition(alloc: Global) -> Result<NewConstraint, NoMemory> {
+    let mut collections = Vec::new(alloc);
+    collections.push(collection(alloc, "/other")?)?;
+    collections.push(collection(alloc, "/admin/*")?)?;
+    Ok(NewConstraint {
+        collections: Listed::from_vec(collections),
+        auth: Auth::Absent,
+        transport: Transport::Confidential,
+    })
+}
+
+fn collection(alloc: Global, pattern: &str) -> Result<Collection, NoMemory> {
+    let mut patterns = Vec::new(alloc);
+    patterns.push(made(Pattern::parse(alloc, pattern))?)?;
+    Ok(Collection {
+        patterns: Listed::from_vec(patterns),
+        methods: Methods::All,
+    })
 }
 
 /// Opens so many connections, and tells of the last one.
@@ -58,10 +85,8 @@ fn open_many(number: u64, container: &mut TestContainer, told: &mut Draft) {
     for connection in 1..number {
         let_go(container.step(Happening::Opened { connection }));
     }
-    tell(
-        container.step(Happening::Opened { connection: number }),
-        told,
-    );
+    let last = Happening::Opened { connection: number };
+    tell_either(container.step(last), told);
 }
 
 fn let_go<T: Drop>(_value: T) {}
@@ -80,29 +105,27 @@ fn happening(name: &str, connection: u64) -> Happening<'_> {
     }
 }
 
-impl Tells for Result<Reaction, StepFault> {
+/// Tells a value, or why there is none, and lets it go.
+fn tell_either<T: Tells + Drop, E: Display + Drop>(value: Result<T, E>, told: &mut Draft) {
+    match value {
+        Ok(value) => value.tell(told),
+        Err(fault) => told.add_shown(&fault),
+    }
+}
+
+impl Tells for Reaction {
     fn tell(&self, told: &mut Draft) {
-        match self {
-            Ok(reaction) => tell_reaction(reaction, told),
-            Err(fault) => told.add_shown(fault),
+        match &self.edited {
+            None => told.add(if self.closes { "closes" } else { "goes on" }),
+            Some(Ok(number)) => told.add_shown(number),
+            Some(Err(fault)) => told.add_shown(fault),
         }
     }
 }
 
-fn tell_reaction(reaction: &Reaction, told: &mut Draft) {
-    match &reaction.edited {
-        None => told.add(if reaction.closes { "closes" } else { "goes on" }),
-        Some(Ok(number)) => told.add_shown(number),
-        Some(Err(fault)) => told.add_shown(fault),
-    }
-}
-
-impl Tells for Result<Explanation, ExplainFault> {
+impl Tells for Explanation {
     fn tell(&self, told: &mut Draft) {
-        match self {
-            Ok(explanation) => told.add_shown(explanation),
-            Err(fault) => told.add_shown(fault),
-        }
+        told.add_shown(self);
     }
 }
 
@@ -124,6 +147,7 @@ who@ | many 1025, piece 1024, piece 1025         | TooManyConnections, goes on, 
 who@ | many 1024, open 7, end 7, open 1025, open 7 | goes on, BadConnection, closes, goes on, TooManyConnections | 1
 -- Jakarta Servlet 6.0, section 13.8: an explanation is that of the constraints as they stand
 edited@ | explain, withdraw 1, explain, withdraw 1 | open context=/ path=/admin/x pattern=/admin/* constraint=1 cause=Role, 1, open context=/ path=/admin/x pattern=- constraint=- cause=NoPattern, NoSuch | 1
+edited@ | append, explain, withdraw 1, explain     | 2, open context=/ path=/admin/x pattern=/admin/* constraint=2 cause=Unauthenticated, 1, denied context=/ path=/admin/x pattern=/admin/* constraint=2 cause=Transport | 1
 "#;
 
 #[test]

@@ -24,6 +24,12 @@ pub fn made<A: Drop, E: Drop>(value: Result<A, E>) -> Result<A, NoMemory> {
     }
 }
 
+/// Adds a value, where there was memory for it.
+pub fn push<A: Drop>(values: &mut Vec<A>, value: Result<A, NoMemory>) -> Result<(), NoMemory> {
+    values.push(value?)?;
+    Ok(())
+}
+
 /// What can be told.
 pub trait Tells {
     /// Tells it.

@@ -9,7 +9,7 @@ use sv_text::NoMemory;
 struct Starts;
 
 impl Does for Starts {
-    fn act(&self, _row: &str, _container: &mut TestContainer, told: &mut Draft) {
+    fn act(&self, _alloc: Global, _row: &str, _container: &mut TestContainer, told: &mut Draft) {
         told.add("started");
     }
 }

@@ -6,7 +6,7 @@ use sv_constraints::{Auth, Collection, Constraint, Methods, Rules, Transport};
 use sv_explain::{ContextPolicy, explain_parts};
 use sv_mapping::Pattern;
 use sv_policy::Policy;
-use sv_realm::Realm;
+use sv_realm::{MAX_USERS, Realm};
 use sv_text::{Listed, NoMemory, Text};
 
 /// A constraint that names no roles precludes everyone (Jakarta Servlet 6.0, section 13.8).
@@ -19,8 +19,7 @@ fn the_parts_of_a_configuration_explain_a_request(rt: HostRuntime) {
 }
 
 fn explained(alloc: Global) -> Result<String, NoMemory> {
-    let realm = Realm::from_users(alloc, Vec::new(alloc));
-    let context = context_of(alloc, both(policy(alloc), realm))?;
+    let context = context_of(alloc, both(policy(alloc), nobody(alloc)))?;
     line_of(alloc, &[context])
 }
 
@@ -40,6 +39,14 @@ fn context_of(
         policy,
         realm,
     })
+}
+
+fn nobody(alloc: Global) -> Result<Realm, NoMemory> {
+    let users = Vec::new(alloc);
+    if users.len() > MAX_USERS {
+        return Err(NoMemory);
+    }
+    Realm::from_users(alloc, users)
 }
 
 fn policy(alloc: Global) -> Result<Policy, NoMemory> {

@@ -58,6 +58,21 @@ fn ask_all(
         mut site,
         sessions,
     } = context;
+    ask_each(
+        alloc, row, requests, asking, &mut live, &mut site, sessions, told,
+    );
+}
+
+fn ask_each(
+    alloc: Global,
+    row: &str,
+    requests: &str,
+    asking: Asking,
+    live: &mut TestLive,
+    site: &mut Site,
+    sessions: Sessions,
+    told: &mut Draft,
+) {
     let mut sessions = Some(sessions);
     for part in requests.split(';') {
         if !told.is_empty() {
@@ -65,7 +80,7 @@ fn ask_all(
         }
         let request = read_request(part.trim());
         let asked = asked(alloc, row, request, sessions);
-        sessions = ask_one(alloc, request, asking, &mut live, &mut site, asked, told);
+        sessions = ask_one(alloc, request, asking, live, site, asked, told);
     }
 }
 

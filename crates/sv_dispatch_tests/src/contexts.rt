@@ -76,10 +76,10 @@ fn site(alloc: Global, row: &str, descriptor: Descriptor) -> Option<Site> {
 fn site_with(alloc: Global, kept: (Text, Files), descriptor: Descriptor) -> Option<Site> {
     let (path, files) = kept;
     let chains = Chains::compile(alloc, &descriptor);
-    match ServletPatterns::of(alloc, &descriptor) {
-        Ok(patterns) => Some(Site::new(path, descriptor, files, patterns, chains)),
-        Err(NoMemory) => nothing_of((path, descriptor, files, chains)),
-    }
+    let Ok(patterns) = ServletPatterns::of(alloc, &descriptor) else {
+        return nothing_of(((path, files), (descriptor, chains)));
+    };
+    Some(Site::new(path, descriptor, files, patterns, chains))
 }
 
 fn files(alloc: Global, row: &str) -> Result<Files, NoMemory> {
