@@ -1,3 +1,5 @@
+pub use Rattle.sv_component.specs.Call
+pub use Rattle.sv_exchange.specs.Changing
 pub mod Cookies
 pub mod Escaping
 pub mod Fault
