@@ -1,4 +1,5 @@
 mod Bytes
 mod CourseLemmas
+mod Running
 mod TalkLemmas
 mod TurnLemmas

@@ -1,4 +1,5 @@
 pub mod Connection
 pub mod Laws
+pub mod Running
 pub mod TurnSteps
 pub mod Turns

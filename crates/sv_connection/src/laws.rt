@@ -2,8 +2,13 @@
 
 ghost use Rattle.std.specs.Prelude.{◌≡◌};
 ghost use Rattle.sv_connection.specs.Laws.{ClosedHasACause, LostHasACause, PiecesAreWhatIsRead, WhatIsSentIsWritten};
+ghost use Rattle.sv_connection.specs.Running.{AConnectionIsARun, OnlyPiecesSend};
+ghost use Rattle.sv_run.specs.Contexts.{theory_of};
+ghost use Rattle.sv_run.specs.State.{State};
 
 use crate::limits::MAX_READS;
+use sv_run::{Context, Reactor, Words};
+use sv_streams::{Clock, Stream};
 
 /// The limit as a number: definitions and code cite the constant, so that both would move with it.
 pub fn limits_are_as_stated()
@@ -26,4 +31,17 @@ pub fn what_is_sent_is_written()
 pub fn the_end_has_a_cause()
     ensures lost { LostHasACause }
     ensures closed { ClosedHasACause }
+{}
+
+/// An event that is not a piece sends nothing.
+pub fn only_pieces_send<X: Context, W: Words>()
+    ensures { OnlyPiecesSend (theory_of X.path_of X.conduct W.draws) }
+{}
+
+/// Where each event is taken as the run of a container says, the events of one connection are a run: what was read of it is the bytes of its
+/// pieces, and what was written of it is all that the run sends, one answer after another, or a part of that, from the first byte on, where a write
+/// failed. The connection is lost only where a call failed or as many reads were made as may be, and closed only where none failed and either the
+/// end was met or what the last piece brought closes it.
+pub fn a_connection_is_a_run<R: Reactor, S: Stream, C: Clock, X: Context, W: Words>()
+    ensures { (state_of : R → State X W) → AConnectionIsARun R.steps S.makes C.tells (theory_of X.path_of X.conduct W.draws) state_of }
 {}

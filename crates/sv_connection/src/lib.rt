@@ -9,7 +9,8 @@ mod turn;
 
 pub use connection::run_connection;
 pub use laws::{
-    limits_are_as_stated, pieces_are_what_is_read, the_end_has_a_cause, what_is_sent_is_written,
+    a_connection_is_a_run, limits_are_as_stated, only_pieces_send, pieces_are_what_is_read,
+    the_end_has_a_cause, what_is_sent_is_written,
 };
 pub use limits::MAX_READS;
 pub use over::Over;

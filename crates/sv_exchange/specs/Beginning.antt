@@ -55,7 +55,7 @@ begun message canon context_path settings moment words held store = record {
 abbrev pub last_piece : Bool → List ℕ → List (List ℕ)
 last_piece broken buffer = if broken then [] else piece_of buffer
 
--- the body is whole until the response is committed, and then it leaves in pieces (section 5.5)
+-- the body is whole until the response is committed, and then it leaves in pieces (section 5.1)
 abbrev pub body_of : Bool → List (List ℕ) → List ℕ → Bool → Bool → Body
 body_of false flushed buffer chunked broken = Whole buffer
 body_of true flushed buffer chunked broken = Flushed (flushed ++ last_piece broken buffer) chunked broken

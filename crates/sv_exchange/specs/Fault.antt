@@ -1,4 +1,4 @@
--- The names of the faults of changing calls.
+-- The faults of changing calls: their names, and what to answer.
 use Rattle.std.specs.Prelude.{ℕ, List, codes}
 use Rattle.sv_exchange.specs.declared.exchange_fault.ExchangeFault.{ExchangeFault}
 use Rattle.sv_exchange.specs.declared.exchange_fault.ExchangeFault.TheVariants.{Committed, TooManySessions, SerialSpent, NoSession, NoMemory, BadHeader, TooLarge}
@@ -11,3 +11,13 @@ fault_name NoSession = codes "NoSession"
 fault_name NoMemory = codes "NoMemory"
 fault_name BadHeader = codes "BadHeader"
 fault_name TooLarge = codes "TooLarge"
+
+-- the status by which a component can answer it (RFC 9110, section 15.6): 503 where the server is full for now, else 500
+abbrev pub fault_status : ExchangeFault → ℕ
+fault_status Committed = 500
+fault_status TooManySessions = 503
+fault_status SerialSpent = 500
+fault_status NoSession = 500
+fault_status NoMemory = 503
+fault_status BadHeader = 500
+fault_status TooLarge = 500

@@ -1,3 +1,4 @@
+pub mod Answered
 pub mod Attributes
 pub mod Beginning
 pub mod Changing
@@ -7,5 +8,6 @@ pub mod Fields
 pub mod Keeping
 pub mod Laws
 pub mod Parameters
+pub mod Request
 pub mod Sessions
 pub mod State

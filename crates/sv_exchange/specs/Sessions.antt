@@ -34,9 +34,17 @@ session_of x = option_and_then (λ number. option_map (λ id. number) (calls.id_
 abbrev pub has_session : State → Bool
 has_session x = is_some (session_of x)
 
+-- its id
+abbrev pub session_id_of : State → Option (List ℕ)
+session_id_of x = option_and_then (λ number. calls.id_of number x.store) x.session
+
 -- the value of an attribute of that session
 abbrev pub session_value : List ℕ → State → Option (List ℕ)
 session_value name x = option_and_then (λ number. calls.value_of number name x.store) (session_of x)
+
+-- its attributes, in the order in which they were first set
+abbrev pub session_attributes_of : State → List Attribute
+session_attributes_of x = option_map_or (λ number. attributes_of number x.store) (session_of x) []
 
 -- whether the caller has the role; every caller is in `**`, none in `*`
 abbrev pub is_in_role : List ℕ → Option Caller → Bool

@@ -60,7 +60,7 @@ impl Exchange {
     }
 
     /// Commits the response: its status, its fields and its cookie stay as they are, and what was written since the last flush leaves as a
-    /// piece, where anything was (Jakarta Servlet 6.0, sections 5.1 and 5.6). It is never ignored. The fault is `NoMemory`; nothing changes
+    /// piece, where anything was (Jakarta Servlet 6.0, section 5.1). It is never ignored. The fault is `NoMemory`; nothing changes
     /// then.
     pub fn flush(&mut self) -> Result<bool, ExchangeFault>
         ensures does { Does Flush result self.old self.new }

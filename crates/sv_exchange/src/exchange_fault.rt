@@ -2,7 +2,7 @@
 
 ghost use Rattle.std.specs.Prelude.{◌≡◌, Some};
 ghost use Rattle.sv_exchange.specs.declared.exchange_fault.ExchangeFault.TheVariants as faults;
-ghost use Rattle.sv_exchange.specs.Fault.{fault_name};
+ghost use Rattle.sv_exchange.specs.Fault.{fault_name, fault_status};
 ghost use Rattle.sv_exchange.specs.Sessions.{fault_of};
 
 use std::alloc::{AllocError, AllocFailed};
@@ -31,6 +31,19 @@ pub enum ExchangeFault {
     /// The body would be longer than [`MAX_BODY_LEN`](crate::MAX_BODY_LEN); or the name or the value of a session's attribute is too long,
     /// or the session has as many others as it may have.
     TooLarge = 7,
+}
+
+impl ExchangeFault {
+    /// The status by which a component can answer a request whose call was refused so (RFC 9110, section 15.6): 503 where the server is full
+    /// for now, which are `TooManySessions` and `NoMemory`, and 500 where the component did what it may not.
+    pub fn status(self) -> u16
+        ensures { result ≡ fault_status self }
+    {
+        match self {
+            ExchangeFault::TooManySessions | ExchangeFault::NoMemory => 503,
+            _ => 500,
+        }
+    }
 }
 
 impl fmt::Display for ExchangeFault {

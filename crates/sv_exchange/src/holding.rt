@@ -11,13 +11,13 @@ use crate::exchange::Exchange;
 use crate::held_session::HeldSession;
 use std::alloc::Global;
 use sv_realm::Caller;
-use sv_session::Sessions;
+use sv_session::{Attribute, Sessions};
 use sv_text::{NoMemory, Text};
 use sv_uri::location;
 use sv_wire::{Cookie, CookieSettings};
 
 impl Exchange {
-    ghost use Rattle.sv_exchange.specs.Sessions.{has_session, session_of, session_value};
+    ghost use Rattle.sv_exchange.specs.Sessions.{has_session, session_attributes_of, session_id_of, session_of, session_value};
 
     /// The number of the request's session, while it lives (Jakarta Servlet 6.0, section 7.1).
     pub fn session(&self) -> Option<u64>
@@ -28,6 +28,14 @@ impl Exchange {
         Some(number)
     }
 
+    /// The id of the request's session, as its cookie has it, while it lives (Jakarta Servlet 6.0, section 7.1).
+    pub fn session_id(&self) -> Option<&str>
+        ensures { option_copied result ≡ session_id_of self.now }
+    {
+        let number = self.session?;
+        self.sessions.id(number)
+    }
+
     /// The value of the attribute of that name, with case, of the request's session; `None` where there is none, or no session (Jakarta
     /// Servlet 6.0, section 7.4).
     pub fn session_get(&self, name: &str) -> Option<&str>
@@ -35,6 +43,17 @@ impl Exchange {
     {
         let number = self.session()?;
         self.sessions.get(number, name)
+    }
+
+    /// The attributes of the request's session, names with values, in the order in which they were first set; none where there is no session
+    /// (Jakarta Servlet 6.0, section 7.4).
+    pub fn session_attributes(&self) -> &[Attribute]
+        ensures { result.now ≡ session_attributes_of self.now }
+    {
+        match self.session() {
+            Some(number) => self.sessions.attributes(number),
+            None => &[],
+        }
     }
 
     /// The authenticated caller, until `logout` or the session's end (Jakarta Servlet 6.0, section 13.3).

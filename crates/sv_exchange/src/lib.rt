@@ -1,6 +1,7 @@
 //! The exchange: a request with the answer that components make of it.
 #![tactic(auto)]
 
+mod answered;
 mod asked;
 mod attribute;
 mod attributes;
@@ -18,8 +19,10 @@ mod holding;
 mod kept_error;
 mod laws;
 mod limits;
+mod listing;
 mod parameters;
 mod reading;
+mod request;
 mod sessions;
 mod told_error;
 

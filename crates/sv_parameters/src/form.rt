@@ -6,7 +6,7 @@ ghost use Rattle.sv_text.specs.Gives.{GivesAnswer};
 ghost use Rattle.sv_parameters.specs.Form.{form_parameters, is_form};
 ghost use Rattle.sv_parameters.specs.Parameters.{first_named};
 
-use crate::media_type::is_form_type;
+use crate::content_type::is_form_type;
 use crate::query::first_of_query;
 use std::alloc::Global;
 use sv_text::{NoMemory, Text};

@@ -1,9 +1,10 @@
 //! The parameters of a request: what its queries and its form name.
 #![tactic(auto)]
 
+mod content_type;
 mod form;
-mod media_type;
 mod query;
 
+pub use content_type::media_type;
 pub use form::{first_of_form, is_form};
-pub use query::first_of_query;
+pub use query::{first_of_query, text_of};

@@ -32,8 +32,11 @@ fn is_named(alloc: Global, key: &[u8], name: &str) -> Result<bool, NoMemory>
     Ok(key.as_str() == name)
 }
 
-// The text that is written so.
-fn text_of(alloc: Global, written: &[u8]) -> Result<Text, NoMemory>
+/// The text that is written so in a query or a form (URL Standard, section 5.1).
+///
+/// # Errors
+/// [`NoMemory`]: a growth was refused.
+pub fn text_of(alloc: Global, written: &[u8]) -> Result<Text, NoMemory>
     ensures { GivesAnswer result (text_of written.now) }
 {
     let text = decode(alloc, written)?;

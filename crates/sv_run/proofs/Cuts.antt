@@ -365,7 +365,7 @@ module _ {Context Words : Type 0} (theory : Theory Context Words) where
   )
 
   module _ (ends : EndsExpired theory) (number moment : ℕ) where
-    in_parts : (before after : State Context Words) (first : List ℕ) (parts : List (List ℕ)) (effect : Effect Context)
+    pub in_parts : (before after : State Context Words) (first : List ℕ) (parts : List (List ℕ)) (effect : Effect Context)
         → Accepts theory before (Piece number (first ++ text_of_parts parts) moment) effect after
         → (effects : List (Effect Context))
         × Run theory before (pieces_of number moment (first ∷ parts)) (map Ok effects) after × (effect ≡ joined_all effects)
@@ -379,7 +379,7 @@ module _ {Context Words : Type 0} (theory : Theory Context Words) where
         let later = in_parts cut.between after part parts cut.back cut.goes_on in
         (cut.front ∷ later.0, (cut.between, cut.begins, later.1), cut.is_joined ∙ ap (joined cut.front) later.2)
 
-    of_parts : (before after : State Context Words) (first : List ℕ) (parts : List (List ℕ)) (effects : List (Effect Context))
+    pub of_parts : (before after : State Context Words) (first : List ℕ) (parts : List (List ℕ)) (effects : List (Effect Context))
         → Run theory before (pieces_of number moment (first ∷ parts)) (map Ok effects) after
         → Accepts theory before (Piece number (first ++ text_of_parts parts) moment) (joined_all effects) after
     of_parts before after first [] [] run = absurd run

@@ -9,5 +9,6 @@ mod Joining
 mod Orders
 mod Outcomes
 pub mod Reactions
+mod Refusals
 mod Stepping
 pub mod Taking

@@ -9,6 +9,7 @@ pub mod Items
 pub mod Lawful
 pub mod Laws
 pub mod Messages
+pub mod Orders
 pub mod Reacting
 pub mod Runs
 pub mod Seen

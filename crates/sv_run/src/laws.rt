@@ -4,6 +4,7 @@ ghost use Rattle.std.specs.Prelude.{◌≡◌};
 ghost use Rattle.sv_run.specs.Contexts.{theory_of};
 ghost use Rattle.sv_run.specs.Lawful.{ChangesConstraintsByEdits, EndsExpired, GivesCallersByLogin, TellsOutcomes};
 ghost use Rattle.sv_run.specs.Laws.{CallersLoggedIn, ConstraintsChangeByEditsAlone, EndedReadingsStay, FeedingsMayBeCut, OrdersAreAlike, OthersStay, PiecesMayBeCut, PiecesMayComeInParts, RefusedEventsChangeNothing, RequestsEnterExactlyWhereAllowed, RunsJoin, RunsSplit, WantOfMemoryStops};
+ghost use Rattle.sv_run.specs.Orders.{OrdersAreTakenAlike, PiecesAreTakenInParts};
 
 use crate::context::{Context, Words};
 use crate::limits::{LAST_MOMENT, MAX_CONNECTIONS};
@@ -54,6 +55,18 @@ pub fn pieces_may_come_in_parts<C: Context, W: Words>()
 /// raises the moment, either order brings the same.
 pub fn orders_are_alike<C: Context, W: Words>()
     ensures { EndsExpired (theory_of C.path_of C.conduct W.draws) → OrdersAreAlike (theory_of C.path_of C.conduct W.draws) }
+{}
+
+/// Where sessions end when they have expired, and only then: at one moment, a piece and its parts, however many they are, have the same answers and lead
+/// to the same states. Where the piece is refused, each part is refused for the same cause, and the other way round; want of memory is left out.
+pub fn pieces_are_taken_in_parts<C: Context, W: Words>()
+    ensures { EndsExpired (theory_of C.path_of C.conduct W.draws) → PiecesAreTakenInParts (theory_of C.path_of C.conduct W.draws) }
+{}
+
+/// Where sessions end when they have expired, and only then: of a piece that completes no item and an event of another connection, neither of which
+/// raises the moment, either order allows the same answers, entries and end states, whichever of them is refused; want of memory is left out.
+pub fn orders_are_taken_alike<C: Context, W: Words>()
+    ensures { EndsExpired (theory_of C.path_of C.conduct W.draws) → OrdersAreTakenAlike (theory_of C.path_of C.conduct W.draws) }
 {}
 
 /// A refused event changes nothing, unless it wants memory.

@@ -1,2 +1,3 @@
+mod Cut
 mod Lawful
 mod WholeLemmas

@@ -1,5 +1,5 @@
 -- The laws of the runs of scripts.
-use Rattle.std.specs.Prelude.{◌≡◌, List, ◌++◌, filter, flat_map, map, Result, Ok, Err}
+use Rattle.std.specs.Prelude.{◌≡◌, ◌⊎◌, List, ◌++◌, filter, flat_map, map, Result, Ok, Err}
 use Rattle.std.specs.List.{AllByRecursion}
 use Rattle.sv_journal.specs.Journal.{JournalState}
 use Rattle.sv_journal.specs.declared.entry.Entry.{Entry}
@@ -43,6 +43,50 @@ module _ {R I O : Type 0} (steps : Reacting R) (stops : R → JournalState → T
       (started : JournalState) (before : R) (script : I) (output : O) (result : Result (Unit {0}) ReplayFault) (script_after : I) (output_after : O)
       → RunsWhole steps stops gives takes started before script output result script_after output_after
       → IsWritten result → IsOneText started before script output result script_after output_after
+
+-- the first text begins the other
+abbrev pub Begins : {X : Type 0} → List X → List X → Type 0
+Begins {X} front whole = (behind : List X) × (front ++ behind ≡ whole)
+
+module _ {R I O : Type 0} (steps : Reacting R) (stops : R → JournalState → Type 0) (gives : Making I) (takes : Making O) where
+  -- memory was refused to the text of the start: nothing was read or written, and what was started was stopped
+  pub record IsUnwritten (before : R) (script : I) (output : O) (script_after : I) (output_after : O) : Type 0 where
+    pub stopped : JournalState
+    pub stops_so : stops before stopped
+    pub unread : script_after ≡ script
+    pub unwritten : output_after ≡ output
+
+  -- memory was refused later: what was written is the text of the start and of the events that were accepted and whose text there was memory for, and
+  -- nothing behind it; what was started was stopped
+  pub record IsCut (started : JournalState) (before : R) (script : I) (output : O) (script_after : I) (output_after : O) : Type 0 where
+    pub played : Played R
+    pub plays : Plays steps before played
+    pub are_made : AreMade gives script played.calls script_after
+    pub ended : Result (Unit {0}) ReplayFault
+    pub after : R
+    pub ends : Ends steps played ended after
+    pub stopped : JournalState
+    pub stops_so : stops after stopped
+    pub writes : WritesAll takes (start_text started.entries ++ reactions_text 1 played.reactions) output (Ok tt) output_after
+
+  -- a run that answers want of memory has written no more behind the refusal, and stopped
+  abbrev pub ARefusedRunIsCut : Type 0
+  ARefusedRunIsCut =
+      (started : JournalState) (before : R) (script : I) (output : O) (script_after : I) (output_after : O)
+      → RunsWhole steps stops gives takes started before script output (Err NoMemory) script_after output_after
+      → IsUnwritten before script output script_after output_after ⊎ IsCut started before script output script_after output_after
+
+  -- what it wrote begins what every run writes to its end whose start notes the same entries and whose first events bring the same
+  abbrev pub ACutTextBeginsTheWhole : Type 0
+  ACutTextBeginsTheWhole =
+      (started : JournalState) (before : R) (script : I) (output : O) (script_after : I) (output_after : O)
+      (cut : IsCut started before script output script_after output_after)
+      → (other_started : JournalState) (other : R) (other_script : I) (other_output : O) (result : Result (Unit {0}) ReplayFault) (other_script_after : I)
+      (other_output_after : O)
+      (whole : IsOneText steps stops gives takes other_started other other_script other_output result other_script_after other_output_after)
+      → started.entries ≡ other_started.entries → Begins cut.played.reactions whole.played.reactions
+      → Begins (start_text started.entries ++ reactions_text 1 cut.played.reactions)
+      (start_text other_started.entries ++ reactions_text 1 whole.played.reactions ++ shutdown_text whole.stopped.entries)
 
 -- the entries that are told of events
 abbrev pub entries_of : List Reaction → List Entry

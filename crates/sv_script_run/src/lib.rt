@@ -5,6 +5,9 @@ mod laws;
 mod printing;
 mod whole;
 
-pub use laws::{a_run_writes_one_text, a_script_is_a_lawful_run};
+pub use laws::{
+    a_cut_text_begins_the_whole, a_refused_run_is_cut, a_run_writes_one_text,
+    a_script_is_a_lawful_run,
+};
 pub use printing::print_start;
 pub use whole::{Stops, run_started};
