@@ -13,4 +13,5 @@ returns c =
     let within : place ≤ length text = search rules in
     let placed = line_with_place c.args.name.now (take place text) words in
     let exact : IfOk c.line_with_place.result (λ line. line ≡ placed) = search rules in
-    IfOk-weaker c.line_with_place.result (λ line. line ≡ placed) (IsTextLine c.args.name.now text c.args.fault.now) (λ line same. rw refused (place, words, within, same)) exact
+    let told = IsTextLine c.args.name.now text c.args.fault.now in
+    IfOk-weaker c.line_with_place.result (λ line. line ≡ placed) told (λ line same. rw refused (place, words, within, same)) exact
