@@ -1,0 +1,38 @@
+-- The lives of components over every list of events (Jakarta Servlet 6.0, sections 2.3.3.2 and 2.3.4).
+use Rattle.std.specs.Prelude.{◌≡◌, ℕ, zero, suc, List, [], ◌∷◌, length}
+use Rattle.sv_component.specs.Call.{Call}
+use Rattle.sv_component.specs.Runs.{Record, Runs}
+use Rattle.sv_context.specs.Conduct.{conduct, unnoted}
+use Rattle.sv_context.specs.Retiring.{Retires}
+use Rattle.sv_context.specs.State.{ContextState, world_of}
+use Rattle.sv_run.specs.Contexts.{Conduct}
+use Rattle.sv_run.specs.Events.{AltersAll}
+
+-- so many events alter contexts one after another, each as the step of a container promises, whether it is accepted or refused
+abbrev pub AltersInTurn : {Context : Type 0} → Conduct Context → ℕ → List Context → List Context → Type 0
+AltersInTurn conduct zero before after = after ≡ before
+AltersInTurn {Context} conduct (suc events) before after =
+    (between : List Context) × AltersAll conduct before between × AltersInTurn conduct events between after
+
+module _ {S F L : Type 0} (servlet_step : S → Call → S → Type 0) (filter_step : F → Call → F → Type 0) (listener_step : L → Call → L → Type 0) where
+  -- some calls move the components of a context, and none besides: of its servlets one that was gone before is not called, one that is gone behind them
+  -- is destroyed, once and last, and no other is destroyed, nor is a filter. None comes or goes
+  pub record Lives (before after : ContextState S F L) : Type 0 where
+    pub made : List Record
+    pub runs : Runs servlet_step filter_step listener_step (world_of before unnoted) made (world_of after unnoted)
+    pub retires : Retires before.standings made after.standings
+    pub initialised : after.initialised ≡ before.initialised
+    pub servlets : length after.servlets ≡ length before.servlets
+    pub filters : length after.filters ≡ length before.filters
+    pub listeners : length after.listeners ≡ length before.listeners
+
+  abbrev pub AllLive : List (ContextState S F L) → List (ContextState S F L) → Type 0
+  AllLive [] after = after ≡ []
+  AllLive (context ∷ contexts) after =
+      (last : ContextState S F L) × (others : List (ContextState S F L)) × Lives context last × AllLive contexts others × (after ≡ last ∷ others)
+
+  -- however many events come, the components of each context live so
+  abbrev pub ComponentsAreDestroyedOnce : Type 0
+  ComponentsAreDestroyedOnce =
+      (events : ℕ) (before after : List (ContextState S F L)) → AltersInTurn (conduct servlet_step filter_step listener_step) events before after
+      → AllLive before after
