@@ -2,9 +2,10 @@
 
 use crate::counted::{Counted, Counts};
 use crate::deployments::{TestDeployment, deployments, shown};
+use crate::results::{Tells, tell};
 use std::alloc::Global;
 use sv_application::{ProgramFilter, ProgramListener, ProgramServlet};
-use sv_container::{Container, NewFault};
+use sv_container::{Container, NewFault, Shutdown};
 use sv_journal::Journal;
 use sv_rows::{Draft, cell};
 use sv_text::NoMemory;
@@ -19,6 +20,12 @@ pub type TestContainer = Container<
 >;
 
 type TestFault = NewFault<
+    Counted<ProgramServlet>,
+    Counted<ProgramFilter>,
+    Counted<ProgramListener>,
+>;
+
+type TestShutdown = Shutdown<
     Counted<ProgramServlet>,
     Counted<ProgramFilter>,
     Counted<ProgramListener>,
@@ -39,8 +46,8 @@ pub fn answer_with<D: Does>(
     answer: &mut Vec<u8>,
 ) -> Result<(), NoMemory> {
     let mut counts = Counts::new(alloc);
-    let mut told = Draft::new(alloc);
     let deployments = deployments(alloc, cell(row, 0), &mut counts)?;
+    let mut told = Draft::new(alloc);
     start(alloc, row, deployments, does, &mut told);
     told.add_to(answer)
 }
@@ -55,7 +62,10 @@ fn start<D: Does>(
     let mut journal = Journal::new(alloc);
     match Container::new(alloc, deployments, CountedWords::new(), &mut journal) {
         Ok(container) => run(alloc, row, container, does, told),
-        Err(fault) => tell_fault(&fault, &journal, told),
+        Err(fault) => {
+            tell(fault, told);
+            tell_entries(&journal, told);
+        }
     }
 }
 
@@ -68,18 +78,28 @@ fn run<D: Does>(
 ) {
     does.act(alloc, row, &mut container, told);
     told.add(" | ");
-    let shutdown = container.shutdown();
-    told.add_shown(&shutdown.parts.len());
+    tell(container.shutdown(), told);
 }
 
-fn tell_fault(fault: &TestFault, journal: &Journal, told: &mut Draft) {
-    told.add_shown(&fault.code);
-    told.add(" ");
-    told.add_shown(&fault.code.number());
-    told.add(" ");
-    told.add(shown(fault.context.as_str()));
-    told.add(" | ");
-    told.add_shown(&fault.deployments.len());
+impl Tells for TestShutdown {
+    fn tell(&self, told: &mut Draft) {
+        told.add_shown(&self.parts.len());
+    }
+}
+
+impl Tells for TestFault {
+    fn tell(&self, told: &mut Draft) {
+        told.add_shown(&self.code);
+        told.add(" ");
+        told.add_shown(&self.code.number());
+        told.add(" ");
+        told.add(shown(self.context.as_str()));
+        told.add(" | ");
+        told.add_shown(&self.deployments.len());
+    }
+}
+
+fn tell_entries(journal: &Journal, told: &mut Draft) {
     told.add(" | ");
     let mut front = "";
     for entry in journal.entries() {

@@ -2,6 +2,7 @@
 
 use crate::counted::{Counted, Counts};
 use crate::descriptors::descriptor_text;
+use crate::results::{beside, both, made, push};
 use std::alloc::Global;
 use sv_application::{ProgramFilter, ProgramListener, ProgramServlet, parts_of};
 use sv_component::Named;
@@ -19,6 +20,8 @@ pub type TestDeployment = Deployment<
     Counted<ProgramFilter>,
     Counted<ProgramListener>,
 >;
+
+type TestNamed<C> = Vec<Named<Counted<C>>>;
 
 type TestParts = Parts<Counted<ProgramServlet>, Counted<ProgramFilter>, Counted<ProgramListener>>;
 
@@ -38,25 +41,24 @@ pub fn deployments(
     words: &str,
     counts: &mut Counts,
 ) -> Result<Vec<TestDeployment>, NoMemory> {
-    let mut made = Vec::new(alloc);
+    let mut named = Vec::new(alloc);
     for word in words.split_ascii_whitespace() {
-        add(alloc, word, &mut made, counts)?;
+        add(alloc, word, &mut named, counts)?;
     }
-    Ok(made)
+    Ok(named)
 }
 
 fn add(
     alloc: Global,
     word: &str,
-    made: &mut Vec<TestDeployment>,
+    list: &mut Vec<TestDeployment>,
     counts: &mut Counts,
 ) -> Result<(), NoMemory> {
     match word.strip_prefix("*") {
-        Some(count) => add_many(alloc, count.parse::<u32>().unwrap_or(0), made, counts),
+        Some(count) => add_many(alloc, count.parse::<u32>().unwrap_or(0), list, counts),
         None => {
             let (name, path) = word.split_once('@').unwrap_or((word, ""));
-            made.push(deployment(alloc, name, path, counts)?)?;
-            Ok(())
+            push(list, deployment(alloc, name, path, counts))
         }
     }
 }
@@ -64,12 +66,12 @@ fn add(
 fn add_many(
     alloc: Global,
     count: u32,
-    made: &mut Vec<TestDeployment>,
+    list: &mut Vec<TestDeployment>,
     counts: &mut Counts,
 ) -> Result<(), NoMemory> {
     for number in 0..count {
         let path = format!(in alloc; "/{}", number.saturating_add(1))?;
-        made.push(deployment(alloc, "", path.as_str(), counts)?)?;
+        push(list, deployment(alloc, "", path.as_str(), counts))?;
     }
     Ok(())
 }
@@ -80,35 +82,46 @@ fn deployment(
     path: &str,
     counts: &mut Counts,
 ) -> Result<TestDeployment, NoMemory> {
-    let descriptor = descriptor(alloc, name)?;
-    let parts = counted_parts(alloc, path, &descriptor, counts)?;
-    Ok(Deployment {
-        path: Text::copy_of(alloc, path)?,
-        descriptor,
-        files: files(alloc)?,
-        users: users(alloc)?,
-        parts,
-    })
+    let kept = both(files(alloc), users(alloc));
+    let named = both(Text::copy_of(alloc, path), kept);
+    match both(named, described(alloc, name, path, counts)) {
+        Ok(values) => Ok(deployment_of(values)),
+        Err(NoMemory) => Err(NoMemory),
+    }
 }
 
-fn descriptor(alloc: Global, name: &str) -> Result<Descriptor, NoMemory> {
-    match read_descriptor(alloc, descriptor_text(name)) {
-        Ok(descriptor) => Ok(descriptor),
-        Err(_) => Err(NoMemory),
+fn deployment_of(values: ((Text, (Files, Realm)), (Descriptor, TestParts))) -> TestDeployment {
+    let (named, described) = values;
+    let (path, kept) = named;
+    let (files, users) = kept;
+    let (descriptor, parts) = described;
+    Deployment {
+        path,
+        descriptor,
+        files,
+        users,
+        parts,
     }
+}
+
+/// The descriptor of that name, and its components.
+fn described(
+    alloc: Global,
+    name: &str,
+    path: &str,
+    counts: &mut Counts,
+) -> Result<(Descriptor, TestParts), NoMemory> {
+    let descriptor = made(read_descriptor(alloc, descriptor_text(name)))?;
+    let parts = counted_parts(alloc, path, &descriptor, counts);
+    beside(descriptor, parts)
 }
 
 fn files(alloc: Global) -> Result<Files, NoMemory> {
-    match Files::from_list(alloc, Vec::new(alloc)) {
-        Ok(files) => Ok(files),
-        Err(_) => Err(NoMemory),
-    }
+    made(Files::from_list(alloc, Vec::new(alloc)))
 }
 
 fn users(alloc: Global) -> Result<Realm, NoMemory> {
-    let Ok(users) = read_users(alloc, USERS) else {
-        return Err(NoMemory);
-    };
+    let users = made(read_users(alloc, USERS))?;
     if users.len() > MAX_USERS {
         return Err(NoMemory);
     }
@@ -121,20 +134,32 @@ fn counted_parts(
     descriptor: &Descriptor,
     counts: &mut Counts,
 ) -> Result<TestParts, NoMemory> {
-    match parts_of(alloc, descriptor) {
-        Ok(parts) => {
-            let Parts {
-                servlets,
-                filters,
-                listeners,
-            } = parts;
-            Ok(Parts {
-                servlets: counted_all(alloc, "servlet", path, servlets, counts)?,
-                filters: counted_all(alloc, "filter", path, filters, counts)?,
-                listeners: counted_listeners(alloc, path, listeners, counts)?,
-            })
-        }
-        Err(_) => Err(NoMemory),
+    let Parts {
+        servlets,
+        filters,
+        listeners,
+    } = made(parts_of(alloc, descriptor))?;
+    let servlets = counted_all(alloc, "servlet", path, servlets, counts);
+    let filters = counted_all(alloc, "filter", path, filters, counts);
+    let listeners = counted_listeners(alloc, path, listeners, counts);
+    match both(both(servlets, filters), listeners) {
+        Ok(values) => Ok(parts_with(values)),
+        Err(NoMemory) => Err(NoMemory),
+    }
+}
+
+fn parts_with(
+    values: (
+        (TestNamed<ProgramServlet>, TestNamed<ProgramFilter>),
+        Vec<Counted<ProgramListener>>,
+    ),
+) -> TestParts {
+    let (named, listeners) = values;
+    let (servlets, filters) = named;
+    Parts {
+        servlets,
+        filters,
+        listeners,
     }
 }
 

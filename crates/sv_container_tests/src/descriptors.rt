@@ -26,9 +26,9 @@ url-pattern = ["/who"]
 listener-class = "Log"
 "#;
 
-/// A context without components and without constraints, which denies uncovered methods.
+/// A context without components and with one constraint.
 const EDITED: &str = r#"
-deny-uncovered-http-methods = true
-[[security-role]]
-role-name = "a"
+[[security-constraint]]
+web-resource-collection = [{ url-pattern = ["/admin/*"] }]
+auth-constraint = { role-name = ["a"] }
 "#;

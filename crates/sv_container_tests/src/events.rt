@@ -1,21 +1,27 @@
-//! The events of connections.
+//! The events of connections, edits, and explanations.
 
 use crate::containers::{Does, TestContainer, answer_with};
+use crate::results::{Tells, made};
 use std::alloc::Global;
+use std::fmt::Display;
+use sv_constraints::{Auth, Collection, Methods, Transport};
+use sv_explain::Explanation;
+use sv_mapping::Pattern;
+use sv_policy::{Edit, NewConstraint};
 use sv_rows::{Asks, Draft, Strays, cell, hold};
 use sv_run::{Happening, Reaction};
-use sv_text::NoMemory;
+use sv_text::{Listed, NoMemory};
 
 /// What events bring, with `, ` between.
 struct Events;
 
 impl Does for Events {
-    fn act(&self, _alloc: Global, row: &str, container: &mut TestContainer, told: &mut Draft) {
+    fn act(&self, alloc: Global, row: &str, container: &mut TestContainer, told: &mut Draft) {
         for event in cell(row, 1).split(", ") {
             if !told.is_empty() {
                 told.add(", ");
             }
-            take(event, container, told);
+            take(alloc, event, container, told);
         }
     }
 }
@@ -28,29 +34,66 @@ impl Asks for Events {
     }
 }
 
-/// `open`, `piece`, `end`, `lost` and `tick` with a number, or `many` with how many connections are opened, from 1 on, and the last answer is told.
-fn take(event: &str, container: &mut TestContainer, told: &mut Draft) {
+/// `open`, `piece`, `end`, `lost`, `tick` and `withdraw` with a number; `many` with how many connections are opened, from 1 on, where the last answer
+/// is told; `append`; or `explain`: what would become of a request for `/admin/x` from the user who has the role a.
+fn take(alloc: Global, event: &str, container: &mut TestContainer, told: &mut Draft) {
     let (name, number) = event.split_once(' ').unwrap_or((event, ""));
     let number = number.parse::<u64>().unwrap_or(0);
-    if name == "many" {
-        open_many(number, container);
-    }
-    match container.step(happening(name, number)) {
-        Ok(reaction) => tell_reaction(&reaction, told),
-        Err(fault) => told.add_shown(&fault),
+    match name {
+        "explain" => tell_either(container.explain("GET", b"/admin/x", Some("ann")), told),
+        "append" => append(alloc, container, told),
+        "withdraw" => edit_root(&Edit::Withdraw(number), container, told),
+        "many" => open_many(number, container, told),
+        _ => tell_either(container.step(happening(name, number)), told),
     }
 }
 
-/// Opens all of so many connections but the last.
-fn open_many(number: u64, container: &mut TestContainer) {
-    for connection in 1..number {
-        let _reaction = container.step(Happening::Opened { connection });
+fn append(alloc: Global, container: &mut TestContainer, told: &mut Draft) {
+    match addition(alloc) {
+        Ok(addition) => edit_root(&Edit::Append(addition), container, told),
+        Err(NoMemory) => told.fail(),
     }
 }
+
+fn edit_root(edit: &Edit, container: &mut TestContainer, told: &mut Draft) {
+    tell_either(container.step(Happening::Edit { context: "", edit }), told);
+}
+
+/// A constraint of two collections, which wants a confidential connection.
+fn addition(alloc: Global) -> Result<NewConstraint, NoMemory> {
+    let mut collections = Vec::new(alloc);
+    collections.push(collection(alloc, "/other")?)?;
+    collections.push(collection(alloc, "/admin/*")?)?;
+    Ok(NewConstraint {
+        collections: Listed::from_vec(collections),
+        auth: Auth::Absent,
+        transport: Transport::Confidential,
+    })
+}
+
+fn collection(alloc: Global, pattern: &str) -> Result<Collection, NoMemory> {
+    let mut patterns = Vec::new(alloc);
+    patterns.push(made(Pattern::parse(alloc, pattern))?)?;
+    Ok(Collection {
+        patterns: Listed::from_vec(patterns),
+        methods: Methods::All,
+    })
+}
+
+/// Opens so many connections, and tells of the last one.
+fn open_many(number: u64, container: &mut TestContainer, told: &mut Draft) {
+    for connection in 1..number {
+        let_go(container.step(Happening::Opened { connection }));
+    }
+    let last = Happening::Opened { connection: number };
+    tell_either(container.step(last), told);
+}
+
+fn let_go<T: Drop>(_value: T) {}
 
 fn happening(name: &str, connection: u64) -> Happening<'_> {
     match name {
-        "open" | "many" => Happening::Opened { connection },
+        "open" => Happening::Opened { connection },
         "end" => Happening::Ended { connection },
         "lost" => Happening::Lost { connection },
         "tick" => Happening::Tick { moment: connection },
@@ -62,8 +105,28 @@ fn happening(name: &str, connection: u64) -> Happening<'_> {
     }
 }
 
-fn tell_reaction(reaction: &Reaction, told: &mut Draft) {
-    told.add(if reaction.closes { "closes" } else { "goes on" });
+/// Tells a value, or why there is none, and lets it go.
+fn tell_either<T: Tells + Drop, E: Display + Drop>(value: Result<T, E>, told: &mut Draft) {
+    match value {
+        Ok(value) => value.tell(told),
+        Err(fault) => told.add_shown(&fault),
+    }
+}
+
+impl Tells for Reaction {
+    fn tell(&self, told: &mut Draft) {
+        match &self.edited {
+            None => told.add(if self.closes { "closes" } else { "goes on" }),
+            Some(Ok(number)) => told.add_shown(number),
+            Some(Err(fault)) => told.add_shown(fault),
+        }
+    }
+}
+
+impl Tells for Explanation {
+    fn tell(&self, told: &mut Draft) {
+        told.add_shown(self);
+    }
 }
 
 /// The deployments, the events; what each brings, and how many contexts have their components handed back.
@@ -82,6 +145,9 @@ who@ | open 1, piece 2, end 2, lost 2, piece 1   | goes on, BadConnection, BadCo
 who@ | many 1024, open 1025                      | goes on, TooManyConnections                    | 1
 who@ | many 1025, piece 1024, piece 1025         | TooManyConnections, goes on, BadConnection     | 1
 who@ | many 1024, open 7, end 7, open 1025, open 7 | goes on, BadConnection, closes, goes on, TooManyConnections | 1
+-- Jakarta Servlet 6.0, section 13.8: an explanation is that of the constraints as they stand
+edited@ | explain, withdraw 1, explain, withdraw 1 | open context=/ path=/admin/x pattern=/admin/* constraint=1 cause=Role, 1, open context=/ path=/admin/x pattern=- constraint=- cause=NoPattern, NoSuch | 1
+edited@ | append, explain, withdraw 1, explain     | 2, open context=/ path=/admin/x pattern=/admin/* constraint=2 cause=Unauthenticated, 1, denied context=/ path=/admin/x pattern=/admin/* constraint=2 cause=Transport | 1
 "#;
 
 #[test]

@@ -1,4 +1,4 @@
-//! The runs of scripts.
+//! The calls of components in the runs of scripts.
 
 use crate::counted::Counts;
 use crate::deployments::{TestDeployment, deployments};
@@ -8,22 +8,6 @@ use sv_server::run_script;
 use sv_streams::MemoryStream;
 use sv_text::NoMemory;
 
-/// How the run of a script ended, and what was written.
-struct Runs;
-
-impl Asks for Runs {
-    const QUESTION: usize = 2;
-
-    fn answer(&self, alloc: Global, row: &str, answer: &mut Vec<u8>) -> Result<(), NoMemory> {
-        let mut counts = Counts::new(alloc);
-        let mut told = Draft::new(alloc);
-        let output = run(alloc, row, &mut counts, &mut told)?;
-        told.add(" | ");
-        told.add_bytes(output.written());
-        told.add_to(answer)
-    }
-}
-
 /// How the run of a script ended, and how often each component was called or told of an event: as often as the entries say.
 struct Calls;
 
@@ -31,28 +15,19 @@ impl Asks for Calls {
     const QUESTION: usize = 2;
 
     fn answer(&self, alloc: Global, row: &str, answer: &mut Vec<u8>) -> Result<(), NoMemory> {
+        let script = unescaped(alloc, cell(row, 1))?;
         let mut counts = Counts::new(alloc);
+        let deployments = deployments(alloc, cell(row, 0), &mut counts)?;
         let mut told = Draft::new(alloc);
-        let output = run(alloc, row, &mut counts, &mut told)?;
+        let output = run(alloc, script, deployments, &mut told);
         told.add(" | ");
         counts.tell(str::from_utf8(output.written()).unwrap_or(""), &mut told);
         told.add_to(answer)
     }
 }
 
-/// Runs the script of the second cell over the deployments of the first, tells how it ended, and gives what was written.
+/// Runs a script over deployments, tells how it ended, and gives what was written.
 fn run(
-    alloc: Global,
-    row: &str,
-    counts: &mut Counts,
-    told: &mut Draft,
-) -> Result<MemoryStream, NoMemory> {
-    let text = unescaped(alloc, cell(row, 1))?;
-    let deployments = deployments(alloc, cell(row, 0), counts)?;
-    Ok(run_text(alloc, text, deployments, told))
-}
-
-fn run_text(
     alloc: Global,
     text: Vec<u8>,
     deployments: Vec<TestDeployment>,
@@ -67,24 +42,6 @@ fn run_text(
     output
 }
 
-/// The deployments, the script; how the run ended, and what was written.
-const RUNS: &str = r#"
--- Jakarta Servlet 6.0, sections 2.3, 11.3.3 and 11.3.4: the start, a request, the shutdown
-who@ | open 1\nsend 1 GET /who HTTP/1.1\\r\\nHost: h\\r\\nConnection: close\\r\\n\\r\\n\n | end | start\ntold / 1 ContextInitialized\ncalled / servlet who init Ready\nevent 1\nevent 2\nentered / /who\ntold / 1 RequestInitialized\ncalled / servlet who service 0 Done\ntold / 1 RequestDestroyed\nsends HTTP/1.1 200 OK\\r\\ndate: Thu, 01 Jan 1970 00:00:00 GMT\\r\\ncontent-type: text/plain\\r\\ncontent-length: 9\\r\\nconnection: close\\r\\n\\r\\ncaller -\\n\ncloses\nshutdown\ncalled / servlet who destroy\ntold / 1 ContextDestroyed\n
--- a line that cannot be read, or whose event is refused, is followed by the shutdown
-who@ | open 1\nopen\n   | script 2 | start\ntold / 1 ContextInitialized\ncalled / servlet who init Ready\nevent 1\nshutdown\ncalled / servlet who destroy\ntold / 1 ContextDestroyed\n
-who@ | open 1\n\nopen 1 | script 3 | start\ntold / 1 ContextInitialized\ncalled / servlet who init Ready\nevent 1\nshutdown\ncalled / servlet who destroy\ntold / 1 ContextDestroyed\n
--- a start that is refused has no events
-who@ bad@/b | open 1\n  | start 12 /b | start\ntold / 1 ContextInitialized\ncalled / servlet who init Ready\ntold /b 1 ContextInitialized\ntold /b 2 ContextInitialized\ncalled /b filter f1 init Ready\ncalled /b filter f2 init Failed\ncalled /b filter f1 destroy\ntold /b 2 ContextDestroyed\ntold /b 1 ContextDestroyed\ncalled / servlet who destroy\ntold / 1 ContextDestroyed\n
-who@/a who@/a | open 1\n | start 1 /a | start\n
-*65           | open 1\n | start 2 /65 | start\n
-"#;
-
-#[test]
-fn a_script_is_run_from_the_start_to_the_shutdown(rt: HostRuntime) -> Result<(), Strays> {
-    hold(&rt, &[RUNS], &Runs)
-}
-
 /// The deployments, the script; how the run ended, and the calls of each component.
 const CALLS: &str = r#"
 -- Jakarta Servlet 6.0, section 7.5: of two sessions that expire each listener hears the end and the attribute's, behind what their requests told
@@ -93,6 +50,8 @@ demo@ two@/two | open 1\nsend 1 GET /keep HTTP/1.1\\r\\nHost: h\\r\\n\\r\\n\nsen
 demo@ two@/two | open 1\nsend 1 GET /nest HTTP/1.1\\r\\nHost: h\\r\\n\\r\\n\n | end | called / servlet who 2, called / servlet nest 5, called / servlet go 2, called / servlet keep 2, called / filter mark 2, told / 1 4, told / 2 4, called /two servlet keep 2
 -- sections 2.3.2 and 6.2.1: a filter that fails to start is not destroyed
 bad@ | open 1\n | start 12 / | called / filter f1 2, called / filter f2 1, told / 1 2, told / 2 2
+-- section 12.1: two contexts of one path, and nothing is called
+who@/a who@/a | open 1\n | start 1 /a | called /a servlet who 0, told /a 1 0, called /a servlet who 0, told /a 1 0
 -- section 11.3.4: two sessions that the shutdown ends
 demo@ two@/two | open 1\nsend 1 GET /keep HTTP/1.1\\r\\nHost: h\\r\\n\\r\\n\nsend 1 GET /keep HTTP/1.1\\r\\nHost: h\\r\\n\\r\\n\n | end | called / servlet who 2, called / servlet nest 2, called / servlet go 2, called / servlet keep 4, called / filter mark 2, told / 1 14, told / 2 14, called /two servlet keep 2
 "#;

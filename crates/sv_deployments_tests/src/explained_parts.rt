@@ -1,65 +1,106 @@
 //! What the parts of a configuration say of a request, where memory is ample.
 
 use std::alloc::Global;
+use std::fmt::Display;
+use sv_constraints::{Auth, Collection, Constraint, Methods, Rules, Transport};
 use sv_explain::{ContextPolicy, explain_parts};
+use sv_mapping::Pattern;
 use sv_policy::Policy;
-use sv_program::{ContextTexts, descriptor_in, realm_in, server_in};
-use sv_text::Text;
+use sv_realm::{MAX_USERS, Realm};
+use sv_text::{Listed, NoMemory, Text};
 
-const SERVER: &str = r#"
-port = 0
-seed = "0000000000000000000000000000000000000000000000000000000000000000"
-context = [{ path = "", descriptor = "root.toml", files = "", users = "users.toml" }]
-"#;
-
-const DESCRIPTOR: &str = r#"
-[[security-constraint]]
-web-resource-collection = [{ url-pattern = ["/admin/*"] }]
-auth-constraint = { role-name = ["a"] }
-"#;
-
-const USERS: &str = r#"
-[[user]]
-name = "ann"
-salt = "61"
-digest = "ba7816bf8f01cfea414140de5dae2223b00361a396177a9cb410ff61f20015ad"
-roles = ["a"]
-"#;
-
-const LINE: &str = "open context=/ path=/admin/x.txt pattern=/admin/* constraint=1 cause=Role";
+/// A constraint that names no roles precludes everyone (Jakarta Servlet 6.0, section 13.8).
+const LINE: &str =
+    "denied context=/ path=/admin/x.txt pattern=/admin/* constraint=1 cause=Precluded";
 
 #[test]
 fn the_parts_of_a_configuration_explain_a_request(rt: HostRuntime) {
-    assert!(rt; matches!(line_of_parts(rt.alloc()), Some(line) if line.as_str() == LINE));
+    assert!(rt; matches!(explained(rt.alloc()), Ok(line) if line.as_str() == LINE));
 }
 
-/// What the parts that the texts of the files have say of a request.
-fn line_of_parts(alloc: Global) -> Option<String> {
-    let texts = texts(alloc)?;
-    let descriptor = descriptor_in(alloc, &texts).ok()?;
-    let app = descriptor.web_app();
-    let context = ContextPolicy {
-        path: copied(alloc, texts.context.path.as_str())?,
-        policy: Policy::compile_copies(alloc, app.constraints.as_slice(), &app.rules).ok()?,
-        realm: realm_in(alloc, &texts).ok()?,
-    };
-    let explained = explain_parts(alloc, &[context], "GET", b"/admin/x.txt", Some("ann")).ok()?;
-    format!(in alloc; "{explained}").ok()
+fn explained(alloc: Global) -> Result<String, NoMemory> {
+    let context = context_of(alloc, both(policy(alloc), nobody(alloc)))?;
+    line_of(alloc, &[context])
 }
 
-/// The context of the server file, with the texts of its files.
-fn texts(alloc: Global) -> Option<ContextTexts> {
-    let descriptor = copied(alloc, DESCRIPTOR)?;
-    let users = copied(alloc, USERS)?;
-    let server = server_in(alloc, "server.toml", copied(alloc, SERVER).as_ref()).ok()?;
-    let context = server.contexts.into_vec().pop()?;
-    Some(ContextTexts {
-        context,
-        descriptor: Some(descriptor),
-        users: Some(users),
+fn line_of(alloc: Global, contexts: &[ContextPolicy]) -> Result<String, NoMemory> {
+    let explained = explain_parts(alloc, contexts, "GET", b"/admin/x.txt", None);
+    shown(alloc, explained)
+}
+
+/// The root context of the constraint, without users.
+fn context_of(
+    alloc: Global,
+    parts: Result<(Policy, Realm), NoMemory>,
+) -> Result<ContextPolicy, NoMemory> {
+    let (policy, realm) = parts?;
+    Ok(ContextPolicy {
+        path: Text::from_string(String::new(alloc)),
+        policy,
+        realm,
     })
 }
 
-fn copied(alloc: Global, text: &str) -> Option<Text> {
-    Text::copy_of(alloc, text).ok()
+fn nobody(alloc: Global) -> Result<Realm, NoMemory> {
+    let users = Vec::new(alloc);
+    if users.len() > MAX_USERS {
+        return Err(NoMemory);
+    }
+    Realm::from_users(alloc, users)
+}
+
+fn policy(alloc: Global) -> Result<Policy, NoMemory> {
+    let constraints = listed(alloc, constraint(alloc))?;
+    let rules = Rules {
+        declared: Listed::from_vec(Vec::new(alloc)),
+        deny_uncovered: false,
+    };
+    Policy::compile(alloc, constraints, rules)
+}
+
+fn constraint(alloc: Global) -> Result<Constraint, NoMemory> {
+    let patterns = listed(alloc, made(Pattern::parse(alloc, "/admin/*")))?;
+    let collection = Collection {
+        patterns: Listed::from_vec(patterns),
+        methods: Methods::All,
+    };
+    let collections = listed(alloc, Ok(collection))?;
+    Ok(Constraint {
+        number: 1,
+        collections: Listed::from_vec(collections),
+        auth: Auth::Roles(Listed::from_vec(Vec::new(alloc))),
+        transport: Transport::Absent,
+    })
+}
+
+/// The list of a value, where there was memory for it.
+fn listed<T: Drop>(alloc: Global, value: Result<T, NoMemory>) -> Result<Vec<T>, NoMemory> {
+    let mut list = Vec::new(alloc);
+    list.push(value?)?;
+    Ok(list)
+}
+
+/// The value of what may fail otherwise than for want of memory, which it does not here.
+fn made<T: Drop, E: Drop>(value: Result<T, E>) -> Result<T, NoMemory> {
+    match value {
+        Ok(value) => Ok(value),
+        Err(_) => Err(NoMemory),
+    }
+}
+
+fn both<A: Drop, B: Drop>(
+    one: Result<A, NoMemory>,
+    other: Result<B, NoMemory>,
+) -> Result<(A, B), NoMemory> {
+    Ok((one?, other?))
+}
+
+fn shown<T: Display + Drop, E: Drop>(
+    alloc: Global,
+    value: Result<T, E>,
+) -> Result<String, NoMemory> {
+    match value {
+        Ok(value) => Ok(format!(in alloc; "{value}")?),
+        Err(_) => Err(NoMemory),
+    }
 }

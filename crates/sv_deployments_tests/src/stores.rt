@@ -11,10 +11,6 @@ use sv_text::{Bytes, Listed, NoMemory, Text};
 pub struct Store<'a> {
     /// The name of a file or a folder that is not there.
     pub missing: &'a str,
-    /// The class of the root context's servlet.
-    pub class: &'a str,
-    /// The class of the servlet of the other context.
-    pub other: &'a str,
     /// The paths of the root context's static files, a blank between them.
     pub files: &'a str,
     /// The names that were asked for, each with a blank behind it.
@@ -28,6 +24,12 @@ context = [
     { path = "", descriptor = "root.toml", files = "files", users = "users.toml" },
     { path = "/two", descriptor = "two.toml", files = "" },
 ]
+"#;
+
+const DESCRIPTOR: &str = r#"
+[[servlet]]
+servlet-name = "s"
+servlet-class = "Who"
 "#;
 
 const USERS: &str = r#"
@@ -55,8 +57,7 @@ impl FileStore for Store<'_> {
         match name {
             "in/server.toml" => Ok(Some(Text::copy_of(alloc, SERVER)?)),
             "in/users.toml" => Ok(Some(Text::copy_of(alloc, USERS)?)),
-            "in/root.toml" => descriptor(alloc, self.class),
-            "in/two.toml" => descriptor(alloc, self.other),
+            "in/root.toml" | "in/two.toml" => Ok(Some(Text::copy_of(alloc, DESCRIPTOR)?)),
             _ => Ok(None),
         }
     }
@@ -76,12 +77,4 @@ impl FolderStore for Store<'_> {
         }
         Ok(Some(Listed::from_vec(files)))
     }
-}
-
-/// The descriptor of a servlet of that class.
-fn descriptor(alloc: Global, class: &str) -> Result<Option<Text>, NoMemory> {
-    let text = format!(in alloc;
-        "[[servlet]]\nservlet-name = \"s\"\nservlet-class = \"{class}\"\n"
-    )?;
-    Ok(Some(Text::from_string(text)))
 }

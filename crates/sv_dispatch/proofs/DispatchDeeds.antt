@@ -144,7 +144,7 @@ module _ {M : Type 0} (state : M → State) (frame : M → Frame) (ran : M → L
   responds_served resource place kind canon given a b result is none did =
       did_by state frame ran (λ given. tree.Responds site room (Tree site room) resource kind canon given) None given a b result (sym none)
       (did_by state frame ran (λ resource. tree.Responds site room (Tree site room) resource kind canon None) (Servlet place) resource a b result (sym is)
-      (did_so state frame ran (tree.Serves site room (Tree site room) place) (tree.Responds site room (Tree site room) (Servlet place) kind canon None) a b result result (λ made h. h) did))
+      (did_so state frame ran (tree.Serves site room (Tree site room) place) (tree.Responds site room (Tree site room) (Servlet place) kind canon None) a b result (λ made h. h) did))
 
   pub responds_filed : (resource : Resource) (kind : Kind) (canon : Canon) (given : Option Finished) (a b : M) (result : Option Finished)
       → resource ≡ Files → given ≡ None → Makes state frame ran (tree.Responds site room (Tree site room) Files kind canon None) a b result
@@ -201,28 +201,28 @@ module _ {M : Type 0} (state : M → State) (frame : M → Frame) (ran : M → L
             → Makes state frame ran (tree.Dispatches site room (Tree site room) place kind text) a b result
         asked_late late did =
             asked_so (Err Committed) a b result (too_late (is_too_late kind (state a).exchange.committed) (admitted (canonical text) room) late)
-            (did_so state frame ran (faults site (Servlet place) Committed) (tree.Admitted site room (Tree site room) place kind (Err Committed)) a b result result (λ made h. h) did)
+            (did_so state frame ran (faults site (Servlet place) Committed) (tree.Admitted site room (Tree site room) place kind (Err Committed)) a b result (λ made h. h) did)
 
         module _ (in_time : is_too_late kind (state a).exchange.committed ≡ false) where
           pub asked_badly : (fault : PathFault) → canonical text ≡ Err fault → Makes state frame ran (faults site (Servlet place) BadDispatchPath) a b result
               → Makes state frame ran (tree.Dispatches site room (Tree site room) place kind text) a b result
           asked_badly fault is did =
               asked_so (Err BadDispatchPath) a b result (ap (λ read. admitted read room) (sym is) ∙ timely (is_too_late kind (state a).exchange.committed) (admitted (canonical text) room) in_time)
-              (did_so state frame ran (faults site (Servlet place) BadDispatchPath) (tree.Admitted site room (Tree site room) place kind (Err BadDispatchPath)) a b result result (λ made h. h) did)
+              (did_so state frame ran (faults site (Servlet place) BadDispatchPath) (tree.Admitted site room (Tree site room) place kind (Err BadDispatchPath)) a b result (λ made h. h) did)
 
           pub asked_too_deep : (canon : Canon) → canonical text ≡ Ok canon → room ≡ 0 → Makes state frame ran (faults site (Servlet place) DispatchLimit) a b result
               → Makes state frame ran (tree.Dispatches site room (Tree site room) place kind text) a b result
           asked_too_deep canon is deep did =
               asked_so (Err DispatchLimit) a b result
               (ap (admitted (Ok canon)) (sym deep) ∙ ap (λ read. admitted read room) (sym is) ∙ timely (is_too_late kind (state a).exchange.committed) (admitted (canonical text) room) in_time)
-              (did_so state frame ran (faults site (Servlet place) DispatchLimit) (tree.Admitted site room (Tree site room) place kind (Err DispatchLimit)) a b result result (λ made h. h) did)
+              (did_so state frame ran (faults site (Servlet place) DispatchLimit) (tree.Admitted site room (Tree site room) place kind (Err DispatchLimit)) a b result (λ made h. h) did)
 
           pub asked_granted : (canon : Canon) (less : ℕ) → canonical text ≡ Ok canon → room ≡ suc less → Makes state frame ran (Tree site (suc less) kind canon) a b result
               → Makes state frame ran (tree.Dispatches site room (Tree site room) place kind text) a b result
           asked_granted canon less is deep did =
               asked_so (Ok canon) a b result
               (ap (admitted (Ok canon)) (sym deep) ∙ ap (λ read. admitted read room) (sym is) ∙ timely (is_too_late kind (state a).exchange.committed) (admitted (canonical text) room) in_time)
-              (did_so state frame ran (Tree site room kind canon) (tree.Admitted site room (Tree site room) place kind (Ok canon)) a b result result (λ made h. h)
+              (did_so state frame ran (Tree site room kind canon) (tree.Admitted site room (Tree site room) place kind (Ok canon)) a b result (λ made h. h)
               (did_by state frame ran (λ room. Tree site room kind canon) (suc less) room a b result (sym deep) did))
 
     module _ (step : Step) (a b : M) where
@@ -236,7 +236,7 @@ module _ {M : Type 0} (state : M → State) (frame : M → Frame) (ran : M → L
       stepped_last known ending finished result is so lasts did =
           subst (λ r. Makes state frame ran (tree.Stepped site room (Tree site room) place step) a b (seen r)) (sym lasts)
           (stepped_by known (seen (lasting finished)) is
-          (did_so state frame ran (last ending) (tree.Stepped site room (Tree site room) place known) a b (seen (lasting finished)) (seen (lasting finished))
+          (did_so state frame ran (last ending) (tree.Stepped site room (Tree site room) place known) a b (seen (lasting finished))
           (λ made h. so made (seen (lasting finished)) h) (did_last state frame ran ending a b finished did)))
 
       pub stepped_forward : {E : Type 0} (text : List ℕ) (finished : Result Finished E) (result : Result (Option Finished) E) → step ≡ steps.Forward text

@@ -1,8 +1,8 @@
 -- Answers of the file servlet, made in parts.
-use Rattle.std.proofs.Common.{◌≡◌, inl, inr, ℕ, Bool, true, false, List, [], ◌++◌, Option, None, Some, refl, sym, ◌∙◌, subst, append_assoc}
+use Rattle.std.proofs.Common.{◌≡◌, inl, inr, ℕ, Bool, true, false, List, [], ◌++◌, Option, None, Some, refl, sym, ap, ◌∙◌, subst, append_assoc}
 use Rattle.std.specs.Prelude.{codes, length}
 use Rattle.sv_component.specs.Runs.{Record}
-use Rattle.sv_dispatch.specs.Did.{Frame}
+use Rattle.sv_dispatch.specs.Did.{Frame, staying}
 use Rattle.sv_dispatch.specs.Seen.{offers}
 use Rattle.sv_exchange.specs.Changing.{SetHeader, SetStatus, Write, has_room}
 use Rattle.sv_tree.specs.Does.{Does, ◌>>◌, becomes, choose, gives, makes, sees}
@@ -15,7 +15,7 @@ use Rattle.sv_tree.specs.declared.dispatch_fault.DispatchFault.TheVariants.{TooL
 use Rattle.sv_tree.specs.declared.finished.Finished.{Finished}
 use Rattle.sv_tree.specs.declared.finished.Finished.TheVariants.{Done}
 use Rattle.sv_tree.specs.declared.limits.TheConstants.{FOUND}
-use Rattle.sv_dispatch.proofs.Deeds.{Makes, did_give, did_not, did_so, did_then}
+use Rattle.sv_dispatch.proofs.Deeds.{Makes, did_give, did_not, did_then}
 
 module _ {M : Type 0} (state : M → State) (frame : M → Frame) (ran : M → List Record → M → Type 0) (site : Site) where
   -- what is sent behind the type
@@ -85,18 +85,28 @@ module _ {M : Type 0} (state : M → State) (frame : M → Frame) (ran : M → L
       (subst (λ y. faults site Files TooLarge y two z result) none.2 did))
 
   module _ (content_type bytes : List ℕ) (a b c : M) (typed : Makes state frame ran (makes (SetHeader (codes "content-type") content_type)) a b (Some tt)) where
+    whole_of : Makes state frame ran (offers bytes) b c (Some true) → Makes state frame ran (Body bytes) b c (Some Done)
+    whole_of did = record {
+      made = did.made;
+      does_so = offered (has_room (length bytes) (state b).exchange) bytes (state b) (state c) did.made did.does_so;
+      runs = did.runs;
+      stays = did.stays;
+    }
+
     pub sends_whole : (sent : Bool) → sent ≡ true → Makes state frame ran (offers bytes) b c (Some sent) → Makes state frame ran (Sends site content_type bytes) a c (Some Done)
     sends_whole sent is did =
         did_then state frame ran (makes (SetHeader (codes "content-type") content_type)) (λ _. Body bytes) a b c tt (Some Done) typed
-        (did_so state frame ran (offers bytes) (Body bytes) b c (Some true) (Some Done)
-        (λ made h. offered (has_room (length bytes) (state b).exchange) bytes (state b) (state c) made h)
-        (subst (λ sent. Makes state frame ran (offers bytes) b c (Some sent)) is did))
+        (whole_of (subst (λ sent. Makes state frame ran (offers bytes) b c (Some sent)) is did))
 
     pub sends_not : Makes state frame ran (offers bytes) b c None → Makes state frame ran (Sends site content_type bytes) a c None
     sends_not did =
         did_then state frame ran (makes (SetHeader (codes "content-type") content_type)) (λ _. Body bytes) a b c tt None typed
-        (did_so state frame ran (offers bytes) (Body bytes) b c None None
-        (λ made h. offer_refused (has_room (length bytes) (state b).exchange) bytes (state b) (state c) made h) did)
+        (record {
+          made = did.made;
+          does_so = offer_refused (has_room (length bytes) (state b).exchange) bytes (state b) (state c) did.made did.does_so;
+          runs = did.runs;
+          stays = did.stays;
+        })
 
     pub sends_too_much : (sent : Bool) (d : M) (result : Option Finished) → sent ≡ false → Makes state frame ran (offers bytes) b c (Some sent)
         → Makes state frame ran (faults site Files TooLarge) c d result → Makes state frame ran (Sends site content_type bytes) a d result
@@ -107,7 +117,7 @@ module _ {M : Type 0} (state : M → State) (frame : M → Frame) (ran : M → L
           made = offer.made ++ did.made;
           does_so = failed (has_room (length bytes) (state b).exchange) bytes (state b) (state c) (state d) offer.made did.made result none did.does_so;
           runs = λ from done so_far. subst (λ calls. ran from calls d) (append_assoc done offer.made did.made) (did.runs from (done ++ offer.made) (offer.runs from done so_far));
-          stays = did.stays ∙ offer.stays;
+          stays = did.stays ∙ ap (staying result) offer.stays;
         })
 
   module _ (location : List ℕ) (a b : M) (emptied_so : Makes state frame ran (becomes (on_exchange emptied)) a b (Some tt)) where

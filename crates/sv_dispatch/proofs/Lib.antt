@@ -3,6 +3,7 @@ pub mod DispatchDeeds
 pub mod FilingDeeds
 pub mod FilterDeeds
 pub mod LeaveDeeds
+pub mod LiveDeeds
 pub mod RunningDeeds
 pub mod TellingDeeds
 pub mod TurnDeeds

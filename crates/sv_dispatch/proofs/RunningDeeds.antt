@@ -3,16 +3,19 @@ use Rattle.std.proofs.Common.{◌≡◌, ◌⊎◌, inl, inr, ℕ, Bool, true, f
 use Rattle.std.proofs.lemmas.Option.{unwrap_or-slice_get}
 use Rattle.std.specs.Prelude.{is_ok, slice_index_or, OnErr, OnOk}
 use Rattle.std.specs.Borrow.{GName}
+use Rattle.sv_component.proofs.Journalling.{run_gains}
+use Rattle.sv_component.proofs.Running.{runs_grown}
 use Rattle.sv_component.specs.Call.{Call, Entered, Left, Serviced}
 use Rattle.sv_component.specs.Runs.{Grows, OfFilter, OfServlet, Record, Runs}
 use Rattle.sv_component.specs.Standing.{is_gone}
+use Rattle.sv_component.specs.World.{World}
 use Rattle.sv_component.specs.declared.answers.Gate.{Gate}
 use Rattle.sv_component.specs.declared.answers.Gate.TheVariants as gates
 use Rattle.sv_component.specs.declared.answers.Step.{Step}
 use Rattle.sv_component.specs.declared.answers.Step.TheVariants as steps
 use Rattle.sv_component.specs.declared.standing.Standing.{Standing}
 use Rattle.sv_component.specs.declared.standing.Standing.TheVariants.{Gone}
-use Rattle.sv_dispatch.specs.Did.{Frame, seen}
+use Rattle.sv_dispatch.specs.Did.{Frame, seen, staying}
 use Rattle.sv_dispatch.specs.Running.{done_seen, gate_seen, made_seen, offer_seen, step_seen}
 use Rattle.sv_dispatch.specs.Seen.{offers}
 use Rattle.sv_exchange.specs.Changing.{Change, Changes, Does, Write, answer, has_room, left_by}
@@ -22,6 +25,7 @@ use Rattle.sv_exchange.specs.declared.exchange_fault.ExchangeFault.TheVariants a
 use Rattle.sv_journal.specs.Journal.{JournalState}
 use Rattle.sv_lifecycle.specs.Calling.{CallsOnce, Enters, Leaves, Serves, StandsAsBefore}
 use Rattle.sv_lifecycle.specs.Standing.{LiveState, live_world, standing_at}
+use Rattle.sv_lifecycle.specs.World.{HasSameCounts}
 use Rattle.sv_lifecycle.specs.declared.order.Place.{Place}
 use Rattle.sv_listeners.specs.Telling.{then_all}
 use Rattle.sv_text.specs.declared.no_memory.NoMemory.{NoMemory}
@@ -124,8 +128,8 @@ ends_by : {A : Type 0} (x y : Option A) (value : A) → y ≡ x → (x ≡ Some 
 ends_by x y value e (inl some) = inl (e ∙ some)
 ends_by x y value e (inr none) = inr (e ∙ none)
 
-abbrev frame_of : GName → GName → GName → List ℕ → ℕ → ℕ → ℕ → List Place → Frame
-frame_of its_live its_exchange its_journal path count others hearing begun =
+abbrev frame_of : GName → GName → GName → List ℕ → ℕ → ℕ → ℕ → List Place → Bool → Frame
+frame_of its_live its_exchange its_journal path count others hearing begun is_whole =
     record {
       context = path;
       servlets = count;
@@ -135,25 +139,37 @@ frame_of its_live its_exchange its_journal path count others hearing begun =
       live = its_live;
       exchange = its_exchange;
       journal = its_journal;
+      whole = is_whole;
     }
 
-same_frame : (live exchange journal : GName) (path path' : List ℕ) (count count' others others' hearing hearing' : ℕ) (begun begun' : List Place)
-    → path' ≡ path → count' ≡ count → others' ≡ others → hearing' ≡ hearing → begun' ≡ begun
-    → frame_of live exchange journal path' count' others' hearing' begun' ≡ frame_of live exchange journal path count others hearing begun
-same_frame live exchange journal path path' count count' others others' hearing hearing' begun begun' paths counts filters listeners places =
-    ap₂ (λ frame places. frame places)
+same_frame : (live exchange journal : GName) (path path' : List ℕ) (count count' others others' hearing hearing' : ℕ) (begun begun' : List Place) (whole whole' : Bool)
+    → path' ≡ path → count' ≡ count → others' ≡ others → hearing' ≡ hearing → begun' ≡ begun → whole' ≡ whole
+    → frame_of live exchange journal path' count' others' hearing' begun' whole' ≡ frame_of live exchange journal path count others hearing begun whole
+same_frame live exchange journal path path' count count' others others' hearing hearing' begun begun' whole whole' paths counts filters listeners places wholes =
+    ap₂ (λ frame whole. frame whole)
+    (ap₂ (λ frame places. frame places)
     (ap₂ (λ frame listeners. frame listeners)
     (ap₂ (λ frame filters. frame filters)
-    (ap₂ (frame_of live exchange journal) paths counts) filters) listeners) places
+    (ap₂ (frame_of live exchange journal) paths counts) filters) listeners) places) wholes
 
--- what stands stays
-pub framed : {S F L : Type 0} (live exchange journal : GName) (before after : LiveState S F L) → StandsAsBefore before after
-    → frame_of live exchange journal after.context (length after.parts.servlets.items) (length after.parts.filters.items) (length after.parts.listeners.items) after.initialised
-    ≡ frame_of live exchange journal before.context (length before.parts.servlets.items) (length before.parts.filters.items) (length before.parts.listeners.items) before.initialised
-framed live exchange journal before after same =
-    same_frame live exchange journal before.context after.context (length before.parts.servlets.items) (length after.parts.servlets.items)
-    (length before.parts.filters.items) (length after.parts.filters.items) (length before.parts.listeners.items) (length after.parts.listeners.items)
-    before.initialised after.initialised same.context same.counts.servlets same.counts.filters same.counts.listeners same.initialised
+-- a context of which nothing but standings changed, with its journal
+module _ {S F L : Type 0} (live exchange journal : GName) (before after : LiveState S F L) (same_context : after.context ≡ before.context)
+    (same_counts : HasSameCounts before.parts after.parts) (same_initialised : after.initialised ≡ before.initialised) where
+  frame_by : (was is : Bool) → is ≡ was
+      → frame_of live exchange journal after.context (length after.parts.servlets.items) (length after.parts.filters.items) (length after.parts.listeners.items) after.initialised is
+      ≡ frame_of live exchange journal before.context (length before.parts.servlets.items) (length before.parts.filters.items) (length before.parts.listeners.items) before.initialised was
+  frame_by was is same =
+      same_frame live exchange journal before.context after.context (length before.parts.servlets.items) (length after.parts.servlets.items)
+      (length before.parts.filters.items) (length after.parts.filters.items) (length before.parts.listeners.items) (length after.parts.listeners.items)
+      before.initialised after.initialised was is same_context same_counts.servlets same_counts.filters same_counts.listeners same_initialised same
+
+  -- what stands stays, and the journal is whole unless memory ended it
+  pub framed : {A : Type 0} (was is : Bool) (said result : Option A) → (is ≡ true → was ≡ true) → result ≡ (if is then said else None)
+      → staying result (frame_of live exchange journal after.context (length after.parts.servlets.items) (length after.parts.filters.items) (length after.parts.listeners.items) after.initialised is)
+      ≡ staying result (frame_of live exchange journal before.context (length before.parts.servlets.items) (length before.parts.filters.items) (length before.parts.listeners.items) before.initialised was)
+  framed was is said None earlier e = frame_by false false refl
+  framed was true said (Some value) earlier e = frame_by was true (sym (earlier refl))
+  framed was false said (Some value) earlier e = cc
 
 pub stands_then : {S F L : Type 0} (before between after : LiveState S F L) → StandsAsBefore before between → StandsAsBefore between after → StandsAsBefore before after
 stands_then before between after one two = record {
@@ -179,6 +195,11 @@ whole_ends : {A : Type 0} (whole : Bool) (given : Option A) (value : A) (result 
     → (given ≡ Some value) ⊎ (given ≡ None) → (result ≡ Some value) ⊎ (result ≡ None)
 whole_ends false given value result e ends = inr e
 whole_ends true given value result e ends = ends_by given result value e ends
+
+module _ {S F L : Type 0} (ss : S → Call → S → Type 0) (fs : F → Call → F → Type 0) (ls : L → Call → L → Type 0) where
+  -- a journal that is whole was whole before
+  pub was_whole : (before after : World S F L) (records : List Record) → Grows ss fs ls before (then_all records) after → after.journal.whole ≡ true → before.journal.whole ≡ true
+  was_whole before after records grows whole = ((run_gains ss fs ls before after records (runs_grown ss fs ls before after (then_all records) grows)).all whole).0
 
 -- a call, and what is told behind it
 module _ {S F L : Type 0} (ss : S → Call → S → Type 0) (fs : F → Call → F → Type 0) (ls : L → Call → L → Type 0) (live live' live'' : LiveState S F L) (noted noted' noted'' : JournalState) (x x' x'' : exchanges.State) where
@@ -243,3 +264,10 @@ module _ {S F L : Type 0} (ss : S → Call → S → Type 0) (fs : F → Call �
 pub there_or_not : {E : Type 0} (result : Result (Unit {0}) E) → (seen result ≡ Some tt) ⊎ (seen result ≡ None)
 there_or_not (Ok done) = inl refl
 there_or_not (Err refusal) = inr refl
+
+-- it is there where the journal is whole
+pub there_if : {E : Type 0} (result : Result (Unit {0}) E) (whole : Bool) → is_ok result ≡ whole → seen result ≡ (if whole then Some tt else None)
+there_if (Ok done) true e = refl
+there_if (Ok done) false e = cc
+there_if (Err refusal) true e = cc
+there_if (Err refusal) false e = refl

@@ -226,5 +226,5 @@ module _ {M : Type 0} (state : M → State) (frame : M → Frame) (ran : M → L
       made = kept.front ++ did.made;
       does_so = kept.completes did.made (state next) None (1, inr (did.does_so, refl));
       runs = λ from done so_far. subst (λ calls. ran from calls next) (append_assoc done kept.front did.made) (did.runs from (done ++ kept.front) (kept.runs from done so_far));
-      stays = did.stays ∙ kept.stays;
+      stays = did.stays ∙ ap {A = Frame} (λ frame. record frame { whole = false }) kept.stays;
     }

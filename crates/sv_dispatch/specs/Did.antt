@@ -1,5 +1,5 @@
 -- What a machine did, as contracts see it: the calls that it made, as one flat list, and what holds of them.
-use Rattle.std.specs.Prelude.{◌≡◌, ℕ, List, ◌++◌, Option, Some, None, Result, Ok, Err, reverse, take}
+use Rattle.std.specs.Prelude.{◌≡◌, ℕ, Bool, false, List, ◌++◌, Option, Some, None, Result, Ok, Err, reverse, take}
 use Rattle.std.specs.Borrow.{GName}
 use Rattle.sv_component.specs.Runs.{Record}
 use Rattle.sv_dispatch.specs.declared.filters.Passed.{Passed}
@@ -8,7 +8,8 @@ use Rattle.sv_tree.specs.Does.{Does}
 use Rattle.sv_tree.specs.Filters.{Reached}
 use Rattle.sv_tree.specs.State.{State}
 
--- what no call changes: the context, how many servlets, filters and listeners there are, what was initialised, and which values were lent
+-- what no call changes: the context, how many servlets, filters and listeners there are, what was initialised, and which values were lent;
+-- and whether the journal is whole
 pub record Frame : Type 0 where
   pub context : List ℕ
   pub servlets : ℕ
@@ -18,13 +19,19 @@ pub record Frame : Type 0 where
   pub live : GName
   pub exchange : GName
   pub journal : GName
+  pub whole : Bool
 
--- these calls were made, whatever was made before them, the relation holds of them, and the frame stays
+-- what stays of it: all of it, but where memory ended what was done the journal may have broken
+abbrev pub staying : {A : Type 0} → Option A → Frame → Frame
+staying (Some value) frame = frame
+staying None frame = record frame { whole = false }
+
+-- these calls were made, whatever was made before them, the relation holds of them, and the frame stays; a broken journal ends what is done
 pub record Did {M A : Type 0} (state : M → State) (frame : M → Frame) (ran : M → List Record → M → Type 0) (does : Does A) (before after : M) (result : Option A) : Type 0 where
   pub made : List Record
   pub does_so : does (state before) made (state after) result
   pub runs : (from : M) (done : List Record) → ran from done before → ran from (done ++ made) after
-  pub stays : frame after ≡ frame before
+  pub stays : staying result (frame after) ≡ staying result (frame before)
 
 -- a result, and none where memory ended it
 abbrev pub seen : {A E : Type 0} → Result A E → Option A

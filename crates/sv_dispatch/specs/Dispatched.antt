@@ -1,5 +1,5 @@
 -- A dispatch over a started context.
-use Rattle.std.specs.Prelude.{◌≡◌, List, Option, length}
+use Rattle.std.specs.Prelude.{◌≡◌, List, Option, None, length}
 use Rattle.sv_component.specs.Call.{Call}
 use Rattle.sv_component.specs.Runs.{Record, Runs}
 use Rattle.sv_dispatch.specs.Running.{state_of}
@@ -12,6 +12,13 @@ use Rattle.sv_tree.specs.Tree.{Tree}
 use Rattle.sv_tree.specs.declared.finished.Finished.{Finished}
 use Rattle.sv_tree.specs.declared.limits.TheConstants.{MAX_NESTING}
 use Rattle.sv_uri.specs.declared.path.Canon.{Canon}
+
+-- it has no result, no component was called, and all is as before
+pub record Refused {S F L A : Type 0} (live : LiveState S F L) (exchange : exchanges.State) (noted : JournalState) (result : Option A) (live_after : LiveState S F L) (exchange_after : exchanges.State) (noted_after : JournalState) : Type 0 where
+  pub result_is : result ≡ None
+  pub live_is : live_after ≡ live
+  pub exchange_is : exchange_after ≡ exchange
+  pub noted_is : noted_after ≡ noted
 
 module _ {S F L : Type 0} (servlet_step : S → Call → S → Type 0) (filter_step : F → Call → F → Type 0) (listener_step : L → Call → L → Type 0) where
   -- these calls were made and noted, they are those of a dispatch of the kind to the path, no servlet, filter or listener came or went, and

@@ -1,8 +1,8 @@
 //! A dispatch over a started context.
 
-ghost use Rattle.std.specs.Prelude.{◌≡◌, length};
+ghost use Rattle.std.specs.Prelude.{◌≡◌, OnOk, false, length, true};
 ghost use Rattle.sv_dispatch.specs.Did.{seen};
-ghost use Rattle.sv_dispatch.specs.Dispatched.{Dispatched};
+ghost use Rattle.sv_dispatch.specs.Dispatched.{Dispatched, Refused};
 ghost use Rattle.sv_site.specs.Site.{site_of};
 
 use crate::dispatching::dispatch_by;
@@ -23,8 +23,8 @@ use sv_uri::path::Canon;
 /// servlets, filters and listeners as the site's descriptor, as it has since [`Live::start`] with it.
 ///
 /// # Errors
-/// `NoMemory` where memory ended the dispatch, or the journal is broken: the calls made so far were made, and the dispatches that were
-/// under way still are.
+/// `NoMemory` where memory ended the dispatch, or the journal broke: the calls made so far were made, and the dispatches that were under
+/// way still are. Where the journal is broken before, nothing is called, and all is as it was.
 pub fn dispatch<'a, S: Servlet, F: Filter, L: Listener>(
     alloc: Global,
     live: &'a mut Live<S, F, L>,
@@ -39,8 +39,13 @@ pub fn dispatch<'a, S: Servlet, F: Filter, L: Listener>(
     requires listeners { length live.old.parts.listeners.items ≡ length site.old.app.listeners }
     ensures does { Dispatched S.servlet_step F.filter_step L.listener_step (site_of site.old) kind canon.now
         live.old exchange.old journal.old (seen result) live.new exchange.new journal.new }
+    ensures broken { journal.old.whole ≡ false → Refused live.old exchange.old journal.old (seen result) live.new exchange.new journal.new }
+    ensures whole { OnOk result (journal.new.whole ≡ true) }
     ensures site { site.new ≡ site.old }
 {
+    if !journal.whole() {
+        return Err(NoMemory);
+    }
     let mut machine = Running::over(alloc, live, exchange, journal);
     run(&mut machine, site, kind, canon)
 }
@@ -55,9 +60,11 @@ fn run<S: Servlet, F: Filter, L: Listener>(
     requires servlets { length machine.old.live.now.parts.servlets.items ≡ length site.old.app.servlets }
     requires filters { length machine.old.live.now.parts.filters.items ≡ length site.old.app.filters }
     requires listeners { length machine.old.live.now.parts.listeners.items ≡ length site.old.app.listeners }
+    requires whole { machine.old.journal.now.whole ≡ true }
     ensures made { Dispatched S.servlet_step F.filter_step L.listener_step (site_of site.old) kind canon.now
         machine.old.live.now machine.old.exchange.now machine.old.journal.now (seen result)
         machine.new.live.now machine.new.exchange.now machine.new.journal.now }
+    ensures whole { OnOk result (machine.new.journal.now.whole ≡ true) }
     ensures live { machine.new.live.ghost_name ≡ machine.old.live.ghost_name }
     ensures exchange { machine.new.exchange.ghost_name ≡ machine.old.exchange.ghost_name }
     ensures journal { machine.new.journal.ghost_name ≡ machine.old.journal.ghost_name }

@@ -43,6 +43,7 @@ impl<S: Servlet, F: Filter, L: Listener> Machine for Running<'_, S, F, L> {
       live = m.live.ghost_name;
       exchange = m.exchange.ghost_name;
       journal = m.journal.ghost_name;
+      whole = m.journal.now.whole;
     } };
 
     ghost ran = { λ from calls to. Runs S.servlet_step F.filter_step L.listener_step

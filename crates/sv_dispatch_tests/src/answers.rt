@@ -3,6 +3,7 @@
 use crate::components::TestLive;
 use crate::contexts::{TestContext, context, declared};
 use crate::requests::{Request, exchange, path, read_request};
+use crate::results::{beside, nothing_of};
 use std::alloc::Global;
 use sv_dispatch::dispatch;
 use sv_exchange::{Exchange, KeptError};
@@ -55,64 +56,127 @@ fn ask_all(
     let TestContext {
         mut live,
         mut site,
-        mut sessions,
+        sessions,
     } = context;
+    ask_each(
+        alloc, row, requests, asking, &mut live, &mut site, sessions, told,
+    );
+}
+
+fn ask_each(
+    alloc: Global,
+    row: &str,
+    requests: &str,
+    asking: Asking,
+    live: &mut TestLive,
+    site: &mut Site,
+    sessions: Sessions,
+    told: &mut Draft,
+) {
+    let mut sessions = Some(sessions);
     for part in requests.split(';') {
         if !told.is_empty() {
             told.add(" | ");
         }
         let request = read_request(part.trim());
-        sessions = match asked(alloc, row, request, sessions) {
-            Some((canon, exchange)) => ask(
-                alloc,
-                request,
-                &canon,
-                request.asking(asking),
-                &mut live,
-                &mut site,
-                exchange,
-                told,
-            ),
-            None => {
-                told.fail();
-                Sessions::new(alloc, 0, 0)
-            }
-        };
+        let asked = asked(alloc, row, request, sessions);
+        sessions = ask_one(alloc, request, asking, live, site, asked, told);
     }
 }
 
-/// A request's path, and its exchange.
+/// A request's path, and its exchange; none where the sessions are gone, or memory is.
 fn asked(
+    alloc: Global,
+    row: &str,
+    request: Request<'_>,
+    sessions: Option<Sessions>,
+) -> Option<(Canon, Exchange)> {
+    match sessions {
+        Some(sessions) => asked_with(alloc, row, request, sessions),
+        None => None,
+    }
+}
+
+fn asked_with(
     alloc: Global,
     row: &str,
     request: Request<'_>,
     sessions: Sessions,
 ) -> Option<(Canon, Exchange)> {
-    let Some(canon) = path(alloc, request.target) else {
-        return None;
-    };
-    let Some(exchange) = exchange(alloc, request, &canon, declared(row, "context"), sessions) else {
-        return None;
-    };
-    Some((canon, exchange))
+    match path(alloc, request.target) {
+        Some(canon) => {
+            let exchange = exchange(alloc, request, &canon, declared(row, "context"), sessions);
+            beside(canon, exchange)
+        }
+        None => nothing_of(sessions),
+    }
 }
 
-/// Makes a request, and gives the sessions back.
+/// Makes a request, and gives the sessions back; none where the request could not be made.
+fn ask_one(
+    alloc: Global,
+    request: Request<'_>,
+    asking: Asking,
+    live: &mut TestLive,
+    site: &mut Site,
+    asked: Option<(Canon, Exchange)>,
+    told: &mut Draft,
+) -> Option<Sessions> {
+    match asked {
+        Some(asked) => Some(ask(alloc, request, asking, live, site, asked, told)),
+        None => {
+            told.fail();
+            None
+        }
+    }
+}
+
 fn ask(
+    alloc: Global,
+    request: Request<'_>,
+    asking: Asking,
+    live: &mut TestLive,
+    site: &mut Site,
+    asked: (Canon, Exchange),
+    told: &mut Draft,
+) -> Sessions {
+    let (canon, mut exchange) = asked;
+    make(
+        alloc,
+        request,
+        &canon,
+        request.asking(asking),
+        live,
+        site,
+        &mut exchange,
+        told,
+    );
+    finish(alloc, exchange, told)
+}
+
+/// Tells the response of an exchange, and gives its sessions back.
+fn finish(alloc: Global, exchange: Exchange, told: &mut Draft) -> Sessions {
+    let (response, sessions) = exchange.finish();
+    add_response(alloc, told, &response);
+    sessions
+}
+
+/// Makes a request, and tells its entries, and the result of a dispatch alone.
+fn make(
     alloc: Global,
     request: Request<'_>,
     canon: &Canon,
     asking: Asking,
     live: &mut TestLive,
     site: &mut Site,
-    mut exchange: Exchange,
+    exchange: &mut Exchange,
     told: &mut Draft,
-) -> Sessions {
+) {
     let mut journal = Journal::new(alloc);
     match answered(
         alloc,
         live,
-        &mut exchange,
+        exchange,
         site,
         request,
         canon,
@@ -121,13 +185,10 @@ fn ask(
     ) {
         Ok(finished) => {
             add_entries(told, alloc, &journal);
-            add_result(told, finished.as_ref(), &exchange);
+            add_result(told, finished.as_ref(), exchange);
         }
         Err(_) => told.fail(),
     }
-    let (response, sessions) = exchange.finish();
-    add_response(alloc, told, &response);
-    sessions
 }
 
 /// Dispatches a request, or answers it, where the context has the components of its descriptor, as it has since its start. The result is that

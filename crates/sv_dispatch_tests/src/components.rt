@@ -1,5 +1,6 @@
 //! The components of a context: the program's own classes and scripts, in boxes.
 
+use crate::results::both;
 use crate::scripts::Script;
 use crate::words::{first_word, is_nothing};
 use std::alloc::Global;
@@ -12,51 +13,82 @@ use sv_text::{NoMemory, Text};
 /// The components of a context.
 pub type TestParts = Parts<Box<dyn Servlet>, Box<dyn Filter>, Log>;
 
+type TestServlets = Vec<Named<Box<dyn Servlet>>>;
+
+type TestFilters = Vec<Named<Box<dyn Filter>>>;
+
 /// A started context.
 pub type TestLive = Live<Box<dyn Servlet>, Box<dyn Filter>, Log>;
 
 /// The components that a row declares.
 pub fn parts(alloc: Global, row: &str) -> Result<TestParts, NoMemory> {
-    let mut parts = Parts {
-        servlets: Vec::new(alloc),
-        filters: Vec::new(alloc),
-        listeners: Vec::new(alloc),
-    };
+    let named = both(servlets(alloc, row), filters(alloc, row));
+    match both(named, listeners(alloc, row)) {
+        Ok(values) => Ok(parts_of(values)),
+        Err(NoMemory) => Err(NoMemory),
+    }
+}
+
+fn parts_of(values: ((TestServlets, TestFilters), Vec<Log>)) -> TestParts {
+    let (named, listeners) = values;
+    let (servlets, filters) = named;
+    Parts {
+        servlets,
+        filters,
+        listeners,
+    }
+}
+
+fn servlets(alloc: Global, row: &str) -> Result<TestServlets, NoMemory> {
+    let mut servlets = Vec::new(alloc);
     for part in cell(row, 0).split(';') {
-        add_servlet(alloc, &mut parts, part.trim())?;
-    }
-    for part in cell(row, 1).split(';') {
-        add_filter(alloc, &mut parts, part.trim())?;
-    }
-    for part in cell(row, 2).split(';') {
-        if part.trim() == "listener" {
-            parts.listeners.push(Log::new())?;
+        let part = part.trim();
+        if !is_nothing(part) {
+            let (name, class) = declared(part);
+            add(alloc, name, servlet(alloc, class), &mut servlets)?;
         }
     }
-    Ok(parts)
+    Ok(servlets)
 }
 
-fn add_servlet(alloc: Global, parts: &mut TestParts, part: &str) -> Result<(), NoMemory> {
-    if is_nothing(part) {
-        return Ok(());
+fn filters(alloc: Global, row: &str) -> Result<TestFilters, NoMemory> {
+    let mut filters = Vec::new(alloc);
+    for part in cell(row, 1).split(';') {
+        let (name, class) = declared(part.trim());
+        if !is_nothing(name) && !name.ends_with(":") {
+            add(alloc, name, filter(alloc, class), &mut filters)?;
+        }
     }
-    let (name, rest) = first_word(part);
-    let (class, _) = first_word(rest);
-    let component = servlet(alloc, class)?;
-    let name = Text::copy_of(alloc, name)?;
-    parts.servlets.push(Named { name, component })?;
-    Ok(())
+    Ok(filters)
 }
 
-fn add_filter(alloc: Global, parts: &mut TestParts, part: &str) -> Result<(), NoMemory> {
-    let (name, rest) = first_word(part);
-    if is_nothing(part) || name.ends_with(":") {
-        return Ok(());
+fn listeners(alloc: Global, row: &str) -> Result<Vec<Log>, NoMemory> {
+    let mut listeners = Vec::new(alloc);
+    for part in cell(row, 2).split(';') {
+        if part.trim() == "listener" {
+            listeners.push(Log::new())?;
+        }
     }
+    Ok(listeners)
+}
+
+/// The name of a component, and its class.
+fn declared(part: &str) -> (&str, &str) {
+    let (name, rest) = first_word(part);
     let (class, _) = first_word(rest);
-    let component = filter(alloc, class)?;
+    (name, class)
+}
+
+/// Adds a component by its name.
+fn add<C: Drop>(
+    alloc: Global,
+    name: &str,
+    component: Result<C, NoMemory>,
+    components: &mut Vec<Named<C>>,
+) -> Result<(), NoMemory> {
+    let component = component?;
     let name = Text::copy_of(alloc, name)?;
-    parts.filters.push(Named { name, component })?;
+    components.push(Named { name, component })?;
     Ok(())
 }
 

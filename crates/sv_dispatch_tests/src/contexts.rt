@@ -2,6 +2,7 @@
 
 use crate::components::{TestLive, parts};
 use crate::descriptors::descriptor;
+use crate::results::{beside, both, made, nothing_of};
 use crate::words::{first_word, number_of};
 use std::alloc::Global;
 use sv_chain::Chains;
@@ -23,21 +24,19 @@ pub struct TestContext {
 
 /// The context that a row declares; none where it does not start.
 pub fn context(alloc: Global, row: &str) -> Option<TestContext> {
+    match live(alloc, row) {
+        Some(begun) => sited(alloc, row, begun),
+        None => None,
+    }
+}
+
+/// The descriptor of a row, and its components, started.
+fn live(alloc: Global, row: &str) -> Option<(Descriptor, TestLive)> {
     let Some(descriptor) = descriptor(alloc, row) else {
         return None;
     };
-    let Some(live) = started(alloc, row, &descriptor) else {
-        return None;
-    };
-    let Some(site) = site(alloc, row, descriptor) else {
-        return None;
-    };
-    let sessions = sessions(alloc, number_of(declared(row, "sessions")));
-    Some(TestContext {
-        live,
-        site,
-        sessions,
-    })
+    let live = started(alloc, row, &descriptor);
+    beside(descriptor, live)
 }
 
 fn started(alloc: Global, row: &str, descriptor: &Descriptor) -> Option<TestLive> {
@@ -48,25 +47,43 @@ fn started(alloc: Global, row: &str, descriptor: &Descriptor) -> Option<TestLive
     TestLive::start(alloc, path, parts, descriptor, &mut Journal::new(alloc)).ok()
 }
 
+/// The context, with the site of its descriptor.
+fn sited(alloc: Global, row: &str, begun: (Descriptor, TestLive)) -> Option<TestContext> {
+    let (descriptor, live) = begun;
+    match beside(live, site(alloc, row, descriptor)) {
+        Some(made) => Some(with_sessions(alloc, row, made)),
+        None => None,
+    }
+}
+
+fn with_sessions(alloc: Global, row: &str, made: (TestLive, Site)) -> TestContext {
+    let (live, site) = made;
+    TestContext {
+        live,
+        site,
+        sessions: sessions(alloc, number_of(declared(row, "sessions"))),
+    }
+}
+
 fn site(alloc: Global, row: &str, descriptor: Descriptor) -> Option<Site> {
-    let Ok(path) = Text::copy_of(alloc, declared(row, "context")) else {
-        return None;
-    };
-    let Ok(patterns) = ServletPatterns::of(alloc, &descriptor) else {
-        return None;
-    };
-    let Some(files) = files(alloc, row) else {
-        return None;
-    };
+    let path = Text::copy_of(alloc, declared(row, "context"));
+    match both(path, files(alloc, row)) {
+        Ok(kept) => site_with(alloc, kept, descriptor),
+        Err(NoMemory) => nothing_of(descriptor),
+    }
+}
+
+fn site_with(alloc: Global, kept: (Text, Files), descriptor: Descriptor) -> Option<Site> {
+    let (path, files) = kept;
     let chains = Chains::compile(alloc, &descriptor);
+    let Ok(patterns) = ServletPatterns::of(alloc, &descriptor) else {
+        return nothing_of(((path, files), (descriptor, chains)));
+    };
     Some(Site::new(path, descriptor, files, patterns, chains))
 }
 
-fn files(alloc: Global, row: &str) -> Option<Files> {
-    let Ok(list) = file_list(alloc, row) else {
-        return None;
-    };
-    Files::from_list(alloc, list).ok()
+fn files(alloc: Global, row: &str) -> Result<Files, NoMemory> {
+    made(Files::from_list(alloc, file_list(alloc, row)?))
 }
 
 /// The files of a row: each a path, and what the file holds.
@@ -83,10 +100,9 @@ fn file_list(alloc: Global, row: &str) -> Result<Vec<File>, NoMemory> {
 
 fn file(alloc: Global, words: &str) -> Result<File, NoMemory> {
     let (path, text) = first_word(words);
-    Ok(File {
-        path: Text::copy_of(alloc, path)?,
-        bytes: Bytes::copy_of(alloc, text.as_bytes())?,
-    })
+    let path = Text::copy_of(alloc, path)?;
+    let bytes = Bytes::copy_of(alloc, text.as_bytes())?;
+    Ok(File { path, bytes })
 }
 
 /// What a row declares behind a word, empty where it does not.

@@ -18,6 +18,8 @@ mod pages;
 #[cfg(test)]
 mod requests;
 #[cfg(test)]
+mod results;
+#[cfg(test)]
 mod rows;
 #[cfg(test)]
 mod scripts;

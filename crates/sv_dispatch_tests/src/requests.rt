@@ -1,6 +1,7 @@
 //! Requests that a row makes.
 
 use crate::answers::Asking;
+use crate::results::{both, nothing_of};
 use crate::words::{first_word, number_of};
 use http::Method;
 use http_header::{HeaderName, HeaderValue};
@@ -99,42 +100,57 @@ pub fn exchange(
     context: &str,
     sessions: Sessions,
 ) -> Option<Exchange> {
-    let Ok(message) = message(alloc, request) else {
-        return None;
-    };
-    let Ok(held) = held(alloc, request) else {
-        return None;
-    };
-    let Ok(settings) = CookieSettings::standard(alloc) else {
-        return None;
-    };
-    Exchange::begin(
+    let asked = both(message(alloc, request), held(alloc, request));
+    match both(asked, CookieSettings::standard(alloc)) {
+        Ok(values) => begun(alloc, request.moment, canon, context, values, sessions),
+        Err(NoMemory) => nothing_of(sessions),
+    }
+}
+
+fn begun(
+    alloc: Global,
+    moment: u64,
+    canon: &Canon,
+    context: &str,
+    values: ((Message, Option<HeldSession>), CookieSettings),
+    sessions: Sessions,
+) -> Option<Exchange> {
+    let (asked, settings) = values;
+    let (message, held) = asked;
+    let begun = Exchange::begin(
         alloc,
         &message,
         canon,
         context,
         &settings,
-        request.moment,
+        moment,
         (0, 1),
         held,
         sessions,
-    )
-    .ok()
+    );
+    begun.ok()
 }
 
 fn message(alloc: Global, request: Request<'_>) -> Result<Message, NoMemory> {
-    let mut fields = Vec::new(alloc);
-    if !request.form.is_empty() {
-        fields.push(form_type(alloc)?)?;
-    }
+    let body = Bytes::copy_of(alloc, request.form.as_bytes());
+    let (fields, body) = both(fields(alloc, request.form), body)?;
     Ok(Message {
         method: method(request.method),
         target: Target::Star,
         minor: 1,
         fields: Listed::from_vec(fields),
-        body: Bytes::copy_of(alloc, request.form.as_bytes())?,
+        body,
         keep: true,
     })
+}
+
+/// The fields of a message with that form.
+fn fields(alloc: Global, form: &str) -> Result<Vec<Field>, NoMemory> {
+    let mut fields = Vec::new(alloc);
+    if !form.is_empty() {
+        fields.push(form_type(alloc)?)?;
+    }
+    Ok(fields)
 }
 
 fn method(name: &str) -> Method {

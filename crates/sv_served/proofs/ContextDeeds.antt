@@ -1,9 +1,10 @@
 -- What is done over a started context, in parts.
-use Rattle.std.proofs.Common.{◌≡◌, inl, inr, ℕ, Bool, true, false, List, [], ◌++◌, Option, None, Some, refl, sym, ◌∙◌, subst}
+use Rattle.std.proofs.Common.{◌≡◌, inl, inr, ℕ, Bool, true, false, List, [], ◌++◌, Option, None, Some, Result, Ok, Err, refl, sym, ◌∙◌, subst}
+use Rattle.std.specs.Prelude.{OnOk}
 use Rattle.sv_component.proofs.Running.{runs_join}
 use Rattle.sv_component.specs.Call.{Call}
 use Rattle.sv_component.specs.Runs.{Record, Runs}
-use Rattle.sv_dispatch.specs.Dispatched.{Dispatched}
+use Rattle.sv_dispatch.specs.Dispatched.{Dispatched, Refused}
 use Rattle.sv_dispatch.specs.Running.{state_of}
 use Rattle.sv_exchange.specs.State as exchanges
 use Rattle.sv_journal.specs.Journal.{JournalState}
@@ -23,6 +24,23 @@ use Rattle.sv_uri.specs.declared.path.Canon.{Canon}
 use Rattle.sv_wire.specs.ResponseText.{phrase_of}
 use Rattle.sv_exchange.specs.Keeping.{broken_off}
 use Rattle.sv_served.proofs.ExchangeDeeds.{alone_not, unless_broken, unless_so}
+
+-- what holds anyway holds where there is a result
+pub on_ok : {A E P : Type 0} (result : Result A E) → P → OnOk result P
+on_ok (Ok value) holds = holds
+on_ok (Err refusal) holds = tt
+
+module _ {S F L A : Type 0} (live live' : LiveState S F L) (x x' : exchanges.State) (noted noted' : JournalState) where
+  -- what is refused gives no result of another kind either
+  pub refused_too : {B : Type 0} → Refused {A = A} live x noted None live' x' noted' → Refused {A = B} live x noted None live' x' noted'
+  refused_too refused = record { result_is = refl; live_is = refused.live_is; exchange_is = refused.exchange_is; noted_is = refused.noted_is }
+
+  -- what is refused has no result
+  pub not_refused : {P : Type 0} (value : A) → Refused live x noted (Some value) live' x' noted' → P
+  not_refused value refused = none (refused.result_is)
+    where
+      none : {P : Type 0} → Some value ≡ None → P
+      none e = cc
 
 module _ {S F L : Type 0} (ss : S → Call → S → Type 0) (fs : F → Call → F → Type 0) (ls : L → Call → L → Type 0) where
   -- the dispatch is what it says

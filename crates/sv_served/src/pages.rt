@@ -1,8 +1,9 @@
 //! The pages of errors.
 
-ghost use Rattle.std.specs.Prelude.{◌≡◌, Some, length};
+ghost use Rattle.std.specs.Prelude.{◌≡◌, OnOk, Some, false, length, true};
 ghost use Rattle.std.specs.Option.{option_copied};
 ghost use Rattle.sv_dispatch.specs.Did.{seen};
+ghost use Rattle.sv_dispatch.specs.Dispatched.{Refused};
 ghost use Rattle.sv_served.specs.ServedBy.{Alone, ServedBy};
 ghost use Rattle.sv_site.specs.Site.{site_of};
 ghost use Rattle.sv_text.specs.Gives.{GivesAnswer};
@@ -33,7 +34,8 @@ pub(crate) struct Sought {
 /// as the site's descriptor, as it has since [`Live::start`] with it.
 ///
 /// # Errors
-/// `NoMemory` where memory ended the answer, or the journal is broken: the calls made so far were made.
+/// `NoMemory` where memory ended the answer, or the journal broke: the calls made so far were made. Where the journal is broken before,
+/// nothing is called, and all is as it was.
 pub fn show_error<S: Servlet, F: Filter, L: Listener>(
     alloc: Global,
     live: &mut Live<S, F, L>,
@@ -48,8 +50,13 @@ pub fn show_error<S: Servlet, F: Filter, L: Listener>(
     requires listeners { length live.old.parts.listeners.items ≡ length site.old.app.listeners }
     ensures does { ServedBy S.servlet_step F.filter_step L.listener_step (ShowsError (site_of site.old) status (option_copied page.entry))
         live.old exchange.old journal.old (seen result) live.new exchange.new journal.new }
+    ensures broken { journal.old.whole ≡ false → Refused live.old exchange.old journal.old (seen result) live.new exchange.new journal.new }
+    ensures whole { OnOk result (journal.new.whole ≡ true) }
     ensures site { site.new ≡ site.old }
 {
+    if !journal.whole() {
+        return Err(NoMemory);
+    }
     let Ok(()) = exchange.keep_error(status, phrase_of(status), None, None) else {
         return Err(NoMemory);
     };
@@ -73,8 +80,10 @@ pub(crate) fn show_kept<S: Servlet, F: Filter, L: Listener>(
     requires servlets { length live.old.parts.servlets.items ≡ length site.old.app.servlets }
     requires filters { length live.old.parts.filters.items ≡ length site.old.app.filters }
     requires listeners { length live.old.parts.listeners.items ≡ length site.old.app.listeners }
+    requires whole { journal.old.whole ≡ true }
     ensures does { ServedBy S.servlet_step F.filter_step L.listener_step (Shows (site_of site.old) status (option_copied kind.entry))
         live.old exchange.old journal.old (seen result) live.new exchange.new journal.new }
+    ensures whole { OnOk result (journal.new.whole ≡ true) }
     ensures site { site.new ≡ site.old }
 {
     if exchange.committed() {
@@ -104,8 +113,10 @@ fn show<S: Servlet, F: Filter, L: Listener>(
     requires servlets { length live.old.parts.servlets.items ≡ length site.old.app.servlets }
     requires filters { length live.old.parts.filters.items ≡ length site.old.app.filters }
     requires listeners { length live.old.parts.listeners.items ≡ length site.old.app.listeners }
+    requires whole { journal.old.whole ≡ true }
     ensures does { ServedBy S.servlet_step F.filter_step L.listener_step (Pages (site_of site.old) sought.now.status sought.now.field (option_copied page.entry))
         live.old exchange.old journal.old (seen result) live.new exchange.new journal.new }
+    ensures whole { OnOk result (journal.new.whole ≡ true) }
     ensures site { site.new ≡ site.old }
 {
     match page {
@@ -127,8 +138,10 @@ fn show_page<S: Servlet, F: Filter, L: Listener>(
     requires servlets { length live.old.parts.servlets.items ≡ length site.old.app.servlets }
     requires filters { length live.old.parts.filters.items ≡ length site.old.app.filters }
     requires listeners { length live.old.parts.listeners.items ≡ length site.old.app.listeners }
+    requires whole { journal.old.whole ≡ true }
     ensures does { ServedBy S.servlet_step F.filter_step L.listener_step (Pages (site_of site.old) sought.now.status sought.now.field (Some page.now))
         live.old exchange.old journal.old (seen result) live.new exchange.new journal.new }
+    ensures whole { OnOk result (journal.new.whole ≡ true) }
     ensures site { site.new ≡ site.old }
 {
     let Ok(()) = reset(exchange, sought.status, sought.field.as_ref()) else {

@@ -1,7 +1,8 @@
 //! The answer to a request.
 
-ghost use Rattle.std.specs.Prelude.{◌≡◌, length};
+ghost use Rattle.std.specs.Prelude.{◌≡◌, OnOk, false, length, true};
 ghost use Rattle.sv_dispatch.specs.Did.{seen};
+ghost use Rattle.sv_dispatch.specs.Dispatched.{Refused};
 ghost use Rattle.sv_served.specs.ServedBy.{ServedBy};
 ghost use Rattle.sv_site.specs.Site.{site_of};
 ghost use Rattle.sv_tree.specs.Served.{Served, Settled};
@@ -24,8 +25,8 @@ use sv_uri::path::Canon;
 /// site's descriptor, as it has since [`Live::start`] with it.
 ///
 /// # Errors
-/// `NoMemory` where memory ended the answer, or the journal is broken: the calls made so far were made, and the dispatches that were
-/// under way still are.
+/// `NoMemory` where memory ended the answer, or the journal broke: the calls made so far were made, and the dispatches that were under way
+/// still are. Where the journal is broken before, nothing is called, and all is as it was.
 pub fn serve<S: Servlet, F: Filter, L: Listener>(
     alloc: Global,
     live: &mut Live<S, F, L>,
@@ -40,6 +41,8 @@ pub fn serve<S: Servlet, F: Filter, L: Listener>(
     requires listeners { length live.old.parts.listeners.items ≡ length site.old.app.listeners }
     ensures does { ServedBy S.servlet_step F.filter_step L.listener_step (Served (site_of site.old) kind canon.now)
         live.old exchange.old journal.old (seen result) live.new exchange.new journal.new }
+    ensures broken { journal.old.whole ≡ false → Refused live.old exchange.old journal.old (seen result) live.new exchange.new journal.new }
+    ensures whole { OnOk result (journal.new.whole ≡ true) }
     ensures site { site.new ≡ site.old }
 {
     let Ok(finished) = dispatch(alloc, live, exchange, site, kind, canon, journal) else {
@@ -60,8 +63,10 @@ fn settle<S: Servlet, F: Filter, L: Listener>(
     requires servlets { length live.old.parts.servlets.items ≡ length site.old.app.servlets }
     requires filters { length live.old.parts.filters.items ≡ length site.old.app.filters }
     requires listeners { length live.old.parts.listeners.items ≡ length site.old.app.listeners }
+    requires whole { journal.old.whole ≡ true }
     ensures does { ServedBy S.servlet_step F.filter_step L.listener_step (Settled (site_of site.old) finished.now)
         live.old exchange.old journal.old (seen result) live.new exchange.new journal.new }
+    ensures whole { OnOk result (journal.new.whole ≡ true) }
     ensures site { site.new ≡ site.old }
 {
     match finished {

@@ -4,7 +4,7 @@ use Rattle.sv_dispatch.specs.Did.{seen}
 use Rattle.sv_served.specs.ServedBy.{Alone, ServedBy}
 use Rattle.sv_site.specs.Site.{site_of}
 use Rattle.sv_tree.specs.Served.{Pages, Plain}
-use Rattle.sv_served.proofs.ContextDeeds.{by_alone}
+use Rattle.sv_served.proofs.ContextDeeds.{by_alone, on_ok}
 use Rattle.sv_served.proofs.pages.show.Goals as goal
 
 pub returns-in-None-clause-does : goal.returns-in-None-clause-does
@@ -15,3 +15,6 @@ returns-in-None-clause-does g c =
     (by_alone g.S.Servlet.servlet_step g.F.Filter.filter_step g.L.Listener.listener_step (Plain c.args.sought.now.status c.args.sought.now.field)
     c.args.live.now c.args.exchange.now c.plain.new.exchange c.args.journal.now (seen c.plain.result)
     (subst (λ its_field. Alone (Plain c.args.sought.now.status its_field) c.args.exchange.now c.plain.new.exchange (seen c.plain.result)) c.as_ref.ensures.value c.plain.ensures))
+
+pub returns-in-None-clause-whole : goal.returns-in-None-clause-whole
+returns-in-None-clause-whole g c = on_ok c.plain.result c.requires.whole

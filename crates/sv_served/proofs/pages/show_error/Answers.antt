@@ -1,8 +1,9 @@
-use Rattle.std.proofs.Common.{ℕ, List, None, ap}
+use Rattle.std.proofs.Common.{ℕ, List, None, refl, ap}
 use Rattle.std.specs.Option.{option_copied}
 use Rattle.sv_dispatch.specs.Did.{seen}
 use Rattle.sv_exchange.specs.declared.kept_error.KeptError.{KeptError}
 use Rattle.sv_site.specs.Site.{site_of}
+use Rattle.sv_wire.specs.ResponseText.{phrase_of}
 use Rattle.sv_served.proofs.ContextDeeds.{error_not, error_so}
 use Rattle.sv_served.proofs.ExchangeDeeds.{keeps_not, keeps_so}
 use Rattle.sv_served.proofs.pages.show_error.Goals as goal
@@ -23,3 +24,10 @@ returns-clause-does g c =
     c.args.live.now c.show.new.live c.args.journal.now c.show.new.journal c.args.status (option_copied c.args.page) (said c.args.status c.phrase_of.result.now)
     c.args.exchange.now c.keep_error.new.self (ap (said c.args.status) c.phrase_of.ensures) c.show.new.exchange (seen c.show.result)
     (keeps_so (said c.args.status c.phrase_of.result.now) c.args.exchange.now c.keep_error.new.self c.in-Ok.ensures.kept) c.show.ensures.does
+
+pub returns-then-not-whole-clause-does : goal.returns-then-not-whole-clause-does
+returns-then-not-whole-clause-does g c =
+    error_not g.S.Servlet.servlet_step g.F.Filter.filter_step g.L.Listener.listener_step (site_of c.args.site.now)
+    c.args.live.now c.args.live.now c.args.journal.now c.args.journal.now c.args.status (option_copied c.args.page) (said c.args.status (phrase_of c.args.status))
+    c.args.exchange.now c.args.exchange.now refl
+    (keeps_not (said c.args.status (phrase_of c.args.status)) c.args.exchange.now c.args.exchange.now refl)

@@ -3,7 +3,7 @@ use Rattle.sv_served.specs.ServedBy.{Alone}
 use Rattle.sv_tree.specs.Served.{Resets}
 use Rattle.sv_dispatch.specs.Did.{seen}
 use Rattle.sv_site.specs.Site.{site_of}
-use Rattle.sv_served.proofs.ContextDeeds.{page_ends, page_not, page_so}
+use Rattle.sv_served.proofs.ContextDeeds.{on_ok, page_ends, page_not, page_so}
 use Rattle.sv_served.proofs.pages.show_page.Goals as goal
 
 pub returns-in_default-clause-does : goal.returns-in_default-clause-does
@@ -27,3 +27,6 @@ returns-clause-does g c =
     c.args.exchange.now c.reset.new.exchange
     (subst (λ its_field. Alone (Resets c.args.sought.now.status its_field) c.args.exchange.now c.reset.new.exchange (Some tt)) c.as_ref.ensures.value c.in-Ok.ensures) c.dispatch.new.exchange c.in-Ok-dispatch.finished c.shown.new.exchange (seen c.shown.result)
     c.in-Ok-dispatch.ensures.does c.shown.ensures
+
+pub returns-clause-whole : goal.returns-clause-whole
+returns-clause-whole g c = on_ok c.shown.result c.in-Ok-dispatch.ensures.whole

@@ -3,7 +3,7 @@ use Rattle.sv_dispatch.specs.Did.{seen}
 use Rattle.sv_served.specs.ServedBy.{ServedBy}
 use Rattle.sv_site.specs.Site.{site_of}
 use Rattle.sv_tree.specs.Served.{Settled}
-use Rattle.sv_served.proofs.ContextDeeds.{serve_not, serve_so}
+use Rattle.sv_served.proofs.ContextDeeds.{not_refused, refused_too, serve_not, serve_so}
 use Rattle.sv_served.proofs.serving.serve.Goals as goal
 
 pub returns-in_default-clause-does : goal.returns-in_default-clause-does
@@ -20,3 +20,13 @@ returns-clause-does g c =
     c.in-Ok.ensures.does (subst (λ site. ServedBy g.S.Servlet.servlet_step g.F.Filter.filter_step g.L.Listener.listener_step (Settled (site_of site) c.in-Ok.finished)
     c.dispatch.new.live c.dispatch.new.exchange c.dispatch.new.journal (seen c.settle.result) c.settle.new.live c.settle.new.exchange c.settle.new.journal)
     c.dispatch.ensures.site c.settle.ensures.does)
+
+pub returns-in_default-clause-broken : goal.returns-in_default-clause-broken
+returns-in_default-clause-broken g c broken =
+    refused_too c.args.live.now c.dispatch.new.live c.args.exchange.now c.dispatch.new.exchange c.args.journal.now c.dispatch.new.journal
+    (c.in_default.ensures.broken broken)
+
+pub returns-clause-broken : goal.returns-clause-broken
+returns-clause-broken g c broken =
+    not_refused c.args.live.now c.dispatch.new.live c.args.exchange.now c.dispatch.new.exchange c.args.journal.now c.dispatch.new.journal
+    c.in-Ok.finished (c.in-Ok.ensures.broken broken)
