@@ -1,5 +1,5 @@
 -- Calls behind calls, context by context.
-use Rattle.std.proofs.Common.{◌≡◌, ◌⊎◌, ℕ, zero, suc, inl, inr, List, [], ◌∷◌, ◌++◌, Result, length, refl, sym, ap, ◌∙◌, subst}
+use Rattle.std.proofs.Common.{◌≡◌, ℕ, zero, suc, inl, inr, List, [], ◌∷◌, ◌++◌, Result, length, refl, sym, ap, ◌∙◌, subst}
 use Rattle.sv_component.specs.Call.{Call}
 use Rattle.sv_component.specs.Runs.{Runs}
 use Rattle.sv_component.proofs.Running.{runs_join}
@@ -7,7 +7,7 @@ use Rattle.sv_context.specs.Conduct.{IsMoved, conduct, unnoted}
 use Rattle.sv_context.specs.Editing.{Edits}
 use Rattle.sv_context.specs.Retirement.{retires_join, retires_none}
 use Rattle.sv_context.specs.State.{ContextState, world_of}
-use Rattle.sv_lives.specs.Lives.{AllLive, AltersInTurn, ComponentsAreDestroyedOnce, Lives}
+use Rattle.sv_lives.specs.Lives.{AllLive, ComponentsAreDestroyedOnce, Lives}
 use Rattle.sv_policy.specs.declared.edit.Edit.{Edit}
 use Rattle.sv_policy.specs.declared.edit_fault.EditFault.{EditFault}
 use Rattle.sv_run.specs.Events.{Alters, AltersAll}

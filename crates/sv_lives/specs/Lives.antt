@@ -10,9 +10,9 @@ use Rattle.sv_run.specs.Events.{AltersAll}
 
 -- so many events alter contexts one after another, each as the step of a container promises, whether it is accepted or refused
 abbrev pub AltersInTurn : {Context : Type 0} → Conduct Context → ℕ → List Context → List Context → Type 0
-AltersInTurn conduct zero before after = after ≡ before
-AltersInTurn {Context} conduct (suc events) before after =
-    (between : List Context) × AltersAll conduct before between × AltersInTurn conduct events between after
+AltersInTurn moved_so zero before after = after ≡ before
+AltersInTurn {Context} moved_so (suc events) before after =
+    (between : List Context) × AltersAll moved_so before between × AltersInTurn moved_so events between after
 
 module _ {S F L : Type 0} (servlet_step : S → Call → S → Type 0) (filter_step : F → Call → F → Type 0) (listener_step : L → Call → L → Type 0) where
   -- some calls move the components of a context, and none besides: of its servlets one that was gone before is not called, one that is gone behind them
