@@ -43,7 +43,7 @@ filter_silent context name Destroyed = refl
 
 module _ {S F L : Type 0} (world : World S F L) where
   -- what is called and what is heard is no outcome
-  record_silent : (made : Record) → is_outcome (entry_of world made) ≡ false
+  pub record_silent : (made : Record) → is_outcome (entry_of world made) ≡ false
   record_silent (OfServlet place call) = servlet_silent world.context (name_at world.servlets place) call
   record_silent (OfFilter place call) = filter_silent world.context (name_at world.filters place) call
   record_silent (OfListener place event) = refl

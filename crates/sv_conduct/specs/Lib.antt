@@ -1,3 +1,4 @@
 pub mod Order
+pub mod Record
 pub mod Refused
 pub mod Start

@@ -10,22 +10,10 @@ use sv_rows::{Strays, hold};
 /// Which filters stand in front, and in which order.
 const ORDERS: &str = r#"
 -- Jakarta Servlet 6.0, section 6.2.4: the mappings by patterns first, then those by names, each in the order of the descriptor
-a Who /a | f Mark; g Mark; f: a; g: /a     | - | GET /a | filter g before Pass, filter f before Pass, servlet a service 0 Done, filter f after, filter g after | Done | 200, x-mark: g, x-mark: f, content-type: text/plain | caller -\n
-a Who /a | f Mark; g Mark; g: /a; f: a     | - | GET /a | filter g before Pass, filter f before Pass, servlet a service 0 Done, filter f after, filter g after | Done | 200, x-mark: g, x-mark: f, content-type: text/plain | caller -\n
-a Who /a | f Mark; g Mark; g: /*; f: /a    | - | GET /a | filter g before Pass, filter f before Pass, servlet a service 0 Done, filter f after, filter g after | Done | 200, x-mark: g, x-mark: f, content-type: text/plain | caller -\n
-a Who /a | f Mark; g Mark; g: a; f: *      | - | GET /a | filter g before Pass, filter f before Pass, servlet a service 0 Done, filter f after, filter g after | Done | 200, x-mark: g, x-mark: f, content-type: text/plain | caller -\n
-a Who /a | f Mark; g Mark; f: *; g: /x     | - | GET /a | filter f before Pass, servlet a service 0 Done, filter f after | Done | 200, x-mark: f, content-type: text/plain | caller -\n
-a Who /a; b Who /b | f Mark; f: a          | - | GET /b | servlet b service 0 Done | Done | 200, content-type: text/plain | caller -\n
 - | f Mark; g Mark; g: *; f: /*; g: /x     | - | GET /x | filter f before Pass, filter g before Pass, filter g after, filter f after | Error 404 Not Found in default | 200, x-mark: f, x-mark: g | ""
--- a filter that matches twice stands once, at its first place
-a Who /a | f Mark; g Mark; f: /a; g: /*; f: /* | - | GET /a | filter f before Pass, filter g before Pass, servlet a service 0 Done, filter g after, filter f after | Done | 200, x-mark: f, x-mark: g, content-type: text/plain | caller -\n
-a Who /a | f Mark; g Mark; f: /a a; g: a   | - | GET /a | filter f before Pass, filter g before Pass, servlet a service 0 Done, filter g after, filter f after | Done | 200, x-mark: f, x-mark: g, content-type: text/plain | caller -\n
-a Who /a | f Mark; g Mark; f: a; g: /a; f: /a | - | GET /a | filter g before Pass, filter f before Pass, servlet a service 0 Done, filter f after, filter g after | Done | 200, x-mark: g, x-mark: f, content-type: text/plain | caller -\n
 -- section 12.2: the patterns of filters are those of servlets
 d Who *.do | f Mark; f: *.do               | - | GET /x/y.do; GET /x.do/y | filter f before Pass, servlet d service 0 Done, filter f after | Done | 200, x-mark: f, content-type: text/plain | caller -\n | "" | Error 404 Not Found in default | 200 | ""
 r Who ""  | f Mark; f: ""                  | - | GET /; GET /x | filter f before Pass, servlet r service 0 Done, filter f after | Done | 200, x-mark: f, content-type: text/plain | caller -\n | "" | Error 404 Not Found in default | 200 | ""
-a Who /a /ab | f Mark; f: /a/*             | - | GET /a; GET /ab | filter f before Pass, servlet a service 0 Done, filter f after | Done | 200, x-mark: f, content-type: text/plain | caller -\n | servlet a service 0 Done | Done | 200, content-type: text/plain | caller -\n
-a Who /a  | f Mark; f: /A                  | - | GET /a | servlet a service 0 Done | Done | 200, content-type: text/plain | caller -\n
 -- the file servlet has a name, and no call
 - | f Mark; f: default                     | file /x t | GET /x | filter f before Pass, filter f after | Done | 200, x-mark: f, content-type: application/octet-stream | t
 "#;
@@ -46,17 +34,7 @@ go Go path=/WEB-INF/page.html /go | mark Mark; mark: /* FORWARD | file /WEB-INF/
 
 /// Filters that do not pass.
 const GATES: &str = r#"
--- Jakarta Servlet 6.0, section 6.2.1: what stands behind a filter that answers is not called; those that passed are called once more
-a Who /a | h Halt; f Mark; h: /*; f: /*          | - | GET /a | filter h before Stop | Done | 200, content-type: text/plain | halt\n
-a Who /a | h Halt; f Mark; f: /*; h: /*          | - | GET /a | filter f before Pass, filter h before Stop, filter f after | Done | 200, x-mark: f, content-type: text/plain | halt\n
-a Who /a | h Halt; f Mark; g Mark; f: /*; h: /*; g: /* | - | GET /a | filter f before Pass, filter h before Stop, filter f after | Done | 200, x-mark: f, content-type: text/plain | halt\n
-a Who /a | h Halt; f Mark; g Mark; f: /*; g: a; h: a | - | GET /a | filter f before Pass, filter g before Pass, filter h before Stop, filter g after, filter f after | Done | 200, x-mark: f, x-mark: g, content-type: text/plain | halt\n
-- | h Halt; h: /*                                | - | GET /none | filter h before Stop | Done | 200, content-type: text/plain | halt\n
--- within a dispatch that a servlet asked for, that dispatch alone
-n Nest path=/a /n; a Who /a | h Halt; h: /* INCLUDE  | - | GET /n | servlet n service 0 Include /a, filter h before Stop, servlet n service 1 Done | Done | 200, content-type: text/plain | a1\nhalt\nc2\n
-g Go path=/a /g; a Who /a   | h Halt; f Mark; f: /g; h: /* FORWARD  | - | GET /g | filter f before Pass, servlet g service 0 Forward /a, filter h before Stop, filter f after | Done | 200, x-mark: f, content-type: text/plain | halt\n
-n Nest path=/none /n        | h Halt; h: /* INCLUDE  | - | GET /n | servlet n service 0 Include /none, filter h before Stop, servlet n service 1 Done | Done | 200, content-type: text/plain | a1\nhalt\nc2\n
--- how the servlet stands is not asked
+-- Jakarta Servlet 6.0, section 6.2.1: a filter that answers is not asked how the servlet stands
 g Gone /g | h Halt; h: /g FORWARD                | - | GET /g; GET /g FORWARD | servlet g service 0 Unavailable, servlet g destroy | Error 404 Not Found in g | 200 | "" | filter h before Stop | Done | 200, content-type: text/plain | halt\n
 -- section 6.2.3: a filter that fails ends the dispatch, and is not called once more
 a Who /a | x Script does=fail:K then=write:y; x: /*          | - | GET /a | filter x before Failed K | Failed K f in a | 200 | ""

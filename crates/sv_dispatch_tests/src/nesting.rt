@@ -1,6 +1,6 @@
 //! Dispatches that servlets ask for.
 
-use crate::rows::{Dispatches, Shared};
+use crate::rows::Dispatches;
 use sv_rows::{Strays, hold};
 
 // The cells of the tables are those of the filters' tables.
@@ -8,7 +8,6 @@ use sv_rows::{Strays, hold};
 /// Forwards, includes, and their limits.
 const NESTED: &str = r#"
 -- Jakarta Servlet 6.0, section 9.3: an include writes into the answer of its includer, who is called for its next turn
-n Nest path=/n /n | - | - | GET /n | servlet n service 0 Include /n, servlet n service 0 Done, servlet n service 1 Done | Done | 200, content-type: text/plain | a1\nb2\nc3\n
 n Nest path=/i.txt /n | - | file /i.txt x | GET /n; POST /n | servlet n service 0 Include /i.txt, servlet n service 1 Done | Done | 200, content-type: text/plain | a1\nxc2\n | servlet n service 0 Include /i.txt, servlet n service 1 Done | Done | 200, content-type: text/plain | a3\nxc4\n
 s Script does=include:/a then=set:x-a=1 /s; a Script does=status:404,set:x-b=1,write:y /a | - | - | GET /s | servlet s service 0 Include /a, servlet a service 0 Done, servlet s service 1 Done | Done | 200, x-a: 1 | y
 s Script does=include:/g /s; g Go path=/a /g; a Script does=status:404,set:x-b=1,write:y /a | - | - | GET /s | servlet s service 0 Include /g, servlet g service 0 Forward /a, servlet a service 0 Done, servlet s service 1 Done | Done | 200 | y
@@ -28,7 +27,6 @@ s Go /s               | - | - | GET /s | servlet s service 0 Forward\x20 | Faile
 s Go path=/../x /s    | - | - | GET /s | servlet s service 0 Forward /../x | Failed BadDispatchPath BadDispatchPath in s | 200 | ""
 s Go path=/a#b /s     | - | - | GET /s | servlet s service 0 Forward /a#b | Failed BadDispatchPath BadDispatchPath in s | 200 | ""
 s Nest path=/%zz /s   | - | - | GET /s | servlet s service 0 Include /%zz | Failed BadDispatchPath BadDispatchPath in s | 200, content-type: text/plain | a1\n
-s Go path=//a/./b/../c?q /s; c Paths /a/* | - | - | GET /s | servlet s service 0 Forward //a/./b/../c?q, servlet c service 0 Done | Done | 200, content-type: text/plain | servlet=/a info=/c\n
 -- dispatches stand at most 16 deep
 loop Go path=/loop /loop | - | - | GET /loop | \{15*servlet loop service 0 Forward /loop, }servlet loop service 0 Forward /loop | Failed DispatchLimit DispatchLimit in loop | 200 | ""
 n Script does=include:/n /n | - | - | GET /n | \{15*servlet n service 0 Include /n, }servlet n service 0 Include /n | Failed DispatchLimit DispatchLimit in n | 200 | ""
@@ -47,12 +45,10 @@ a Err code=399 /a; b Err code=400 /b; c Err code=599 /c; d Err code=600 /d | - |
 a Err code=399 /a; b Err code=400 /b; c Err code=599 /c; d Err code=600 /d | - | - | GET /c; GET /d | servlet c service 0 Error 599 | Error 599 error in c | 200 | "" | servlet d service 0 Error 600 | Error 500 error in d | 200 | ""
 a Err /a; f Fail /f  | - | - | GET /a; GET /f | servlet a service 0 Error 0 | Error 500 error in a | 200 | "" | servlet f service 0 Failed\x20 | Failed  failed in f | 200 | ""
 -- an include swallows an error, and goes on; a failure leaves through all includes
-g Go path=/n /g; n Nest path=/e /n; e Err code=404 /e | - | - | GET /g | servlet g service 0 Forward /n, servlet n service 0 Include /e, servlet e service 0 Error 404, servlet n service 1 Done | Done | 200, content-type: text/plain | a1\nc2\n
 g Go path=/n /g; n Nest path=/e /n; e Fail kind=K /e  | - | - | GET /g | servlet g service 0 Forward /n, servlet n service 0 Include /e, servlet e service 0 Failed K | Failed K failed in e | 200, content-type: text/plain | a1\n
 n Nest path=/m /n; m Script does=include:/e then=write:m /m; e Fail kind=K /e | - | - | GET /n | servlet n service 0 Include /m, servlet m service 0 Include /e, servlet e service 0 Failed K | Failed K failed in e | 200, content-type: text/plain | a1\n
 n Nest path=/m /n; m Script does=include:/e then=error:410 /m; e Err code=404 /e | - | - | GET /n | servlet n service 0 Include /m, servlet m service 0 Include /e, servlet e service 0 Error 404, servlet m service 1 Error 410, servlet n service 1 Done | Done | 200, content-type: text/plain | a1\nc2\n
 n Script does=include:/e then=error:410 /n; e Err code=404 /e | - | - | GET /n | servlet n service 0 Include /e, servlet e service 0 Error 404, servlet n service 1 Error 410 | Error 410 e in n | 200 | ""
-n Nest path=/g /n; g Go path=/none /g | - | - | GET /n | servlet n service 0 Include /g, servlet g service 0 Forward /none, servlet n service 1 Done | Done | 200, content-type: text/plain | c2\n
 n Nest path=/g /n; g Go path=a /g | - | - | GET /n | servlet n service 0 Include /g, servlet g service 0 Forward a | Failed BadDispatchPath BadDispatchPath in g | 200, content-type: text/plain | a1\n
 -- section 9.3: an include of what is not there fails; so does one of a folder, or of a path with a welcome file
 n Nest path=/none /n | - | - | GET /n | servlet n service 0 Include /none | Failed MissingInclude MissingInclude in default | 200, content-type: text/plain | a1\n
@@ -73,7 +69,6 @@ g Gone seconds=4294967295 /g; h Gone seconds=4294967296 /h | - | - | GET /g @7; 
 g Gone /g | - | - | GET /g; GET /g; GET /g | servlet g service 0 Unavailable, servlet g destroy | Error 404 Not Found in g | 200 | "" | "" | Error 404 Not Found in g | 200 | "" | "" | Error 404 Not Found in g | 200 | ""
 -- within an include the error counts as done, and the servlet is out of service all the same
 n Nest path=/g /n; g Gone seconds=5 /g | - | - | GET /n; GET /g | servlet n service 0 Include /g, servlet g service 0 Unavailable, servlet n service 1 Done | Done | 200, content-type: text/plain | a1\nc2\n | "" | Error 503 Service Unavailable in g, retry-after: 5 | 200 | ""
-n Nest path=/g /n; g Gone /g | - | - | GET /n; GET /n | servlet n service 0 Include /g, servlet g service 0 Unavailable, servlet g destroy, servlet n service 1 Done | Done | 200, content-type: text/plain | a1\nc2\n | servlet n service 0 Include /g, servlet n service 1 Done | Done | 200, content-type: text/plain | a3\nc4\n
 g Go path=/h /g; h Gone seconds=3 /h | - | - | GET /g @1; GET /g @2 | servlet g service 0 Forward /h, servlet h service 0 Unavailable | Error 503 Service Unavailable in h, retry-after: 3 | 200 | "" | servlet g service 0 Forward /h | Error 503 Service Unavailable in h, retry-after: 2 | 200 | ""
 -- a servlet that goes out of service between its turns
 s Script does=include:/s inside=away:7 then=write:x /s | - | - | GET /s | servlet s service 0 Include /s, servlet s service 0 Unavailable | Error 503 Service Unavailable in s, retry-after: 7 | 200 | ""
@@ -84,31 +79,4 @@ s Script does=include:/g inside=away: then=write:x /s; g Go path=/h /g; h Script
 #[test]
 fn dispatches_nest_and_end_as_they_are_asked(rt: HostRuntime) -> Result<(), Strays> {
     hold(&rt, &[NESTED, ERRORS, STANDINGS], &Dispatches)
-}
-
-/// Servlets by each form of pattern.
-const MAPPED: &str =
-    "foo Paths /foo/bar/*; baz Paths /baz/*; cat Paths /catalog; bop Paths *.bop; root Paths \"\" | - | -";
-
-/// Requests, and the paths that the chosen servlet is told.
-const CHOSEN: &str = r#"
--- Jakarta Servlet 6.0, section 12.2.2
-GET /foo/bar/index.html | servlet foo service 0 Done | Done | 200, content-type: text/plain | servlet=/foo/bar info=/index.html\n
-GET /foo/bar/index.bop  | servlet foo service 0 Done | Done | 200, content-type: text/plain | servlet=/foo/bar info=/index.bop\n
-GET /baz                | servlet baz service 0 Done | Done | 200, content-type: text/plain | servlet=/baz info=-\n
-GET /baz/index.html     | servlet baz service 0 Done | Done | 200, content-type: text/plain | servlet=/baz info=/index.html\n
-GET /baz/               | servlet baz service 0 Done | Done | 200, content-type: text/plain | servlet=/baz info=/\n
-GET /catalog            | servlet cat service 0 Done | Done | 200, content-type: text/plain | servlet=/catalog info=-\n
-GET /catalog/index.html | ""                         | Error 404 Not Found in default | 200 | ""
-GET /catalog/racecar.bop | servlet bop service 0 Done | Done | 200, content-type: text/plain | servlet=/catalog/racecar.bop info=-\n
-GET /index.bop          | servlet bop service 0 Done | Done | 200, content-type: text/plain | servlet=/index.bop info=-\n
--- section 12.2: the empty pattern is that of the context root
-GET /                   | servlet root service 0 Done | Done | 200, content-type: text/plain | servlet= info=/\n
-GET /foo                | ""                         | Error 404 Not Found in default | 200 | ""
-GET /Catalog            | ""                         | Error 404 Not Found in default | 200 | ""
-"#;
-
-#[test]
-fn a_servlet_is_chosen_by_the_pattern_that_matches_best(rt: HostRuntime) -> Result<(), Strays> {
-    hold(&rt, &[CHOSEN], &Shared(MAPPED))
 }

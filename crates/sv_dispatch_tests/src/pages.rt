@@ -15,16 +15,10 @@ bad Fail kind=K /bad; k Script does=write:k /k; s Script does=write:s /s; g Scri
 e Err code=404 /e; s Script does=write:s /s; t Script does=write:t /t | - | page 404 /s; page 404 /t | GET /e | servlet e service 0 Error 404, servlet s service 0 Done | 404 | s
 e Err code=700 /e; s Script does=write:s /s | - | page 500 /s | GET /e | servlet e service 0 Error 700, servlet s service 0 Done | 500 | s
 -- section 6.2.5: the filters of an error page are those of its kind; status, fields and body of the failure go
-bad Fail kind=K /bad | f1 Mark; f2 Mark; f1: /*; f2: /* | page K /bad | GET /bad | filter f1 before Pass, filter f2 before Pass, servlet bad service 0 Failed K, filter f2 after, filter f1 after, servlet bad service 0 Failed K | 500, content-type: text/plain | 500 Internal Server Error\n
 e Script does=write:x,set:x-a=1,status:202,error:404 /e; p Script does=write:p /p | f Mark; f: /* ERROR | page 404 /p | GET /e | servlet e service 0 Error 404, filter f before Pass, servlet p service 0 Done, filter f after | 404, x-mark: f | p
 -- section 10.9.1: what a page is told; its location may have a query
 e Err code=404 /e; p Script does=tell:@jakarta.servlet.error.status_code,tell:@jakarta.servlet.error.message,tell:@jakarta.servlet.error.request_uri,tell:@jakarta.servlet.error.servlet_name,tell:?n /p | - | page 404 /p?n=1; context /app | GET /e?n=2 | servlet e service 0 Error 404, servlet p service 0 Done | 404 | 404 error /app/e e 1\x20
 g Go path=/f /g; f Fail kind=K /f; p Script does=tell:@jakarta.servlet.error.status_code,tell:@jakarta.servlet.error.message,tell:@jakarta.servlet.error.request_uri,tell:@jakarta.servlet.error.servlet_name /p | - | page K /p | GET /g | servlet g service 0 Forward /f, servlet f service 0 Failed K, servlet p service 0 Done | 500 | 500 failed /g f\x20
--- a page that is missing, fails or is out of service gives way to the plain answer of the first error
-e Err code=410 /e | - | page 410 /none | GET /e | servlet e service 0 Error 410 | 410, content-type: text/plain | 410 Gone\n
-e Err code=410 /e; p Err code=404 /p | - | page 410 /p; page 404 /e | GET /e | servlet e service 0 Error 410, servlet p service 0 Error 404 | 410, content-type: text/plain | 410 Gone\n
-e Err code=410 /e; p Gone /p | - | page 410 /p | GET /e; GET /e | servlet e service 0 Error 410, servlet p service 0 Unavailable, servlet p destroy | 410, content-type: text/plain | 410 Gone\n | servlet e service 0 Error 410 | 410, content-type: text/plain | 410 Gone\n
-e Err code=599 /e | - | - | GET /e; GET /none | servlet e service 0 Error 599 | 599, content-type: text/plain | 599 \n | "" | 404, content-type: text/plain | 404 Not Found\n
 -- section 5.5: a committed answer has no page, and breaks off behind what was flushed last, without its end (RFC 9112, section 7.1)
 e Script does=write:x,flush,error:404 /e; p Script does=write:p /p | - | page 404 /p | GET /e | servlet e service 0 Error 404 | 200 | 1\r\nx\r\n
 e Script does=write:x,flush,write:y,fail:K /e; p Script does=write:p /p | - | page K /p | GET /e | servlet e service 0 Failed K | 200 | 1\r\nx\r\n
@@ -36,7 +30,6 @@ s Script does=write:x,flush,include:/e then=write:z /s; e Err code=404 /e | - | 
 - | - | file /x t | PUT /x | "" | 405, allow: GET, HEAD, content-type: text/plain | 405 Method Not Allowed\n
 p Script does=set:x-a=1,write:p /p | - | page 405 /p; file /x t | PUT /x | servlet p service 0 Done | 405, allow: GET, HEAD, x-a: 1 | p
 p Gone seconds=5 /p | - | page 405 /p; file /x t | PUT /x | servlet p service 0 Unavailable | 405, allow: GET, HEAD, content-type: text/plain | 405 Method Not Allowed\n
-g Gone seconds=10 /g | - | - | GET /g @0; GET /g @4; GET /g @10 | servlet g service 0 Unavailable | 503, retry-after: 10, content-type: text/plain | 503 Service Unavailable\n | "" | 503, retry-after: 6, content-type: text/plain | 503 Service Unavailable\n | servlet g service 0 Unavailable | 503, retry-after: 10, content-type: text/plain | 503 Service Unavailable\n
 -- sessions stay, with their cookies, and no session is to be had among 1,000
 k Keep /k | - | sessions 1000 | GET /k | servlet k service 0 Error 503 | 503, content-type: text/plain | 503 Service Unavailable\n
 k Keep /k; p Script does=tell:@jakarta.servlet.error.message,tell:@jakarta.servlet.error.servlet_name /p | - | sessions 1000; page 503 /p | GET /k; GET /k #1000 | servlet k service 0 Error 503, servlet p service 0 Done | 503 | full k\x20 | servlet k service 0 Done | 200, content-type: text/plain | n=1\n

@@ -26,14 +26,3 @@ impl Asks for Answers {
         answer_all(alloc, row, cell(row, 3), Asking::Answered, answer)
     }
 }
-
-/// Dispatches in a context that all rows share.
-pub struct Shared(pub &'static str);
-
-impl Asks for Shared {
-    const QUESTION: usize = 1;
-
-    fn answer(&self, alloc: Global, row: &str, answer: &mut Vec<u8>) -> Result<(), NoMemory> {
-        answer_all(alloc, self.0, cell(row, 0), Asking::Dispatched, answer)
-    }
-}

@@ -223,12 +223,12 @@ impl<P: Peer> Connection<P> {
         }
     }
 
-    // Writes once.
+    // Writes once, so many bytes at most.
     fn send_on(&mut self) -> Step
         requires { 0 < length self.old.unsent }
         ensures { SendsOn P.ways self.old result self.new }
     {
-        match self.stream.write(self.unsent.as_slice()) {
+        match self.stream.write(self.unsent.front()) {
             Tried::Done(count) => {
                 self.unsent.skip(count);
                 self.moved = self.moved.saturating_add(count);

@@ -7,7 +7,7 @@ ghost use Rattle.sv_front.specs.Laws.{BytesAreKept, EndsHaveACause, NumbersAreNo
 
 use crate::limits::{
     ACCEPTED_AT_ONCE, BYTES_A_WINDOW, CALLS_AT_ONCE, MAX_CONNECTIONS, MAX_IDLE_SECONDS, READ_BYTES,
-    WINDOW_SECONDS,
+    WINDOW_SECONDS, WRITE_BYTES,
 };
 use crate::peer::Peer;
 use sv_run::Reactor;
@@ -18,6 +18,7 @@ pub fn limits_are_as_stated()
     ensures connections { MAX_CONNECTIONS ≡ 1024 }
     ensures accepted { ACCEPTED_AT_ONCE ≡ 32 }
     ensures read { READ_BYTES ≡ 16384 }
+    ensures write { WRITE_BYTES ≡ 65536 }
     ensures calls { CALLS_AT_ONCE ≡ 8 }
     ensures idle { MAX_IDLE_SECONDS ≡ 60 }
     ensures window { WINDOW_SECONDS ≡ 10 }

@@ -21,7 +21,7 @@ pub use laws::{
 };
 pub use limits::{
     ACCEPTED_AT_ONCE, BYTES_A_WINDOW, CALLS_AT_ONCE, MAX_CONNECTIONS, MAX_IDLE_SECONDS, READ_BYTES,
-    WINDOW_SECONDS,
+    WINDOW_SECONDS, WRITE_BYTES,
 };
 pub use network::{Network, Told};
 pub use peer::{Peer, Tried};

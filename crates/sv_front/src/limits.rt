@@ -9,6 +9,9 @@ pub const ACCEPTED_AT_ONCE: u32 = 32;
 /// How many bytes a read of a connection takes at most.
 pub const READ_BYTES: usize = 16_384;
 
+/// How many bytes a write of a connection hands over at most.
+pub const WRITE_BYTES: usize = 65_536;
+
 /// As many reads and writes are made of a connection before others have their turn.
 pub const CALLS_AT_ONCE: u32 = 8;
 

@@ -3,7 +3,7 @@
 ghost use Rattle.std.specs.Prelude.{◌≡◌, ◌<◌, [], length, vec_items};
 ghost use Rattle.sv_front.specs.Ways.{ReadsPiece};
 
-use crate::limits::READ_BYTES;
+use crate::limits::{READ_BYTES, WRITE_BYTES};
 use crate::peer::{Peer, Tried};
 use std::alloc::Global;
 use std::marker::Model;
@@ -27,7 +27,7 @@ impl Model for Pending {
 }
 
 impl Pending {
-    ghost use Rattle.std.specs.Prelude.{◌≡◌, ◌≤◌, ◌==◌, [], length, drop};
+    ghost use Rattle.std.specs.Prelude.{◌≡◌, ◌≤◌, ◌==◌, ◌<◌, [], length, drop, take};
     ghost use Rattle.sv_front.specs.Ways.{Refills};
 
     /// No bytes.
@@ -62,6 +62,18 @@ impl Pending {
         ensures { result.now ≡ self.now }
     {
         self.bytes.as_slice().split_at(self.at).1
+    }
+
+    /// The first of the bytes, as many as a write hands over at most.
+    pub fn front(&self) -> &[u8]
+        ensures first { result.now ≡ take WRITE_BYTES self.now }
+        ensures some { 0 < length self.now → 0 < length result.now }
+    {
+        let bytes = self.as_slice();
+        if bytes.len() <= WRITE_BYTES {
+            return bytes;
+        }
+        bytes.split_at(WRITE_BYTES).0
     }
 
     /// Passes over so many bytes.

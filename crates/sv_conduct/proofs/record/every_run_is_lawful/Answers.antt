@@ -1,0 +1,7 @@
+use Rattle.sv_conduct.proofs.Headline.{every_run_is_lawful}
+use Rattle.sv_conduct.proofs.record.every_run_is_lawful.Goals as goal
+
+pub returns : goal.returns
+returns g c =
+    every_run_is_lawful g.S.Servlet.servlet_step g.F.Filter.filter_step g.L.Listener.listener_step c.runs_are_journalled.ensures g.W.Words.draws
+    c.just_one_case_holds.ensures c.runs_move_components.ensures

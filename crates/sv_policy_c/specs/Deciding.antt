@@ -1,0 +1,75 @@
+-- What the exported functions do with an engine.
+use Rattle.std.specs.Prelude.{◌≡◌, ℕ, Bool, true, false, List, [], ◌∷◌, ◌++◌, Option, None, Some, Ok, Err}
+use Rattle.std.specs.Option.{option_map}
+use Rattle.sv_schema.specs.Fault.{Reads, descriptor_fault_text}
+use Rattle.sv_schema.specs.declared.fault.DescriptorFault.{DescriptorFault}
+use Rattle.sv_explain.specs.Explanation.{Answer}
+use Rattle.sv_explain.specs.Text.{explanation_text}
+use Rattle.sv_explain.specs.declared.explanation.Explanation.{Explanation}
+use Rattle.sv_explain.specs.declared.fault.ExplainFault.TheVariants.{BadMethod, NoSuchUser}
+use Rattle.sv_policy_c.specs.Answer.{IsShort, IsWritten}
+use Rattle.sv_policy_c.specs.Engine.{engine_of, explained}
+use Rattle.sv_policy_c.specs.Status.{number}
+use Rattle.sv_policy_c.specs.declared.engine.Engine.{Engine}
+use Rattle.sv_policy_c.specs.declared.status.Status.{Status}
+use Rattle.sv_policy_c.specs.declared.status.Status.TheVariants as status
+
+-- what is said of a request, as the status and the buffer tell it
+abbrev pub Answers : Answer → List ℕ → List ℕ → ℕ → Status → Type 0
+Answers said old new size status.Written = (e : Explanation) × (said ≡ Ok e) × IsWritten (explanation_text e) old new size
+Answers said old new size status.Short = (e : Explanation) × (said ≡ Ok e) × IsShort (explanation_text e) old new size
+Answers said old new size status.Method = said ≡ Err BadMethod
+Answers said old new size status.Nothing = said ≡ Err NoSuchUser
+Answers said old new size status.Fault = ⊥
+Answers said old new size status.NoMemory = Unit {0}
+Answers said old new size status.NotText = Unit {0}
+
+abbrev pub written : Bool → Status
+written true = status.Written
+written false = status.Short
+
+-- why a descriptor is not read, as the status and the buffer tell it
+abbrev pub Refuses : Reads Engine → List ℕ → List ℕ → ℕ → Status → Type 0
+Refuses read old new size status.Fault = (f : DescriptorFault) × (read ≡ Err f) × IsWritten (descriptor_fault_text f) old new size
+Refuses read old new size status.Short = (f : DescriptorFault) × (read ≡ Err f) × IsShort (descriptor_fault_text f) old new size
+Refuses read old new size status.NoMemory = Unit {0}
+Refuses read old new size status.NotText = Unit {0}
+Refuses read old new size status.Written = ⊥
+Refuses read old new size status.Method = ⊥
+Refuses read old new size status.Nothing = ⊥
+
+abbrev pub refused : Bool → Status
+refused true = status.Fault
+refused false = status.Short
+
+-- with a caller who has no roles, or without one
+abbrev pub with_caller : Bool → Engine → Engine
+with_caller true engine = record { path = engine.path; policy = engine.policy; caller = Some [] }
+with_caller false engine = record { path = engine.path; policy = engine.policy; caller = None }
+
+-- with one role more, where there is a caller
+abbrev pub with_role : List ℕ → Engine → Engine
+with_role role engine = record { path = engine.path; policy = engine.policy; caller = option_map (λ roles. roles ++ (role ∷ [])) engine.caller }
+
+abbrev pub AddsRole : List ℕ → Engine → Engine → Status → Type 0
+AddsRole role before after status.Written = after ≡ with_role role before
+AddsRole role before after other = after ≡ before
+
+-- what an exported function does where the handle holds an engine, and where it holds none
+abbrev pub IfHeld : (Engine → Status → Type 0) → Option Engine → Status → Type 0
+IfHeld does None told = told ≡ status.Nothing
+IfHeld does (Some engine) told = does engine told
+
+-- the number is that of a status for which the fact holds
+abbrev pub Returns : ℕ → (Status → Type 0) → Type 0
+Returns result fact = (told : Status) × (result ≡ number told) × fact told
+
+-- the engine that the text is, or what was held before
+abbrev pub Opens : Reads Engine → Option Engine → Option Engine → List ℕ → List ℕ → ℕ → Status → Type 0
+Opens read before after old new size status.Written = (engine : Engine) × (read ≡ Ok engine) × (after ≡ Some engine)
+Opens read before after old new size other = (after ≡ before) × Refuses read old new size other
+
+-- the engine with one role more
+abbrev pub Gives : List ℕ → Option Engine → Option Engine → Status → Type 0
+Gives role before None told = (before ≡ None) × (told ≡ status.Nothing)
+Gives role before (Some after) told = (engine : Engine) × (before ≡ Some engine) × AddsRole role engine after told

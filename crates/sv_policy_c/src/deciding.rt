@@ -1,0 +1,205 @@
+//! What the exported functions do with an engine.
+
+ghost use Rattle.std.specs.Prelude.{◌≡◌, Ok, Err, IfOk, IfErr};
+ghost use Rattle.sv_policy_c.specs.Deciding as spec;
+ghost use Rattle.sv_policy_c.specs.Engine.{engine_of, explained};
+ghost use Rattle.sv_policy_c.specs.Uncovered.{uncovered_in, Lists};
+ghost use Rattle.sv_program.specs.declared.command_fault.CommandFault.TheVariants.{Descriptor};
+
+use crate::answer::put;
+use crate::engine::Engine;
+use crate::gaps::uncovered;
+use crate::status::Status;
+use std::alloc::Global;
+use std::str;
+use sv_explain::{ExplainFault, Explanation};
+use sv_program::CommandFault;
+use sv_schema::{DescriptorFault, ReadFault};
+use sv_text::{Listed, Text};
+
+/// Writes what would become of a request.
+pub(crate) fn decide(
+    alloc: Global,
+    engine: &Engine,
+    method: &[u8],
+    target: &[u8],
+    answer: &mut [u8],
+    length: &mut usize,
+) -> Status
+    ensures { spec.Answers (explained engine.now method.now target.now) answer.old answer.new length.new result }
+{
+    let Ok(method) = str::from_utf8(method) else {
+        return Status::NotText;
+    };
+    match engine.explain(alloc, method, target) {
+        Ok(explanation) => write_explanation(alloc, &explanation, answer, length),
+        Err(ExplainFault::BadMethod) => Status::Method,
+        Err(ExplainFault::NoSuchUser) => Status::Nothing,
+        Err(ExplainFault::NoMemory) => Status::NoMemory,
+    }
+}
+
+fn write_explanation(
+    alloc: Global,
+    explanation: &Explanation,
+    answer: &mut [u8],
+    length: &mut usize,
+) -> Status
+    ensures { spec.Answers (Ok explanation.now) answer.old answer.new length.new result }
+{
+    match format!(in alloc; "{explanation}") {
+        Ok(text) => written(put(answer, length, text.as_str())),
+        Err(_) => Status::NoMemory,
+    }
+}
+
+/// Whether the answer was written.
+fn written(is_whole: bool) -> Status
+    ensures { result ≡ spec.written is_whole }
+{
+    if is_whole {
+        Status::Written
+    } else {
+        Status::Short
+    }
+}
+
+/// Reads the engine of a context with this path and this descriptor, or writes why not.
+pub(crate) fn open(
+    alloc: Global,
+    path: &[u8],
+    descriptor: &[u8],
+    answer: &mut [u8],
+    length: &mut usize,
+) -> Result<Box<Engine>, Status>
+    ensures opened { IfOk result (λ engine. engine_of path.now descriptor.now ≡ Ok engine.value) }
+    ensures refused { IfErr result (spec.Refuses (engine_of path.now descriptor.now) answer.old answer.new length.new) }
+{
+    let Ok(path) = str::from_utf8(path) else {
+        return Err(Status::NotText);
+    };
+    let Ok(descriptor) = str::from_utf8(descriptor) else {
+        return Err(Status::NotText);
+    };
+    match Engine::read(alloc, path, descriptor) {
+        Ok(engine) => boxed(alloc, engine),
+        Err(ReadFault::Fault(fault)) => Err(write_fault(alloc, &fault, answer, length)),
+        Err(ReadFault::NoMemory) => Err(Status::NoMemory),
+    }
+}
+
+fn boxed(alloc: Global, engine: Engine) -> Result<Box<Engine>, Status>
+    ensures held { IfOk result (λ boxed. boxed.value ≡ engine) }
+    ensures refused { IfErr result (λ status. status ≡ Status.NoMemory) }
+{
+    match Box::new(alloc, engine) {
+        Ok(boxed) => Ok(boxed),
+        Err(_) => Err(Status::NoMemory),
+    }
+}
+
+fn write_fault(
+    alloc: Global,
+    fault: &DescriptorFault,
+    answer: &mut [u8],
+    length: &mut usize,
+) -> Status
+    ensures { spec.Refuses (Err fault.now) answer.old answer.new length.new result }
+{
+    match format!(in alloc; "{fault}") {
+        Ok(text) => refused(put(answer, length, text.as_str())),
+        Err(_) => Status::NoMemory,
+    }
+}
+
+/// Whether the fault was written.
+fn refused(is_whole: bool) -> Status
+    ensures { result ≡ spec.refused is_whole }
+{
+    if is_whole {
+        Status::Fault
+    } else {
+        Status::Short
+    }
+}
+
+/// The engine with a caller who has no roles, or with none.
+pub(crate) fn set_caller(alloc: Global, engine: &mut Engine, is_known: bool)
+    ensures { engine.new ≡ spec.with_caller is_known engine.old }
+{
+    engine.caller = if is_known {
+        Some(Listed::from_vec(Vec::new(alloc)))
+    } else {
+        None
+    };
+}
+
+/// Gives the caller one role more, where there is a caller.
+pub(crate) fn add_role(alloc: Global, engine: &mut Engine, role: &[u8]) -> Status
+    ensures { spec.AddsRole role.now engine.old engine.new result }
+{
+    let Ok(role) = str::from_utf8(role) else {
+        return Status::NotText;
+    };
+    let Ok(role) = Text::copy_of(alloc, role) else {
+        return Status::NoMemory;
+    };
+    let Some(roles) = engine.caller.take() else {
+        return Status::Nothing;
+    };
+    let mut roles = roles.into_vec();
+    let pushed = roles.push(role).is_ok();
+    engine.caller = Some(Listed::from_vec(roles));
+    if pushed {
+        Status::Written
+    } else {
+        Status::NoMemory
+    }
+}
+
+/// Writes what the descriptor leaves uncovered, or why it is not read.
+pub(crate) fn list_uncovered(
+    alloc: Global,
+    path: &[u8],
+    descriptor: &[u8],
+    answer: &mut [u8],
+    length: &mut usize,
+) -> Status
+    ensures { Lists (uncovered_in path.now descriptor.now) answer.old answer.new length.new result }
+{
+    let Ok(path) = str::from_utf8(path) else {
+        return Status::NotText;
+    };
+    let Ok(descriptor) = str::from_utf8(descriptor) else {
+        return Status::NotText;
+    };
+    match uncovered(alloc, path, descriptor) {
+        Ok(lines) => list_lines(lines.as_str(), answer, length),
+        Err(CommandFault::Descriptor { context, fault }) => {
+            list_fault(alloc, context.as_str(), &fault, answer, length)
+        }
+        Err(_) => Status::NoMemory,
+    }
+}
+
+fn list_lines(lines: &str, answer: &mut [u8], length: &mut usize) -> Status
+    ensures { Lists (Ok lines.now) answer.old answer.new length.new result }
+{
+    written(put(answer, length, lines))
+}
+
+/// Writes the fault of the descriptor of the context with this path.
+fn list_fault(
+    alloc: Global,
+    _context: &str,
+    fault: &DescriptorFault,
+    answer: &mut [u8],
+    length: &mut usize,
+) -> Status
+    ensures { Lists (Err (Descriptor _context.now fault.now)) answer.old answer.new length.new result }
+{
+    match format!(in alloc; "{fault}") {
+        Ok(text) => refused(put(answer, length, text.as_str())),
+        Err(_) => Status::NoMemory,
+    }
+}

@@ -1,0 +1,108 @@
+//! The functions that C calls.
+
+ghost use Rattle.std.specs.Prelude.{◌≡◌, None, option_map};
+ghost use Rattle.sv_policy_c.specs.Deciding as spec;
+ghost use Rattle.sv_policy_c.specs.Engine.{engine_of, explained};
+ghost use Rattle.sv_policy_c.specs.Uncovered.{uncovered_in, Lists};
+
+use crate::deciding::{add_role, decide, list_uncovered, open, set_caller};
+use crate::handle::PolicyHandle;
+use crate::status::Status;
+use std::alloc::Global;
+
+/// Reads a deployment descriptor, and holds the policy of a context with that path and these constraints, without a caller.
+///
+/// The path is empty for the root context, and else begins with `/` and does not end in one. What the handle held is freed.
+/// Where the text is no descriptor, the handle holds what it held, and the answer is the fault's name and its key.
+#[unsafe(no_mangle)]
+pub extern "C" fn sv_policy_open(
+    alloc: Global,
+    policy: &mut PolicyHandle,
+    path: &[u8],
+    descriptor: &[u8],
+    answer: &mut [u8],
+    length: &mut usize,
+) -> u32
+    ensures { spec.Returns result (spec.Opens (engine_of path.now descriptor.now) policy.old.value policy.new.value answer.old answer.new length.new) }
+{
+    match open(alloc, path, descriptor, answer, length) {
+        Ok(engine) => {
+            let old = policy.take(alloc);
+            policy.hold(engine);
+            drop(old);
+            Status::Written.number()
+        }
+        Err(status) => status.number(),
+    }
+}
+
+/// Frees what the handle holds.
+#[unsafe(no_mangle)]
+pub extern "C" fn sv_policy_close(alloc: Global, policy: &mut PolicyHandle)
+    ensures { policy.new.value ≡ None }
+{
+    drop(policy.take(alloc));
+}
+
+/// From now on requests come from a caller who has no roles, or from none.
+#[unsafe(no_mangle)]
+pub extern "C" fn sv_policy_caller(alloc: Global, policy: &mut PolicyHandle, is_known: bool) -> u32
+    ensures caller { policy.new.value ≡ option_map (spec.with_caller is_known) policy.old.value }
+{
+    let Some(mut engine) = policy.take(alloc) else {
+        return Status::Nothing.number();
+    };
+    set_caller(alloc, &mut engine, is_known);
+    policy.hold(engine);
+    Status::Written.number()
+}
+
+/// Gives the caller one role more.
+#[unsafe(no_mangle)]
+pub extern "C" fn sv_policy_role(alloc: Global, policy: &mut PolicyHandle, role: &[u8]) -> u32
+    ensures { spec.Returns result (spec.Gives role.now policy.old.value policy.new.value) }
+{
+    let Some(mut engine) = policy.take(alloc) else {
+        return Status::Nothing.number();
+    };
+    let status = add_role(alloc, &mut engine, role);
+    policy.hold(engine);
+    status.number()
+}
+
+/// Writes what would become of a request with this method and this target from the caller: the line that `sv policy` prints.
+#[unsafe(no_mangle)]
+pub extern "C" fn sv_policy_decide(
+    alloc: Global,
+    policy: &mut PolicyHandle,
+    method: &[u8],
+    target: &[u8],
+    answer: &mut [u8],
+    length: &mut usize,
+) -> u32
+    ensures kept { policy.new.value ≡ policy.old.value }
+    ensures decided { spec.Returns result (spec.IfHeld
+        (λ engine. spec.Answers (explained engine method.now target.now) answer.old answer.new length.new) policy.old.value) }
+{
+    let Some(engine) = policy.take(alloc) else {
+        return Status::Nothing.number();
+    };
+    let status = decide(alloc, &engine, method, target, answer, length);
+    policy.hold(engine);
+    status.number()
+}
+
+/// Writes which methods a deployment descriptor leaves uncovered in a context with that path: the lines that `sv uncovered` prints. Where the text is no descriptor, the answer is
+/// the fault's name and its key.
+#[unsafe(no_mangle)]
+pub extern "C" fn sv_policy_uncovered(
+    alloc: Global,
+    path: &[u8],
+    descriptor: &[u8],
+    answer: &mut [u8],
+    length: &mut usize,
+) -> u32
+    ensures { spec.Returns result (Lists (uncovered_in path.now descriptor.now) answer.old answer.new length.new) }
+{
+    list_uncovered(alloc, path, descriptor, answer, length).number()
+}

@@ -1,0 +1,2 @@
+mod Doing
+mod Escapes
