@@ -80,6 +80,7 @@ fn tell_read(exchange: &Exchange, name: &str, rest: &str, told: &mut Draft) {
         }),
         "session" => tell_number(exchange.session(), told),
         "kept" => tell_number(exchange.kept().map(|kept| u64::from(kept.status)), told),
+        "parameters" => tell_parameters(exchange, told),
         _ => tell_parameter(exchange, rest, told),
     }
 }
@@ -96,6 +97,21 @@ fn tell_parameter(exchange: &Exchange, name: &str, told: &mut Draft) {
         Ok(Some(value)) => told.add(value.as_str()),
         Ok(None) => told.add("-"),
         Err(_) => told.fail(),
+    }
+}
+
+/// Tells all parameters, each in brackets.
+fn tell_parameters(exchange: &Exchange, told: &mut Draft) {
+    let Ok(parameters) = exchange.parameters() else {
+        told.fail();
+        return;
+    };
+    for parameter in parameters.iter() {
+        told.add("(");
+        told.add(parameter.0.as_str());
+        told.add(" ");
+        told.add(parameter.1.as_str());
+        told.add(")");
     }
 }
 

@@ -141,6 +141,11 @@ GET  | "" | a+b=c+d%21%zz | "" | parameter a b | c d!%zz
 GET  | "" | %6E=%C3%A9    | "" | parameter n   | é
 GET  | "" | n&n=1         | "" | parameter n   | ""
 GET  | "" | N=1           | "" | parameter n   | -
+-- sections 3.1 and 9.1.1: all of them, in that order, each value with its name
+POST | application/x-www-form-urlencoded | a=1&n=2 | n=3&&a | parameters | (a 1)(n 2)(n 3)(a )
+PUT  | application/x-www-form-urlencoded | a=1&n=2 | n=3    | parameters | (a 1)(n 2)
+GET  | "" | n=1 | "" | forward n=4&m=5; include n=6; parameters | done; done; (n 6)(n 4)(m 5)(n 1)
+GET  | "" | %6E=%C3%A9+%zz | "" | parameters | (n é %zz)
 "#;
 
 #[test]
