@@ -1,5 +1,5 @@
 -- What a script prints whose run memory cut, of our contexts.
-use Rattle.std.proofs.Common.{◌≡◌, ◌⊎◌, ℕ, List, Result, Ok, Err, refl, sym, ◌∙◌, inl, inr, subst}
+use Rattle.std.proofs.Common.{◌≡◌, ◌⊎◌, ℕ, List, Result, Ok, Err, refl, inl, inr, subst}
 use Rattle.sv_component.specs.Call.{Call}
 use Rattle.sv_container.specs.Starting.{Starts}
 use Rattle.sv_container.specs.declared.container.Container.{Container}
@@ -18,8 +18,7 @@ use Rattle.sv_script_run.specs.Laws as runs
 use Rattle.sv_script_run.specs.Whole.{PrintsOf, RunsWhole}
 use Rattle.sv_server.specs.RunFault.{ended_by}
 use Rattle.sv_server.specs.Running.{StepsOf, StopsOf, run_of}
-use Rattle.sv_server.specs.Script.{AreFresh, Follows, PrintsRefused, Refuses, draws, refused_by}
-use Rattle.sv_server.specs.declared.run_fault.RunFault.{RunFault}
+use Rattle.sv_server.specs.Script.{AreFresh, Follows, Refuses, draws, refused_by}
 use Rattle.sv_server.specs.declared.run_fault.RunFault.TheVariants.{NoMemory}
 use Rattle.sv_streams.specs.Calls.{Making}
 use Rattle.sv_words.specs.declared.counted_words.CountedWords.{CountedWords}

@@ -1,5 +1,5 @@
 -- What a connection is sent, of our contexts.
-use Rattle.std.proofs.Common.{ℕ, List, [], ◌∷◌, ◌++◌, map, Ok, Err, refl, ap}
+use Rattle.std.proofs.Common.{ℕ, [], ◌∷◌, ◌++◌, map, Ok, Err, refl, ap}
 use Rattle.sv_component.specs.Call.{Call}
 use Rattle.sv_connection.specs.Running.{AConnectionIsARun, events_of}
 use Rattle.sv_container.specs.Container.{state_of}

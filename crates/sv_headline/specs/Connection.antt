@@ -1,5 +1,5 @@
 -- What a connection is sent, from the bytes that are read of it to those that are written (RFC 9112, section 9; Jakarta Servlet 6.0, section 13.8).
-use Rattle.std.specs.Prelude.{◌≡◌, ℕ, List, [], ◌∷◌, ◌++◌, filter, map, Result, Ok, Err}
+use Rattle.std.specs.Prelude.{◌≡◌, ℕ, [], ◌∷◌, ◌++◌, filter, map, Result, Ok}
 use Rattle.std.specs.List.{AllByRecursion}
 use Rattle.sv_component.specs.Call.{Call}
 use Rattle.sv_connection.specs.Connection.{Connects}

@@ -53,10 +53,10 @@ pub fn what_a_refused_script_prints_begins_the_whole<
     a_cut_text_begins_the_whole::<Running<S, F, L, CountedWords>, I, O>();
 }
 
-/// What is written of a connection is what a container's run sends, from its opening to its end, over the pieces that are read of it: one answer after
-/// another, all of it, or a part from the first byte on where a write failed (RFC 9112, section 9). The entries of that run tell the outcome of each
-/// message once, in order, and a request enters exactly where the combined constraints allow its method and its path to the caller of its session
-/// (Jakarta Servlet 6.0, section 13.8).
+/// What is written of a connection is what a container's run sends, from its opening to its end or to the event that is refused, over the pieces that
+/// are read of it: one answer after another, all of it, or a part from the first byte on where a write failed (RFC 9112, section 9). The entries of that
+/// run tell the outcome of each message once, in order, and a request enters exactly where the combined constraints allow its method and its path to the
+/// caller of its session (Jakarta Servlet 6.0, section 13.8).
 pub fn what_a_connection_is_sent_is_lawful<
     S: Servlet,
     F: Filter,
