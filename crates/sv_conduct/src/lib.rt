@@ -14,6 +14,6 @@ pub use record::every_run_is_lawful;
 pub use refused::the_undispatched_call_none;
 pub use runs::{
     callers_logged_in, callers_logged_in_since_the_start, constraints_change_by_edits_alone,
-    orders_are_alike, pieces_may_be_cut, pieces_may_come_in_parts,
-    requests_enter_exactly_where_allowed,
+    orders_are_alike, orders_are_taken_alike, pieces_are_taken_in_parts, pieces_may_be_cut,
+    pieces_may_come_in_parts, requests_enter_exactly_where_allowed,
 };

@@ -3,6 +3,7 @@
 ghost use Rattle.sv_conduct.specs.Start.{CallersLoggedInSinceTheStart};
 ghost use Rattle.sv_context.specs.Theory.{theory};
 ghost use Rattle.sv_run.specs.Laws.{CallersLoggedIn, ConstraintsChangeByEditsAlone, OrdersAreAlike, PiecesMayBeCut, PiecesMayComeInParts, RequestsEnterExactlyWhereAllowed};
+ghost use Rattle.sv_run.specs.Orders.{OrdersAreTakenAlike, PiecesAreTakenInParts};
 
 use crate::contexts::{
     callers_come_by_login, contexts_end_expired_sessions, contexts_tell_outcomes,
@@ -60,6 +61,24 @@ pub fn orders_are_alike<S: Servlet, F: Filter, L: Listener, W: Words>()
 {
     contexts_end_expired_sessions::<S, F, L, W>();
     sv_run::orders_are_alike::<Context<S, F, L>, W>();
+}
+
+/// At one moment, a piece and its parts, however many they are, have the same answers and lead to the same states: where the piece is refused, each
+/// part is refused for the same cause, and the other way round. Want of memory is left out.
+pub fn pieces_are_taken_in_parts<S: Servlet, F: Filter, L: Listener, W: Words>()
+    ensures { PiecesAreTakenInParts (theory S.servlet_step F.filter_step L.listener_step W.draws) }
+{
+    contexts_end_expired_sessions::<S, F, L, W>();
+    sv_run::pieces_are_taken_in_parts::<Context<S, F, L>, W>();
+}
+
+/// Of a piece that completes no item and an event of another connection, neither of which raises the moment, either order allows the same answers,
+/// entries and end states, whichever of them is refused. Want of memory is left out.
+pub fn orders_are_taken_alike<S: Servlet, F: Filter, L: Listener, W: Words>()
+    ensures { OrdersAreTakenAlike (theory S.servlet_step F.filter_step L.listener_step W.draws) }
+{
+    contexts_end_expired_sessions::<S, F, L, W>();
+    sv_run::orders_are_taken_alike::<Context<S, F, L>, W>();
 }
 
 /// Over every list of events, until memory is refused, the constraints of a context stand as its own edits have left them, one after another,

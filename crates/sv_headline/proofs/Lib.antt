@@ -1,1 +1,3 @@
+mod Cutting
 mod Printing
+mod Sending

@@ -55,7 +55,7 @@ module _ {O : Type 0} (takes : Making O) (context : List ℕ) (started : Journal
 module _ {S F L I O : Type 0} (servlet_step : S → Call → S → Type 0) (filter_step : F → Call → F → Type 0) (listener_step : L → Call → L → Type 0) (gives : Making I)
     (takes : Making O) where
   -- a container takes its events as the run of its contexts says
-  like : StepsLike (StepsOf servlet_step filter_step listener_step draws) (theory servlet_step filter_step listener_step draws) run_of
+  pub like : StepsLike (StepsOf servlet_step filter_step listener_step draws) (theory servlet_step filter_step listener_step draws) run_of
   like before after happening (Ok reaction) steps = (Ok steps.0, steps.1, ap Ok steps.2)
   like before after happening (Err fault) steps = (Err fault, steps, refl)
 

@@ -1,1 +1,3 @@
+pub mod Connection
+pub mod Cut
 pub mod Headline

@@ -1,13 +1,21 @@
-//! The headline over scripts, the contract of a function that does nothing.
+//! The headline over scripts and over connections, each the contract of a function that only calls other laws.
 
+ghost use Rattle.sv_headline.specs.Connection.{WhatAConnectionIsSentIsLawful};
+ghost use Rattle.sv_headline.specs.Cut.{WhatARefusedScriptPrintsBeginsTheWhole, WhatARefusedScriptPrintsIsCut};
 ghost use Rattle.sv_headline.specs.Headline.{WhatAScriptPrintsIsLawful};
 
 use sv_component::{Filter, Listener, Servlet};
 use sv_conduct::requests_enter_exactly_where_allowed;
+use sv_connection::a_connection_is_a_run;
+use sv_container::Container;
 use sv_context::Context;
-use sv_script_run::{a_run_writes_one_text, a_script_is_a_lawful_run};
+use sv_run::Words;
+use sv_script_run::{
+    a_cut_text_begins_the_whole, a_refused_run_is_cut, a_run_writes_one_text,
+    a_script_is_a_lawful_run,
+};
 use sv_server::Running;
-use sv_streams::{Sink, Source};
+use sv_streams::{Clock, Sink, Source, Stream};
 use sv_words::CountedWords;
 
 /// Where a run of a script ended well, or a line of the script is to blame, what was written is the text of a container's run: from its start over
@@ -19,4 +27,46 @@ pub fn what_a_script_prints_is_lawful<S: Servlet, F: Filter, L: Listener, I: Sou
     requests_enter_exactly_where_allowed::<S, F, L, CountedWords>();
     a_run_writes_one_text::<Running<S, F, L, CountedWords>, I, O>();
     a_script_is_a_lawful_run::<Running<S, F, L, CountedWords>, Context<S, F, L>, CountedWords>();
+}
+
+/// A run of a script that answers want of memory has written nothing, or the text of a container's start and of the events before the refusal, and
+/// nothing behind it: those events are a run as above, and the container was shut down.
+pub fn what_a_refused_script_prints_is_cut<S: Servlet, F: Filter, L: Listener, I: Source, O: Sink>()
+    ensures { WhatARefusedScriptPrintsIsCut S.servlet_step F.filter_step L.listener_step I.makes O.makes }
+{
+    requests_enter_exactly_where_allowed::<S, F, L, CountedWords>();
+    a_refused_run_is_cut::<Running<S, F, L, CountedWords>, I, O>();
+    a_script_is_a_lawful_run::<Running<S, F, L, CountedWords>, Context<S, F, L>, CountedWords>();
+}
+
+/// What it has written begins what a run prints that ended well, or at a line of its script, where both starts note the same entries and the same
+/// answers are given to the first events.
+pub fn what_a_refused_script_prints_begins_the_whole<
+    S: Servlet,
+    F: Filter,
+    L: Listener,
+    I: Source,
+    O: Sink,
+>()
+    ensures { WhatARefusedScriptPrintsBeginsTheWhole S.servlet_step F.filter_step L.listener_step I.makes O.makes }
+{
+    a_cut_text_begins_the_whole::<Running<S, F, L, CountedWords>, I, O>();
+}
+
+/// What is written of a connection is what a container's run sends, from its opening to its end or to the event that is refused, over the pieces that
+/// are read of it: one answer after another, all of it, or a part from the first byte on where a write failed (RFC 9112, section 9). The entries of that
+/// run tell the outcome of each message once, in order, and a request enters exactly where the combined constraints allow its method and its path to the
+/// caller of its session (Jakarta Servlet 6.0, section 13.8).
+pub fn what_a_connection_is_sent_is_lawful<
+    S: Servlet,
+    F: Filter,
+    L: Listener,
+    W: Words,
+    T: Stream,
+    C: Clock,
+>()
+    ensures { WhatAConnectionIsSentIsLawful S.servlet_step F.filter_step L.listener_step W.draws T.makes C.tells }
+{
+    requests_enter_exactly_where_allowed::<S, F, L, W>();
+    a_connection_is_a_run::<Container<S, F, L, W>, T, C, Context<S, F, L>, W>();
 }

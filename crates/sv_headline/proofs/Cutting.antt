@@ -1,0 +1,99 @@
+-- What a script prints whose run memory cut, of our contexts.
+use Rattle.std.proofs.Common.{◌≡◌, ◌⊎◌, ℕ, List, Result, Ok, Err, refl, inl, inr, subst}
+use Rattle.sv_component.specs.Call.{Call}
+use Rattle.sv_container.specs.Starting.{Starts}
+use Rattle.sv_container.specs.declared.container.Container.{Container}
+use Rattle.sv_container.specs.declared.new_fault.NewCode.{NewCode}
+use Rattle.sv_container.specs.declared.new_fault.NewCode.TheVariants as code
+use Rattle.sv_container.specs.declared.new_fault.NewFault.{NewFault}
+use Rattle.sv_context.specs.Theory.{theory}
+use Rattle.sv_context.specs.declared.deployment.Deployment.{Deployment}
+use Rattle.sv_headline.specs.Cut.{PrintsACutRun, WhatARefusedScriptPrintsBeginsTheWhole, WhatARefusedScriptPrintsIsCut}
+use Rattle.sv_journal.specs.Journal.{JournalState, new_journal}
+use Rattle.sv_replay.specs.declared.fault.ReplayFault.{ReplayFault}
+use Rattle.sv_replay.specs.declared.fault.ReplayFault.TheVariants as replays
+use Rattle.sv_run.specs.Laws.{RequestsEnterExactlyWhereAllowed}
+use Rattle.sv_script.specs.Printed.{start_text}
+use Rattle.sv_script_run.specs.Laws as runs
+use Rattle.sv_script_run.specs.Whole.{PrintsOf, RunsWhole}
+use Rattle.sv_server.specs.RunFault.{ended_by}
+use Rattle.sv_server.specs.Running.{StepsOf, StopsOf, run_of}
+use Rattle.sv_server.specs.Script.{AreFresh, Follows, Refuses, draws, refused_by}
+use Rattle.sv_server.specs.declared.run_fault.RunFault.TheVariants.{NoMemory}
+use Rattle.sv_streams.specs.Calls.{Making}
+use Rattle.sv_words.specs.declared.counted_words.CountedWords.{CountedWords}
+use Rattle.sv_headline.proofs.Printing.{like}
+
+-- want of memory ends a run where it ended the replay
+wants_memory : (ended : Result (Unit {0}) ReplayFault) → Err NoMemory ≡ ended_by ended → ended ≡ Err replays.NoMemory
+wants_memory (Ok done) same = absurd (cc)
+wants_memory (Err (replays.Script line)) same = absurd (cc)
+wants_memory (Err replays.Output) same = absurd (cc)
+wants_memory (Err replays.NoMemory) same = refl
+
+module _ {O : Type 0} (takes : Making O) (context : List ℕ) (started : JournalState) (output output_after : O) where
+  -- where the start was refused for another cause, memory was refused to its text
+  unprinted : (its_code : NewCode) (printed : Result (Unit {0}) ReplayFault) → PrintsOf takes start_text started output printed output_after
+      → Err NoMemory ≡ refused_by its_code context printed → output_after ≡ output
+  unprinted its_code (Ok done) prints same = absurd (cc)
+  unprinted its_code (Err (replays.Script line)) prints same = absurd prints
+  unprinted its_code (Err replays.Output) prints same = absurd (cc)
+  unprinted its_code (Err replays.NoMemory) prints same = prints
+
+  unwritten : (its_code : NewCode) → Refuses takes its_code context started output (Err NoMemory) output_after → output_after ≡ output
+  unwritten code.NoMemory refused = refused.1
+  unwritten code.DuplicateContext refused = unprinted code.DuplicateContext refused.0 refused.1 refused.2
+  unwritten code.TooManyContexts refused = unprinted code.TooManyContexts refused.0 refused.1 refused.2
+  unwritten code.PartsMismatch refused = unprinted code.PartsMismatch refused.0 refused.1 refused.2
+  unwritten code.InitFailed refused = unprinted code.InitFailed refused.0 refused.1 refused.2
+
+module _ {S F L I O : Type 0} (servlet_step : S → Call → S → Type 0) (filter_step : F → Call → F → Type 0) (listener_step : L → Call → L → Type 0) (gives : Making I)
+    (takes : Making O) where
+  module _ (enters : RequestsEnterExactlyWhereAllowed (theory servlet_step filter_step listener_step draws))
+      (is_cut : runs.ARefusedRunIsCut (StepsOf servlet_step filter_step listener_step draws) (StopsOf servlet_step filter_step listener_step) gives takes)
+      (lawful : runs.AScriptIsALawfulRun (StepsOf servlet_step filter_step listener_step draws) (theory servlet_step filter_step listener_step draws))
+      (deployments : List (Deployment S F L)) (script script_after : I) (output output_after : O) where
+    cut_behind : (its_words : CountedWords) → AreFresh its_words → (its_start : JournalState) (its_container : Container S F L CountedWords)
+        → Starts servlet_step filter_step listener_step deployments its_words new_journal (Ok its_container) its_start
+        → runs.IsUnwritten (StepsOf servlet_step filter_step listener_step draws) (StopsOf servlet_step filter_step listener_step) gives takes
+        (record { container = its_container }) script output script_after output_after
+        ⊎ runs.IsCut (StepsOf servlet_step filter_step listener_step draws) (StopsOf servlet_step filter_step listener_step) gives takes
+        its_start (record { container = its_container }) script output script_after output_after
+        → (output_after ≡ output) ⊎ PrintsACutRun servlet_step filter_step listener_step gives takes deployments script output script_after output_after
+    cut_behind its_words fresh its_start its_container its_starts (inl nothing) = inl nothing.unwritten
+    cut_behind its_words fresh its_start its_container its_starts (inr is) =
+        inr record {
+          words = its_words;
+          are_fresh = fresh;
+          container = its_container;
+          started = its_start;
+          starts = its_starts;
+          cut = is;
+          run = lawful run_of (like servlet_step filter_step listener_step gives takes) enters (record { container = its_container }) is.played is.plays;
+        }
+
+    followed : (its_words : CountedWords) → AreFresh its_words → (its_start : JournalState) (begun : Result (Container S F L CountedWords) (NewFault S F L))
+        → Starts servlet_step filter_step listener_step deployments its_words new_journal begun its_start
+        → Follows servlet_step filter_step listener_step gives takes begun its_start script output (Err NoMemory) script_after output_after
+        → (output_after ≡ output) ⊎ PrintsACutRun servlet_step filter_step listener_step gives takes deployments script output script_after output_after
+    followed its_words fresh its_start (Ok its_container) its_starts follows =
+        cut_behind its_words fresh its_start its_container its_starts
+        (is_cut its_start (record { container = its_container }) script output script_after output_after
+        (subst (λ ended. RunsWhole (StepsOf servlet_step filter_step listener_step draws) (StopsOf servlet_step filter_step listener_step) gives takes
+        its_start (record { container = its_container }) script output ended script_after output_after) (wants_memory follows.0 follows.2) follows.1))
+    followed its_words fresh its_start (Err fault) its_starts follows =
+        inl (unwritten takes fault.context its_start output output_after fault.code follows.1)
+
+  pub is_cut_so : RequestsEnterExactlyWhereAllowed (theory servlet_step filter_step listener_step draws)
+      → runs.ARefusedRunIsCut (StepsOf servlet_step filter_step listener_step draws) (StopsOf servlet_step filter_step listener_step) gives takes
+      → runs.AScriptIsALawfulRun (StepsOf servlet_step filter_step listener_step draws) (theory servlet_step filter_step listener_step draws)
+      → WhatARefusedScriptPrintsIsCut servlet_step filter_step listener_step gives takes
+  is_cut_so enters is_cut lawful deployments script output script_after output_after ran =
+      followed enters is_cut lawful deployments script script_after output output_after ran.words ran.are_fresh ran.started ran.begun ran.starts ran.follows
+
+  pub begins_so : runs.ACutTextBeginsTheWhole (StepsOf servlet_step filter_step listener_step draws) (StopsOf servlet_step filter_step listener_step) gives takes
+      → WhatARefusedScriptPrintsBeginsTheWhole servlet_step filter_step listener_step gives takes
+  begins_so begins deployments others script other_script output other_output result script_after other_script_after output_after other_output_after refused
+      written same first =
+      begins refused.started (record { container = refused.container }) script output script_after output_after refused.cut written.started
+      (record { container = written.container }) other_script other_output written.ended other_script_after other_output_after written.text same first

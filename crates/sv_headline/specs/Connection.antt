@@ -1,0 +1,39 @@
+-- What a connection is sent, from the bytes that are read of it to those that are written (RFC 9112, section 9; Jakarta Servlet 6.0, section 13.8).
+use Rattle.std.specs.Prelude.{◌≡◌, ℕ, [], ◌∷◌, ◌++◌, filter, map, Result, Ok}
+use Rattle.std.specs.List.{AllByRecursion}
+use Rattle.sv_component.specs.Call.{Call}
+use Rattle.sv_connection.specs.Connection.{Connects}
+use Rattle.sv_connection.specs.Running.{IsARun}
+use Rattle.sv_connection.specs.declared.over.Over.{Over}
+use Rattle.sv_container.specs.Container.{state_of}
+use Rattle.sv_container.specs.declared.container.Container.{Container}
+use Rattle.sv_context.specs.Theory.{theory}
+use Rattle.sv_host.specs.Host.{StepsSo}
+use Rattle.sv_run.specs.Lawful.{is_outcome}
+use Rattle.sv_run.specs.Laws.{EntersWhereAllowed, deed_entry}
+use Rattle.sv_run.specs.Reacting.{Reacting}
+use Rattle.sv_run.specs.Runs.{deeds_of, journal_of}
+use Rattle.sv_run.specs.declared.step_fault.StepFault.{StepFault}
+use Rattle.sv_streams.specs.Calls.{Making}
+
+module _ {S F L W T C : Type 0} (servlet_step : S → Call → S → Type 0) (filter_step : F → Call → F → Type 0) (listener_step : L → Call → L → Type 0)
+    (draws : W → ℕ × ℕ → W → Type 0) (makes : Making T) (tells : C → ℕ → C → Type 0) where
+  -- a container takes an event
+  abbrev pub TakesSo : Reacting (Container S F L W)
+  TakesSo before happening result after = StepsSo (theory servlet_step filter_step listener_step draws) (state_of before) happening result (state_of after)
+
+  -- the events of the connection are a run of the container, which sends what is written; the entries of that run tell the outcome of each message
+  -- once, in order, and a request enters exactly where the combined constraints allow it
+  pub record IsSentLawfully (connection : ℕ) (before : Container S F L W) (stream : T) (clock : C) (result : Result Over StepFault)
+      (after : Container S F L W) (stream_after : T) (clock_after : C) : Type 0 where
+    pub served : IsARun TakesSo makes tells (theory servlet_step filter_step listener_step draws) state_of connection before stream clock result after
+        stream_after clock_after
+    pub outcomes : filter is_outcome (journal_of (map Ok served.accepted ++ served.last ∷ []))
+        ≡ map (deed_entry (theory servlet_step filter_step listener_step draws)) (deeds_of (map Ok served.accepted ++ served.last ∷ []))
+    pub entered : AllByRecursion (EntersWhereAllowed (theory servlet_step filter_step listener_step draws)) (deeds_of (map Ok served.accepted ++ served.last ∷ []))
+
+  abbrev pub WhatAConnectionIsSentIsLawful : Type 0
+  WhatAConnectionIsSentIsLawful =
+      (connection : ℕ) (before : Container S F L W) (stream : T) (clock : C) (result : Result Over StepFault) (after : Container S F L W) (stream_after : T)
+      (clock_after : C) → Connects TakesSo makes tells connection before stream clock result after stream_after clock_after
+      → IsSentLawfully connection before stream clock result after stream_after clock_after
