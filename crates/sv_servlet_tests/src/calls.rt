@@ -1,0 +1,186 @@
+//! Calls on an exchange, as the rows of tables spell them, and what is left behind them.
+
+use crate::requests::exchange;
+use std::alloc::Global;
+use sv_mapping::Kind;
+use sv_rows::{Draft, cell};
+use sv_servlet::{
+    Exchange, ExchangeFault, Fault, Field, NewCookie, NoMemory, RedirectKind, SameSite, Verb,
+    asked_verb, redirect, redirect_elsewhere, send, send_html, send_text, set_cookie,
+};
+use sv_wire::{Body, Response};
+
+/// What a table calls.
+#[derive(Clone, Copy)]
+pub enum Call {
+    AskedVerb,
+    SetCookie,
+    Send,
+    Redirect,
+}
+
+/// Writes the answer to a row's call on a request by that method, and behind it the status, the fields and the body of the response. Before
+/// the call nothing was done (`open`), the response was flushed (`flushed`), or an include began (`include`), as the first cell says.
+pub fn answer_all(
+    alloc: Global,
+    method: &str,
+    call: Call,
+    row: &str,
+    answer: &mut Vec<u8>,
+) -> Result<(), NoMemory> {
+    let mut told = Draft::new(alloc);
+    match exchange(alloc, method) {
+        Ok(exchange) => tell_all(alloc, exchange, call, row, &mut told),
+        Err(_) => told.fail(),
+    }
+    told.add_to(answer)
+}
+
+fn tell_all(alloc: Global, mut exchange: Exchange, call: Call, row: &str, told: &mut Draft) {
+    prepare(&mut exchange, cell(row, 0), told);
+    tell_call(alloc, &mut exchange, call, row, told);
+    let (response, _sessions) = exchange.finish();
+    tell_response(&response, told);
+}
+
+fn prepare(exchange: &mut Exchange, before: &str, told: &mut Draft) {
+    let is_done = match before {
+        "flushed" => exchange.flush().is_ok(),
+        "include" => exchange
+            .enter(Kind::Include, "/b", "/b", None, None)
+            .is_ok(),
+        _ => true,
+    };
+    if !is_done {
+        told.fail();
+    }
+}
+
+fn tell_call(alloc: Global, exchange: &mut Exchange, call: Call, row: &str, told: &mut Draft) {
+    match call {
+        Call::AskedVerb => tell_verb(asked(alloc, exchange, cell(row, 2)), told),
+        Call::SetCookie => tell_done(set_cookie(alloc, exchange, &new_cookie(row)), told),
+        Call::Send => tell_sent(sent(exchange, row), told),
+        Call::Redirect => tell_done(redirected(exchange, row), told),
+    }
+}
+
+/// Asks for the verb, where the servlet answers those of the list's names.
+fn asked(alloc: Global, exchange: &mut Exchange, allowed: &str) -> Result<Option<Verb>, Fault> {
+    match allowed {
+        "GET" => asked_verb(alloc, exchange, &[Verb::Get]),
+        "GET POST" => asked_verb(alloc, exchange, &[Verb::Get, Verb::Post]),
+        "PUT PATCH DELETE" => asked_verb(alloc, exchange, &[Verb::Put, Verb::Patch, Verb::Delete]),
+        _ => asked_verb(alloc, exchange, &[]),
+    }
+}
+
+/// A cookie of a row, where `-` stands for no path and no age.
+fn new_cookie<'a>(row: &'a str) -> NewCookie<'a> {
+    let path = cell(row, 3);
+    let words = cell(row, 5);
+    NewCookie {
+        name: cell(row, 1),
+        value: cell(row, 2),
+        path: if path == "-" { None } else { Some(path) },
+        max_age: cell(row, 4).parse::<u32>().ok(),
+        http_only: words.contains("HttpOnly"),
+        secure: words.contains("Secure"),
+        same_site: same_site(words),
+    }
+}
+
+fn same_site(words: &str) -> Option<SameSite> {
+    if words.contains("Strict") {
+        Some(SameSite::Strict)
+    } else if words.contains("Lax") {
+        Some(SameSite::Lax)
+    } else if words.contains("Everywhere") {
+        Some(SameSite::Everywhere)
+    } else {
+        None
+    }
+}
+
+fn sent(exchange: &mut Exchange, row: &str) -> Result<(), ExchangeFault> {
+    match cell(row, 1) {
+        "text" => send_text(exchange, cell(row, 2)),
+        "html" => send_html(exchange, cell(row, 2)),
+        content_type => send(exchange, content_type, cell(row, 2).as_bytes()),
+    }
+}
+
+fn redirected(exchange: &mut Exchange, row: &str) -> Result<bool, Fault> {
+    let location = cell(row, 2);
+    match cell(row, 1) {
+        "301" => redirect(exchange, RedirectKind::MovedPermanently, location),
+        "302" => redirect(exchange, RedirectKind::Found, location),
+        "303" => redirect(exchange, RedirectKind::SeeOther, location),
+        "307" => redirect(exchange, RedirectKind::Temporary, location),
+        "308" => redirect(exchange, RedirectKind::Permanent, location),
+        _ => redirect_elsewhere(exchange, RedirectKind::Found, location),
+    }
+}
+
+fn tell_verb(asked: Result<Option<Verb>, Fault>, told: &mut Draft) {
+    match asked {
+        Ok(Some(verb)) => told.add(verb_name(verb)),
+        Ok(None) => told.add("-"),
+        Err(fault) => told.add(fault_name(&fault)),
+    }
+}
+
+fn verb_name(verb: Verb) -> &'static str {
+    match verb {
+        Verb::Get => "Get",
+        Verb::Post => "Post",
+        Verb::Put => "Put",
+        Verb::Patch => "Patch",
+        Verb::Delete => "Delete",
+    }
+}
+
+fn tell_done(done: Result<bool, Fault>, told: &mut Draft) {
+    match done {
+        Ok(done) => told.add_shown(&done),
+        Err(fault) => told.add(fault_name(&fault)),
+    }
+}
+
+fn fault_name(fault: &Fault) -> &'static str {
+    match fault {
+        Fault::NoMemory => "NoMemory",
+        Fault::Refused(_) => "Refused",
+        Fault::BadLocation => "BadLocation",
+        Fault::BadCookie => "BadCookie",
+        Fault::Error(_, _) => "Error",
+        Fault::Failed(_, _) => "Failed",
+    }
+}
+
+fn tell_sent(sent: Result<(), ExchangeFault>, told: &mut Draft) {
+    match sent {
+        Ok(_) => told.add("sent"),
+        Err(fault) => told.add_shown(&fault),
+    }
+}
+
+/// Tells the status, the fields and the body, which is not told where it was flushed.
+fn tell_response(response: &Response, told: &mut Draft) {
+    told.add(" | ");
+    told.add_shown(&response.status);
+    for field in response.fields.as_slice() {
+        tell_field(field, told);
+    }
+    told.add(" | ");
+    if let Body::Whole(body) = &response.body {
+        told.add_bytes(body.as_slice());
+    }
+}
+
+fn tell_field(field: &Field, told: &mut Draft) {
+    told.add(" ");
+    told.add(field.name.as_str());
+    told.add(": ");
+    told.add_bytes(field.value.as_bytes());
+}
