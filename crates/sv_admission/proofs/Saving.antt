@@ -7,7 +7,7 @@ use Rattle.sv_admission.specs.Asked.{Asked}
 use Rattle.sv_admission.specs.Seen.{seen}
 use Rattle.sv_admission.specs.Settled.{Settled, interrupted, opened_with, renewed, saved_in, unchanged}
 use Rattle.sv_admission.specs.declared.settling.Settled as code
-use Rattle.sv_session.specs.Calls.{Refuses, opened, opening_faults, with_saved}
+use Rattle.sv_session.specs.Calls.{RefusesCall, opened, opening_faults, with_saved}
 use Rattle.sv_session.specs.Runs.{unless}
 use Rattle.sv_session.specs.Store.{Store}
 use Rattle.sv_session.specs.declared.session_fault.SessionFault.{SessionFault}
@@ -42,14 +42,14 @@ refused_so asked target store after fault x (some, same) is =
 
 -- the store is full, or its serials are spent
 pub full_so : (asked : Asked) (target : List ℕ) (store after : Store) (fault : SessionFault) (x : Settled)
-    → fault ≡ TooMany → Refuses (opening_faults store) fault store after → x ≡ unchanged None after → x ≡ saved_in asked target None store
+    → fault ≡ TooMany → RefusesCall (opening_faults store) fault store after → x ≡ unchanged None after → x ≡ saved_in asked target None store
 full_so asked target store after fault x is refuses =
-    refused_so asked target store after TooMany x (subst (λ other. Refuses (opening_faults store) other store after) is refuses)
+    refused_so asked target store after TooMany x (subst (λ other. RefusesCall (opening_faults store) other store after) is refuses)
 
 pub spent_so : (asked : Asked) (target : List ℕ) (store after : Store) (fault : SessionFault) (x : Settled)
-    → fault ≡ SerialSpent → Refuses (opening_faults store) fault store after → x ≡ unchanged None after → x ≡ saved_in asked target None store
+    → fault ≡ SerialSpent → RefusesCall (opening_faults store) fault store after → x ≡ unchanged None after → x ≡ saved_in asked target None store
 spent_so asked target store after fault x is refuses =
-    refused_so asked target store after SerialSpent x (subst (λ other. Refuses (opening_faults store) other store after) is refuses)
+    refused_so asked target store after SerialSpent x (subst (λ other. RefusesCall (opening_faults store) other store after) is refuses)
 
 -- a method other than GET
 pub not_saved : (context_path : List ℕ) (asked : Asked) (held : Option ℕ) (store : Store) (test : Bool) (x : Settled)

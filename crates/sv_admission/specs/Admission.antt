@@ -2,11 +2,12 @@
 -- are settled (Jakarta Servlet 6.0, chapters 7 and 13).
 use Rattle.std.specs.Prelude.{List}
 use Rattle.sv_outcome.specs.declared.outcome.Outcome.{Outcome}
+use Rattle.sv_outcome.specs.OutcomeEntry.{outcome_entry}
 use Rattle.sv_policy.specs.Compiled.{Standing}
 use Rattle.sv_realm.specs.declared.user.User.{User}
 use Rattle.sv_session.specs.Store.{Store}
 use Rattle.sv_site.specs.Site.{Content}
-use Rattle.sv_admission.specs.Answer.{answer_to, entry_of}
+use Rattle.sv_admission.specs.Answer.{answer_to}
 use Rattle.sv_admission.specs.Asked.{Asked}
 use Rattle.sv_admission.specs.Held.{accessed, session_held}
 use Rattle.sv_admission.specs.Judged.{left_by_login, outcome_of}
@@ -29,7 +30,7 @@ module _ (content : Content) (standing : Standing) (users : List User) (asked : 
 
   abbrev pub admission : Admission
   admission = record {
-    entry = entry_of content.context_path asked.canon.path outcome_in;
+    entry = outcome_entry content.context_path asked.canon.path outcome_in;
     answer = answer_to content outcome_in;
     session = session_of users settled_in;
     event = settled_in.event;

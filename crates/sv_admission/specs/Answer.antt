@@ -1,11 +1,8 @@
--- How a message is answered, and what the journal says of it (Jakarta Servlet 6.0, sections 10.5, 10.9, 13.6.3 and 13.8).
+-- How a message is answered (Jakarta Servlet 6.0, sections 10.5, 10.9, 13.6.3 and 13.8).
 use Rattle.std.specs.Prelude.{ℕ, List, ◌++◌, Option, None, codes, unwrap_or, option_and_then}
 use Rattle.std.specs.Option.{option_map}
 use Rattle.std.specs.Result.{result_ok}
 use Rattle.sv_descriptor.specs.declared.web_app.WebApp.{WebApp}
-use Rattle.sv_journal.specs.declared.entry.Entry.{Entry}
-use Rattle.sv_journal.specs.declared.entry.Entry.TheVariants as entries
-use Rattle.sv_journal.specs.declared.refusal_cause.RefusalCause.TheVariants as causes
 use Rattle.sv_outcome.specs.declared.outcome.Outcome.{Outcome}
 use Rattle.sv_outcome.specs.declared.outcome.Outcome.TheVariants as outcomes
 use Rattle.sv_site.specs.Site.{Content, error_page}
@@ -45,14 +42,3 @@ answer_to content outcomes.Entered = answers.Entered
 answer_to content (outcomes.SentToLogin why) = answers.Page (login_page content.app)
 answer_to content (outcomes.NoLogin why) = error_with content FORBIDDEN
 answer_to content (outcomes.Denied why) = error_with content FORBIDDEN
-
--- its entry, case by case; the path is that in the context
-abbrev pub entry_of : List ℕ → List ℕ → Outcome → Entry
-entry_of context path outcomes.Protected = entries.Hidden causes.Protected
-entry_of context path (outcomes.LoggedIn number target) = entries.Refused causes.LoggedIn
-entry_of context path outcomes.LoginFailed = entries.Refused causes.LoginFailed
-entry_of context path outcomes.NoSession = entries.Refused causes.NoSession
-entry_of context path outcomes.Entered = entries.Entered context path
-entry_of context path (outcomes.SentToLogin why) = entries.SentToLogin context why
-entry_of context path (outcomes.NoLogin why) = entries.Refused (causes.NoLogin why)
-entry_of context path (outcomes.Denied why) = entries.Refused (causes.Denied why)

@@ -3,7 +3,8 @@
 ghost use Rattle.std.specs.Prelude.{◌≡◌, None, unwrap_or};
 ghost use Rattle.std.specs.Option.{option_copied, option_map};
 ghost use Rattle.sv_text.specs.Gives.{GivesAnswer};
-ghost use Rattle.sv_admission.specs.Answer.{answer_to, entry_of, error_with, page_at, root_of};
+ghost use Rattle.sv_outcome.specs.OutcomeEntry.{outcome_entry};
+ghost use Rattle.sv_admission.specs.Answer.{answer_to, error_with, page_at, root_of};
 
 use crate::limits::FORBIDDEN;
 use std::alloc::Global;
@@ -40,7 +41,7 @@ pub(crate) fn concluded(
     path: &str,
     outcome: Outcome,
 ) -> Result<(Entry, Answer), NoMemory>
-    ensures { GivesAnswer result (entry_of site.now.context_path path.now outcome, answer_to site.now outcome) }
+    ensures { GivesAnswer result (outcome_entry site.now.context_path path.now outcome, answer_to site.now outcome) }
 {
     let login = &site.descriptor().web_app().login;
     match outcome {

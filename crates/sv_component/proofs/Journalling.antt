@@ -4,7 +4,7 @@ use Rattle.std.specs.Prelude.{cond}
 use Rattle.std.proofs.lemmas.Bool.{cases_Bool}
 use Rattle.std.proofs.lemmas.List.{append_assoc, append-nil}
 use Rattle.sv_component.specs.Call.{Call}
-use Rattle.sv_component.specs.Runs.{Moves, Record, Runs, entry_of}
+use Rattle.sv_component.specs.Runs.{Moves, Record, Runs, record_entry}
 use Rattle.sv_component.specs.World.{World}
 use Rattle.sv_component.proofs.Moving.{same_entries}
 use Rattle.sv_journal.specs.Journal.{Gains, JournalState, Takes, broken, with_entry}
@@ -53,10 +53,10 @@ gains_one before middle after entry entries takes gains = elim (cases_Bool befor
 ]
 
 module _ {S F L : Type 0} (ss : S → Call → S → Type 0) (fs : F → Call → F → Type 0) (ls : L → Call → L → Type 0) where
-  pub run_gains : (from to : World S F L) (records : List Record) → Runs ss fs ls from records to → Gains from.journal (map (entry_of from) records) to.journal
+  pub run_gains : (from to : World S F L) (records : List Record) → Runs ss fs ls from records to → Gains from.journal (map (record_entry from) records) to.journal
   unfolding Runs
   run_gains from to [] ran = subst (λ w. Gains from.journal [] w.journal) (sym ran) (gains_none from.journal)
   run_gains from to (made ∷ others) ran =
       let moves : Moves ss fs ls from made ran.0 = ran.1 in
-      gains_one from.journal ran.0.journal to.journal (entry_of from made) (map (entry_of from) others) moves.journal
+      gains_one from.journal ran.0.journal to.journal (record_entry from made) (map (record_entry from) others) moves.journal
       (subst (λ entries. Gains ran.0.journal entries to.journal) (same_entries ss fs ls from made ran.0 moves others) (run_gains ran.0 to others ran.2))

@@ -10,7 +10,7 @@ use Rattle.sv_component.specs.Call.{Call}
 use Rattle.sv_component.specs.Laws.{ComponentsMoved, NamedMovedAt}
 use Rattle.sv_component.specs.Motion.{Moved, MovedAt, calls_at, filter_calls, listener_calls, servlet_calls}
 use Rattle.sv_component.specs.Noted.{filter_entry, servlet_entry}
-use Rattle.sv_component.specs.Runs.{Moves, MovesAt, NamedStep, OfFilter, OfListener, OfServlet, Record, Runs, entry_of}
+use Rattle.sv_component.specs.Runs.{Moves, MovesAt, NamedStep, OfFilter, OfListener, OfServlet, Record, Runs, record_entry}
 use Rattle.sv_component.specs.World.{World, name_at}
 use Rattle.sv_component.specs.declared.named.Named.{Named}
 use Rattle.sv_journal.specs.Entry.{heard}
@@ -168,7 +168,7 @@ module _ {S F L : Type 0} (ss : S → Call → S → Type 0) (fs : F → Call �
   filter_name from (OfListener moved event) middle moves place = ap (λ xs. name_at xs place) moves.component.2
 
   -- one record changes no context and no name, so entries are the same before and after
-  same_entry : (from : World S F L) (made : Record) (middle : World S F L) → Moves ss fs ls from made middle → (other : Record) → entry_of middle other ≡ entry_of from other
+  same_entry : (from : World S F L) (made : Record) (middle : World S F L) → Moves ss fs ls from made middle → (other : Record) → record_entry middle other ≡ record_entry from other
   same_entry from made middle moves (OfServlet place call) =
       ap (λ context. servlet_entry context (name_at middle.servlets place) call) moves.context
       ∙ ap (λ name. servlet_entry from.context name call) (servlet_name from made middle moves place)
@@ -178,8 +178,8 @@ module _ {S F L : Type 0} (ss : S → Call → S → Type 0) (fs : F → Call �
   same_entry from made middle moves (OfListener place event) = ap (λ context. heard context place event) moves.context
 
   pub same_entries : (from : World S F L) (made : Record) (middle : World S F L) → Moves ss fs ls from made middle → (others : List Record)
-      → map (entry_of middle) others ≡ map (entry_of from) others
+      → map (record_entry middle) others ≡ map (record_entry from) others
   same_entries from made middle moves [] = refl
   same_entries from made middle moves (other ∷ others) =
-      ap (λ entry. entry ∷ map (entry_of middle) others) (same_entry from made middle moves other)
-      ∙ ap (λ entries. entry_of from other ∷ entries) (same_entries from made middle moves others)
+      ap (λ entry. entry ∷ map (record_entry middle) others) (same_entry from made middle moves other)
+      ∙ ap (λ entries. record_entry from other ∷ entries) (same_entries from made middle moves others)

@@ -2,7 +2,7 @@
 use Rattle.std.specs.Prelude.{◌≡◌, ℕ, List, ◌++◌, map, slice_get, Some}
 use Rattle.sv_component.specs.Call.{Call}
 use Rattle.sv_component.specs.Motion.{Moved, MovedAt, calls_at, filter_calls, listener_calls, servlet_calls}
-use Rattle.sv_component.specs.Runs.{Record, Runs, SameCounts, entry_of}
+use Rattle.sv_component.specs.Runs.{Record, Runs, SameCounts, record_entry}
 use Rattle.sv_component.specs.World.{World}
 use Rattle.sv_component.specs.declared.named.Named.{Named}
 use Rattle.sv_journal.specs.Journal.{Gains}
@@ -29,7 +29,7 @@ RunsMoveComponents {S} {F} {L} servlet_step filter_step listener_step =
 abbrev pub RunsAreJournalled : {S F L : Type 0} → (S → Call → S → Type 0) → (F → Call → F → Type 0) → (L → Call → L → Type 0) → Type 0
 RunsAreJournalled {S} {F} {L} servlet_step filter_step listener_step =
     (from to : World S F L) (records : List Record) → Runs servlet_step filter_step listener_step from records to
-    → Gains from.journal (map (entry_of from) records) to.journal
+    → Gains from.journal (map (record_entry from) records) to.journal
 
 -- two runs, one behind the other, are one
 abbrev pub RunsJoin : {S F L : Type 0} → (S → Call → S → Type 0) → (F → Call → F → Type 0) → (L → Call → L → Type 0) → Type 0

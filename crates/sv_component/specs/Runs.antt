@@ -30,10 +30,10 @@ pub record NamedStep {C : Type 0} (step : C → Call → C → Type 0) (before :
   pub name : after.name ≡ before.name
 
 -- the entry of a record
-abbrev pub entry_of : {S F L : Type 0} → World S F L → Record → Entry
-entry_of world (OfServlet place call) = servlet_entry world.context (name_at world.servlets place) call
-entry_of world (OfFilter place call) = filter_entry world.context (name_at world.filters place) call
-entry_of world (OfListener place event) = heard world.context place event
+abbrev pub record_entry : {S F L : Type 0} → World S F L → Record → Entry
+record_entry world (OfServlet place call) = servlet_entry world.context (name_at world.servlets place) call
+record_entry world (OfFilter place call) = filter_entry world.context (name_at world.filters place) call
+record_entry world (OfListener place event) = heard world.context place event
 
 -- the component of the record moves, and no other
 abbrev pub MovesComponent : {S F L : Type 0} → (S → Call → S → Type 0) → (F → Call → F → Type 0) → (L → Call → L → Type 0) → World S F L → Record → World S F L → Type 0
@@ -50,7 +50,7 @@ MovesComponent servlet_step filter_step listener_step before (OfListener place e
 -- the component of the record moves, and the journal takes its entry
 pub record Moves {S F L : Type 0} (servlet_step : S → Call → S → Type 0) (filter_step : F → Call → F → Type 0) (listener_step : L → Call → L → Type 0) (before : World S F L) (made : Record) (after : World S F L) : Type 0 where
   pub component : MovesComponent servlet_step filter_step listener_step before made after
-  pub journal : Takes before.journal (entry_of before made) after.journal
+  pub journal : Takes before.journal (record_entry before made) after.journal
   pub context : after.context ≡ before.context
 
 -- the records are made one after another

@@ -2,14 +2,14 @@
 use Rattle.std.proofs.Common.{◌≡◌, ◌≢◌, ◌⊎◌, ℕ, true, inl, inr, List, [], ◌∷◌, ◌++◌, map, filter, Option, None, Some, Result, refl, sym, ap, ◌∙◌, subst, append-nil, slice_get, length}
 use Rattle.sv_admission.specs.Admission.{outcome_in}
 use Rattle.sv_admission.specs.Laws.{found_of}
-use Rattle.sv_admission.specs.Answer.{answer_to, entry_of as outcome_entry}
+use Rattle.sv_admission.specs.Answer.{answer_to}
 use Rattle.sv_admission.specs.declared.answer.Answer.{Answer as Reply}
 use Rattle.sv_admission.specs.declared.answer.Answer.TheVariants as replies
 use Rattle.sv_component.proofs.Moving.{same_entries}
 use Rattle.sv_component.proofs.Running.{runs_grown, runs_join}
 use Rattle.sv_component.specs.Call.{Call}
 use Rattle.sv_component.specs.Laws.{RunsAreJournalled, RunsMoveComponents}
-use Rattle.sv_component.specs.Runs.{OfFilter, OfListener, OfServlet, Record, Runs, entry_of}
+use Rattle.sv_component.specs.Runs.{OfFilter, OfListener, OfServlet, Record, Runs, record_entry}
 use Rattle.sv_component.specs.World.{World}
 use Rattle.sv_context.proofs.Journals.{runs_unnoted}
 use Rattle.sv_context.specs.Answered.{Answers, Tells}
@@ -22,6 +22,7 @@ use Rattle.sv_journal.specs.Journal.{JournalState, new_journal, with_entry}
 use Rattle.sv_journal.specs.declared.entry.Entry.{Entry}
 use Rattle.sv_listeners.specs.Telling.{then_all}
 use Rattle.sv_outcome.specs.Laws.{JustOneCaseHolds}
+use Rattle.sv_outcome.specs.OutcomeEntry.{outcome_entry}
 use Rattle.sv_outcome.specs.declared.outcome.Outcome.{Outcome}
 use Rattle.sv_outcome.specs.declared.outcome.Outcome.TheVariants as outcomes
 use Rattle.sv_policy.specs.declared.edit.Edit.{Edit}
@@ -96,21 +97,21 @@ outcome_told context path (outcomes.Denied why) = refl
 
 module _ {S F L : Type 0} where
   same_entry : (context : ContextState S F L) (noted : JournalState) (made : Record)
-      → entry_of (world_of context noted) made ≡ entry_of (world_of context unnoted) made
+      → record_entry (world_of context noted) made ≡ record_entry (world_of context unnoted) made
   same_entry context noted (OfServlet place call) = refl
   same_entry context noted (OfFilter place call) = refl
   same_entry context noted (OfListener place event) = refl
 
   all_same : (context : ContextState S F L) (noted : JournalState) (made : List Record)
-      → map (entry_of (world_of context noted)) made ≡ map (entry_of (world_of context unnoted)) made
+      → map (record_entry (world_of context noted)) made ≡ map (record_entry (world_of context unnoted)) made
   all_same context noted [] = refl
   all_same context noted (one ∷ others) = λ i. same_entry context noted one i ∷ all_same context noted others i
 
-  all_calls : (world : World S F L) (made : List Record) → filter is_call (map (entry_of world) made) ≡ map (entry_of world) made
+  all_calls : (world : World S F L) (made : List Record) → filter is_call (map (record_entry world) made) ≡ map (record_entry world) made
   all_calls world [] = refl
-  all_calls world (one ∷ others) = rw (record_silent world one) (ap (λ rest. entry_of world one ∷ rest) (all_calls world others))
+  all_calls world (one ∷ others) = rw (record_silent world one) (ap (λ rest. record_entry world one ∷ rest) (all_calls world others))
 
-  no_outcomes : (world : World S F L) (made : List Record) → filter is_outcome (map (entry_of world) made) ≡ []
+  no_outcomes : (world : World S F L) (made : List Record) → filter is_outcome (map (record_entry world) made) ≡ []
   no_outcomes world [] = refl
   no_outcomes world (one ∷ others) = rw (record_silent world one) (no_outcomes world others)
 
@@ -122,13 +123,13 @@ module _ {S F L : Type 0} (ss : S → Call → S → Type 0) (fs : F → Call �
   unfolding Runs
   run_of_none world = refl
 
-  entries_stay : (from to : World S F L) (made wanted : List Record) → Runs ss fs ls from made to → map (entry_of to) wanted ≡ map (entry_of from) wanted
+  entries_stay : (from to : World S F L) (made wanted : List Record) → Runs ss fs ls from made to → map (record_entry to) wanted ≡ map (record_entry from) wanted
   unfolding Runs
-  entries_stay from to [] wanted ran = ap (λ world. map (entry_of world) wanted) ran
+  entries_stay from to [] wanted ran = ap (λ world. map (record_entry world) wanted) ran
   entries_stay from to (made ∷ others) wanted ran =
       entries_stay ran.0 to others wanted ran.2 ∙ same_entries ss fs ls from made ran.0 ran.1 wanted
 
-  entry_stays : (from to : World S F L) (made : List Record) (wanted : Record) → Runs ss fs ls from made to → entry_of to wanted ≡ entry_of from wanted
+  entry_stays : (from to : World S F L) (made : List Record) (wanted : Record) → Runs ss fs ls from made to → record_entry to wanted ≡ record_entry from wanted
   entry_stays from to made wanted ran = first (entries_stay from to made (wanted ∷ []) ran)
     where
       first : {X : Type 0} {one other : X} → ◌≡◌ {A = List X} (one ∷ []) (other ∷ []) → one ≡ other
@@ -137,10 +138,10 @@ module _ {S F L : Type 0} (ss : S → Call → S → Type 0) (fs : F → Call �
   -- what a journal that stayed whole has gained
   gained : (context after : ContextState S F L) (noted noted' : JournalState) (made : List Record)
       → Runs ss fs ls (world_of context noted) made (world_of after noted')
-      → noted'.whole ≡ true → noted'.entries ≡ noted.entries ++ map (entry_of (world_of context unnoted)) made
+      → noted'.whole ≡ true → noted'.entries ≡ noted.entries ++ map (record_entry (world_of context unnoted)) made
   gained context after noted noted' made runs is_whole =
       let gains = law (world_of context noted) (world_of after noted') made runs in
-      let all : map (entry_of (world_of context noted)) made ≡ gains.front =
+      let all : map (record_entry (world_of context noted)) made ≡ gains.front =
       gains.are ∙ ap (λ rest. gains.front ++ rest) (gains.all is_whole).1 ∙ append-nil gains.front in
       gains.gained ∙ ap (λ front. noted.entries ++ front) (sym all ∙ all_same context noted made)
 
@@ -148,7 +149,7 @@ module _ {S F L : Type 0} (ss : S → Call → S → Type 0) (fs : F → Call �
   world_in context = world_of context unnoted
 
   abbrev Trip : ContextState S F L → List Entry → ContextState S F L → Type 0
-  Trip = travelling.Trip (Runs ss fs ls) entry_of run_of_none (runs_join ss fs ls) entry_stays world_in
+  Trip = travelling.Trip (Runs ss fs ls) record_entry run_of_none (runs_join ss fs ls) entry_stays world_in
 
   module _ {Words : Type 0} (draws : Words → ℕ × ℕ → Words → Type 0) where
     abbrev Handles : Handling (ContextState S F L) → Type 0
@@ -156,7 +157,7 @@ module _ {S F L : Type 0} (ss : S → Call → S → Type 0) (fs : F → Call �
 
     noted_by : (handling : Handling (ContextState S F L)) (handles : Handles handling)
         → handling.entries
-        ≡ (admitted handling.context (asked_of handling.context handling.request)).entry ∷ map (entry_of (world_of handling.context unnoted)) handles.is_answered.made
+        ≡ (admitted handling.context (asked_of handling.context handling.request)).entry ∷ map (record_entry (world_of handling.context unnoted)) handles.is_answered.made
     noted_by handling handles =
         gained handling.context handling.after
         (with_entry (admitted handling.context (asked_of handling.context handling.request)).entry new_journal) (whole handling.entries)
@@ -171,7 +172,7 @@ module _ {S F L : Type 0} (ss : S → Call → S → Type 0) (fs : F → Call �
           made = made;
           noted =
               ap (filter is_call) (noted_by handling handles)
-              ∙ calls_behind (admitted context asked).entry (map (entry_of (world_of context unnoted)) made)
+              ∙ calls_behind (admitted context asked).entry (map (record_entry (world_of context unnoted)) made)
               (outcome_told context.content.context_path asked.canon.path (outcome_in context.content context.policy context.users asked context.store))
               ∙ all_calls (world_of context unnoted) made;
           runs = runs_unnoted ss fs ls (world_of context (with_entry (admitted context asked).entry new_journal)) made (world_of handling.after (whole handling.entries))
@@ -211,7 +212,7 @@ module _ {S F L : Type 0} (ss : S → Call → S → Type 0) (fs : F → Call �
           let site = site_of context.content in
           record {
             made = handles.is_answered.made;
-            noted = noted_by handling handles ∙ ap (λ first. first ∷ map (entry_of (world_of context unnoted)) handles.is_answered.made) is;
+            noted = noted_by handling handles ∙ ap (λ first. first ∷ map (record_entry (world_of context unnoted)) handles.is_answered.made) is;
             exchange = handles.exchange;
             unchecked = λ constraints.
                 then_so (Tells site (admitted context asked).event) (Answers site asked.canon (admitted context asked).answer) (dispatches site) (so site)
@@ -249,7 +250,7 @@ module _ {S F L : Type 0} (ss : S → Call → S → Type 0) (fs : F → Call �
           ]
 
       abbrev Went : Option (ContextState S F L) → List Record → Option (ContextState S F L) → Type 0
-      Went = travelling.Went (Runs ss fs ls) entry_of run_of_none (runs_join ss fs ls) entry_stays world_in
+      Went = travelling.Went (Runs ss fs ls) record_entry run_of_none (runs_join ss fs ls) entry_stays world_in
 
       is_moved : (before after : Option (ContextState S F L)) (calls : List Record) → Went before calls after → IsMovedBy ss fs ls before calls after
       is_moved None after calls went = went
@@ -257,7 +258,7 @@ module _ {S F L : Type 0} (ss : S → Call → S → Type 0) (fs : F → Call �
 
       pub every_run_is_lawful : EveryRunIsLawful ss fs ls draws
       every_run_is_lawful before after happenings answers run runs =
-          let goes = travelling.run_goes (Runs ss fs ls) entry_of run_of_none (runs_join ss fs ls) entry_stays world_in (theory ss fs ls draws) IsLawful
+          let goes = travelling.run_goes (Runs ss fs ls) record_entry run_of_none (runs_join ss fs ls) entry_stays world_in (theory ss fs ls draws) IsLawful
           (λ entry named. named) handled handles_trip expires_trip edits_trip before after happenings answers run runs in
           record {
             messages = goes.lawful;

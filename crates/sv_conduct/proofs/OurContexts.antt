@@ -9,7 +9,7 @@ use Rattle.sv_component.specs.Call.{Call}
 use Rattle.sv_component.specs.Laws.{RunsAreJournalled}
 use Rattle.sv_context.specs.Conduct.{asked_of}
 use Rattle.sv_context.specs.Deployment.{deployed, no_sessions}
-use Rattle.sv_context.specs.Handled.{Answers, admitted, exchange_begun, state_in}
+use Rattle.sv_context.specs.Handled.{GivesResponse, admitted, exchange_begun, state_in}
 use Rattle.sv_context.specs.Laws.{ExpiryLeavesNone, ExpiryOfNoneIsNothing}
 use Rattle.sv_context.specs.State.{ContextState, world_of}
 use Rattle.sv_context.specs.declared.deployment.Deployment.{Deployment}
@@ -34,7 +34,7 @@ use Rattle.sv_tree.specs.Site.{Site}
 use Rattle.sv_wire.specs.declared.response.Response.{Response}
 use Rattle.sv_conduct.proofs.Admitting.{IsLoginAs, left_by_admission, left_holds, left_orderly}
 use Rattle.sv_conduct.proofs.Answers.{answered_moves}
-use Rattle.sv_conduct.proofs.Outcomes.{growth_is_silent, run_is_silent, same_entry}
+use Rattle.sv_conduct.proofs.Outcomes.{growth_is_silent, run_is_silent}
 use Rattle.sv_conduct.specs.Order.{SessionsStayInOrder}
 use Rattle.sv_context.specs.Theory.{theory}
 
@@ -64,7 +64,7 @@ ordered_through law moment (session ∷ ended) before after expires orderly =
 module _ {S F L : Type 0} (ss : S → Call → S → Type 0) (fs : F → Call → F → Type 0) (ls : L → Call → L → Type 0) where
   -- behind its admission the answer to a message moves the sessions as components may
   handled_moves : Moves → (asked : Asked) (context after : ContextState S F L) (response : Response) (noted_after : JournalState)
-      (handled : Answers ss fs ls asked context new_journal response after noted_after) → IsMoved (exchange_begun context asked) handled.exchange
+      (handled : GivesResponse ss fs ls asked context new_journal response after noted_after) → IsMoved (exchange_begun context asked) handled.exchange
   handled_moves moves asked context after response noted_after handled =
       answered_moves (site_of context.content) (moves.dispatches (site_of context.content)) moves.steps moves.join
       asked.canon (admitted context asked).event (admitted context asked).answer
@@ -116,8 +116,7 @@ module _ {S F L : Type 0} (ss : S → Call → S → Type 0) (fs : F → Call �
           handles.is_answered.made handles.is_answered.runs refl in
           record {
             behind = gains.behind;
-            are = gains.are ∙ ap (λ first. first ∷ gains.behind)
-                (same_entry handling.context.content.context_path asked.canon.path (outcome_in handling.context.content handling.context.policy handling.context.users asked handling.context.store));
+            are = gains.are;
             no_other = gains.no_outcome;
           };
       ends_silently = λ context after moment told expires.

@@ -1,29 +1,15 @@
 -- The entry of a message's outcome, and those behind it.
 use Rattle.std.proofs.Common.{◌≡◌, ℕ, true, false, List, [], ◌∷◌, ◌++◌, map, refl, ap, ◌∙◌, subst, append-nil}
 use Rattle.std.specs.List.{filter}
-use Rattle.sv_admission.specs.Answer as admission
 use Rattle.sv_component.specs.Call.{Call, Destroyed, Entered, Heard, Inited, Left, Serviced}
 use Rattle.sv_component.specs.Laws.{RunsAreJournalled}
 use Rattle.sv_component.specs.Noted.{filter_entry, servlet_entry}
-use Rattle.sv_component.specs.Runs.{Grows, OfFilter, OfListener, OfServlet, Record, Runs, entry_of}
+use Rattle.sv_component.specs.Runs.{Grows, OfFilter, OfListener, OfServlet, Record, Runs, record_entry}
 use Rattle.sv_component.specs.World.{World, name_at}
 use Rattle.sv_journal.specs.Journal.{JournalState}
 use Rattle.sv_journal.specs.declared.entry.Entry.{Entry}
 use Rattle.sv_listeners.specs.Telling.{then_all}
-use Rattle.sv_outcome.specs.declared.outcome.Outcome.{Outcome}
-use Rattle.sv_outcome.specs.declared.outcome.Outcome.TheVariants as outcomes
-use Rattle.sv_run.specs.Lawful.{is_outcome, outcome_entry}
-
--- both crates say the same of an outcome
-pub same_entry : (context path : List ℕ) (outcome : Outcome) → admission.entry_of context path outcome ≡ outcome_entry context path outcome
-same_entry context path outcomes.Protected = refl
-same_entry context path (outcomes.LoggedIn number target) = refl
-same_entry context path outcomes.LoginFailed = refl
-same_entry context path outcomes.NoSession = refl
-same_entry context path outcomes.Entered = refl
-same_entry context path (outcomes.SentToLogin why) = refl
-same_entry context path (outcomes.NoLogin why) = refl
-same_entry context path (outcomes.Denied why) = refl
+use Rattle.sv_run.specs.Lawful.{is_outcome}
 
 servlet_silent : (context name : List ℕ) (call : Call) → is_outcome (servlet_entry context name call) ≡ false
 servlet_silent context name (Inited config answer) = refl
@@ -43,12 +29,12 @@ filter_silent context name Destroyed = refl
 
 module _ {S F L : Type 0} (world : World S F L) where
   -- what is called and what is heard is no outcome
-  pub record_silent : (made : Record) → is_outcome (entry_of world made) ≡ false
+  pub record_silent : (made : Record) → is_outcome (record_entry world made) ≡ false
   record_silent (OfServlet place call) = servlet_silent world.context (name_at world.servlets place) call
   record_silent (OfFilter place call) = filter_silent world.context (name_at world.filters place) call
   record_silent (OfListener place event) = refl
 
-  none_told : (made : List Record) → filter is_outcome (map (entry_of world) made) ≡ []
+  none_told : (made : List Record) → filter is_outcome (map (record_entry world) made) ≡ []
   none_told [] = refl
   none_told (first ∷ others) = rw (record_silent first) (none_told others)
 
@@ -63,7 +49,7 @@ module _ {S F L : Type 0} (ss : S → Call → S → Type 0) (fs : F → Call �
       → GainsSilently from.journal to.journal
   run_is_silent from to made runs whole =
       let gains = law from to made runs in
-      let all : map (entry_of from) made ≡ gains.front = gains.are ∙ ap (λ rest. gains.front ++ rest) (gains.all whole).1 ∙ append-nil gains.front in
+      let all : map (record_entry from) made ≡ gains.front = gains.are ∙ ap (λ rest. gains.front ++ rest) (gains.all whole).1 ∙ append-nil gains.front in
       record {
         behind = gains.front;
         are = gains.gained;

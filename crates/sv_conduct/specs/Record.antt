@@ -10,7 +10,7 @@ use Rattle.sv_admission.specs.declared.answer.Answer.{Answer as Reply}
 use Rattle.sv_admission.specs.declared.answer.Answer.TheVariants as replies
 use Rattle.sv_component.specs.Call.{Call}
 use Rattle.sv_component.specs.Laws.{ComponentsMoved}
-use Rattle.sv_component.specs.Runs.{Record, entry_of}
+use Rattle.sv_component.specs.Runs.{Record, record_entry}
 use Rattle.sv_constraints.specs.Verdict.{verdict}
 use Rattle.sv_constraints.specs.declared.owned_decision.OwnedDecision.{OwnedDecision}
 use Rattle.sv_constraints.specs.declared.owned_decision.OwnedDecision.TheVariants.{Open}
@@ -31,6 +31,7 @@ use Rattle.sv_login.specs.declared.outcome.LoginOutcome.{LoginOutcome}
 use Rattle.sv_login.specs.declared.outcome.LoginOutcome.TheVariants.{NotLogin}
 use Rattle.sv_mapping.specs.declared.kind.Kind.TheVariants as kinds
 use Rattle.sv_outcome.specs.Laws.{IsCase}
+use Rattle.sv_outcome.specs.OutcomeEntry.{outcome_entry}
 use Rattle.sv_outcome.specs.declared.outcome.Outcome.{Outcome}
 use Rattle.sv_outcome.specs.declared.outcome.Outcome.TheVariants as outcomes
 use Rattle.sv_policy.specs.Compiled.{Standing}
@@ -99,7 +100,7 @@ module _ {S F L : Type 0} (handling : Handling (ContextState S F L)) where
   -- would be under any constraints: within them nothing is decided again
   pub record IsDoneBy (entry : Entry) (dispatches : Site → Does (Unit {0})) : Type 0 where
     pub made : List Record
-    pub noted : handling.entries ≡ entry ∷ map (entry_of (world_of handling.context unnoted)) made
+    pub noted : handling.entries ≡ entry ∷ map (record_entry (world_of handling.context unnoted)) made
     pub exchange : exchanges.State
     pub unchecked : (constraints : Standing)
         → (Tells (site_of (under constraints handling.context).content) (admitted handling.context (asked_of handling.context handling.request)).event
@@ -119,7 +120,7 @@ module _ {S F L : Type 0} (handling : Handling (ContextState S F L)) where
     pub cause : Outcome
     pub because : IsBecause handling.context handling.request cause
     pub other : cause ≢ outcomes.Entered
-    pub done : IsDoneBy (admission.entry_of handling.context.content.context_path (path_in handling.context handling.request) cause)
+    pub done : IsDoneBy (outcome_entry handling.context.content.context_path (path_in handling.context handling.request) cause)
         (λ site. Otherwise site (admission.answer_to handling.context.content cause))
 
 -- a message to a context enters exactly where it may; one that the container answers itself is refused or hidden by a named cause
@@ -144,7 +145,7 @@ calls_of place (made ∷ others) = if made.0 == place then made.1 ∷ calls_of p
 
 -- the entry of a call, with the place of its context
 abbrev pub entry_at : {S F L : Type 0} → List (ContextState S F L) → ℕ × Record → Option Entry
-entry_at contexts made = option_map (λ context. entry_of (world_of context unnoted) made.1) (slice_get contexts made.0)
+entry_at contexts made = option_map (λ context. record_entry (world_of context unnoted) made.1) (slice_get contexts made.0)
 
 module _ {S F L : Type 0} (servlet_step : S → Call → S → Type 0) (filter_step : F → Call → F → Type 0) (listener_step : L → Call → L → Type 0) where
   -- each component of a context is moved by exactly its calls, in their order

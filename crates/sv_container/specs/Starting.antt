@@ -39,8 +39,8 @@ module _ {S F L : Type 0} (servlet_step : S → Call → S → Type 0) (filter_s
     pub journal : after ≡ before
 
   -- a start is refused before its first call, or by a context that does not start
-  abbrev pub Refuses : List (Deployment S F L) → JournalState → NewFault S F L → JournalState → Type 0
-  Refuses deployments before fault after =
+  abbrev pub RefusesDeployments : List (Deployment S F L) → JournalState → NewFault S F L → JournalState → Type 0
+  RefusesDeployments deployments before fault after =
       (Forbids fault.code (paths_of deployments) fault.context × DoesNothing deployments before fault after)
       ⊎ (ArePermitted (paths_of deployments) × Fails deployments before fault after)
 
@@ -49,4 +49,4 @@ module _ {S F L : Type 0} (servlet_step : S → Call → S → Type 0) (filter_s
   Starts deployments words before (Ok container) after =
       (contexts : List (ContextState S F L)) × DeploysAll servlet_step filter_step listener_step deployments before contexts after
       × ArePermitted (paths_of deployments) × (state_of container ≡ opening contexts words)
-  Starts deployments words before (Err fault) after = Refuses deployments before fault after
+  Starts deployments words before (Err fault) after = RefusesDeployments deployments before fault after

@@ -17,7 +17,7 @@ use Rattle.sv_text.specs.declared.no_memory.NoMemory.{NoMemory}
 use Rattle.sv_wire.specs.declared.response.Response.{Response}
 use Rattle.sv_context.specs.Conduct.{IsMoved, asked_of, conduct, unnoted}
 use Rattle.sv_context.specs.Expiry.{Expires, ends_told}
-use Rattle.sv_context.specs.Handled.{Answers, CutShort, Handles, IsAnswered, admitted, exchange_begun, state_in}
+use Rattle.sv_context.specs.Handled.{GivesResponse, CutShort, HandlesMessage, IsAnswered, admitted, exchange_begun, state_in}
 use Rattle.sv_context.specs.State.{ContextState, world_of}
 use Rattle.sv_context.proofs.Retirings.{answered_retires, ends_heard, heard_retires}
 use Rattle.sv_context.specs.Retirement.{retires_none}
@@ -53,7 +53,7 @@ module _ {S F L : Type 0} (ss : S → Call → S → Type 0) (fs : F → Call �
   }
 
   pub handling_moves : (asked : Asked) (before after : ContextState S F L) (noted noted' : JournalState) (response : Option Response)
-      → Handles ss fs ls asked before noted response after noted' → IsMoved ss fs ls before after
+      → HandlesMessage ss fs ls asked before noted response after noted' → IsMoved ss fs ls before after
   handling_moves asked before after noted noted' (Some response) did =
       answered_moves asked before after noted noted' did.exchange (Some tt) did.is_answered
   handling_moves asked before after noted noted' None (inl did) = uncalled_moves before after did.stays
@@ -61,8 +61,8 @@ module _ {S F L : Type 0} (ss : S → Call → S → Type 0) (fs : F → Call �
 
   -- what an answer notes, and the same from a new journal on
   pub handling_notes : (asked : Asked) (before after : ContextState S F L) (noted noted' : JournalState) (response : Response)
-      → Answers ss fs ls asked before noted response after noted'
-      → (entries : List Entry) × Answers ss fs ls asked before new_journal response after (whole entries) × (noted' ≡ noting entries noted)
+      → GivesResponse ss fs ls asked before noted response after noted'
+      → (entries : List Entry) × GivesResponse ss fs ls asked before new_journal response after (whole entries) × (noted' ≡ noting entries noted)
   handling_notes asked before after noted noted' response did =
       let entry = (admitted before asked).entry in
       let notes : NotesSo ss fs ls (world_of before (with_entry entry noted)) did.is_answered.made (world_of after noted') =
@@ -136,14 +136,14 @@ module _ {S F L : Type 0} (ss : S → Call → S → Type 0) (fs : F → Call �
       )
 
   pub hosted_cuts : (request : Request) (before after : ContextState S F L) (noted noted' : JournalState) (result : Result Response NoMemory)
-      → Handles ss fs ls (asked_of before request) before noted (seen result) after noted'
+      → HandlesMessage ss fs ls (asked_of before request) before noted (seen result) after noted'
       → IfErr result (λ _. (conduct ss fs ls).CutsShort before request after)
   hosted_cuts request before after noted noted' (Ok response) did = tt
   hosted_cuts request before after noted noted' (Err refusal) did = cut_notes (asked_of before request) before after noted noted' did
 
   -- what a request brings
   pub hosted_handles : (request : Request) (before after : ContextState S F L) (noted noted' : JournalState) (result : Result Response NoMemory)
-      → Handles ss fs ls (asked_of before request) before noted (seen result) after noted'
+      → HandlesMessage ss fs ls (asked_of before request) before noted (seen result) after noted'
       → IfOk result (λ response. (entries : List Entry)
       × (conduct ss fs ls).Handles (record { context = before; request = request; entries = entries; response = response; after = after })
       × (noted' ≡ noting entries noted))

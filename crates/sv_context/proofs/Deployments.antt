@@ -8,7 +8,7 @@ use Rattle.sv_files.specs.declared.file.File.{File}
 use Rattle.sv_journal.specs.Journal.{JournalState}
 use Rattle.sv_lifecycle.specs.Calls.{stop_calls}
 use Rattle.sv_lifecycle.specs.Fit.{Fits}
-use Rattle.sv_lifecycle.specs.Starting.{Refuses}
+use Rattle.sv_lifecycle.specs.Starting.{RefusesStart}
 use Rattle.sv_lifecycle.specs.Standing as standing
 use Rattle.sv_lifecycle.specs.Standing.{LiveState, live_world}
 use Rattle.sv_lifecycle.specs.World.{world}
@@ -53,7 +53,7 @@ module _ {S F L : Type 0} (ss : S → Call → S → Type 0) (fs : F → Call �
 
   -- a deployment whose start began nothing
   undone : (deployment : Deployment S F L) (code : StartCode) (journal : JournalState)
-      → Refuses deployment.descriptor deployment.parts (record { order = []; begun = []; stopper = None; calls = [] }) code journal
+      → RefusesStart deployment.descriptor deployment.parts (record { order = []; begun = []; stopper = None; calls = [] }) code journal
       → Deploys ss fs ls deployment journal (Err (record { fault = code; deployment = deployment })) journal
   undone deployment code journal means = record {
     started = Err (record { code = code; parts = deployment.parts });

@@ -25,7 +25,7 @@ use Rattle.sv_wire.specs.declared.cookie_settings.CookieSettings.{CookieSettings
 use Rattle.sv_wire.specs.declared.message.Message.{Message}
 use Rattle.sv_wire.specs.declared.response.Response.{Response}
 use Rattle.sv_context.specs.Answered.{Answered}
-use Rattle.sv_context.specs.Handled.{Answers, CutShort, IsAnswered, admitted, exchange_begun, state_in}
+use Rattle.sv_context.specs.Handled.{GivesResponse, CutShort, IsAnswered, admitted, exchange_begun, state_in}
 use Rattle.sv_context.specs.Responding.{RespondsNoted}
 use Rattle.sv_context.specs.State.{AreComponentsOf, ContextState, context_of, world_of}
 use Rattle.sv_context.proofs.Expiries.{world_same}
@@ -131,7 +131,7 @@ module _ {S F L : Type 0} (ss : S → Call → S → Type 0) (fs : F → Call �
       pub answers_so : (response : Response)
           → RespondsNoted ss fs ls (site_of content) asked.canon admission.entry admission.event admission.answer live x noted (Some tt) live' x' noted'
           → noted'.whole ≡ true → response ≡ finished x' → store' ≡ x'.store
-          → Answers ss fs ls asked before noted response after noted'
+          → GivesResponse ss fs ls asked before noted response after noted'
       answers_so response (inl ended) is_whole response_is stored = let no = ended.0 in cc
       answers_so response (inr did) is_whole response_is stored = record {
         exchange = x';

@@ -2,7 +2,7 @@
 use Rattle.std.proofs.Common.{◌≡◌, ◌⊎◌, Bool, true, false, inl, inr, List, [], ◌∷◌, refl, sym, ap, ap₂, ◌∙◌, subst, append_assoc, append-nil}
 use Rattle.std.specs.Prelude.{cond}
 use Rattle.sv_component.specs.Call.{Call}
-use Rattle.sv_component.specs.Runs.{Moves, OfFilter, OfListener, OfServlet, Record, Runs, entry_of}
+use Rattle.sv_component.specs.Runs.{Moves, OfFilter, OfListener, OfServlet, Record, Runs, record_entry}
 use Rattle.sv_component.specs.World.{World}
 use Rattle.sv_journal.specs.Journal.{JournalState, Takes, broken, with_entry}
 use Rattle.sv_journal.specs.declared.entry.Entry.{Entry}
@@ -33,13 +33,13 @@ noting_more entry entries journal =
 
 module _ {S F L : Type 0} (ss : S → Call → S → Type 0) (fs : F → Call → F → Type 0) (ls : L → Call → L → Type 0) where
   -- the entry of a record does not depend on the journal
-  same_entry : (world : World S F L) (journal : JournalState) (made : Record) → entry_of (over journal world) made ≡ entry_of world made
+  same_entry : (world : World S F L) (journal : JournalState) (made : Record) → record_entry (over journal world) made ≡ record_entry world made
   same_entry world journal (OfServlet place call) = refl
   same_entry world journal (OfFilter place call) = refl
   same_entry world journal (OfListener place event) = refl
 
   moves_over : (before after : World S F L) (made : Record) (journal journal' : JournalState) → Moves ss fs ls before made after
-      → Takes journal (entry_of before made) journal' → Moves ss fs ls (over journal before) made (over journal' after)
+      → Takes journal (record_entry before made) journal' → Moves ss fs ls (over journal before) made (over journal' after)
   moves_over before after (OfServlet place call) journal journal' moves takes = record { component = moves.component; journal = takes; context = moves.context }
   moves_over before after (OfFilter place call) journal journal' moves takes = record { component = moves.component; journal = takes; context = moves.context }
   moves_over before after (OfListener place event) journal journal' moves takes = record { component = moves.component; journal = takes; context = moves.context }
@@ -65,7 +65,7 @@ module _ {S F L : Type 0} (ss : S → Call → S → Type 0) (fs : F → Call �
       → NotesSo middle others after → NotesSo before (made ∷ others) after
   unfolding Runs
   one_noted before middle after made others moves rest =
-      let entry = entry_of before made in
+      let entry = record_entry before made in
       record {
         entries = entry ∷ rest.entries;
         journal = λ is_whole.

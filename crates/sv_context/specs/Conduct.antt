@@ -40,10 +40,10 @@ module _ {S F L : Type 0} (servlet_step : S → Call → S → Type 0) (filter_s
     policy_of = λ context. context.policy;
     found = λ context request. found_of context.content context.policy context.users (asked_of context request) context.store;
     caller_sent = λ context request. user_sent context.users (post_in (asked_of context request));
-    Handles = λ handling. handled.Handles servlet_step filter_step listener_step
+    Handles = λ handling. handled.HandlesMessage servlet_step filter_step listener_step
         (asked_of handling.context handling.request) handling.context new_journal (Some handling.response) handling.after (effect.whole handling.entries);
     CutsShort = λ context request after. (entries : List Entry)
-        × handled.Handles servlet_step filter_step listener_step (asked_of context request) context new_journal None after (effect.whole entries);
+        × handled.HandlesMessage servlet_step filter_step listener_step (asked_of context request) context new_journal None after (effect.whole entries);
     Expires = λ context moment told after. expiry.Expires servlet_step filter_step listener_step moment context new_journal after (effect.whole told);
     Edits = λ before edit answer after. editing.Edits before edit answer after;
     Moves = IsMoved;

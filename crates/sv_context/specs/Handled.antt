@@ -64,6 +64,6 @@ module _ {S F L : Type 0} (servlet_step : S → Call → S → Type 0) (filter_s
       ⊎ ((exchange : exchanges.State) × IsAnswered asked before noted exchange None after noted_after)
 
   -- the message is answered, or there is no response since memory ended it
-  abbrev pub Handles : Asked → ContextState S F L → JournalState → Option Response → ContextState S F L → JournalState → Type 0
-  Handles asked before noted (Some response) after noted_after = Answers asked before noted response after noted_after
-  Handles asked before noted None after noted_after = CutShort asked before noted after noted_after
+  abbrev pub HandlesMessage : Asked → ContextState S F L → JournalState → Option Response → ContextState S F L → JournalState → Type 0
+  HandlesMessage asked before noted (Some response) after noted_after = GivesResponse asked before noted response after noted_after
+  HandlesMessage asked before noted None after noted_after = CutShort asked before noted after noted_after

@@ -14,7 +14,7 @@ ghost use Rattle.sv_realm.specs.declared.user.User.{User};
 ghost use Rattle.sv_session.specs.Store.{Store};
 ghost use Rattle.sv_site.specs.Site.{site_of};
 ghost use Rattle.sv_text.specs.Gives.{GivesAnswer};
-ghost use Rattle.sv_context.specs.Handled.{Handles, admitted, within};
+ghost use Rattle.sv_context.specs.Handled.{HandlesMessage, admitted, within};
 ghost use Rattle.sv_context.specs.Responding.{RespondsNoted};
 ghost use Rattle.sv_context.specs.State.{AreComponentsOf, context_of};
 
@@ -54,7 +54,7 @@ impl<S: Servlet, F: Filter, L: Listener> Context<S, F, L> {
         journal: &mut Journal,
     ) -> Result<Response, NoMemory>
         requires { IsTrue (is_at_or_below self.old.content.context_path canon.now.path) }
-        ensures handles { Handles S.servlet_step F.filter_step L.listener_step (asked_by message.now (within self.old canon.now) moment words)
+        ensures handles { HandlesMessage S.servlet_step F.filter_step L.listener_step (asked_by message.now (within self.old canon.now) moment words)
             self.old journal.old (seen result) self.new journal.new }
         ensures status { IfOk result (λ response. IsStatusCode response.status) }
     {
@@ -90,7 +90,7 @@ fn handle_in<S: Servlet, F: Filter, L: Listener>(
 ) -> Result<Response, NoMemory>
     requires below { IsTrue (is_at_or_below site.old.context_path canon.now.path) }
     requires components { AreComponentsOf site.old live.old }
-    ensures handles { Handles S.servlet_step F.filter_step L.listener_step
+    ensures handles { HandlesMessage S.servlet_step F.filter_step L.listener_step
         (asked_by message.now (within (context_of site.old policy.now users.now live.old sessions.old) canon.now) moment words)
         (context_of site.old policy.now users.now live.old sessions.old) journal.old (seen result)
         (context_of site.old policy.now users.now live.new sessions.new) journal.new }
@@ -151,7 +151,7 @@ fn answer<S: Servlet, F: Filter, L: Listener>(
     ensures handles { (policy : Standing) (users : List User) (store : Store)
         → admission ≡ admitted (context_of site.old policy users live.old store) (asked_by message.now canon.now moment words)
         → sessions.old ≡ (settled_in site.old policy users (asked_by message.now canon.now moment words) store).store
-        → Handles S.servlet_step F.filter_step L.listener_step (asked_by message.now canon.now moment words)
+        → HandlesMessage S.servlet_step F.filter_step L.listener_step (asked_by message.now canon.now moment words)
         (context_of site.old policy users live.old store) journal.old (seen result) (context_of site.old policy users live.new sessions.new) journal.new }
     ensures components { AreComponentsOf site.old live.new }
     ensures status { IfOk result (λ response. IsStatusCode response.status) }

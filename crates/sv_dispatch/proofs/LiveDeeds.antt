@@ -1,5 +1,5 @@
 -- What stays of a machine behind a dispatch.
-use Rattle.std.proofs.Common.{◌≡◌, true, false, [], None, Option, Some, Result, Ok, Err, inl, inr, refl, ap, ◌∙◌, suc, ℕ}
+use Rattle.std.proofs.Common.{◌≡◌, true, false, [], None, Option, Some, Result, Ok, Err, inr, refl, ap, ◌∙◌, suc, ℕ}
 use Rattle.std.specs.Prelude.{OnOk}
 use Rattle.sv_dispatch.specs.Did.{Frame, seen, staying}
 use Rattle.sv_mapping.specs.declared.kind.Kind.{Kind}

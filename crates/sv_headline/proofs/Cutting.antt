@@ -18,7 +18,7 @@ use Rattle.sv_script_run.specs.Laws as runs
 use Rattle.sv_script_run.specs.Whole.{PrintsOf, RunsWhole}
 use Rattle.sv_server.specs.RunFault.{ended_by}
 use Rattle.sv_server.specs.Running.{StepsOf, StopsOf, run_of}
-use Rattle.sv_server.specs.Script.{AreFresh, Follows, Refuses, draws, refused_by}
+use Rattle.sv_server.specs.Script.{AreFresh, Follows, EndsUnstarted, draws, refused_by}
 use Rattle.sv_server.specs.declared.run_fault.RunFault.TheVariants.{NoMemory}
 use Rattle.sv_streams.specs.Calls.{Making}
 use Rattle.sv_words.specs.declared.counted_words.CountedWords.{CountedWords}
@@ -40,7 +40,7 @@ module _ {O : Type 0} (takes : Making O) (context : List ℕ) (started : Journal
   unprinted its_code (Err replays.Output) prints same = absurd (cc)
   unprinted its_code (Err replays.NoMemory) prints same = prints
 
-  unwritten : (its_code : NewCode) → Refuses takes its_code context started output (Err NoMemory) output_after → output_after ≡ output
+  unwritten : (its_code : NewCode) → EndsUnstarted takes its_code context started output (Err NoMemory) output_after → output_after ≡ output
   unwritten code.NoMemory refused = refused.1
   unwritten code.DuplicateContext refused = unprinted code.DuplicateContext refused.0 refused.1 refused.2
   unwritten code.TooManyContexts refused = unprinted code.TooManyContexts refused.0 refused.1 refused.2

@@ -19,7 +19,7 @@ use Rattle.sv_script_run.specs.Laws as runs
 use Rattle.sv_script_run.specs.Whole.{PrintsOf}
 use Rattle.sv_server.specs.RunFault.{ended_by}
 use Rattle.sv_server.specs.Running.{StepsOf, StopsOf, run_of}
-use Rattle.sv_server.specs.Script.{AreFresh, Follows, PrintsRefused, Refuses, draws, refused_by}
+use Rattle.sv_server.specs.Script.{AreFresh, Follows, PrintsRefused, EndsUnstarted, draws, refused_by}
 use Rattle.sv_server.specs.declared.run_fault.RunFault.{RunFault}
 use Rattle.sv_streams.specs.Calls.{Making}
 use Rattle.sv_words.specs.declared.counted_words.CountedWords.{CountedWords}
@@ -44,7 +44,7 @@ module _ {O : Type 0} (takes : Making O) (context : List ℕ) (started : Journal
       → IsWritten result → ⊥
   refused_unwritten its_code result refused written = printed_unwritten its_code refused.0 refused.1 (subst IsWritten refused.2 written)
 
-  unwritten : (its_code : NewCode) (result : Result (Unit {0}) RunFault) → Refuses takes its_code context started output result output_after
+  unwritten : (its_code : NewCode) (result : Result (Unit {0}) RunFault) → EndsUnstarted takes its_code context started output result output_after
       → IsWritten result → ⊥
   unwritten code.NoMemory result refused written = subst IsWritten refused.0 written
   unwritten code.DuplicateContext result refused written = refused_unwritten code.DuplicateContext result refused written

@@ -9,7 +9,7 @@ use Rattle.sv_headline.specs.Headline.{PrintsALawfulRun}
 use Rattle.sv_journal.specs.Journal.{JournalState, new_journal}
 use Rattle.sv_replay.specs.Asked.{reactions_text}
 use Rattle.sv_script.specs.Printed.{shutdown_text, start_text}
-use Rattle.sv_script_run.specs.Laws.{Begins, IsCut, IsLawfulRun}
+use Rattle.sv_script_run.specs.Laws.{Begins, IsCut, PlaysALawfulRun}
 use Rattle.sv_server.specs.Running.{StepsOf, StopsOf, run_of}
 use Rattle.sv_server.specs.Script.{AreFresh, RunsScript, draws}
 use Rattle.sv_server.specs.declared.run_fault.RunFault.{RunFault}
@@ -29,7 +29,7 @@ module _ {S F L I O : Type 0} (servlet_step : S → Call → S → Type 0) (filt
     pub starts : Starts servlet_step filter_step listener_step deployments words new_journal (Ok container) started
     pub cut : IsCut (StepsOf servlet_step filter_step listener_step draws) (StopsOf servlet_step filter_step listener_step) gives takes
         started (record { container = container }) script output script_after output_after
-    pub run : IsLawfulRun (StepsOf servlet_step filter_step listener_step draws) (theory servlet_step filter_step listener_step draws)
+    pub run : PlaysALawfulRun (StepsOf servlet_step filter_step listener_step draws) (theory servlet_step filter_step listener_step draws)
         run_of (record { container = container }) cut.played
 
   -- a run of a script that answers want of memory has written nothing, or that

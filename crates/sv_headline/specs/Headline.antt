@@ -7,7 +7,7 @@ use Rattle.sv_context.specs.Theory.{theory}
 use Rattle.sv_context.specs.declared.deployment.Deployment.{Deployment}
 use Rattle.sv_journal.specs.Journal.{JournalState, new_journal}
 use Rattle.sv_replay.specs.declared.fault.ReplayFault.{ReplayFault}
-use Rattle.sv_script_run.specs.Laws.{IsLawfulRun, IsOneText}
+use Rattle.sv_script_run.specs.Laws.{PlaysALawfulRun, IsOneText}
 use Rattle.sv_server.specs.RunFault.{ended_by}
 use Rattle.sv_server.specs.Running.{StepsOf, StopsOf, run_of}
 use Rattle.sv_server.specs.Script.{AreFresh, RunsScript, draws}
@@ -40,7 +40,7 @@ module _ {S F L I O : Type 0} (servlet_step : S → Call → S → Type 0) (filt
     pub result_is : result ≡ ended_by ended
     pub text : IsOneText (StepsOf servlet_step filter_step listener_step draws) (StopsOf servlet_step filter_step listener_step) gives takes
         started (record { container = container }) script output ended script_after output_after
-    pub run : IsLawfulRun (StepsOf servlet_step filter_step listener_step draws) (theory servlet_step filter_step listener_step draws)
+    pub run : PlaysALawfulRun (StepsOf servlet_step filter_step listener_step draws) (theory servlet_step filter_step listener_step draws)
         run_of (record { container = container }) text.played
 
   abbrev pub WhatAScriptPrintsIsLawful : Type 0

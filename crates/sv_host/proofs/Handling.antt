@@ -26,8 +26,8 @@ there_at (first ∷ items) zero item within is = ap Some (sym is)
 there_at (first ∷ items) (suc place) item within is = there_at items place item (omega (arith, within)) is
 
 -- a message is answered so, and that is brought
-abbrev pub Answers : {C W : Type 0} → Theory C W → ℕ → Destination → Message → ℕ × ℕ → List C → List C → Reaction → Reaction → Type 0
-Answers {C} theory moment where_to message words before after start end =
+abbrev pub AnswersMessage : {C W : Type 0} → Theory C W → ℕ → Destination → Message → ℕ × ℕ → List C → List C → Reaction → Reaction → Type 0
+AnswersMessage {C} theory moment where_to message words before after start end =
     (effect : Effect C) × Responds theory moment where_to message words before effect after × (end ≡ then_brings start effect)
 
 module _ {C W : Type 0} (theory : Theory C W) (moment : ℕ) (message : Message) (words : ℕ × ℕ) (before : List C) (start : Reaction) where
@@ -43,7 +43,7 @@ module _ {C W : Type 0} (theory : Theory C W) (moment : ℕ) (message : Message)
       → middle ≡ record start { journal = noting entries start.journal }
       → IsAnswerTo message moment response text
       → end ≡ record middle { sends = middle.sends ++ text; closes = middle.closes || closes_behind message response }
-      → Answers theory moment (Within place canon) message words before (slice_set before place new) start end
+      → AnswersMessage theory moment (Within place canon) message words before (slice_set before place new) start end
   handles_at place canon old new response middle end entries text within is handles notes answers sent =
       let handling : Handling C = record {
         context = old;
@@ -77,7 +77,7 @@ module _ {C W : Type 0} (theory : Theory C W) (moment : ℕ) (message : Message)
       → middle ≡ record start { journal = noting entries start.journal }
       → IfOk result (λ _. (text : List ℕ) × IsAnswerTo message moment response text
       × (end ≡ record middle { sends = middle.sends ++ text; closes = middle.closes || closes_behind message response }))
-      → IfOk result (λ _. Answers theory moment (Within place canon) message words before (slice_set before place new) start end)
+      → IfOk result (λ _. AnswersMessage theory moment (Within place canon) message words before (slice_set before place new) start end)
   sent (Err fault) place canon old new response middle end entries within is handles notes sends = tt
   sent (Ok done) place canon old new response middle end entries within is handles notes sends =
       handles_at place canon old new response middle end entries sends.0 within is handles notes sends.1 sends.2
@@ -85,7 +85,7 @@ module _ {C W : Type 0} (theory : Theory C W) (moment : ℕ) (message : Message)
   pub answers_itself : {T E : Type 0} (result : Result T E) (entry : Entry) (given meant : Response) (end : Reaction) → given ≡ meant
       → IfOk result (λ _. (text : List ℕ) × IsAnswerTo message moment given text
       × (end ≡ then_brings start (answered {Context = C} entry text (closes_behind message given))))
-      → IfOk result (λ _. Answers theory moment (Itself entry meant) message words before before start end)
+      → IfOk result (λ _. AnswersMessage theory moment (Itself entry meant) message words before before start end)
   answers_itself (Err fault) entry given meant end same sends = tt
   answers_itself (Ok done) entry given meant end same sends = (
     answered entry sends.0 (closes_behind message meant),
@@ -103,13 +103,13 @@ module _ {C W : Type 0} (theory : Theory C W) (moment : ℕ) (message : Message)
       × (end ≡ then_brings start (answered {Context = C} (Refused (causes.Path f)) text (closes_behind message given))))) (sym is) sends
 
   pub sent_to : {T E : Type 0} (result : Result T E) (meant given : Destination) (after : List C) (end : Reaction) → meant ≡ given
-      → IfOk result (λ _. Answers theory moment given message words before after start end)
-      → IfOk result (λ _. Answers theory moment meant message words before after start end)
+      → IfOk result (λ _. AnswersMessage theory moment given message words before after start end)
+      → IfOk result (λ _. AnswersMessage theory moment meant message words before after start end)
   sent_to result meant given after end same answers =
-      subst (λ d. IfOk result (λ _. Answers theory moment d message words before after start end)) (sym same) answers
+      subst (λ d. IfOk result (λ _. AnswersMessage theory moment d message words before after start end)) (sym same) answers
 
   pub draws : {T E : Type 0} (result : Result T E) (source left : W) (after : List C) (end : Reaction) → theory.Draws source words left
-      → IfOk result (λ _. Answers theory moment (destination theory before message.target) message words before after start end)
+      → IfOk result (λ _. AnswersMessage theory moment (destination theory before message.target) message words before after start end)
       → IfOk result (λ _. (effect : Effect C)
       × TakesMessage theory moment message (world_of before source) effect (world_of after left) × (end ≡ then_brings start effect))
   draws (Err fault) source left after end drawn answers = tt

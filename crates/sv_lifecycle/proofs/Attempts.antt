@@ -24,7 +24,7 @@ use Rattle.sv_lifecycle.specs.Begins.{Begins}
 use Rattle.sv_lifecycle.specs.Calls.{Answered, inited, initialised, is_ready, lets_go_on, places_of, start_calls, stop_calls, undone_calls}
 use Rattle.sv_lifecycle.specs.Fit.{Fits}
 use Rattle.sv_lifecycle.specs.Plan.{IsPlan}
-use Rattle.sv_lifecycle.specs.Starting.{Attempt, GoesInOrder, IsUndone, Refuses, Starts, code_of, is_no_memory}
+use Rattle.sv_lifecycle.specs.Starting.{Attempt, GoesInOrder, IsUndone, RefusesStart, Starts, code_of, is_no_memory}
 use Rattle.sv_lifecycle.specs.World.{HasSameCounts, IsPlaceIn, world}
 use Rattle.sv_lifecycle.specs.declared.begin.Begun.{Begun}
 use Rattle.sv_lifecycle.specs.declared.order.Place.{Place}
@@ -80,7 +80,7 @@ none_of f (Some a) none = absurd (cc)
 module _ {S F L : Type 0} (ss : S → Call → S → Type 0) (fs : F → Call → F → Type 0) (ls : L → Call → L → Type 0) where
   -- nothing was done
   pub did_nothing : (its_context : List ℕ) (app : WebApp) (parts : Parts S F L) (noted : JournalState) (why : StartCode)
-      → Refuses app parts (record { order = []; begun = []; stopper = None; calls = [] }) why noted
+      → RefusesStart app parts (record { order = []; begun = []; stopper = None; calls = [] }) why noted
       → Starts ss fs ls its_context app parts noted (Err (record { code = why; parts = parts })) noted
   did_nothing its_context app parts noted why refuses = record {
     attempt = record { order = []; begun = []; stopper = None; calls = [] };
@@ -164,7 +164,7 @@ stays_broken before false broken was = refl
 
 -- why an undone start is refused
 module _ {S F L : Type 0} (app : WebApp) (parts : Parts S F L) (attempt : Attempt) (after : JournalState) (fits : Fits app parts) (undone : IsUndone app attempt) where
-  lacked : (whole : Bool) → after.whole ≡ whole → (answered : Answered) → attempt.stopper ≡ Some answered → (answer : Init) → answered.answer ≡ answer → Refuses app parts attempt (code_of (Some answer) whole) after
+  lacked : (whole : Bool) → after.whole ≡ whole → (answered : Answered) → attempt.stopper ≡ Some answered → (answer : Init) → answered.answer ≡ answer → RefusesStart app parts attempt (code_of (Some answer) whole) after
   lacked whole is answered stopper inits.NoMemory answers = (fits, inr (undone, inr (answered, stopper, ap is_no_memory answers)))
   lacked true is answered stopper inits.Ready answers = (fits, undone, (answered, stopper, ap is_no_memory answers), is)
   lacked true is answered stopper inits.Unavailable answers = (fits, undone, (answered, stopper, ap is_no_memory answers), is)
@@ -174,7 +174,7 @@ module _ {S F L : Type 0} (app : WebApp) (parts : Parts S F L) (attempt : Attemp
   lacked false is answered stopper inits.Failed answers = (fits, inr (undone, inl is))
 
   refused : (stopper : Option Answered) → attempt.stopper ≡ stopper → (whole : Bool) → after.whole ≡ whole → (stopper ≡ None → whole ≡ false)
-      → Refuses app parts attempt (code_of (option_map (λ answered. answered.answer) stopper) whole) after
+      → RefusesStart app parts attempt (code_of (option_map (λ answered. answered.answer) stopper) whole) after
   refused None found true is broken = absurd (cc (broken refl))
   refused None found false is broken = (fits, inr (undone, inl is))
   refused (Some answered) found whole is broken = lacked whole is answered found answered.answer refl
@@ -212,7 +212,7 @@ module _ {S F L : Type 0} (ss : S → Call → S → Type 0) (fs : F → Call �
             (begin_calls ss fs ls app parts told_parts plan noted told_noted how_far after plan_after noted_after fits tells begins)
             (subst (λ n. Grows ss fs ls (world plan.context after noted_after) (then_all (stop_calls n (initialised all) [])) (world plan.context ended noted_ended)) (count ∙ fits.listeners)
             (subst (λ xs. Grows ss fs ls (world plan.context after noted_after) (then_all (stop_calls (length after.listeners.items) xs [])) (world plan.context ended noted_ended)) places ends));
-        means = subst (λ c. Refuses app parts its_attempt c noted_ended) (sym code)
+        means = subst (λ c. RefusesStart app parts its_attempt c noted_ended) (sym code)
             (refused app parts its_attempt noted_ended fits is_undone begins.stopper refl noted_ended.whole refl stays);
       }
 

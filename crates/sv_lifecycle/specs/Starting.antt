@@ -81,16 +81,16 @@ abbrev pub InitHasFailed : Attempt → Type 0
 InitHasFailed attempt = (answered : Answered) × (attempt.stopper ≡ Some answered) × (is_no_memory answered.answer ≡ false)
 
 -- what a fault says: a mismatch comes first, and want of memory before a failed init
-abbrev pub Refuses : {S F L : Type 0} → WebApp → Parts S F L → Attempt → StartCode → JournalState → Type 0
-Refuses app parts attempt PartsMismatch after = (Fits app parts → ⊥) × DidNothing attempt
-Refuses app parts attempt InitFailed after = Fits app parts × IsUndone app attempt × InitHasFailed attempt × (after.whole ≡ true)
-Refuses app parts attempt NoMemory after =
+abbrev pub RefusesStart : {S F L : Type 0} → WebApp → Parts S F L → Attempt → StartCode → JournalState → Type 0
+RefusesStart app parts attempt PartsMismatch after = (Fits app parts → ⊥) × DidNothing attempt
+RefusesStart app parts attempt InitFailed after = Fits app parts × IsUndone app attempt × InitHasFailed attempt × (after.whole ≡ true)
+RefusesStart app parts attempt NoMemory after =
     Fits app parts × (DidNothing attempt ⊎ (IsUndone app attempt × ((after.whole ≡ false) ⊎ LackedMemory attempt)))
 
 -- what the result says of the start
 abbrev pub Means : {S F L : Type 0} → List ℕ → WebApp → Parts S F L → Attempt → Result (LiveState S F L) (StartFault S F L) → JournalState → Type 0
 Means context app parts attempt (Ok live) after = Fits app parts × Stands context app attempt live after
-Means context app parts attempt (Err fault) after = Refuses app parts attempt fault.code after
+Means context app parts attempt (Err fault) after = RefusesStart app parts attempt fault.code after
 
 -- where the components are behind the start
 abbrev pub parts_in : {S F L : Type 0} → Result (LiveState S F L) (StartFault S F L) → Parts S F L

@@ -1,7 +1,7 @@
 //! The session of a login.
 
 ghost use Rattle.std.specs.Prelude.{◌≡◌, [], MatchResult};
-ghost use Rattle.sv_session.specs.Calls.{Refuses};
+ghost use Rattle.sv_session.specs.Calls.{RefusesCall};
 ghost use Rattle.sv_login.specs.Session.{living, session_faults, session_number, with_session};
 
 use sv_session::{SessionFault, Sessions};
@@ -18,7 +18,7 @@ pub fn renewed(
 ) -> Result<u64, SessionFault>
     ensures { MatchResult result
         (λ number. (session_faults held sessions.old ≡ []) × (number ≡ session_number held sessions.old) × (sessions.new ≡ with_session held words now sessions.old))
-        (λ fault. Refuses (session_faults held sessions.old) fault sessions.old sessions.new) }
+        (λ fault. RefusesCall (session_faults held sessions.old) fault sessions.old sessions.new) }
 {
     let Some(number) = living(sessions, held) else {
         return sessions.open(words, now);

@@ -22,9 +22,9 @@ abbrev pub entry_in : BTreeMap (String Global) (Box Merged Global) → List ℕ 
 entry_in methods method = option_map (λ entry. entry.value) (get_by_text methods method)
 
 -- the entry of the method, or the rule for the rest
-abbrev pub entry_of : Entries → List ℕ → Merged
-entry_of entries method = unwrap_or (entry_in entries.methods method) entries.rest
+abbrev pub entry_for : Entries → List ℕ → Merged
+entry_for entries method = unwrap_or (entry_in entries.methods method) entries.rest
 
 -- the entry of every method is what the constraints that cover it at the pattern come to
 abbrev pub AreEntries : Rules → List Constraint → List ℕ → Entries → Type 0
-AreEntries rules constraints pattern entries = (method : List ℕ) → IsMerged rules (filter (λ constraint. covers constraint pattern method) constraints) (entry_of entries method)
+AreEntries rules constraints pattern entries = (method : List ℕ) → IsMerged rules (filter (λ constraint. covers constraint pattern method) constraints) (entry_for entries method)

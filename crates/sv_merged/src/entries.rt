@@ -3,7 +3,7 @@
 ghost use Rattle.std.specs.Prelude.{◌≡◌, ◌++◌, ◌∷◌, [], ℕ, List, IfOk, OnOk, map, false};
 ghost use Rattle.std.specs.Option.{option_map_or};
 ghost use Rattle.sv_constraints.specs.Covering.{lists};
-ghost use Rattle.sv_merged.specs.Entries.{AreEntries, HasEntries, entry_in, entry_of};
+ghost use Rattle.sv_merged.specs.Entries.{AreEntries, HasEntries, entry_in, entry_for};
 ghost use Rattle.sv_merged.specs.Uncovered.{IsRising, differ, is_bare, uncovered_methods};
 ghost use Rattle.sv_text.specs.Gives.{GivesAnswer};
 
@@ -75,7 +75,7 @@ impl Entries {
 
     /// The entry of a method.
     pub fn of(&self, method: &str) -> &Merged
-        ensures { result.now ≡ entry_of self.now method.now }
+        ensures { result.now ≡ entry_for self.now method.now }
     {
         match self.methods.get(method) {
             Some(entry) => entry,

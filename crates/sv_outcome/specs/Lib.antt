@@ -1,2 +1,3 @@
 pub mod Laws
 pub mod Outcome
+pub mod OutcomeEntry

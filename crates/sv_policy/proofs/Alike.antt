@@ -8,7 +8,7 @@ use Rattle.sv_constraints.specs.Covering.{covers, covers_method, lists}
 use Rattle.sv_constraints.specs.declared.constraint.Collection.{Collection}
 use Rattle.sv_constraints.specs.declared.constraint.Constraint.{Constraint}
 use Rattle.sv_constraints.specs.declared.rules.Rules.{Rules}
-use Rattle.sv_merged.specs.Entries.{entry_of}
+use Rattle.sv_merged.specs.Entries.{entry_for}
 use Rattle.sv_merged.specs.Merged.{IsMerged}
 use Rattle.sv_merged.specs.Table.{IsTable}
 use Rattle.sv_merged.specs.Uncovered.{differ}
@@ -131,9 +131,9 @@ pub table_alike : (rules : Rules) (constraints members others : List Constraint)
 table_alike rules constraints members others pattern other table are are_others alike same is whole =
     let alike_here : are_alike (filter (λ c. lists_pattern c pattern) constraints) (filter (λ c. lists_pattern c other.pattern) constraints) pattern other.pattern ≡ true = ap₂ (λ ms os. are_alike ms os pattern other.pattern) (sym are) (sym are_others) ∙ alike in
     λ method.
-    subst (λ p. IsMerged rules (filter (λ c. covers c p method) constraints) (entry_of table.entries.value method)) (sym is)
-    (subst (λ entries. IsMerged rules (filter (λ c. covers c pattern method) constraints) (entry_of entries method)) (sym same)
-    (subst (λ covering. IsMerged rules covering (entry_of other.entries.value method))
+    subst (λ p. IsMerged rules (filter (λ c. covers c p method) constraints) (entry_for table.entries.value method)) (sym is)
+    (subst (λ entries. IsMerged rules (filter (λ c. covers c pattern method) constraints) (entry_for entries method)) (sym same)
+    (subst (λ covering. IsMerged rules covering (entry_for other.entries.value method))
     (sym (covering_alike pattern other.pattern method constraints
     (not_so (list_any (λ c. tells_apart c pattern other.pattern) (filter (λ c. lists_pattern c pattern) constraints))
     (second_true (length (filter (λ c. lists_pattern c pattern) constraints) == length (filter (λ c. lists_pattern c other.pattern) constraints)) _ alike_here))

@@ -11,7 +11,7 @@ use Rattle.sv_constraints.specs.Covering.{all_patterns, covers, lists}
 use Rattle.sv_constraints.specs.declared.constraint.Constraint.{Constraint}
 use Rattle.sv_constraints.specs.declared.rules.Rules.{Rules}
 use Rattle.sv_merged.specs.Merged.{IsMerged}
-use Rattle.sv_merged.specs.Entries.{entry_of}
+use Rattle.sv_merged.specs.Entries.{entry_for}
 use Rattle.sv_merged.specs.Table.{IsTable}
 use Rattle.sv_merged.specs.declared.table.Table.{Table}
 use Rattle.sv_policy.proofs.Listed.{any_seen, covers_listed, different_lists, filter_within, listed_any, listed_by, some_filtered}
@@ -72,7 +72,7 @@ other_patterns patterns (table ∷ tables) =
 module _ (rules : Rules) (old new : List Constraint) (patterns : List (List ℕ)) (same : AreSameElsewhere old new patterns) where
   kept_table : (table : Table) → lists patterns table.pattern ≡ false → IsTable rules old table → IsTable rules new table
   kept_table table other is = λ method.
-      subst (λ covering. IsMerged rules covering (entry_of table.entries.value method))
+      subst (λ covering. IsMerged rules covering (entry_for table.entries.value method))
       (sym (filter_within (λ c. covers c table.pattern method) (λ c. lists_pattern c table.pattern) (covers_listed table.pattern method) old)
       ∙ ap (filter (λ c. covers c table.pattern method)) (same table.pattern other)
       ∙ filter_within (λ c. covers c table.pattern method) (λ c. lists_pattern c table.pattern) (covers_listed table.pattern method) new)

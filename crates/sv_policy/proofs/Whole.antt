@@ -8,7 +8,7 @@ use Rattle.sv_constraints.specs.Covering.{covers}
 use Rattle.sv_constraints.specs.declared.constraint.Constraint.{Constraint}
 use Rattle.sv_constraints.specs.declared.rules.Rules.{Rules}
 use Rattle.sv_merged.specs.Merged.{IsMerged}
-use Rattle.sv_merged.specs.Entries.{entry_of}
+use Rattle.sv_merged.specs.Entries.{entry_for}
 use Rattle.sv_merged.specs.Table.{IsTable}
 use Rattle.sv_merged.specs.declared.table.Table.{Table}
 use Rattle.sv_policy.proofs.Listed.{covers_listed, filter_within}
@@ -18,7 +18,7 @@ use Rattle.sv_policy.proofs.Steps.{seen_more}
 -- a table of the constraints that list its pattern is one of all constraints
 pub table_of_all : (rules : Rules) (constraints : List Constraint) (members : List Constraint) (table : Table) (pattern : List ℕ) → members ≡ filter (λ c. lists_pattern c pattern) constraints → pattern ≡ table.pattern → IsTable rules members table → IsTable rules constraints table
 table_of_all rules constraints members table pattern are same is = λ method.
-    subst (λ covering. IsMerged rules covering (entry_of table.entries.value method))
+    subst (λ covering. IsMerged rules covering (entry_for table.entries.value method))
     (ap (filter (λ c. covers c table.pattern method)) (are ∙ ap (λ p. filter (λ c. lists_pattern c p) constraints) same)
     ∙ filter_within (λ c. covers c table.pattern method) (λ c. lists_pattern c table.pattern) (covers_listed table.pattern method) constraints)
     (is method)

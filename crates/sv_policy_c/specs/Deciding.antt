@@ -15,28 +15,28 @@ use Rattle.sv_policy_c.specs.declared.status.Status.{Status}
 use Rattle.sv_policy_c.specs.declared.status.Status.TheVariants as status
 
 -- what is said of a request, as the status and the buffer tell it
-abbrev pub Answers : Answer → List ℕ → List ℕ → ℕ → Status → Type 0
-Answers said old new size status.Written = (e : Explanation) × (said ≡ Ok e) × IsWritten (explanation_text e) old new size
-Answers said old new size status.Short = (e : Explanation) × (said ≡ Ok e) × IsShort (explanation_text e) old new size
-Answers said old new size status.Method = said ≡ Err BadMethod
-Answers said old new size status.Nothing = said ≡ Err NoSuchUser
-Answers said old new size status.Fault = ⊥
-Answers said old new size status.NoMemory = Unit {0}
-Answers said old new size status.NotText = Unit {0}
+abbrev pub WritesAnswer : Answer → List ℕ → List ℕ → ℕ → Status → Type 0
+WritesAnswer said old new size status.Written = (e : Explanation) × (said ≡ Ok e) × IsWritten (explanation_text e) old new size
+WritesAnswer said old new size status.Short = (e : Explanation) × (said ≡ Ok e) × IsShort (explanation_text e) old new size
+WritesAnswer said old new size status.Method = said ≡ Err BadMethod
+WritesAnswer said old new size status.Nothing = said ≡ Err NoSuchUser
+WritesAnswer said old new size status.Fault = ⊥
+WritesAnswer said old new size status.NoMemory = Unit {0}
+WritesAnswer said old new size status.NotText = Unit {0}
 
 abbrev pub written : Bool → Status
 written true = status.Written
 written false = status.Short
 
 -- why a descriptor is not read, as the status and the buffer tell it
-abbrev pub Refuses : Reads Engine → List ℕ → List ℕ → ℕ → Status → Type 0
-Refuses read old new size status.Fault = (f : DescriptorFault) × (read ≡ Err f) × IsWritten (descriptor_fault_text f) old new size
-Refuses read old new size status.Short = (f : DescriptorFault) × (read ≡ Err f) × IsShort (descriptor_fault_text f) old new size
-Refuses read old new size status.NoMemory = Unit {0}
-Refuses read old new size status.NotText = Unit {0}
-Refuses read old new size status.Written = ⊥
-Refuses read old new size status.Method = ⊥
-Refuses read old new size status.Nothing = ⊥
+abbrev pub RefusesDescriptor : Reads Engine → List ℕ → List ℕ → ℕ → Status → Type 0
+RefusesDescriptor read old new size status.Fault = (f : DescriptorFault) × (read ≡ Err f) × IsWritten (descriptor_fault_text f) old new size
+RefusesDescriptor read old new size status.Short = (f : DescriptorFault) × (read ≡ Err f) × IsShort (descriptor_fault_text f) old new size
+RefusesDescriptor read old new size status.NoMemory = Unit {0}
+RefusesDescriptor read old new size status.NotText = Unit {0}
+RefusesDescriptor read old new size status.Written = ⊥
+RefusesDescriptor read old new size status.Method = ⊥
+RefusesDescriptor read old new size status.Nothing = ⊥
 
 abbrev pub refused : Bool → Status
 refused true = status.Fault
@@ -67,7 +67,7 @@ Returns result fact = (told : Status) × (result ≡ number told) × fact told
 -- the engine that the text is, or what was held before
 abbrev pub Opens : Reads Engine → Option Engine → Option Engine → List ℕ → List ℕ → ℕ → Status → Type 0
 Opens read before after old new size status.Written = (engine : Engine) × (read ≡ Ok engine) × (after ≡ Some engine)
-Opens read before after old new size other = (after ≡ before) × Refuses read old new size other
+Opens read before after old new size other = (after ≡ before) × RefusesDescriptor read old new size other
 
 -- the engine with one role more
 abbrev pub Gives : List ℕ → Option Engine → Option Engine → Status → Type 0

@@ -26,7 +26,7 @@ pub(crate) fn decide(
     answer: &mut [u8],
     length: &mut usize,
 ) -> Status
-    ensures { spec.Answers (explained engine.now method.now target.now) answer.old answer.new length.new result }
+    ensures { spec.WritesAnswer (explained engine.now method.now target.now) answer.old answer.new length.new result }
 {
     let Ok(method) = str::from_utf8(method) else {
         return Status::NotText;
@@ -45,7 +45,7 @@ fn write_explanation(
     answer: &mut [u8],
     length: &mut usize,
 ) -> Status
-    ensures { spec.Answers (Ok explanation.now) answer.old answer.new length.new result }
+    ensures { spec.WritesAnswer (Ok explanation.now) answer.old answer.new length.new result }
 {
     match format!(in alloc; "{explanation}") {
         Ok(text) => written(put(answer, length, text.as_str())),
@@ -73,7 +73,7 @@ pub(crate) fn open(
     length: &mut usize,
 ) -> Result<Box<Engine>, Status>
     ensures opened { IfOk result (λ engine. engine_of path.now descriptor.now ≡ Ok engine.value) }
-    ensures refused { IfErr result (spec.Refuses (engine_of path.now descriptor.now) answer.old answer.new length.new) }
+    ensures refused { IfErr result (spec.RefusesDescriptor (engine_of path.now descriptor.now) answer.old answer.new length.new) }
 {
     let Ok(path) = str::from_utf8(path) else {
         return Err(Status::NotText);
@@ -104,7 +104,7 @@ fn write_fault(
     answer: &mut [u8],
     length: &mut usize,
 ) -> Status
-    ensures { spec.Refuses (Err fault.now) answer.old answer.new length.new result }
+    ensures { spec.RefusesDescriptor (Err fault.now) answer.old answer.new length.new result }
 {
     match format!(in alloc; "{fault}") {
         Ok(text) => refused(put(answer, length, text.as_str())),

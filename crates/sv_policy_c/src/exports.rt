@@ -82,7 +82,7 @@ pub extern "C" fn sv_policy_decide(
 ) -> u32
     ensures kept { policy.new.value ≡ policy.old.value }
     ensures decided { spec.Returns result (spec.IfHeld
-        (λ engine. spec.Answers (explained engine method.now target.now) answer.old answer.new length.new) policy.old.value) }
+        (λ engine. spec.WritesAnswer (explained engine method.now target.now) answer.old answer.new length.new) policy.old.value) }
 {
     let Some(engine) = policy.take(alloc) else {
         return Status::Nothing.number();

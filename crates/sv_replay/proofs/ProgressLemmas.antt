@@ -5,7 +5,7 @@ use Rattle.std.specs.Option.{option_to_list}
 use Rattle.sv_replay.specs.Asked.{event_of, events_of, moment_behind, moment_behind_all, reaction_text, reactions_text}
 use Rattle.sv_replay.specs.Lines.{AreNext, IsNext}
 use Rattle.sv_replay.specs.PlaySteps.{Accepts, PlaysLine}
-use Rattle.sv_replay.specs.Replay.{Answers, Played, Plays, Replays}
+use Rattle.sv_replay.specs.Replay.{AnswersLine, Played, Plays, Replays}
 use Rattle.sv_replay.specs.declared.course.Course.{Course}
 use Rattle.sv_replay.specs.declared.fault.ReplayFault.{ReplayFault}
 use Rattle.sv_replay.specs.declared.fault.ReplayFault.TheVariants as faults
@@ -274,10 +274,10 @@ module _ {R I O : Type 0} (steps : Reacting R) (gives : Making I) (takes : Makin
     none_failed : (more : List Call) → AreReads state more 0 after → failures (p.calls ++ more) ≡ 0
     none_failed more are = (reads_on p.calls more 0 state after p.reading are).fails
 
-    answers_then : (line : List ℕ) (answer : Result Reaction StepFault) (reactor_after : R) → Answers steps course.moment reactor line answer reactor_after
-        → Answers steps (moment_behind_all 0 p.said) reactor line answer reactor_after
+    answers_then : (line : List ℕ) (answer : Result Reaction StepFault) (reactor_after : R) → AnswersLine steps course.moment reactor line answer reactor_after
+        → AnswersLine steps (moment_behind_all 0 p.said) reactor line answer reactor_after
     answers_then line answer reactor_after answers =
-        let P : ℕ → Type 0 = λ moment. Answers steps moment reactor line answer reactor_after in subst P p.is_moment answers
+        let P : ℕ → Type 0 = λ moment. AnswersLine steps moment reactor line answer reactor_after in subst P p.is_moment answers
 
     -- a line ended the replay
     pub line_failed : (fault : ReplayFault) (course_after : Course) (reactor_after : R) (sink_after : O) (line : List ℕ) → NextLine gives source state (Ok (Some line)) source_after after

@@ -2,7 +2,7 @@
 use Rattle.std.specs.Prelude.{◌≡◌, ◌⊎◌, ℕ, ◌+◌, ◌≤◌, true, List, [], ◌∷◌, length, map, Result, Ok, Err}
 use Rattle.std.specs.Option.{option_to_list}
 use Rattle.sv_replay.specs.Asked.{event_of, moment_behind, reaction_text, reactions_text}
-use Rattle.sv_replay.specs.Replay.{Answers, WantsMemory}
+use Rattle.sv_replay.specs.Replay.{AnswersLine, WantsMemory}
 use Rattle.sv_replay.specs.ReplayFault.{is_of_script}
 use Rattle.sv_replay.specs.declared.course.Course.{Course}
 use Rattle.sv_replay.specs.declared.fault.ReplayFault.{ReplayFault}
@@ -63,7 +63,7 @@ module _ {R O : Type 0} (steps : Reacting R) (takes : Making O) (course : Course
   PlaysLine line (Err (Script number)) course_after after output_after =
       (number ≡ course.lines + 1) × (output_after ≡ output)
       × (((asked line ≡ Err Unreadable) × (after ≡ before))
-      ⊎ ((refusal : StepFault) × (is_of_script refusal ≡ true) × Answers steps course.moment before line (Err refusal) after))
+      ⊎ ((refusal : StepFault) × (is_of_script refusal ≡ true) × AnswersLine steps course.moment before line (Err refusal) after))
   PlaysLine line (Err NoMemory) course_after after output_after =
       (output_after ≡ output)
-      × ((after ≡ before) ⊎ ((answer : Result Reaction StepFault) × WantsMemory answer × Answers steps course.moment before line answer after))
+      × ((after ≡ before) ⊎ ((answer : Result Reaction StepFault) × WantsMemory answer × AnswersLine steps course.moment before line answer after))

@@ -65,7 +65,7 @@ module _ {R : Type 0} (played : Played R) where
 
 module _ {R : Type 0} (steps : Reacting R) where
   -- a line asks for an event, which has this answer
-  pub record Answers (moment : ℕ) (before : R) (line : List ℕ) (answer : Result Reaction StepFault) (after : R) : Type 0 where
+  pub record AnswersLine (moment : ℕ) (before : R) (line : List ℕ) (answer : Result Reaction StepFault) (after : R) : Type 0 where
     pub said : ScriptLine
     pub is_read : asked line ≡ Ok said
     pub event : Happening
@@ -77,7 +77,7 @@ module _ {R : Type 0} (steps : Reacting R) where
   AnswersNext played answer after =
       NoneFailed played
       × ((line : List ℕ) × (behind : List ℕ) × IsNextLine played line behind
-      × Answers (moment_behind_all 0 played.said) played.reactor line answer after)
+      × AnswersLine (moment_behind_all 0 played.said) played.reactor line answer after)
 
   -- the lines were read one after another, and each event that they ask for was accepted
   pub record Plays (before : R) (played : Played R) : Type 0 where

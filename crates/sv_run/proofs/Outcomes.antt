@@ -13,7 +13,8 @@ use Rattle.sv_run.specs.Contexts.{Handling, Theory}
 use Rattle.sv_run.specs.Effect.{Deed, Effect, Handled}
 use Rattle.sv_run.specs.Events.{Accepts, Edited, Ended, ExpiresAll, Happening, Happens, Lost, Opened, Piece, Tick}
 use Rattle.sv_run.specs.Items.{Responds, Takes, TakesItem}
-use Rattle.sv_run.specs.Lawful.{TellsOutcomes, entry_of, is_outcome, outcome_entry, outcome_of}
+use Rattle.sv_outcome.specs.OutcomeEntry.{outcome_entry}
+use Rattle.sv_run.specs.Lawful.{TellsOutcomes, entry_of, is_outcome, outcome_of}
 use Rattle.sv_run.specs.Laws.{EntersWhereAllowed, RequestsEnterExactlyWhereAllowed, deed_entry}
 use Rattle.sv_run.specs.Messages.{Destination, Itself, Within, destination, destination_at, destination_in, destination_of}
 use Rattle.sv_run.specs.Runs.{Answer, Run, deeds_of, journal_of}

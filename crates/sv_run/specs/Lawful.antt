@@ -4,8 +4,8 @@ use Rattle.std.specs.List.{AllByRecursion}
 use Rattle.sv_context_path.specs.Within.{path_within}
 use Rattle.sv_journal.specs.declared.entry.Entry.{Entry}
 use Rattle.sv_journal.specs.declared.entry.Entry.TheVariants.{Entered, SentToLogin, Refused, Hidden, Told, Called}
-use Rattle.sv_journal.specs.declared.refusal_cause.RefusalCause.TheVariants as causes
 use Rattle.sv_outcome.specs.Outcome.{outcome}
+use Rattle.sv_outcome.specs.OutcomeEntry.{outcome_entry}
 use Rattle.sv_outcome.specs.declared.outcome.Outcome.{Outcome}
 use Rattle.sv_outcome.specs.declared.outcome.Outcome.TheVariants as outcomes
 use Rattle.sv_policy.specs.Edits.{GivesOutcome, edit_outcome}
@@ -22,17 +22,6 @@ is_outcome (Refused cause) = true
 is_outcome (Hidden cause) = true
 is_outcome (Told context listener event) = false
 is_outcome (Called context component call answer) = false
-
--- the entry of an outcome, in a context and by the path within it
-abbrev pub outcome_entry : List ℕ → List ℕ → Outcome → Entry
-outcome_entry context path outcomes.Entered = Entered context path
-outcome_entry context path (outcomes.SentToLogin why) = SentToLogin context why
-outcome_entry context path outcomes.Protected = Hidden causes.Protected
-outcome_entry context path (outcomes.LoggedIn number target) = Refused causes.LoggedIn
-outcome_entry context path outcomes.LoginFailed = Refused causes.LoginFailed
-outcome_entry context path outcomes.NoSession = Refused causes.NoSession
-outcome_entry context path (outcomes.NoLogin why) = Refused (causes.NoLogin why)
-outcome_entry context path (outcomes.Denied why) = Refused (causes.Denied why)
 
 -- no calls move nothing, and what is moved by some calls and then by others is moved by calls
 pub record IsMotion {Context : Type 0} (conduct : Conduct Context) : Type 0 where

@@ -11,7 +11,7 @@ use Rattle.sv_run.specs.Runs.{Answer, journal_of}
 use Rattle.sv_run.specs.State.{State}
 use Rattle.sv_run.specs.declared.reaction.Reaction.{Reaction}
 use Rattle.sv_run.specs.declared.step_fault.StepFault.{StepFault}
-use Rattle.sv_script_run.specs.Laws.{IsLawfulRun, entries_of}
+use Rattle.sv_script_run.specs.Laws.{PlaysALawfulRun, entries_of}
 use Rattle.sv_run.proofs.Reactions.{run_of}
 
 -- the entries of answers as they are seen
@@ -30,7 +30,7 @@ shown_of_answers (Ok effect ∷ answers) = ap (λ entries. effect.journal ++ ent
 shown_of_answers (Err fault ∷ answers) = shown_of_answers answers
 
 pub lawful : {R Context Words : Type 0} (steps : Reacting R) (theory : Theory Context Words) (state_of : R → State Context Words) → StepsLike steps theory state_of
-    → RequestsEnterExactlyWhereAllowed theory → (before : R) (played : Played R) → Plays steps before played → IsLawfulRun steps theory state_of before played
+    → RequestsEnterExactlyWhereAllowed theory → (before : R) (played : Played R) → Plays steps before played → PlaysALawfulRun steps theory state_of before played
 lawful steps theory state_of like enters before played plays =
     let found = run_of steps theory state_of like before played.reactor (events_of 0 played.said) (map Ok played.reactions) plays.reacts in
     let told : entries_of played.reactions ≡ journal_of found.0 =

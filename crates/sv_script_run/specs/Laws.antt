@@ -95,7 +95,7 @@ entries_of reactions = flat_map (λ reaction. reaction.journal.entries) reaction
 module _ {R Context Words : Type 0} (steps : Reacting R) (theory : Theory Context Words) where
   -- the events that a script asks for are a run, of which the texts of the events tell: the entries tell the outcome of each message once, in
   -- order, and a request enters exactly where the combined constraints allow it
-  pub record IsLawfulRun (state_of : R → State Context Words) (before : R) (played : Played R) : Type 0 where
+  pub record PlaysALawfulRun (state_of : R → State Context Words) (before : R) (played : Played R) : Type 0 where
     pub answers : List (Answer Context)
     pub runs : Run theory (state_of before) (events_of 0 played.said) answers (state_of played.reactor)
     pub are_shown : map Ok played.reactions ≡ map answer_shown answers
@@ -105,4 +105,4 @@ module _ {R Context Words : Type 0} (steps : Reacting R) (theory : Theory Contex
   abbrev pub AScriptIsALawfulRun : Type 0
   AScriptIsALawfulRun =
       (state_of : R → State Context Words) → StepsLike steps theory state_of → RequestsEnterExactlyWhereAllowed theory
-      → (before : R) (played : Played R) → Plays steps before played → IsLawfulRun state_of before played
+      → (before : R) (played : Played R) → Plays steps before played → PlaysALawfulRun state_of before played

@@ -37,15 +37,15 @@ PrintsRefused takes code context started output result after =
     (printed : Result (Unit {0}) ReplayFault) × PrintsOf takes start_text started output printed after × (result ≡ refused_by code context printed)
 
 -- for want of memory nothing is written
-abbrev pub Refuses : {O : Type 0} → Making O → NewCode → List ℕ → JournalState → O → Result (Unit {0}) RunFault → O → Type 0
-Refuses takes codes_of_start.NoMemory context started output result after = (result ≡ Err NoMemory) × (after ≡ output)
-Refuses takes codes_of_start.DuplicateContext context started output result after =
+abbrev pub EndsUnstarted : {O : Type 0} → Making O → NewCode → List ℕ → JournalState → O → Result (Unit {0}) RunFault → O → Type 0
+EndsUnstarted takes codes_of_start.NoMemory context started output result after = (result ≡ Err NoMemory) × (after ≡ output)
+EndsUnstarted takes codes_of_start.DuplicateContext context started output result after =
     PrintsRefused takes codes_of_start.DuplicateContext context started output result after
-Refuses takes codes_of_start.TooManyContexts context started output result after =
+EndsUnstarted takes codes_of_start.TooManyContexts context started output result after =
     PrintsRefused takes codes_of_start.TooManyContexts context started output result after
-Refuses takes codes_of_start.PartsMismatch context started output result after =
+EndsUnstarted takes codes_of_start.PartsMismatch context started output result after =
     PrintsRefused takes codes_of_start.PartsMismatch context started output result after
-Refuses takes codes_of_start.InitFailed context started output result after =
+EndsUnstarted takes codes_of_start.InitFailed context started output result after =
     PrintsRefused takes codes_of_start.InitFailed context started output result after
 
 module _ {S F L I O : Type 0} (servlet_step : S → Call → S → Type 0) (filter_step : F → Call → F → Type 0) (listener_step : L → Call → L → Type 0) (gives : Making I)
@@ -58,7 +58,7 @@ module _ {S F L I O : Type 0} (servlet_step : S → Call → S → Type 0) (filt
       started (record { container = container }) script output ended script_after output_after
       × (result ≡ ended_by ended)
   Follows (Err fault) started script output result script_after output_after =
-      (script_after ≡ script) × Refuses takes fault.code fault.context started output result output_after
+      (script_after ≡ script) × EndsUnstarted takes fault.code fault.context started output result output_after
 
   -- the deployments are started with words that count, the script is replayed, and what was started is stopped
   pub record RunsScript (deployments : List (Deployment S F L)) (script : I) (output : O) (result : Result (Unit {0}) RunFault) (script_after : I)

@@ -1,6 +1,6 @@
 //! The run of a script.
 
-ghost use Rattle.sv_server.specs.Script.{PrintsRefused, Refuses, RunsScript};
+ghost use Rattle.sv_server.specs.Script.{PrintsRefused, EndsUnstarted, RunsScript};
 
 use crate::run_fault::{RunFault, ended_by, fault_of};
 use crate::running::Running;
@@ -46,7 +46,7 @@ fn refuse<O: Sink>(
     started: &Journal,
     output: &mut O,
 ) -> Result<(), RunFault>
-    ensures { Refuses O.makes code context started.now output.old result output.new }
+    ensures { EndsUnstarted O.makes code context started.now output.old result output.new }
 {
     match code {
         NewCode::NoMemory => Err(RunFault::NoMemory),

@@ -15,9 +15,9 @@ use Rattle.sv_session.specs.Lists.{without_first}
 use Rattle.sv_session.specs.Store.{Session, Store, is_numbered, numbered, attributes_of, changed}
 
 -- a refusal tells the first of the faults and changes nothing; want of memory is told where there is no other
-abbrev pub Refuses : List SessionFault → SessionFault → Store → Store → Type 0
-Refuses faults NoMemory before after = (faults ≡ []) × (after ≡ before)
-Refuses faults fault before after = (slice_get faults 0 ≡ Some fault) × (after ≡ before)
+abbrev pub RefusesCall : List SessionFault → SessionFault → Store → Store → Type 0
+RefusesCall faults NoMemory before after = (faults ≡ []) × (after ≡ before)
+RefusesCall faults fault before after = (slice_get faults 0 ≡ Some fault) × (after ≡ before)
 
 -- the greatest serial was given
 abbrev pub is_spent : Store → Bool

@@ -47,7 +47,7 @@ impl Model for Sessions {
 impl Sessions {
     ghost use Rattle.sv_session.specs.Calls as calls;
     ghost use Rattle.sv_session.specs.Id.{id_text};
-    ghost use Rattle.sv_session.specs.Calls.{Refuses};
+    ghost use Rattle.sv_session.specs.Calls.{RefusesCall};
     ghost use Rattle.sv_session.specs.Store.{attributes_of, empty_store, is_numbered, number_of, numbered};
 
     /// No sessions yet, at most `limit` of them at a time. A session ends `interval` seconds after its last access, or never where that is 0. It takes no
@@ -75,7 +75,7 @@ impl Sessions {
     pub fn open(&mut self, words: (u64, u64), now: u64) -> Result<u64, SessionFault>
         ensures { MatchResult result
             (λ number. (calls.opening_faults self.old ≡ []) × (number ≡ self.old.serial + 1) × (self.new ≡ calls.opened words now self.old))
-            (λ fault. Refuses (calls.opening_faults self.old) fault self.old self.new) }
+            (λ fault. RefusesCall (calls.opening_faults self.old) fault self.old self.new) }
     {
         if let Some(fault) = self.opening_fault() {
             return Err(fault);
@@ -120,7 +120,7 @@ impl Sessions {
     pub fn next_id(&self, words: (u64, u64)) -> Result<Text, SessionFault>
         ensures { MatchResult result
             (λ id. (calls.opening_faults self.now ≡ []) × (id ≡ id_text words (self.now.serial + 1)))
-            (λ fault. Refuses (calls.opening_faults self.now) fault self.now self.now) }
+            (λ fault. RefusesCall (calls.opening_faults self.now) fault self.now self.now) }
     {
         if let Some(fault) = self.opening_fault() {
             return Err(fault);
@@ -209,7 +209,7 @@ impl Sessions {
     pub fn rename(&mut self, number: u64, words: (u64, u64)) -> Result<(), SessionFault>
         ensures { MatchResult result
             (λ _. (calls.renaming_faults number self.old ≡ []) × (self.new ≡ calls.renamed number words self.old))
-            (λ fault. Refuses (calls.renaming_faults number self.old) fault self.old self.new) }
+            (λ fault. RefusesCall (calls.renaming_faults number self.old) fault self.old self.new) }
     {
         let Some(place) = place_of(self.slots.as_slice(), number) else {
             return Err(SessionFault::NoSuch);
@@ -292,7 +292,7 @@ impl Sessions {
         ensures { MatchResult result
             (λ old. (calls.setting_faults number name.now value.now self.old ≡ []) × (old ≡ calls.value_of number name.now self.old)
             × (self.new ≡ calls.with_attribute number name.now value.now self.old))
-            (λ fault. Refuses (calls.setting_faults number name.now value.now self.old) fault self.old self.new) }
+            (λ fault. RefusesCall (calls.setting_faults number name.now value.now self.old) fault self.old self.new) }
     {
         let Some(place) = place_of(self.slots.as_slice(), number) else {
             return Err(SessionFault::NoSuch);

@@ -40,13 +40,13 @@ abbrev pub IsLastLine : List ℕ → List ℕ → Type 0
 IsLastLine line text = (has_line_feed line ≡ false) × (text ≡ line) × (0 < length line)
 
 -- what is answered where this text has been read and not yet given, and what stays unread
-abbrev pub Answers : List ℕ → Result (Option (List ℕ)) LinesFault → LinesState → Type 0
-Answers text (Ok (Some line)) after =
+abbrev pub GivesLine : List ℕ → Result (Option (List ℕ)) LinesFault → LinesState → Type 0
+GivesLine text (Ok (Some line)) after =
     IsFirstLine line text (unread after) ⊎ (IsLastLine line text × (unread after ≡ []) × (after.ended ≡ true))
-Answers text (Ok None) after = (text ≡ []) × (unread after ≡ []) × (after.ended ≡ true)
-Answers text (Err ReadFailed) after = (unread after ≡ text) × (has_line_feed text ≡ false)
-Answers text (Err TooManyReads) after = (unread after ≡ text) × (has_line_feed text ≡ false) × (max_reads ≤ after.reads)
-Answers text (Err NoMemory) after = unread after ≡ text
+GivesLine text (Ok None) after = (text ≡ []) × (unread after ≡ []) × (after.ended ≡ true)
+GivesLine text (Err ReadFailed) after = (unread after ≡ text) × (has_line_feed text ≡ false)
+GivesLine text (Err TooManyReads) after = (unread after ≡ text) × (has_line_feed text ≡ false) × (max_reads ≤ after.reads)
+GivesLine text (Err NoMemory) after = unread after ≡ text
 
 -- how many calls failed: a failed read is the answer
 abbrev pub failed : {A : Type 0} → Result A LinesFault → ℕ
@@ -67,4 +67,4 @@ pub record AreReads (before : LinesState) (calls : List Call) (failures_made : �
 abbrev pub NextLine : {S : Type 0} → Making S → S → LinesState → Result (Option (List ℕ)) LinesFault → S → LinesState → Type 0
 NextLine makes source before result source_after after =
     (calls : List Call) × AreMade makes source calls source_after × AreReads before calls (failed result) after
-    × Answers (unread before ++ given calls) result after
+    × GivesLine (unread before ++ given calls) result after
