@@ -28,12 +28,13 @@ use Rattle.sv_run.proofs.Breaking.{event_same}
 use Rattle.sv_run.specs.Effect.{whole}
 use Rattle.sv_session.specs.declared.ended_session.EndedSession.{EndedSession}
 use Rattle.sv_site.specs.Site.{site_of}
+use Rattle.sv_tree.proofs.Doing.{chosen_then}
 use Rattle.sv_tree.proofs.Hearing.{all_keep, all_keep_alone}
 use Rattle.sv_tree.proofs.Silence.{Silent, gives_silent, makes_silent, then_silent}
 use Rattle.sv_tree.specs.Does.{Does, ◌>>=◌, ◌>>◌, becomes, gives, makes}
 use Rattle.sv_tree.specs.Endings.{keeps}
 use Rattle.sv_tree.specs.Laws.{is_of_listener}
-use Rattle.sv_tree.specs.Served.{Plain, Resets, ShowsError, plain_text, reset, sets}
+use Rattle.sv_tree.specs.Served.{Plain, Resets, ShowsError, breaks, plain_text, reset, sets, unless_committed}
 use Rattle.sv_tree.specs.Site.{Site}
 use Rattle.sv_tree.specs.State.{KeptError, State, on_exchange}
 use Rattle.sv_tree.specs.Telling.{all_told, hears}
@@ -75,10 +76,15 @@ plain_silent status =
     then_silent (Resets status None) (λ _. makes typed >> makes written) (reset_silent status)
     (λ _. then_silent (makes typed) (λ _. makes written) (makes_silent typed) (λ _. makes_silent written))
 
+unless_silent : (next : Does (Unit {0})) → Silent next → Silent (unless_committed next)
+unless_silent next silent x y r result done =
+    chosen_then x.exchange.committed breaks next x y r result (λ _ broke. broke.0) (λ _ made. silent x y r result made) done
+
 error_silent : (site : Site) (status : ℕ) → Silent (ShowsError site status None)
 error_silent site status =
     let kept : KeptError = record { status = status; text = phrase_of status; servlet = None; field = None } in
-    then_silent (keeps kept) (λ _. Plain status None) (λ x y r result h. h.0) (λ _. plain_silent status)
+    then_silent (keeps kept) (λ _. unless_committed (Plain status None)) (λ x y r result h. h.0)
+    (λ _. unless_silent (Plain status None) (plain_silent status))
 
 sends_silent : (location : List ℕ) → Silent (SendsTo location)
 sends_silent location =

@@ -23,9 +23,10 @@ use Rattle.sv_served.proofs.ContextDeeds.{by_alone, by_not, by_then}
 use Rattle.sv_served.proofs.ExchangeDeeds.{alone_makes, alone_not, alone_then}
 use Rattle.sv_served.specs.ServedBy.{Alone, ServedBy}
 use Rattle.sv_text.specs.declared.no_memory.NoMemory.{NoMemory}
+use Rattle.sv_tree.proofs.Doing.{chosen_then}
 use Rattle.sv_tree.specs.Does.{Does, ◌>>=◌, ◌>>◌, becomes, gives, makes}
 use Rattle.sv_tree.specs.Endings.{keeps}
-use Rattle.sv_tree.specs.Served.{Pages, Plain, Resets, ShowsError, plain_text, reset, sets}
+use Rattle.sv_tree.specs.Served.{Plain, Resets, ShowsError, breaks, plain_text, reset, sets, unless_committed}
 use Rattle.sv_tree.specs.Site.{Site}
 use Rattle.sv_tree.specs.State.{State, on_exchange}
 use Rattle.sv_tree.specs.Telling.{hears}
@@ -57,11 +58,15 @@ quiet_plain status =
     quiet_then (Resets status None) (λ _. makes typed >> makes written) (quiet_resets status)
     (λ _. quiet_then (makes typed) (λ _. makes written) (quiet_makes typed) (λ _. quiet_makes written))
 
+quiet_unless : (next : Does (Unit {0})) → IsQuiet next → IsQuiet (unless_committed next)
+quiet_unless next quiet before calls after result done =
+    chosen_then before.exchange.committed breaks next before after calls result (λ _ broke. broke.0) (λ _ made. quiet before calls after result made) done
+
 -- an error without a page is answered without a call
 pub quiet_error : (site : Site) (status : ℕ) → IsQuiet (ShowsError site status None)
 quiet_error site status =
-    quiet_then (keeps (record { status = status; text = phrase_of status; servlet = None; field = None })) (λ _. Pages site status None None)
-    (λ before calls after result h. h.0) (λ _. quiet_plain status)
+    quiet_then (keeps (record { status = status; text = phrase_of status; servlet = None; field = None })) (λ _. unless_committed (Plain status None))
+    (λ before calls after result h. h.0) (λ _. quiet_unless (Plain status None) (quiet_plain status))
 
 -- where nothing was noted, a whole journal is whole
 pub whole_stays : (result : Result (Unit {0}) NoMemory) (before after : JournalState) → before.whole ≡ true → after ≡ before → OnOk result (after.whole ≡ true)

@@ -193,7 +193,8 @@ module _ (site : Site) where
   error_code : (status : ℕ) (page : Option Canon) → KeepsCode (ShowsError site status page)
   error_code status page =
       let kept : KeptError = record { status = status; text = phrase_of status; servlet = None; field = None } in
-      then_code (keeps kept) (λ _. Pages site status None page) (keeps_keeps site Coded law 0 kept) (λ _. pages_code status None page)
+      let paged = Pages site status None page in
+      then_code (keeps kept) (λ _. unless_committed paged) (keeps_keeps site Coded law 0 kept) (λ _. unless_code paged (pages_code status None page))
 
   settled_code : (ended : Finished) → KeepsCode (Settled site ended)
   settled_code finished.Done = gives_keeps site Coded law 0 tt

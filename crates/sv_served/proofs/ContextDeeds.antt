@@ -14,7 +14,7 @@ use Rattle.sv_mapping.specs.declared.kind.Kind.TheVariants as kinds
 use Rattle.sv_served.specs.ServedBy.{Alone, ServedBy}
 use Rattle.sv_tree.specs.Does.{Does, ◌>>=◌, ◌>>◌, choose, gives, wants_memory}
 use Rattle.sv_tree.specs.Endings.{keeps}
-use Rattle.sv_tree.specs.Served.{Pages, Resets, breaks, Served, Settled, Shown, Shows, ShowsError, kept_field}
+use Rattle.sv_tree.specs.Served.{Pages, Resets, breaks, Served, Settled, Shown, Shows, ShowsError, kept_field, unless_committed}
 use Rattle.sv_tree.specs.Site.{Site}
 use Rattle.sv_tree.specs.State.{KeptError, KeptField}
 use Rattle.sv_tree.specs.Tree.{Tree}
@@ -185,15 +185,36 @@ module _ {S F L : Type 0} (ss : S → Call → S → Type 0) (fs : F → Call �
       pub error_not : Alone (keeps kept) x y None → ServedBy ss fs ls (ShowsError site status page) live x noted None live y noted
       error_not did =
           by_alone (ShowsError site status page) live x y noted None
-          (subst (λ kept. Alone (keeps kept >> Pages site status None page) x y None) is (alone_not (keeps kept) (λ _. Pages site status None page) x y did))
+          (subst (λ kept. Alone (keeps kept >> unless_committed (Pages site status None page)) x y None) is
+          (alone_not (keeps kept) (λ _. unless_committed (Pages site status None page)) x y did))
 
-      pub error_so : (z : exchanges.State) (result : Option (Unit {0})) → Alone (keeps kept) x y (Some tt)
+      -- what follows once it is kept
+      error_on : (z : exchanges.State) (result : Option (Unit {0})) → Alone (keeps kept) x y (Some tt)
+          → ServedBy ss fs ls (unless_committed (Pages site status None page)) live y noted result live' z noted'
+          → ServedBy ss fs ls (ShowsError site status page) live x noted result live' z noted'
+      error_on z result keeping did =
+          subst (λ kept. ServedBy ss fs ls (keeps kept >> unless_committed (Pages site status None page)) live x noted result live' z noted') is
+          (by_then (keeps kept) (λ _. unless_committed (Pages site status None page)) live live x y noted noted live' z noted' tt result
+          (by_alone (keeps kept) live x y noted (Some tt) keeping) did)
+
+      pub error_so : (z : exchanges.State) (result : Option (Unit {0})) (test : Bool) → test ≡ y.committed → test ≡ false → Alone (keeps kept) x y (Some tt)
           → ServedBy ss fs ls (Pages site status None page) live y noted result live' z noted'
           → ServedBy ss fs ls (ShowsError site status page) live x noted result live' z noted'
-      error_so z result keeping did =
-          subst (λ kept. ServedBy ss fs ls (keeps kept >> Pages site status None page) live x noted result live' z noted') is
-          (by_then (keeps kept) (λ _. Pages site status None page) live live x y noted noted live' z noted' tt result
-          (by_alone (keeps kept) live x y noted (Some tt) keeping) did)
+      error_so z result test same free keeping did =
+          error_on z result keeping
+          (by_so (Pages site status None page) (unless_committed (Pages site status None page)) live live' y z noted noted' result result
+          (λ made h. subst (λ test. choose test breaks (Pages site status None page) (state_of live y) made (state_of live' z) result) (sym free ∙ same) h) did)
+
+    -- such an error of a committed answer
+    pub error_broken : (status : ℕ) (page : Option Canon) (kept : KeptError) (x y z : exchanges.State)
+        → kept ≡ record { status = status; text = phrase_of status; servlet = None; field = None } → (test : Bool) → test ≡ y.committed → test ≡ true
+        → Alone (keeps kept) x y (Some tt) → z ≡ broken_off y → ServedBy ss fs ls (ShowsError site status page) live x noted (Some tt) live z noted
+    error_broken status page kept x y z is test same committed keeping broke =
+        subst (λ kept. ServedBy ss fs ls (keeps kept >> unless_committed (Pages site status None page)) live x noted (Some tt) live z noted) is
+        (by_then (keeps kept) (λ _. unless_committed (Pages site status None page)) live live x y noted noted live z noted tt (Some tt)
+        (by_alone (keeps kept) live x y noted (Some tt) keeping)
+        (by_alone (unless_committed (Pages site status None page)) live y z noted (Some tt)
+        (unless_broken (Pages site status None page) y z test same committed broke)))
 
     -- a request
     module _ (kind : Kind) (canon : Canon) (x y : exchanges.State) where

@@ -7,5 +7,4 @@ mod plain_answer;
 mod serving;
 
 pub use pages::show_error;
-pub use plain_answer::plain;
 pub use serving::serve;

@@ -29,9 +29,9 @@ pub(crate) struct Sought {
     pub(crate) field: Option<KeptField>,
 }
 
-/// Answers an error of the status that no dispatch brought up, by its page where there is one, and else plainly. It is called for an
-/// exchange of which nothing was said; the page is told the status and its phrase. The context has as many servlets, filters and listeners
-/// as the site's descriptor, as it has since [`Live::start`] with it.
+/// Answers an error of the status that no dispatch brought up, by its page where there is one, and else plainly; a committed answer breaks
+/// off behind its last flush. The page is told the status and its phrase. The context has as many servlets, filters and listeners as the
+/// site's descriptor, as it has since [`Live::start`] with it.
 ///
 /// # Errors
 /// `NoMemory` where memory ended the answer, or the journal broke: the calls made so far were made. Where the journal is broken before,
@@ -60,6 +60,10 @@ pub fn show_error<S: Servlet, F: Filter, L: Listener>(
     let Ok(()) = exchange.keep_error(status, phrase_of(status), None, None) else {
         return Err(NoMemory);
     };
+    if exchange.committed() {
+        exchange.break_off();
+        return Ok(());
+    }
     let sought = Sought {
         status,
         field: None,

@@ -15,11 +15,11 @@ use sv_exchange::{ExchangeFault, KeptField};
 use sv_text::NoMemory;
 
 /// Answers an error plainly: what was said is taken back, and the answer has the status, the field that goes with the error, and the
-/// status and its phrase as a line of text. The response is not committed, and no dispatch is under way.
+/// status and its phrase as a line of text.
 ///
 /// # Errors
 /// `NoMemory` where a growth was refused: what was said is taken back, and a part of the answer may be there.
-pub fn plain(
+pub(crate) fn plain(
     alloc: Global,
     exchange: &mut Exchange,
     status: u16,

@@ -81,7 +81,9 @@ module _ (site : Site) (Q : ℕ → State → List Record → State → Bool →
   pub error_keeps : (status : ℕ) (page : Option Canon) → Keeps site Q room (served.ShowsError site status page)
   error_keeps status page =
       let kept : KeptError = record { status = status; text = phrase_of status; servlet = None; field = None } in
-      then_keeps site Q law room (keeps kept) (λ _. served.Pages site status None page) (keeps_keeps site Q law room kept) (λ _. pages_keep status None page)
+      let paged = served.Pages site status None page in
+      then_keeps site Q law room (keeps kept) (λ _. served.unless_committed paged) (keeps_keeps site Q law room kept)
+      (λ _. unless_keeps paged (pages_keep status None page))
 
 pub requests_are_bounded : (site : Site) → RequestsAreBounded site
 requests_are_bounded site kind canon x y r result fresh outermost h =

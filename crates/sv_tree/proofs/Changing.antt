@@ -12,31 +12,37 @@ use Rattle.sv_mapping.specs.declared.kind.Kind.{Kind}
 use Rattle.sv_mapping.specs.declared.kind.Kind.TheVariants as kinds
 use Rattle.sv_tree.specs.Asking.{without_events}
 use Rattle.sv_tree.specs.Files.{emptied}
-use Rattle.sv_tree.specs.Laws.{SameRequest, is_included}
+use Rattle.sv_tree.specs.Laws.{KeepsRequest, is_included}
 use Rattle.sv_tree.specs.Site.{Site, begun, emptied_for, paths_in}
 use Rattle.sv_tree.specs.State.{Exchange}
 use Rattle.sv_uri.specs.declared.path.Canon.{Canon}
 
 -- the request is the same, and within an include status and fields are too
 abbrev pub Unchanged : Exchange → Exchange → Type 0
-Unchanged x y = SameRequest x y × (is_within_include x ≡ true → SameHead x y)
+Unchanged x y = KeepsRequest x y × (is_within_include x ≡ true → SameHead x y)
 
-pub same_request : (x y : Exchange) → y ≡ x → SameRequest x y
+pub same_request : (x y : Exchange) → y ≡ x → KeepsRequest x y
 same_request x y same = record {
   method = ap (λ e. e.method) same;
   context_path = ap (λ e. e.context_path) same;
+  cookie_settings = ap (λ e. e.cookie_settings) same;
   request_fields = ap (λ e. e.request_fields) same;
+  body = ap (λ e. e.body) same;
   moment = ap (λ e. e.moment) same;
+  reads_chunks = ap (λ e. e.reads_chunks) same;
   client = ap (λ e. e.client) same;
   dispatches = ap (λ e. e.dispatches) same;
 }
 
-pub request_then : (x y z : Exchange) → SameRequest x y → SameRequest y z → SameRequest x z
+pub request_then : (x y z : Exchange) → KeepsRequest x y → KeepsRequest y z → KeepsRequest x z
 request_then x y z one two = record {
   method = two.method ∙ one.method;
   context_path = two.context_path ∙ one.context_path;
+  cookie_settings = two.cookie_settings ∙ one.cookie_settings;
   request_fields = two.request_fields ∙ one.request_fields;
+  body = two.body ∙ one.body;
   moment = two.moment ∙ one.moment;
+  reads_chunks = two.reads_chunks ∙ one.reads_chunks;
   client = two.client ∙ one.client;
   dispatches = two.dispatches ∙ one.dispatches;
 }
@@ -48,12 +54,15 @@ pub unchanged_same : (x : Exchange) → Unchanged x x
 unchanged_same x = (same_request x x refl, λ h. (refl, refl))
 
 -- what the exchange says of its request says this, once what happened is told
-request_by : (x y : Exchange) → keeping.SameRequest x y → SameRequest x (without_events y)
+request_by : (x y : Exchange) → keeping.SameRequest x y → KeepsRequest x (without_events y)
 request_by x y same = record {
   method = same.method;
   context_path = same.context_path;
+  cookie_settings = same.cookie_settings;
   request_fields = same.request_fields;
+  body = same.body;
   moment = same.moment;
+  reads_chunks = same.reads_chunks;
   client = same.client;
   dispatches = same.dispatches;
 }
@@ -64,8 +73,11 @@ made_unchanged change x =
       record {
         method = same.method;
         context_path = same.context_path;
+        cookie_settings = same.cookie_settings;
         request_fields = same.request_fields;
+        body = same.body;
         moment = same.moment;
+        reads_chunks = same.reads_chunks;
         client = same.client;
         dispatches = same.dispatches;
       },
@@ -83,8 +95,11 @@ called_unchanged x y changing =
       record {
         method = same.method;
         context_path = same.context_path;
+        cookie_settings = same.cookie_settings;
         request_fields = same.request_fields;
+        body = same.body;
         moment = same.moment;
+        reads_chunks = same.reads_chunks;
         client = same.client;
         dispatches = same.dispatches;
       },
@@ -118,9 +133,9 @@ pub left_account : (y z : Exchange) → Leaves y z → SameAccount y z
 left_account y z left = (sym (ap (λ e. e.calls) left.1), sym (ap (λ e. e.kept) left.1))
 
 -- what the beginning and the end of a dispatch leave as it is
-pub emptied_request : (kind : Kind) (x : Exchange) → SameRequest x (emptied_for kind x)
+pub emptied_request : (kind : Kind) (x : Exchange) → KeepsRequest x (emptied_for kind x)
 emptied_request kinds.Request x = same_request x x refl
-emptied_request kinds.Forward x = record { method = refl; context_path = refl; request_fields = refl; moment = refl; client = refl; dispatches = refl }
+emptied_request kinds.Forward x = record { method = refl; context_path = refl; cookie_settings = refl; request_fields = refl; body = refl; moment = refl; reads_chunks = refl; client = refl; dispatches = refl }
 emptied_request kinds.Include x = same_request x x refl
 emptied_request kinds.Error x = same_request x x refl
 
@@ -133,7 +148,7 @@ emptied_head kinds.Error x = (refl, refl)
 unless : (committed : Bool) (x : Exchange) → Unchanged x (if committed then x else record x { buffer = [] })
 unless true x = unchanged_same x
 unless false x =
-    (record { method = refl; context_path = refl; request_fields = refl; moment = refl; client = refl; dispatches = refl }, λ h. (refl, refl))
+    (record { method = refl; context_path = refl; cookie_settings = refl; request_fields = refl; body = refl; moment = refl; reads_chunks = refl; client = refl; dispatches = refl }, λ h. (refl, refl))
 
 pub emptied_unchanged : (x : Exchange) → Unchanged x (emptied x)
 emptied_unchanged x = unless x.committed x

@@ -18,7 +18,7 @@ use Rattle.sv_tree.specs.Faults.{fault_name}
 use Rattle.sv_tree.specs.Files as files
 use Rattle.sv_tree.specs.Filters as filters
 use Rattle.sv_tree.specs.Filters.{Reached, after_of, before_of}
-use Rattle.sv_tree.specs.Laws.{EndingsAreKept, IncludesEndInNoError, KeepsEnding, SameRequest, is_error}
+use Rattle.sv_tree.specs.Laws.{EndingsAreKept, GoesWith, IncludesEndInNoError, KeepsEnding, KeepsRequest, is_error}
 use Rattle.sv_tree.specs.Site.{Resource, Servlet, Files, FileAnswer, File, Redirect, Missing, NotAllowed, Site, begun, chosen, name_of}
 use Rattle.sv_tree.specs.State.{Exchange, KeptError, KeptField, State, Standing, Serving, Gone, Away, away_for, counted, is_full, on_exchange, standing_at, with_exchange, with_kept}
 use Rattle.sv_tree.specs.Tree as tree
@@ -44,7 +44,8 @@ module _ (site : Site) (P : State → Finished → Type 0) where
   pub record Settles : Type 0 where
     pub done : (x : State) → P x Done
     pub fails : (x : State) (resource : Resource) (kind text : List ℕ) → P (with_kept (kept_as site resource INTERNAL_SERVER_ERROR text None) x) (Failed kind text)
-    pub errs : (x : State) (resource : Resource) (status : ℕ) (text : List ℕ) (field : Option KeptField) → is_within_include x.exchange ≡ false
+    pub errs : (x : State) (resource : Resource) (status : ℕ) (text : List ℕ) (field : Option KeptField) → GoesWith status field
+        → is_within_include x.exchange ≡ false
         → P (with_kept (kept_as site resource status text field) x) (Error status text)
     pub stays : (x y : State) (finished : Finished) → y.exchange.kept ≡ x.exchange.kept → y.exchange.dispatches ≡ x.exchange.dispatches → P x finished → P y finished
     pub leaves : (x : State) (z : Exchange) (finished : Finished) → Leaves x.exchange z → P x finished → P (with_exchange z x) finished
@@ -112,18 +113,21 @@ module _ (site : Site) (P : State → Finished → Type 0) where
     faults_ends : (resource : Resource) (fault : DispatchFault) → Ends (endings.faults site resource fault)
     faults_ends resource fault = fails_ends resource (fault_name fault) (fault_name fault)
 
-    errs_ends : (resource : Resource) (status : ℕ) (text : List ℕ) (field : Option KeptField) → Ends (endings.errs site resource status text field)
-    errs_ends resource status text field x y r finished h =
+    errs_ends : (resource : Resource) (status : ℕ) (text : List ℕ) (field : Option KeptField) → GoesWith status field
+        → Ends (endings.errs site resource status text field)
+    errs_ends resource status text field goes x y r finished h =
         let kept = kept_as site resource status text field in
         chosen_then (is_within_include x.exchange) (gives Done) (endings.keeps kept >> gives (Error status text)) x y r (Some finished)
         (λ _ done. done_ends x y r finished done)
-        (λ outside done. kept_ends kept (Error status text) x y r finished (law.errs x resource status text field outside) done) h
+        (λ outside done. kept_ends kept (Error status text) x y r finished (law.errs x resource status text field goes outside) done) h
 
     missing_ends : (resource : Resource) → Ends (endings.is_missing site resource)
-    missing_ends resource = errs_ends resource NOT_FOUND (phrase_of NOT_FOUND) None
+    missing_ends resource = errs_ends resource NOT_FOUND (phrase_of NOT_FOUND) None tt
 
     away_ends : (resource : Resource) (seconds : ℕ) → Ends (endings.is_away_for site resource seconds)
-    away_ends resource seconds = errs_ends resource SERVICE_UNAVAILABLE (phrase_of SERVICE_UNAVAILABLE) (Some record { name = codes "retry-after"; value = decimal seconds })
+    away_ends resource seconds =
+        errs_ends resource SERVICE_UNAVAILABLE (phrase_of SERVICE_UNAVAILABLE) (Some record { name = codes "retry-after"; value = decimal seconds })
+        (inr (refl, refl, (seconds, refl)))
 
     sends_ends : (content_type bytes : List ℕ) → Ends (files.Sends site content_type bytes)
     sends_ends content_type bytes =
@@ -150,7 +154,9 @@ module _ (site : Site) (P : State → Finished → Type 0) where
     filed_ends kind (File content_type bytes) = sends_ends content_type bytes
     filed_ends kind (Redirect location) = sends_to_ends location
     filed_ends kind Missing = misses_ends kind
-    filed_ends kind NotAllowed = errs_ends Files METHOD_NOT_ALLOWED (phrase_of METHOD_NOT_ALLOWED) (Some record { name = codes "allow"; value = codes "GET, HEAD" })
+    filed_ends kind NotAllowed =
+        errs_ends Files METHOD_NOT_ALLOWED (phrase_of METHOD_NOT_ALLOWED) (Some record { name = codes "allow"; value = codes "GET, HEAD" })
+        (inl (refl, refl, refl))
 
     gated_ends : (resource : Resource) (passed : List ℕ) (gate : Gate) (next : Does Reached) → FiltersEnd next → FiltersEnd (filters.Gated site resource passed gate next)
     gated_ends resource passed gates.Pass next h = h
@@ -195,7 +201,7 @@ module _ (site : Site) (P : State → Finished → Type 0) where
       stepped_ends place (steps.Forward text) = last_ends (tree.Dispatches site room inner place kinds.Forward text) (dispatches_ends place kinds.Forward text)
       stepped_ends place (steps.Include text) = included_ends place text
       stepped_ends place (steps.Error code text) =
-          last_ends (endings.errs site (Servlet place) (error_status code) text None) (errs_ends (Servlet place) (error_status code) text None)
+          last_ends (endings.errs site (Servlet place) (error_status code) text None) (errs_ends (Servlet place) (error_status code) text None tt)
       stepped_ends place (steps.Failed kind text) = last_ends (endings.fails site (Servlet place) kind text) (fails_ends (Servlet place) kind text)
       stepped_ends place (steps.Unavailable None) =
           then_turn (destroys place) (λ _. last (endings.is_missing site (Servlet place))) (λ _. last_ends (endings.is_missing site (Servlet place)) (missing_ends (Servlet place)))
@@ -306,7 +312,7 @@ module _ (site : Site) (P : State → Finished → Type 0) where
 
     -- what holds of the end of a dispatch by what it shows until then
     pub inside_ends : (R : Finished → Type 0) (room : ℕ) (kind : Kind) (canon : Canon) (x y : State) (r : List Record) (finished : Finished)
-        → ((between : State) → SameRequest (begun site kind canon x.exchange) between.exchange → P between finished → R finished)
+        → ((between : State) → KeepsRequest (begun site kind canon x.exchange) between.exchange → P between finished → R finished)
         → Tree site room kind canon x r y (Some finished) → R finished
     unfolding Tree
     inside_ends R zero kind canon x y r finished from h = absurd h
@@ -339,7 +345,7 @@ no_error : (site : Site) → Settles site NoError
 no_error site = record {
   done = λ x within. refl;
   fails = λ x resource kind text within. refl;
-  errs = λ x resource status text field outside within. outside_within (is_within_include x.exchange) outside within;
+  errs = λ x resource status text field goes outside within. outside_within (is_within_include x.exchange) outside within;
   stays = λ x y finished kept same h within. h (still_within y.exchange x.exchange (sym same) within);
   leaves = λ x z finished left h within. h (within_left x.exchange z left within);
 }
@@ -350,17 +356,17 @@ includes_end_in_no_error site room kind canon x y r finished included h =
     (λ between same ends. ends (still_within (begun site kind canon x.exchange) between.exchange same.dispatches (within_begun site kind canon x.exchange included))) h
 
 -- the error that is kept is that of the end
-abbrev IsEndKept : State → Finished → Type 0
-IsEndKept x finished = KeepsEnding finished x.exchange.kept
+abbrev IsEndKept : Site → State → Finished → Type 0
+IsEndKept site x finished = KeepsEnding site finished x.exchange.kept
 
-end_kept : (site : Site) → Settles site IsEndKept
+end_kept : (site : Site) → Settles site (IsEndKept site)
 end_kept site = record {
   done = λ x. tt;
-  fails = λ x resource kind text. (refl, refl);
-  errs = λ x resource status text field outside. (refl, refl);
-  stays = λ x y finished kept same h. subst (KeepsEnding finished) (sym kept) h;
-  leaves = λ x z finished left h. subst (KeepsEnding finished) (sym (left_account x.exchange z left).1) h;
+  fails = λ x resource kind text. (refl, refl, (resource, refl), tt);
+  errs = λ x resource status text field goes outside. (refl, refl, (resource, refl), goes);
+  stays = λ x y finished kept same h. subst (KeepsEnding site finished) (sym kept) h;
+  leaves = λ x z finished left h. subst (KeepsEnding site finished) (sym (left_account x.exchange z left).1) h;
 }
 
 pub endings_are_kept : (site : Site) → EndingsAreKept site
-endings_are_kept site room kind canon x y r finished h = tree_ends site IsEndKept (end_kept site) room kind canon x y r finished h
+endings_are_kept site room kind canon x y r finished h = tree_ends site (IsEndKept site) (end_kept site) room kind canon x y r finished h

@@ -10,7 +10,7 @@ use Rattle.sv_exchange.specs.Keeping as counting
 use Rattle.sv_journal.specs.declared.event.Event.{Event}
 use Rattle.sv_mapping.specs.declared.kind.Kind.{Kind}
 use Rattle.sv_mapping.specs.declared.kind.Kind.TheVariants as kinds
-use Rattle.sv_tree.specs.Laws.{AreWithin, DispatchesEnd, DispatchesNest, SameRequest}
+use Rattle.sv_tree.specs.Laws.{AreWithin, DispatchesEnd, DispatchesNest, KeepsRequest}
 use Rattle.sv_tree.specs.Site.{Site, begun, chosen, paths_in}
 use Rattle.sv_tree.specs.State.{Exchange, State, counted}
 use Rattle.sv_tree.specs.Telling.{all_told}
@@ -24,19 +24,22 @@ use Rattle.sv_uri.specs.declared.path.Canon.{Canon}
 
 -- what an exchange shows stays
 abbrev pub Shows : ℕ → State → List Record → State → Bool → Type 0
-Shows room x r y b = b ≡ true → SameRequest x.exchange y.exchange
+Shows room x r y b = b ≡ true → KeepsRequest x.exchange y.exchange
 
 module _ (site : Site) where
   -- a dispatch, from its beginning to its end
-  dispatch_shows : (kind : Kind) (canon : Canon) (x y z : Exchange) → SameRequest (begun site kind canon x) y → Leaves y z
-      → SameRequest record x { client = client_in kind (paths_in site canon x) x.client } z
+  dispatch_shows : (kind : Kind) (canon : Canon) (x y z : Exchange) → KeepsRequest (begun site kind canon x) y → Leaves y z
+      → KeepsRequest record x { client = client_in kind (paths_in site canon x) x.client } z
   dispatch_shows kind canon x y z same left =
       let from = request_then (entered kind (paths_in site canon x) x) (begun site kind canon x) y (emptied_request kind (entered kind (paths_in site canon x) x)) same in
       record {
         method = sym (ap (λ e. e.method) left.1) ∙ from.method;
         context_path = sym (ap (λ e. e.context_path) left.1) ∙ from.context_path;
+        cookie_settings = sym (ap (λ e. e.cookie_settings) left.1) ∙ from.cookie_settings;
         request_fields = sym (ap (λ e. e.request_fields) left.1) ∙ from.request_fields;
+        body = sym (ap (λ e. e.body) left.1) ∙ from.body;
         moment = sym (ap (λ e. e.moment) left.1) ∙ from.moment;
+        reads_chunks = sym (ap (λ e. e.reads_chunks) left.1) ∙ from.reads_chunks;
         client = sym (ap (λ e. e.client) left.1) ∙ from.client;
         dispatches = same_dispatches site kind canon x y z same.dispatches left;
       }
@@ -48,8 +51,11 @@ module _ (site : Site) where
     ends = λ x y z r h left b. let same = dispatch_shows kind canon x.exchange y.exchange z (h refl) left in record {
       method = same.method;
       context_path = same.context_path;
+      cookie_settings = same.cookie_settings;
       request_fields = same.request_fields;
+      body = same.body;
       moment = same.moment;
+      reads_chunks = same.reads_chunks;
       client = same.client ∙ client canon x.exchange;
       dispatches = same.dispatches;
     };
@@ -61,7 +67,7 @@ module _ (site : Site) where
     stays = λ room x b came. same_request x.exchange x.exchange refl;
     joins = λ room x y z r s b one two came. request_then x.exchange y.exchange z.exchange (one refl) (two came);
     keeps = λ room x kept came.
-        record { method = refl; context_path = refl; request_fields = refl; moment = refl; client = refl; dispatches = refl };
+        record { method = refl; context_path = refl; cookie_settings = refl; request_fields = refl; body = refl; moment = refl; reads_chunks = refl; client = refl; dispatches = refl };
     makes = λ room x change own came. (made_unchanged change x.exchange).0;
     empties = λ room x came. (emptied_unchanged x.exchange).0;
     breaks = λ room x place turn step e left serving changes came. (called_unchanged x.exchange e changes).0;
@@ -83,7 +89,7 @@ module _ (site : Site) where
 
   abbrev Lasts : Kind → Canon → State → List Record → State → Bool → Type 0
   Lasts kind canon x r y b = b ≡ true
-      → SameRequest record x.exchange { client = client_in kind (paths_in site canon x.exchange) x.exchange.client } y.exchange
+      → KeepsRequest record x.exchange { client = client_in kind (paths_in site canon x.exchange) x.exchange.client } y.exchange
 
   pub dispatches_end : DispatchesEnd site
   dispatches_end room kind canon x y r finished h =

@@ -1,5 +1,5 @@
 -- What holds of every dispatch, and of every answer to a request (Jakarta Servlet 6.0, chapters 2, 6 and 9).
-use Rattle.std.specs.Prelude.{◌≡◌, ◌⊎◌, ℕ, ◌+◌, ◌≤◌, ◌==◌, Bool, true, false, ◌||◌, List, [], ◌∷◌, ◌++◌, length, not, Option, None, Some, slice_set, if◌then◌else◌}
+use Rattle.std.specs.Prelude.{◌≡◌, ◌⊎◌, ℕ, ◌+◌, ◌≤◌, ◌==◌, Bool, true, false, ◌||◌, List, [], ◌∷◌, ◌++◌, codes, decimal, length, not, Option, None, Some, slice_set, if◌then◌else◌}
 use Rattle.std.specs.List.{filter, flat_map}
 use Rattle.sv_component.specs.Call.{Destroyed, Entered, Left, Serviced}
 use Rattle.sv_component.specs.Runs.{Record, OfFilter, OfListener, OfServlet}
@@ -16,13 +16,13 @@ use Rattle.sv_session.specs.Store.{IsOrderly}
 use Rattle.sv_tree.specs.Does.{gives, makes}
 use Rattle.sv_tree.specs.Moving.{IsMoved, MovesSessions}
 use Rattle.sv_tree.specs.Served.{Served, ShowsError}
-use Rattle.sv_tree.specs.Site.{Site, paths_in}
-use Rattle.sv_tree.specs.State.{Exchange, KeptError, State, Standing, Serving, Gone, Away, moment_after, standing_at}
+use Rattle.sv_tree.specs.Site.{Resource, Site, name_of, paths_in}
+use Rattle.sv_tree.specs.State.{Exchange, KeptError, KeptField, State, Standing, Serving, Gone, Away, moment_after, standing_at}
 use Rattle.sv_tree.specs.Telling.{all_told, hears}
 use Rattle.sv_tree.specs.Tree.{Tree}
 use Rattle.sv_tree.specs.declared.finished.Finished.{Finished}
 use Rattle.sv_tree.specs.declared.finished.Finished.TheVariants.{Done, Error, Failed}
-use Rattle.sv_tree.specs.declared.limits.TheConstants.{INTERNAL_SERVER_ERROR, MAX_CALLS, MAX_NESTING}
+use Rattle.sv_tree.specs.declared.limits.TheConstants.{INTERNAL_SERVER_ERROR, MAX_CALLS, MAX_NESTING, METHOD_NOT_ALLOWED, SERVICE_UNAVAILABLE}
 use Rattle.sv_uri.specs.declared.path.Canon.{Canon}
 
 -- a dispatch is decided by its calls, with the answers and the exchanges that they left: what it leaves, and how it ends
@@ -156,11 +156,14 @@ AnswersOnce site =
 
 -- the request and the dispatches under way are the same, and so is all that an exchange shows of them: its kind, its paths and query, and
 -- the attributes that dispatches set
-pub record SameRequest (before after : Exchange) : Type 0 where
+pub record KeepsRequest (before after : Exchange) : Type 0 where
   pub method : after.method ≡ before.method
   pub context_path : after.context_path ≡ before.context_path
+  pub cookie_settings : after.cookie_settings ≡ before.cookie_settings
   pub request_fields : after.request_fields ≡ before.request_fields
+  pub body : after.body ≡ before.body
   pub moment : after.moment ≡ before.moment
+  pub reads_chunks : after.reads_chunks ≡ before.reads_chunks
   pub client : after.client ≡ before.client
   pub dispatches : after.dispatches ≡ before.dispatches
 
@@ -169,7 +172,7 @@ abbrev pub DispatchesEnd : Site → Type 0
 DispatchesEnd site =
     (room : ℕ) (kind : Kind) (canon : Canon) (before after : State) (calls : List Record) (finished : Finished)
     → Tree site room kind canon before calls after (Some finished)
-    → SameRequest
+    → KeepsRequest
     record before.exchange { client = client_in kind (paths_in site canon before.exchange) before.exchange.client }
     after.exchange
 
@@ -198,22 +201,31 @@ IncludesEndInNoError site =
     → Tree site room kind canon before calls after (Some finished)
     → is_error finished ≡ false
 
--- that error is kept, with that status and that text
-abbrev pub IsKept : ℕ → List ℕ → Option KeptError → Type 0
-IsKept status text None = ⊥
-IsKept status text (Some kept) = (kept.status ≡ status) × (kept.text ≡ text)
+-- the field that goes with an error's status, where there is one: the methods that a file allows, or the seconds for which a servlet is away (RFC 9110,
+-- sections 10.2.1 and 10.2.3)
+abbrev pub GoesWith : ℕ → Option KeptField → Type 0
+GoesWith status None = Unit {0}
+GoesWith status (Some field) =
+    ((status ≡ METHOD_NOT_ALLOWED) × (field.name ≡ codes "allow") × (field.value ≡ codes "GET, HEAD"))
+    ⊎ ((status ≡ SERVICE_UNAVAILABLE) × (field.name ≡ codes "retry-after") × ((seconds : ℕ) × (field.value ≡ decimal seconds)))
 
-abbrev pub KeepsEnding : Finished → Option KeptError → Type 0
-KeepsEnding Done kept = Unit {0}
-KeepsEnding (Error status text) kept = IsKept status text kept
-KeepsEnding (Failed kind text) kept = IsKept INTERNAL_SERVER_ERROR text kept
+-- that error is kept, with that status and that text, the name of the servlet in which it arose, and no other field than one that goes with the status
+abbrev pub IsKept : Site → ℕ → List ℕ → Option KeptError → Type 0
+IsKept site status text None = ⊥
+IsKept site status text (Some kept) =
+    (kept.status ≡ status) × (kept.text ≡ text) × ((resource : Resource) × (kept.servlet ≡ Some (name_of site resource))) × GoesWith status kept.field
+
+abbrev pub KeepsEnding : Site → Finished → Option KeptError → Type 0
+KeepsEnding site Done kept = Unit {0}
+KeepsEnding site (Error status text) kept = IsKept site status text kept
+KeepsEnding site (Failed kind text) kept = IsKept site INTERNAL_SERVER_ERROR text kept
 
 -- the error that is kept is the one in which the dispatch ended
 abbrev pub EndingsAreKept : Site → Type 0
 EndingsAreKept site =
     (room : ℕ) (kind : Kind) (canon : Canon) (before after : State) (calls : List Record) (finished : Finished)
     → Tree site room kind canon before calls after (Some finished)
-    → KeepsEnding finished after.exchange.kept
+    → KeepsEnding site finished after.exchange.kept
 
 -- a `before` or a `service` that finds so much written
 abbrev pub Finds : List ℕ → Record → Type 0

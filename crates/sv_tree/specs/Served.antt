@@ -72,11 +72,12 @@ module _ (site : Site) where
     wants_memory
     sees λ state. Pages status (kept_field state.exchange.kept) (site.page status kind)
 
-  -- the answer to an error that no dispatch brought up: its text is the phrase of its status, and no servlet and no field go with it
+  -- the answer to an error that no dispatch brought up: its text is the phrase of its status, and no servlet and no field go with it; a committed
+  -- answer breaks off
   abbrev pub ShowsError : ℕ → Option Canon → Does (Unit {0})
   ShowsError status page = do
     keeps record { status = status; text = phrase_of status; servlet = None; field = None }
-    Pages status None page
+    unless_committed (Pages status None page)
 
   abbrev pub Settled : Finished → Does (Unit {0})
   Settled Done = gives tt

@@ -4,7 +4,7 @@ use Rattle.sv_dispatch.specs.Did.{seen}
 use Rattle.sv_exchange.specs.declared.kept_error.KeptError.{KeptError}
 use Rattle.sv_site.specs.Site.{site_of}
 use Rattle.sv_wire.specs.ResponseText.{phrase_of}
-use Rattle.sv_served.proofs.ContextDeeds.{error_not, error_so}
+use Rattle.sv_served.proofs.ContextDeeds.{error_broken, error_not, error_so}
 use Rattle.sv_served.proofs.ExchangeDeeds.{keeps_not, keeps_so}
 use Rattle.sv_served.proofs.pages.show_error.Goals as goal
 
@@ -18,11 +18,20 @@ returns-in_default-clause-does g c =
     c.args.exchange.now c.keep_error.new.self (ap (said c.args.status) c.phrase_of.ensures)
     (keeps_not (said c.args.status c.phrase_of.result.now) c.args.exchange.now c.keep_error.new.self c.in_default.ensures.refused)
 
+pub returns-then-committed-clause-does : goal.returns-then-committed-clause-does
+returns-then-committed-clause-does g c =
+    error_broken g.S.Servlet.servlet_step g.F.Filter.filter_step g.L.Listener.listener_step (site_of c.args.site.now)
+    c.args.live.now c.args.live.now c.args.journal.now c.args.journal.now c.args.status (option_copied c.args.page) (said c.args.status c.phrase_of.result.now)
+    c.args.exchange.now c.keep_error.new.self c.break_off.new.self (ap (said c.args.status) c.phrase_of.ensures)
+    c.committed.result c.committed.ensures c.if-committed.true
+    (keeps_so (said c.args.status c.phrase_of.result.now) c.args.exchange.now c.keep_error.new.self c.in-Ok.ensures.kept) c.break_off.ensures
+
 pub returns-clause-does : goal.returns-clause-does
 returns-clause-does g c =
     error_so g.S.Servlet.servlet_step g.F.Filter.filter_step g.L.Listener.listener_step (site_of c.args.site.now)
     c.args.live.now c.show.new.live c.args.journal.now c.show.new.journal c.args.status (option_copied c.args.page) (said c.args.status c.phrase_of.result.now)
     c.args.exchange.now c.keep_error.new.self (ap (said c.args.status) c.phrase_of.ensures) c.show.new.exchange (seen c.show.result)
+    c.committed.result c.committed.ensures c.if-committed.false
     (keeps_so (said c.args.status c.phrase_of.result.now) c.args.exchange.now c.keep_error.new.self c.in-Ok.ensures.kept) c.show.ensures.does
 
 pub returns-then-not-whole-clause-does : goal.returns-then-not-whole-clause-does
