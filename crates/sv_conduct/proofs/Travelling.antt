@@ -13,8 +13,6 @@ use Rattle.sv_journal.specs.declared.entry.Entry.TheVariants as entries
 use Rattle.sv_journal.specs.declared.refusal_cause.RefusalCause.{RefusalCause}
 use Rattle.sv_policy.specs.declared.edit.Edit.{Edit}
 use Rattle.sv_policy.specs.declared.edit_fault.EditFault.{EditFault}
-use Rattle.sv_run.proofs.Callers.{runs_on, stopped_stays}
-use Rattle.sv_run.proofs.Outcomes.{all_append}
 use Rattle.sv_run.proofs.Taking.{either}
 use Rattle.sv_run.specs.Contexts.{Handling, Theory}
 use Rattle.sv_run.specs.Editing.{EditsIn, place_with}
@@ -35,6 +33,27 @@ use Rattle.sv_wire.specs.declared.message.Message.{Message as MessageRecord}
 use Rattle.sv_wire.specs.declared.message.Target.{Target}
 use Rattle.sv_wire.specs.declared.message.Target.TheVariants.{Star, Path}
 use Rattle.sv_conduct.specs.Record.{calls_of, is_call, outcomes_of}
+
+all_append : {X : Type 0} (P : X → Type 0) (xs ys : List X) → AllByRecursion P xs → AllByRecursion P ys → AllByRecursion P (xs ++ ys)
+all_append P [] ys first second = second
+all_append P (x ∷ xs) ys first second = (first.0, all_append P xs ys first.1 second)
+
+-- no container is stopped and runs
+runs_on : {b : Bool} → b ≡ true → b ≡ false → ⊥
+runs_on is not = absurd (cc)
+
+-- a container that is stopped stays so
+stopped_stays : {Context Words : Type 0} (theory : Theory Context Words) (before after : State Context Words) (happenings : List Happening) (answers : List (Answer Context))
+    → Run theory before happenings answers after → before.stopped ≡ true → after.stopped ≡ true
+stopped_stays theory before after [] [] run stopped = ap (λ s. s.stopped) run ∙ stopped
+stopped_stays theory before after [] (answer ∷ answers) run stopped = absurd run
+stopped_stays theory before after (happening ∷ happenings) [] run stopped = absurd run
+stopped_stays theory before after (happening ∷ happenings) (Ok effect ∷ answers) run stopped = absurd (runs_on stopped run.1.runs)
+stopped_stays {Context} {Words} theory before after (happening ∷ happenings) (Err Stopped ∷ answers) run stopped =
+    stopped_stays theory run.0 after happenings answers run.2 (ap (λ (s : State Context Words). s.stopped) run.1.1 ∙ stopped)
+stopped_stays theory before after (happening ∷ happenings) (Err BadConnection ∷ answers) run stopped = absurd (runs_on stopped run.1.runs)
+stopped_stays theory before after (happening ∷ happenings) (Err TooManyConnections ∷ answers) run stopped = absurd (runs_on stopped run.1.runs)
+stopped_stays theory before after (happening ∷ happenings) (Err NoMemory ∷ answers) run stopped = absurd (runs_on stopped run.1.runs)
 
 -- ---- places
 
