@@ -1,0 +1,3 @@
+mod Items
+mod LineEnds
+mod OwnTexts
