@@ -29,10 +29,10 @@ use Rattle.sv_wire.specs.Next.{HoldsText}
 use Rattle.sv_wire.specs.Reads.{IsJudged, ReadsHead, Reads, Start, Starts, StartsAt, StartsBehind, StartsBody, after_body, awaits, cut_head, gives, has_too_many_lines, text_of, with_body}
 use Rattle.sv_wire.proofs.ReadsLemmas.{settled, IsSettled, ReadsHead-unique, cut_holds}
 use Rattle.sv_wire.proofs.EmptyLinesLemmas.{drop_empty_lines_twice}
-use Rattle.sv_part_bound.proofs.LineEnds.{AreLineEnds, EndsInLineEnds, IsLineEnd, ends_so_behind, part_ends_so, parts_end_so}
+use Rattle.sv_part_bound.proofs.LineEnds.{AreLineEnds, EndsInLineEnds, HasLineEndsBehind, IsLineEnd, ends_so_behind, part_ends_so, parts_end_so}
 use Rattle.sv_part_bound.proofs.OwnTexts.{body_ends, body_owns}
 use Rattle.sv_part_bound.specs.Bound.{AreFew, PartsCompleteLittle, is_call_to_continue, is_message}
-use Rattle.sv_sockets.specs.Parts.{IsPart, is_line_end}
+use Rattle.sv_sockets.specs.Parts.{is_line_end}
 
 -- at most so many messages and so many calls to continue, and a refusal as the last alone
 abbrev pub AreAtMost : ℕ → ℕ → List Item → Type 0
@@ -79,7 +79,8 @@ no_head text head ends (valid, is) =
 
 -- ---- what stands behind a head
 
-by_match : {P Q C : Type 0} (t : Bool) → (P → C) → (Q → C) → MatchBool t P Q → C
+-- what follows from both, follows
+pub by_match : {P Q C : Type 0} (t : Bool) → (P → C) → (Q → C) → MatchBool t P Q → C
 by_match true first second holds = first holds
 by_match false first second holds = second holds
 
@@ -276,10 +277,10 @@ two_with_body owed held part item items next behind left rest ends (body, reads,
 
 -- ---- what was held
 
-abbrev IsHeld : Option OwedHead → List ℕ → Type 0
+abbrev pub IsHeld : Option OwedHead → List ℕ → Type 0
 IsHeld owed rest = (text_of owed rest ≡ rest) × Starts owed rest awaits
 
-is_held : (before : Option OwedHead) (stream : List ℕ) (first : List Item) (owed : Option OwedHead) (rest : List ℕ) → Reads before stream first owed rest
+pub is_held : (before : Option OwedHead) (stream : List ℕ) (first : List Item) (owed : Option OwedHead) (rest : List ℕ) → Reads before stream first owed rest
     → IsHeld owed rest
 is_held before stream [] owed rest (same, is, starts) =
     (ap (text_of owed) is ∙ by_owed before stream owed same ∙ sym is, subst (λ o. Starts o rest awaits) (sym same) starts)
@@ -292,8 +293,8 @@ is_held before stream (item ∷ items) owed rest (next, behind, starts, on) =
     (λ (none, owes, holds). subst (λ o. IsHeld o rest) (sym owes) (subst (IsHeld None) (sym holds) (refl, refl)))
     (λ later. is_held next behind items owed rest later) on
 
-part_completes : (owed : Option OwedHead) (held part : List ℕ) (items : List Item) (left : Option OwedHead) (rest : List ℕ) → IsHeld owed held → IsPart part
-    → Reads owed (held ++ part) items left rest → AreAtMost 2 1 items
+pub part_completes : (owed : Option OwedHead) (held part : List ℕ) (items : List Item) (left : Option OwedHead) (rest : List ℕ) → IsHeld owed held
+    → HasLineEndsBehind part → Reads owed (held ++ part) items left rest → AreAtMost 2 1 items
 part_completes owed held part [] left rest is_so is reads = tt
 part_completes (Some owed) held part (item ∷ items) left rest (whole, awaiting) is (next, behind, starts, on) =
     two_with_body owed held part item items next behind left rest (part_ends_so part is) awaiting starts on
@@ -340,7 +341,7 @@ few_messages messages calls (Message message ∷ items) (n, is, few) =
 few_messages messages calls (Continue ∷ items) (n, is, few) = omega (arith, few_messages messages n items few)
 few_messages messages calls (Refuse fault ∷ items) none = subst (λ is. count_by is_message is ≤ messages) (sym none) (omega arith)
 
-few_calls : (messages calls : ℕ) (items : List Item) → AreAtMost messages calls items → count_by is_call_to_continue items ≤ calls
+pub few_calls : (messages calls : ℕ) (items : List Item) → AreAtMost messages calls items → count_by is_call_to_continue items ≤ calls
 few_calls messages calls [] few = omega arith
 few_calls messages calls (Message message ∷ items) (n, is, few) = omega (arith, few_calls n calls items few)
 few_calls messages calls (Continue ∷ items) (n, is, few) =
@@ -348,6 +349,18 @@ few_calls messages calls (Continue ∷ items) (n, is, few) =
     sum_by-append (λ i. cond (is_call_to_continue i) 1 0) (Continue ∷ []) items in
     omega (arith, is, one_more, few_calls messages n items few)
 few_calls messages calls (Refuse fault ∷ items) none = subst (λ is. count_by is_call_to_continue is ≤ calls) (sym none) (omega arith)
+
+-- but for the calls, they are no more than the messages and a refusal
+pub few_in_all : (messages calls : ℕ) (items : List Item) → AreAtMost messages calls items
+    → length items ≤ count_by is_call_to_continue items + messages + 1
+few_in_all messages calls [] few = omega arith
+few_in_all messages calls (Message message ∷ items) (n, is, few) = omega (arith, is, few_in_all n calls items few)
+few_in_all messages calls (Continue ∷ items) (n, is, few) =
+    let one_more : count_by is_call_to_continue (Continue ∷ items) ≡ 1 + count_by is_call_to_continue items =
+    sum_by-append (λ i. cond (is_call_to_continue i) 1 0) (Continue ∷ []) items in
+    omega (arith, is, one_more, few_in_all messages n items few)
+few_in_all messages calls (Refuse fault ∷ items) none =
+    subst (λ is. length (Refuse fault ∷ is) ≤ count_by is_call_to_continue (Refuse fault ∷ is) + messages + 1) (sym none) (omega arith)
 
 refusal_last : (messages calls : ℕ) (items front behind : List Item) (fault : WireFault) → AreAtMost messages calls items
     → items ≡ front ++ Refuse fault ∷ behind → behind ≡ []
@@ -375,4 +388,4 @@ are_few items few = record {
 
 pub parts_complete_little : PartsCompleteLittle
 parts_complete_little before stream first owed rest part items left after reads is completes =
-    are_few items (part_completes owed rest part items left after (is_held before stream first owed rest reads) is completes)
+    are_few items (part_completes owed rest part items left after (is_held before stream first owed rest reads) is.1 completes)

@@ -1,3 +1,4 @@
 mod Items
 mod LineEnds
 mod OwnTexts
+mod Pieces

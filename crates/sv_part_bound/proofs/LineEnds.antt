@@ -4,11 +4,12 @@ use Rattle.std.specs.Prelude.{All}
 use Rattle.std.specs.List.{ends_with}
 use Rattle.std.specs.Cmp.Lexicographic.{same_text}
 use Rattle.std.proofs.lemmas.Bool.{and_from, cases_lt, eq-eqb, false≢true, or_cases, or_left, or_right}
-use Rattle.std.proofs.lemmas.List.{drop-drop, drop-take, drop_all, get_or-append-add, get_or-drop, get_or-take, length-drop, length-take-le, take-append-drop, take-append-le}
+use Rattle.std.proofs.lemmas.List.{drop-drop, drop-take, drop_all, get_or-append-add, get_or-drop, get_or-take, get_or_append_left, length-drop, length-take-le, take-append-drop, take-append-le, take_all}
 use Rattle.std.proofs.lemmas.List.Elements.{All-from_get_or, All-nil}
 use Rattle.sv_body.proofs.ListLemmas.{drop_behind, take_behind}
 use Rattle.sv_front.specs.Pieces.{begins_line, ends_empty_line, is_lone_return}
-use Rattle.sv_sockets.specs.Parts.{IsPart, is_line_end}
+use Rattle.sv_part_bound.specs.Bound.{PiecesAreParts}
+use Rattle.sv_sockets.specs.Parts.{is_line_end}
 use Rattle.sv_wire.specs.Head.{ends_head}
 
 abbrev pub IsLineEnd : ℕ → Type 0
@@ -103,7 +104,8 @@ module _ (front part : List ℕ) where
 
       by_line : 0 < place
           → ((1 ≤ length front + place) × (get_or (front ++ part) (length front + place - 1) 0 ≡ 10))
-          ⊎ ((2 ≤ length front + place) × (get_or (front ++ part) (length front + place - 1) 0 ≡ 13) × (get_or (front ++ part) (length front + place - 2) 0 ≡ 10))
+          ⊎ ((2 ≤ length front + place) × (get_or (front ++ part) (length front + place - 1) 0 ≡ 13)
+          × (get_or (front ++ part) (length front + place - 2) 0 ≡ 10))
           → (begins_line part place || is_lone_return part (place - 1)) ≡ true
       by_line some (inl (long, line)) =
           or_left (begins_line part place) _ (or_right (eqb place 0) _
@@ -120,6 +122,11 @@ module _ (front part : List ℕ) where
 
 -- ---- parts
 
+-- behind an empty line of the bytes, nothing but line ends
+abbrev pub HasLineEndsBehind : List ℕ → Type 0
+HasLineEndsBehind bytes =
+    (place later : ℕ) → ends_empty_line bytes place ≡ true → place < later → later < length bytes → is_line_end (get_or bytes later 0) ≡ true
+
 -- whether an empty line ends at a place of the front of some bytes
 front_ends : (bytes : List ℕ) (count place : ℕ) → place < count → ends_empty_line (take count bytes) place ≡ ends_empty_line bytes place
 front_ends bytes count place within =
@@ -129,7 +136,8 @@ front_ends bytes count place within =
     rw (here, before, further) refl
 
 -- behind some bytes, none of whose fronts ends a head, a part makes such a text
-pub parts_end_so : (front part : List ℕ) → IsPart part → ((k : ℕ) → k ≤ length front → ends_head (take k front) ≡ false) → EndsInLineEnds (front ++ part)
+pub parts_end_so : (front part : List ℕ) → HasLineEndsBehind part → ((k : ℕ) → k ≤ length front → ends_head (take k front) ≡ false)
+    → EndsInLineEnds (front ++ part)
 parts_end_so front part is none n ends = by_order (cases_lt (length front) n)
   where
     behind : (place : ℕ) → n ≡ length front + place + 1 → place < length part → AreLineEnds (drop n (front ++ part))
@@ -144,7 +152,7 @@ parts_end_so front part is none n ends = by_order (cases_lt (length front) n)
         subst AreLineEnds (sym (drop_behind front part n (place + 1) (omega (arith, at))))
         (All-from_get_or IsLineEnd (drop (place + 1) part) 0 (λ i below.
         ap is_line_end (get_or-drop (place + 1) part i 0)
-        ∙ is.1 place (place + 1 + i) whole (omega arith) (omega (arith, below, length-drop (place + 1) part))))
+        ∙ is place (place + 1 + i) whole (omega arith) (omega (arith, below, length-drop (place + 1) part))))
 
     by_inside : (length part < n - length front) ⊎ (n - length front ≤ length part) → length front < n → AreLineEnds (drop n (front ++ part))
     by_inside (inl past) some =
@@ -156,9 +164,24 @@ parts_end_so front part is none n ends = by_order (cases_lt (length front) n)
     by_order (inr early) =
         absurd (false≢true (sym (none n early) ∙ ap ends_head (sym (take-append-le n front part early)) ∙ ends))
 
-pub part_ends_so : (part : List ℕ) → IsPart part → EndsInLineEnds part
+pub part_ends_so : (part : List ℕ) → HasLineEndsBehind part → EndsInLineEnds part
 part_ends_so part is = parts_end_so [] part is none
   where
     none : (k : ℕ) → k ≤ 0 → ends_head (take k []) ≡ false
     none zero within = refl
     none (suc k) within = absurd (omega arith)
+
+-- it is so of the front of such bytes
+pub front_has_so : (front behind : List ℕ) → HasLineEndsBehind (front ++ behind) → HasLineEndsBehind front
+front_has_so front behind has place later is before below =
+    let cut : take (length front) (front ++ behind) ≡ front =
+    take-append-le (length front) front behind (omega arith) ∙ take_all (length front) front (omega arith) in
+    let whole : ends_empty_line (front ++ behind) place ≡ true =
+    sym (front_ends (front ++ behind) (length front) place (omega (arith, before, below))) ∙ ap (λ t. ends_empty_line t place) cut ∙ is in
+    ap is_line_end (sym (get_or_append_left front behind 0 later below))
+    ∙ has place later whole before (omega (arith, below, length-append front behind))
+
+-- bytes within which no empty line ends but with their last are a part
+pub pieces_are_parts : PiecesAreParts
+pieces_are_parts bytes (some, none) =
+    (some, λ place later is before below. absurd (false≢true (sym (none place (omega (arith, before, below))) ∙ is)))

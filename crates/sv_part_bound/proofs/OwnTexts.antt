@@ -196,7 +196,8 @@ end_after : (bytes : List ℕ) (size : ℕ) (whole text rest : List ℕ) → IsA
     → Owns (λ t r. IsAfterLine bytes size (last (complete whole r)) t) text rest
 end_after bytes size whole text rest = by_test (ltb MAX_BODY_LEN (length bytes + size)) refl
   where
-    by_end : (t : Bool) → last (complete whole rest) ≡ cond t (chunk (take size text) (drop (size + 2) text)) (last (broken BadChunk (drop (size + 2) text))) → ⊥
+    by_end : (t : Bool)
+        → last (complete whole rest) ≡ cond t (chunk (take size text) (drop (size + 2) text)) (last (broken BadChunk (drop (size + 2) text))) → ⊥
     by_end true same = absurd (cc)
     by_end false same = absurd (cc)
 

@@ -1,5 +1,6 @@
 -- How little a part of a stream completes, where behind an empty line of it nothing but line ends stands (RFC 9112, sections 2.1, 2.2 and 9.3).
 use Rattle.std.specs.Prelude.{◌≡◌, ℕ, ◌≤◌, Bool, true, false, List, [], ◌∷◌, ◌++◌, count_by, Option}
+use Rattle.sv_front.specs.Pieces.{IsPiece}
 use Rattle.sv_sockets.specs.Parts.{IsPart}
 use Rattle.sv_wire.specs.declared.item.Item.{Item}
 use Rattle.sv_wire.specs.declared.item.Item.TheVariants.{Continue, Message, Refuse}
@@ -29,3 +30,7 @@ PartsCompleteLittle =
     (before : Option OwedHead) (stream : List ℕ) (first : List Item) (owed : Option OwedHead) (rest part : List ℕ) (items : List Item)
     (left : Option OwedHead) (after : List ℕ)
     → Reads before stream first owed rest → IsPart part → Reads owed (rest ++ part) items left after → AreFew items
+
+-- bytes within which no empty line ends but with their last are a part
+abbrev pub PiecesAreParts : Type 0
+PiecesAreParts = (bytes : List ℕ) → IsPiece bytes → IsPart bytes
