@@ -1,0 +1,4 @@
+mod Items
+mod LineEnds
+mod OwnTexts
+mod Pieces
