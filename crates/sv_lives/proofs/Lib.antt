@@ -1,1 +1,4 @@
+mod Beginning
+mod Ending
 mod Living
+mod Outliving

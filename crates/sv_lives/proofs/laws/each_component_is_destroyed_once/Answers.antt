@@ -1,0 +1,5 @@
+use Rattle.sv_lives.proofs.Outliving.{each_is_destroyed_once}
+use Rattle.sv_lives.proofs.laws.each_component_is_destroyed_once.Goals as goal
+
+pub returns : goal.returns
+returns g c = each_is_destroyed_once g.S.Servlet.servlet_step g.F.Filter.filter_step g.L.Listener.listener_step g.row.W.Denot
