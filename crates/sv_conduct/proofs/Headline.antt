@@ -16,6 +16,7 @@ use Rattle.sv_context.specs.Answered.{Answers, Tells}
 use Rattle.sv_context.specs.Conduct.{asked_of, unnoted}
 use Rattle.sv_context.specs.Expiry.{Expires, ends_told}
 use Rattle.sv_context.specs.Handled.{admitted, exchange_begun, state_in}
+use Rattle.sv_context.specs.Motion.{edits_alone_by}
 use Rattle.sv_context.specs.State.{ContextState, world_of}
 use Rattle.sv_context.specs.Theory.{theory}
 use Rattle.sv_journal.specs.Journal.{JournalState, new_journal, with_entry}
@@ -29,12 +30,13 @@ use Rattle.sv_policy.specs.declared.edit.Edit.{Edit}
 use Rattle.sv_policy.specs.declared.edit_fault.EditFault.{EditFault}
 use Rattle.sv_run.specs.Contexts.{Handling}
 use Rattle.sv_run.specs.Effect.{Handled, whole}
-use Rattle.sv_run.specs.Lawful.{is_outcome}
+use Rattle.sv_run.specs.Lawful.{ChangesConstraintsByEdits, is_outcome}
 use Rattle.sv_site.specs.Site.{Content, site_of}
 use Rattle.sv_tree.specs.Does.{Does, ◌>>◌}
 use Rattle.sv_tree.specs.Site.{Site}
 use Rattle.sv_tree.specs.State.{State}
 use Rattle.sv_uri.specs.declared.path.Canon.{Canon}
+use Rattle.sv_conduct.proofs.Destined.{all_destined}
 use Rattle.sv_conduct.proofs.Outcomes.{record_silent}
 use Rattle.sv_conduct.proofs.Travelling as travelling
 use Rattle.sv_conduct.specs.Record.{EveryRunIsLawful, IsBecause, IsDoneBy, IsLawful, IsMovedBy, Otherwise, is_call, path_in}
@@ -256,11 +258,12 @@ module _ {S F L : Type 0} (ss : S → Call → S → Type 0) (fs : F → Call �
       is_moved None after calls went = went
       is_moved (Some first) after calls went = (went.0, went.1, moves (world_of first unnoted) (world_of went.0 unnoted) calls went.2)
 
-      pub every_run_is_lawful : EveryRunIsLawful ss fs ls draws
-      every_run_is_lawful before after happenings answers run runs =
+      pub every_run_is_lawful : ChangesConstraintsByEdits (theory ss fs ls draws) → EveryRunIsLawful ss fs ls draws
+      every_run_is_lawful keeps before after happenings answers run runs =
           let goes = travelling.run_goes (Runs ss fs ls) record_entry run_of_none (runs_join ss fs ls) entry_stays world_in (theory ss fs ls draws) IsLawful
           (λ entry named. named) handled handles_trip expires_trip edits_trip before after happenings answers run runs in
           record {
+            destined = all_destined (theory ss fs ls draws) (edits_alone_by ss fs ls) keeps before after happenings answers run runs;
             messages = goes.lawful;
             outcomes = goes.outcomes;
             calls = goes.travels.calls;

@@ -1,5 +1,6 @@
 mod Admitting
 mod Answers
+mod Destined
 mod Headline
 mod OurContexts
 mod Outcomes

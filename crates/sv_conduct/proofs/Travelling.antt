@@ -34,16 +34,16 @@ use Rattle.sv_wire.specs.declared.message.Target.{Target}
 use Rattle.sv_wire.specs.declared.message.Target.TheVariants.{Star, Path}
 use Rattle.sv_conduct.specs.Record.{calls_of, is_call, outcomes_of}
 
-all_append : {X : Type 0} (P : X → Type 0) (xs ys : List X) → AllByRecursion P xs → AllByRecursion P ys → AllByRecursion P (xs ++ ys)
+pub all_append : {X : Type 0} (P : X → Type 0) (xs ys : List X) → AllByRecursion P xs → AllByRecursion P ys → AllByRecursion P (xs ++ ys)
 all_append P [] ys first second = second
 all_append P (x ∷ xs) ys first second = (first.0, all_append P xs ys first.1 second)
 
 -- no container is stopped and runs
-runs_on : {b : Bool} → b ≡ true → b ≡ false → ⊥
+pub runs_on : {b : Bool} → b ≡ true → b ≡ false → ⊥
 runs_on is not = absurd (cc)
 
 -- a container that is stopped stays so
-stopped_stays : {Context Words : Type 0} (theory : Theory Context Words) (before after : State Context Words) (happenings : List Happening) (answers : List (Answer Context))
+pub stopped_stays : {Context Words : Type 0} (theory : Theory Context Words) (before after : State Context Words) (happenings : List Happening) (answers : List (Answer Context))
     → Run theory before happenings answers after → before.stopped ≡ true → after.stopped ≡ true
 stopped_stays theory before after [] [] run stopped = ap (λ s. s.stopped) run ∙ stopped
 stopped_stays theory before after [] (answer ∷ answers) run stopped = absurd run

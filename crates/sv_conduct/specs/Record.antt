@@ -27,6 +27,7 @@ use Rattle.sv_exchange.specs.State as exchanges
 use Rattle.sv_journal.specs.declared.entry.Entry.{Entry}
 use Rattle.sv_journal.specs.declared.entry.Entry.TheVariants as entries
 use Rattle.sv_journal.specs.declared.refusal_cause.RefusalCause.{RefusalCause}
+use Rattle.sv_journal.specs.declared.refusal_cause.RefusalCause.TheVariants as causes
 use Rattle.sv_login.specs.declared.outcome.LoginOutcome.{LoginOutcome}
 use Rattle.sv_login.specs.declared.outcome.LoginOutcome.TheVariants.{NotLogin}
 use Rattle.sv_mapping.specs.declared.kind.Kind.TheVariants as kinds
@@ -40,6 +41,7 @@ use Rattle.sv_run.specs.Contexts.{Handling, Request}
 use Rattle.sv_run.specs.Effect.{Answered, Deed, Handled}
 use Rattle.sv_run.specs.Events.{Happening}
 use Rattle.sv_run.specs.Lawful.{is_outcome}
+use Rattle.sv_run.specs.Messages.{Destination, Itself, Within, destination}
 use Rattle.sv_run.specs.Runs.{Answer, Run, deeds_of, journal_of}
 use Rattle.sv_run.specs.State.{State}
 use Rattle.sv_session.specs.Store.{Store}
@@ -47,6 +49,9 @@ use Rattle.sv_site.specs.Site.{site_of}
 use Rattle.sv_tree.specs.Does.{Does, ◌>>◌, never}
 use Rattle.sv_tree.specs.Served.{Served, ShowsError}
 use Rattle.sv_tree.specs.Site.{Site}
+use Rattle.sv_wire.specs.declared.message.Target.{Target}
+use Rattle.sv_wire.specs.declared.response.Response.{Response}
+use Rattle.sv_wire.specs.declared.wire_fault.WireFault.{WireFault}
 
 module _ {S F L : Type 0} (context : ContextState S F L) (request : Request) where
   abbrev pub path_in : List ℕ
@@ -129,6 +134,13 @@ IsLawful (Answered entry) = (cause : RefusalCause) × ((entry ≡ entries.Refuse
 IsLawful (Handled place handling) =
     (MayEnter handling.context handling.request × Enters handling) ⊎ ((MayEnter handling.context handling.request → ⊥) × StaysOut handling)
 
+-- where messages go by their targets: the context at the place handles one by its canonical path; the container answers one itself, and refuses what is
+-- no message
+abbrev pub IsDestinedBy : {Context : Type 0} → (Target → Destination) → Deed Context → Type 0
+IsDestinedBy goes_to (Handled place handling) = goes_to handling.request.message.target ≡ Within place handling.request.canon
+IsDestinedBy goes_to (Answered entry) =
+    ((target : Target) × (response : Response) × (goes_to target ≡ Itself entry response)) ⊎ ((fault : WireFault) × (entry ≡ entries.Refused (causes.Wire fault)))
+
 -- the outcomes among the entries of a message
 abbrev pub outcomes_of : {Context : Type 0} → Deed Context → List Entry
 outcomes_of (Answered entry) = entry ∷ []
@@ -155,10 +167,12 @@ module _ {S F L : Type 0} (servlet_step : S → Call → S → Type 0) (filter_s
       (last : ContextState S F L) × (after ≡ Some last)
       × ComponentsMoved servlet_step filter_step listener_step (world_of first unnoted) calls (world_of last unnoted)
 
-  module _ {Words : Type 0} where
+  module _ {Words : Type 0} (draws : Words → ℕ × ℕ → Words → Type 0) where
     pub record IsLawfulRun (before : State (ContextState S F L) Words) (answers : List (Answer (ContextState S F L)))
         (after : State (ContextState S F L) Words) : Type 0 where
-      -- each message enters exactly where it may, and every other stays out by a named cause; within its dispatches nothing is decided again
+      -- each message goes to the context whose path serves its target, or to none
+      pub destined : AllByRecursion (IsDestinedBy (destination (theory servlet_step filter_step listener_step draws) before.world.contexts)) (deeds_of answers)
+      -- there it enters exactly where it may, and every other stays out by a named cause; within its dispatches nothing is decided again
       pub messages : AllByRecursion IsLawful (deeds_of answers)
       -- the journal tells the outcomes of the messages, in their order
       pub outcomes : filter is_outcome (journal_of answers) ≡ flat_map outcomes_of (deeds_of answers)
@@ -167,7 +181,7 @@ module _ {S F L : Type 0} (servlet_step : S → Call → S → Type 0) (filter_s
       pub noted : map Some (filter is_call (journal_of answers)) ≡ map (entry_at before.world.contexts) calls
       pub moved : (place : ℕ) → IsMovedBy (slice_get before.world.contexts place) (calls_of place calls) (slice_get after.world.contexts place)
 
-    abbrev pub EveryRunIsLawful : (Words → ℕ × ℕ → Words → Type 0) → Type 0
-    EveryRunIsLawful draws =
+    abbrev pub EveryRunIsLawful : Type 0
+    EveryRunIsLawful =
         (before after : State (ContextState S F L) Words) (happenings : List Happening) (answers : List (Answer (ContextState S F L)))
         → Run (theory servlet_step filter_step listener_step draws) before happenings answers after → after.stopped ≡ false → IsLawfulRun before answers after

@@ -2,18 +2,21 @@
 
 ghost use Rattle.sv_conduct.specs.Record.{EveryRunIsLawful};
 
+use crate::contexts::edits_alone_change_the_constraints;
 use sv_component::{Filter, Listener, Servlet, runs_are_journalled, runs_move_components};
 use sv_outcome::just_one_case_holds;
 use sv_run::Words;
 
-/// Over every list of events, until memory is refused: a message to a context enters, noted so and answered by a dispatch of the request, exactly where its
-/// path is not hidden, it is no login post and the combined constraints, as they stand, allow its method, its path and the caller of its session (Jakarta
-/// Servlet 6.0, section 13.8); every other has a named cause, and is answered by a redirect, an error, a page of form login or that of the error; within a
-/// dispatch nothing is decided again; and each component is moved by exactly the calls that the journal notes of it, in their order.
+/// Over every list of events, until memory is refused: a message goes to the context whose path serves its target, and there it enters, noted so and
+/// answered by a dispatch of the request, exactly where its path is not hidden, it is no login post and the combined constraints, as they stand, allow its
+/// method, its path and the caller of its session (Jakarta Servlet 6.0, section 13.8); every other has a named cause, and is answered by a redirect, an
+/// error, a page of form login or that of the error; within a dispatch nothing is decided again; and each component is moved by exactly the calls that the
+/// journal notes of it, in their order.
 pub fn every_run_is_lawful<S: Servlet, F: Filter, L: Listener, W: Words>()
     ensures { EveryRunIsLawful S.servlet_step F.filter_step L.listener_step W.draws }
 {
     runs_are_journalled::<S, F, L>();
     runs_move_components::<S, F, L>();
     just_one_case_holds();
+    edits_alone_change_the_constraints::<S, F, L, W>();
 }

@@ -1,6 +1,7 @@
 -- The second line of a fault of a configuration file: the file, the place where it is known, and what is wrong.
 use Rattle.std.specs.Prelude.{◌≡◌, ◌≤◌, ℕ, List, ◌++◌, codes, length, take, Option, None, IfSome, MatchOption}
 use Rattle.std.specs.Fmt.{decimal}
+use Rattle.std.specs.Option.{option_and_then, option_map_or}
 use Rattle.toml.specs.Parse.{parse_document}
 use Rattle.sv_schema.specs.declared.fault.DescriptorFault.{DescriptorFault}
 use Rattle.sv_schema.specs.declared.fault.FaultCode.{FaultCode}
@@ -8,11 +9,16 @@ use Rattle.sv_schema.specs.declared.fault.FaultCode.TheVariants.{NotToml}
 use Rattle.sv_program.specs.declared.command_fault.CommandFault.{CommandFault}
 use Rattle.sv_program.specs.declared.command_fault.CommandFault.TheVariants as fault
 use Rattle.sv_fault_detail.specs.Place.{line_behind, column_behind}
+use Rattle.sv_fault_detail.specs.Offending.{offending}
 use Rattle.sv_fault_detail.specs.Sentence.{sentence}
 
 -- the line without a place
 abbrev pub plain_line : List ℕ → DescriptorFault → List ℕ
 plain_line name fault = codes "  " ++ name ++ codes ": " ++ sentence fault
+
+-- the line with what is shown of the text that offends
+abbrev pub told_line : List ℕ → DescriptorFault → Option (List ℕ) → List ℕ
+told_line name fault told = plain_line name fault ++ option_map_or (λ text. codes ": " ++ text) told (codes "")
 
 -- the line with the place behind these bytes of the text
 abbrev pub line_with_place : List ℕ → List ℕ → List ℕ → List ℕ
@@ -29,7 +35,7 @@ IsTextLine name text found line = MatchOption (parse_document text) (IsPlaced na
 
 abbrev pub IsLineOf : FaultCode → List ℕ → List ℕ → DescriptorFault → List ℕ → Type 0
 IsLineOf NotToml name text found line = IsTextLine name text found line
-IsLineOf other name text found line = line ≡ plain_line name found
+IsLineOf other name text found line = line ≡ told_line name found (option_and_then (offending found) (parse_document text))
 
 -- the line for a fault of a file of this name and text
 abbrev pub IsLine : List ℕ → List ℕ → DescriptorFault → List ℕ → Type 0

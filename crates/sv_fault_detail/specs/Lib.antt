@@ -1,3 +1,6 @@
 pub mod Detail
 pub mod Place
 pub mod Sentence
+pub mod Tree
+pub mod Shown
+pub mod Offending

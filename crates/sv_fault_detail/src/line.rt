@@ -2,8 +2,12 @@
 
 ghost use Rattle.std.specs.Prelude.{◌≡◌, ◌≤◌, IfOk, length, take};
 ghost use Rattle.sv_text.specs.Gives.{GivesAnswer};
+ghost use Rattle.std.specs.Option.{option_and_then};
+ghost use Rattle.toml.specs.Parse.{parse_document};
 ghost use Rattle.sv_fault_detail.specs.Detail as spec;
+ghost use Rattle.sv_fault_detail.specs.Offending.{offending as offending_text};
 
+use crate::offending::offending;
 use crate::place::{column_behind, line_behind};
 use crate::sentence::{back, front};
 use std::alloc::Global;
@@ -11,7 +15,7 @@ use sv_schema::{DescriptorFault, FaultCode};
 use sv_text::{NoMemory, Text};
 
 /// The line that stands behind that of a fault of the file of this name and text, without its end. For a text that is no TOML it has the line and the
-/// column at which the reader stops, and what that says.
+/// column at which the reader stops, and what that says; for another fault the text that offends, where the file says which it is.
 pub fn detail_line(
     alloc: Global,
     name: &str,
@@ -22,7 +26,38 @@ pub fn detail_line(
 {
     match fault.code {
         FaultCode::NotToml => text_line(alloc, name, text, fault),
-        _ => plain_line(alloc, name, fault),
+        _ => told_line(alloc, name, text, fault),
+    }
+}
+
+/// The line with what is shown of the text that offends, where the text is TOML still.
+fn told_line(
+    alloc: Global,
+    name: &str,
+    text: &str,
+    fault: &DescriptorFault,
+) -> Result<Text, NoMemory>
+    ensures { GivesAnswer result (spec.told_line name.now fault.now (option_and_then (offending_text fault.now) (parse_document text.now))) }
+{
+    match toml::table_from_str(alloc, text) {
+        Ok(file) => line_with_text(alloc, name, fault, offending(alloc, fault, &file)?),
+        Err(error) if error.is_memory() => Err(NoMemory),
+        Err(_) => plain_line(alloc, name, fault),
+    }
+}
+
+fn line_with_text(
+    alloc: Global,
+    name: &str,
+    fault: &DescriptorFault,
+    told: Option<Text>,
+) -> Result<Text, NoMemory>
+    ensures { GivesAnswer result (spec.told_line name.now fault.now told) }
+{
+    let plain = plain_line(alloc, name, fault)?;
+    match told {
+        Some(told) => Ok(Text::from_string(format!(in alloc; "{plain}: {told}")?)),
+        None => Ok(plain),
     }
 }
 

@@ -1,0 +1,3 @@
+pub mod Trees
+pub mod Again
+pub mod Choices
