@@ -45,7 +45,7 @@ module _ {S F L : Type 0} (servlet_step : S → Call → S → Type 0) (filter_s
     pub stays : IsSameDeployment before after
 
   -- the message is noted and answered, and the sessions are those that its exchange leaves
-  pub record Answers (asked : Asked) (before : ContextState S F L) (noted : JournalState) (response : Response) (after : ContextState S F L) (noted_after : JournalState) : Type 0 where
+  pub record GivesResponse (asked : Asked) (before : ContextState S F L) (noted : JournalState) (response : Response) (after : ContextState S F L) (noted_after : JournalState) : Type 0 where
     pub exchange : exchanges.State
     pub is_answered : IsAnswered asked before noted exchange (Some tt) after noted_after
     pub response_is : response ≡ finished exchange
