@@ -23,11 +23,11 @@ flat_join : {A B : Type 0} (f : A → List B) (xs ys : List A) → flat_map f (x
 flat_join f [] ys = refl
 flat_join f (x ∷ xs) ys = ap (λ back. f x ++ back) (flat_join f xs ys) ∙ sym (append_assoc (f x) (flat_map f xs) (flat_map f ys))
 
-one_more : {A B : Type 0} (f : A → List B) (xs : List A) (x : A) → flat_map f (xs ++ x ∷ []) ≡ flat_map f xs ++ f x
-one_more f xs x = flat_join f xs (x ∷ []) ∙ ap (λ back. flat_map f xs ++ back) (append-nil (f x))
+pub flat_one_more : {A B : Type 0} (f : A → List B) (xs : List A) (x : A) → flat_map f (xs ++ x ∷ []) ≡ flat_map f xs ++ f x
+flat_one_more f xs x = flat_join f xs (x ∷ []) ∙ ap (λ back. flat_map f xs ++ back) (append-nil (f x))
 
 none_more : {A B : Type 0} (f : A → List B) (xs : List A) (x : A) → f x ≡ [] → flat_map f (xs ++ x ∷ []) ≡ flat_map f xs
-none_more f xs x none = one_more f xs x ∙ ap (λ back. flat_map f xs ++ back) none ∙ append-nil (flat_map f xs)
+none_more f xs x none = flat_one_more f xs x ∙ ap (λ back. flat_map f xs ++ back) none ∙ append-nil (flat_map f xs)
 
 concat_one : (parts : List (List ℕ)) (part : List ℕ) → concat (parts ++ part ∷ []) ≡ concat parts ++ part
 concat_one [] part = append-nil part
@@ -51,12 +51,12 @@ module _ (number : ℕ) (deeds : List Deed) (opening : Reaction) where
       let new : Turn = record { bytes = bytes; moment = moment; reaction = reaction; parts = [] } in
       let deed = Hands bytes moment reaction in
       record {
-        happened = one_more (event_of number) deeds deed ∙ ap (λ front. front ++ event_of number deed) are.happened
+        happened = flat_one_more (event_of number) deeds deed ∙ ap (λ front. front ++ event_of number deed) are.happened
             ∙ ap (λ back. Opened number ∷ back) (sym (map-append (piece_of number) turns (new ∷ [])));
-        answered = one_more answer_of deeds deed ∙ ap (λ front. front ++ answer_of deed) are.answered
+        answered = flat_one_more answer_of deeds deed ∙ ap (λ front. front ++ answer_of deed) are.answered
             ∙ ap (λ back. opened ∷ back) (sym (map-append brought turns (new ∷ [])));
-        told = one_more moment_of deeds deed ∙ ap (λ front. front ++ moment_of deed) are.told ∙ sym (map-append turn.moment_of turns (new ∷ []));
-        called = one_more cut_calls deeds deed ∙ ap (λ front. front ++ cut_calls deed) are.called ∙ sym (one_more calls_of turns new);
+        told = flat_one_more moment_of deeds deed ∙ ap (λ front. front ++ moment_of deed) are.told ∙ sym (map-append turn.moment_of turns (new ∷ []));
+        called = flat_one_more cut_calls deeds deed ∙ ap (λ front. front ++ cut_calls deed) are.called ∙ sym (flat_one_more calls_of turns new);
       }
     where
       opened : Result Reaction StepFault
@@ -74,11 +74,11 @@ module _ (number : ℕ) (deeds : List Deed) (opening : Reaction) where
         answered = none_more answer_of deeds (Writes part) refl ∙ are.answered
             ∙ ap (λ back. opened ∷ back) (map-append brought turns (last ∷ []) ∙ sym (map-append brought turns (new ∷ [])));
         told = none_more moment_of deeds (Writes part) refl ∙ are.told ∙ map-append turn.moment_of turns (last ∷ []) ∙ sym (map-append turn.moment_of turns (new ∷ []));
-        called = one_more cut_calls deeds (Writes part)
-            ∙ ap (λ front. front ++ Took part ∷ []) (are.called ∙ one_more calls_of turns last)
+        called = flat_one_more cut_calls deeds (Writes part)
+            ∙ ap (λ front. front ++ Took part ∷ []) (are.called ∙ flat_one_more calls_of turns last)
             ∙ append_assoc (flat_map calls_of turns) (calls_of last) (Took part ∷ [])
             ∙ ap (λ back. flat_map calls_of turns ++ (Gave last.bytes ∷ back)) (sym (map-append Took last.parts (part ∷ [])))
-            ∙ sym (one_more calls_of turns new);
+            ∙ sym (flat_one_more calls_of turns new);
       }
     where
       opened : Result Reaction StepFault

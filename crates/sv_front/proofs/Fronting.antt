@@ -274,14 +274,14 @@ module _ {R C S : Type 0} (ways : Ways S) (steps : Reacting R) (tells : C → �
 
     drove_here : (result : Result (Option Cause) StepFault) → Drives ways steps tells number before clock at result after clock_after at_after
         → DrivesOne ways steps tells number before clock old result after clock_after new
-    drove_here (Ok None) (deeds, talks, rests) =
+    drove_here (Ok None) (deeds, talks, turn, rests) =
         let F : Place S → Type 0 = λ p. Talks steps tells ways number before clock p deeds after clock_after (place_in new number) in
         let T : Place S → Type 0 = λ p. Talks steps tells ways number before clock (Open at) deeds after clock_after p in
         (deeds, subst F (sym was) (subst T (sym now) talks), stays, λ other same. sym (ap (λ p. (standing_of p).rests) (sym now ∙ same)) ∙ rests)
-    drove_here (Ok (Some cause)) (deeds, between, talks, causes) =
+    drove_here (Ok (Some cause)) (deeds, between, talks, turn, causes) =
         let F : Place S → Type 0 = λ p. Talks steps tells ways number before clock p deeds after clock_after (Open between) in
         (deeds, between, subst F (sym was) talks, stays, lt-ltb number next below, (at_after.stream, causes))
-    drove_here (Err fault) (deeds, middle, clock_middle, between, talks, fails) =
+    drove_here (Err fault) (deeds, middle, clock_middle, between, talks, turn, fails) =
         let F : Place S → Type 0 = λ p. Talks steps tells ways number before clock p deeds middle clock_middle (Open between) in
         (deeds, middle, clock_middle, Open between, subst F (sym was) talks, fails)
 

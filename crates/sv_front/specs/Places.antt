@@ -1,5 +1,5 @@
 -- Where a connection stands, and what may come next.
-use Rattle.std.specs.Prelude.{◌≡◌, ◌⊎◌, ℕ, ◌<◌, Bool, false, true, List, [], ◌++◌, length, Option, None, Some}
+use Rattle.std.specs.Prelude.{◌≡◌, ◌⊎◌, ℕ, ◌<◌, Bool, false, true, List, [], ◌++◌, length}
 use Rattle.sv_front.specs.Pieces.{IsPiece}
 use Rattle.sv_front.specs.Ways.{Ways}
 use Rattle.sv_front.specs.declared.cause.Cause.{Cause}
@@ -84,8 +84,3 @@ module _ {S : Type 0} where
         Needs at × ways.arms at.stream after.stream × (after ≡ record at { stream = after.stream; rests = true })
     Leads (Open at) (Ends cause reaction) Over = (stream : S) × Causes at cause stream
     Leads other deed place = ⊥
-
-    -- it is armed, or given up
-    abbrev pub IsArmed : Standing S → Option Cause → Standing S → Type 0
-    IsArmed at None after = Leads (Open at) Arms (Open after)
-    IsArmed at (Some cause) after = cause ≡ GivenUp

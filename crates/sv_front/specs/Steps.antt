@@ -1,9 +1,13 @@
 -- One connection, as far as it gets without waiting.
-use Rattle.std.specs.Prelude.{◌≡◌, ◌⊎◌, ℕ, true, List, [], ◌∷◌, Option, None, Some, Result, Ok, Err}
+use Rattle.std.specs.Prelude.{◌≡◌, ◌⊎◌, ℕ, ◌+◌, ◌≤◌, true, List, [], ◌∷◌, Option, None, Some, Result, Ok, Err, flat_map, length}
+use Rattle.sv_front.specs.Laws.{calls_of}
 use Rattle.sv_front.specs.Notes.{Talks}
-use Rattle.sv_front.specs.Places.{Causes, Deed, Hands, Leads, Open, Pauses, Reads, Standing, Writes}
+use Rattle.sv_front.specs.Places.{Arms, Causes, Deed, Hands, Leads, Open, Pauses, Reads, Standing, Writes}
 use Rattle.sv_front.specs.Ways.{Ways}
+use Rattle.sv_front.specs.declared.allowance.Allowance.{Allowance}
 use Rattle.sv_front.specs.declared.cause.Cause.{Cause}
+use Rattle.sv_front.specs.declared.cause.Cause.TheVariants.{GivenUp}
+use Rattle.sv_front.specs.declared.limits.TheConstants.{BYTES_AT_ONCE, CALLS_AT_ONCE}
 use Rattle.sv_front.specs.declared.step.Step.{Step}
 use Rattle.sv_front.specs.declared.step.Step.TheVariants.{GoesOn, Rests, IsOver}
 use Rattle.sv_run.specs.Events.{Happening, Piece}
@@ -11,6 +15,7 @@ use Rattle.sv_run.specs.Reacting.{Reacting}
 use Rattle.sv_run.specs.declared.reaction.Reaction.{Reaction}
 use Rattle.sv_run.specs.declared.step_fault.StepFault.{StepFault}
 use Rattle.sv_run.specs.declared.step_fault.StepFault.TheVariants.{NoMemory}
+use Rattle.sv_streams.specs.Calls.{taken}
 use Rattle.sv_text.specs.declared.no_memory.NoMemory.{NoMemory as OutOfMemory}
 
 -- an event was refused, or memory had run out before one
@@ -18,19 +23,40 @@ abbrev pub Fails : {R : Type 0} → Reacting R → StepFault → R → R → Typ
 Fails steps fault before after =
     ((fault ≡ NoMemory) × (after ≡ before)) ⊎ ((happening : Happening) × steps before happening (Err fault) after)
 
-module _ {S : Type 0} (ways : Ways S) where
-  -- a read was tried
-  abbrev pub TakesIn : Standing S → Result Step OutOfMemory → Standing S → Type 0
-  TakesIn before (Ok GoesOn) after = (bytes : List ℕ) × Leads ways (Open before) (Reads bytes) (Open after)
-  TakesIn before (Ok Rests) after = Leads ways (Open before) Pauses (Open after)
-  TakesIn before (Ok (IsOver cause)) after = Causes ways before cause after.stream
-  TakesIn before (Err refused) after = Unit {0}
+-- of what may be done at once, a deed takes its calls and the bytes that it writes
+abbrev pub Spends : Allowance → Deed → Allowance → Type 0
+Spends before deed after =
+    (length (calls_of deed) + after.calls ≤ before.calls) × (length (taken (calls_of deed)) + after.bytes ≤ before.bytes)
 
-  -- a write was tried
-  abbrev pub SendsOn : Standing S → Step → Standing S → Type 0
-  SendsOn before GoesOn after = (bytes : List ℕ) × Leads ways (Open before) (Writes bytes) (Open after)
-  SendsOn before Rests after = Leads ways (Open before) Pauses (Open after)
-  SendsOn before (IsOver cause) after = Causes ways before cause after.stream
+-- what is done of a connection before others have their turn: as many calls that give or take, and as many bytes written, at most
+abbrev pub IsTurn : List Deed → Type 0
+IsTurn deeds = (length (flat_map calls_of deeds) ≤ CALLS_AT_ONCE) × (length (taken (flat_map calls_of deeds)) ≤ BYTES_AT_ONCE)
+
+module _ {S : Type 0} (ways : Ways S) where
+  -- it is armed, or given up
+  abbrev pub IsArmed : Standing S → Step → Standing S → Type 0
+  IsArmed before GoesOn after = ⊥
+  IsArmed before Rests after = Leads ways (Open before) Arms (Open after)
+  IsArmed before (IsOver cause) after = cause ≡ GivenUp
+
+  -- the call that it needs would have to wait, or it is armed
+  abbrev pub ComesToRest : Standing S → Standing S → Type 0
+  ComesToRest before after = Leads ways (Open before) Pauses (Open after) ⊎ Leads ways (Open before) Arms (Open after)
+
+  -- a read was tried, or others have their turn
+  abbrev pub TakesIn : Standing S → Allowance → Result Step OutOfMemory → Standing S → Allowance → Type 0
+  TakesIn before left (Ok GoesOn) after left_after =
+      (bytes : List ℕ) × Leads ways (Open before) (Reads bytes) (Open after) × Spends left (Reads bytes) left_after
+  TakesIn before left (Ok Rests) after left_after = ComesToRest before after
+  TakesIn before left (Ok (IsOver cause)) after left_after = Causes ways before cause after.stream
+  TakesIn before left (Err refused) after left_after = Unit {0}
+
+  -- a write was tried, or others have their turn
+  abbrev pub SendsOn : Standing S → Allowance → Step → Standing S → Allowance → Type 0
+  SendsOn before left GoesOn after left_after =
+      (bytes : List ℕ) × Leads ways (Open before) (Writes bytes) (Open after) × Spends left (Writes bytes) left_after
+  SendsOn before left Rests after left_after = ComesToRest before after
+  SendsOn before left (IsOver cause) after left_after = Causes ways before cause after.stream
 
   module _ {R C : Type 0} (steps : Reacting R) (tells : C → ℕ → C → Type 0) (number : ℕ) (before : R) (clock : C) (at : Standing S) where
     -- a piece was handed on
@@ -40,22 +66,25 @@ module _ {S : Type 0} (ways : Ways S) where
         × steps before (Piece number bytes moment) (Ok reaction) after × Leads ways (Open at) (Hands bytes moment reaction) (Open at_after)
     HandsOn (Err fault) after clock_after at_after = (happening : Happening) × steps before happening (Err fault) after
 
-    -- one thing was done
-    abbrev pub StepsOnce : Result Step StepFault → R → C → Standing S → Type 0
-    StepsOnce (Ok GoesOn) after clock_after at_after =
+    -- one thing was done, of what may still be done
+    abbrev pub StepsOnce : Allowance → Result Step StepFault → R → C → Standing S → Allowance → Type 0
+    StepsOnce left (Ok GoesOn) after clock_after at_after left_after =
+        (deed : Deed) × Talks steps tells ways number before clock (Open at) (deed ∷ []) after clock_after (Open at_after) × Spends left deed left_after
+    StepsOnce left (Ok Rests) after clock_after at_after left_after =
         (deed : Deed) × Talks steps tells ways number before clock (Open at) (deed ∷ []) after clock_after (Open at_after)
-    StepsOnce (Ok Rests) after clock_after at_after =
-        (deed : Deed) × Talks steps tells ways number before clock (Open at) (deed ∷ []) after clock_after (Open at_after) × (at_after.rests ≡ true)
-    StepsOnce (Ok (IsOver cause)) after clock_after at_after = (after ≡ before) × (clock_after ≡ clock) × Causes ways at cause at_after.stream
-    StepsOnce (Err fault) after clock_after at_after = Fails steps fault before after
+        × (calls_of deed ≡ []) × (at_after.rests ≡ true)
+    StepsOnce left (Ok (IsOver cause)) after clock_after at_after left_after =
+        (after ≡ before) × (clock_after ≡ clock) × Causes ways at cause at_after.stream
+    StepsOnce left (Err fault) after clock_after at_after left_after = Fails steps fault before after
 
-    -- it was driven until it rests or is over
+    -- it was driven until it rests, others have their turn, or it is over
     abbrev pub Drives : Result (Option Cause) StepFault → R → C → Standing S → Type 0
     Drives (Ok None) after clock_after at_after =
-        (deeds : List Deed) × Talks steps tells ways number before clock (Open at) deeds after clock_after (Open at_after) × (at_after.rests ≡ true)
+        (deeds : List Deed) × Talks steps tells ways number before clock (Open at) deeds after clock_after (Open at_after)
+        × IsTurn deeds × (at_after.rests ≡ true)
     Drives (Ok (Some cause)) after clock_after at_after =
         (deeds : List Deed) × (between : Standing S) × Talks steps tells ways number before clock (Open at) deeds after clock_after (Open between)
-        × Causes ways between cause at_after.stream
+        × IsTurn deeds × Causes ways between cause at_after.stream
     Drives (Err fault) after clock_after at_after =
         (deeds : List Deed) × (middle : R) × (clock_middle : C) × (between : Standing S)
-        × Talks steps tells ways number before clock (Open at) deeds middle clock_middle (Open between) × Fails steps fault middle after
+        × Talks steps tells ways number before clock (Open at) deeds middle clock_middle (Open between) × IsTurn deeds × Fails steps fault middle after

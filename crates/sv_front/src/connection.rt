@@ -2,11 +2,12 @@
 
 ghost use Rattle.std.specs.Prelude.{◌≡◌, ◌<◌, length};
 ghost use Rattle.sv_front.specs.Places.{HasPiece, IsIdle, Needs};
-ghost use Rattle.sv_front.specs.Steps.{Drives, HandsOn, SendsOn, StepsOnce, TakesIn};
+ghost use Rattle.sv_front.specs.Steps.{Drives, HandsOn, IsArmed, SendsOn, StepsOnce, TakesIn};
 
+use crate::allowance::Allowance;
 use crate::cause::Cause;
 use crate::ending::ends_message;
-use crate::limits::{BYTES_A_WINDOW, CALLS_AT_ONCE, MAX_IDLE_SECONDS, WINDOW_SECONDS};
+use crate::limits::{BYTES_A_WINDOW, MAX_IDLE_SECONDS, WINDOW_SECONDS};
 use crate::peer::{Peer, Tried};
 use crate::pending::Pending;
 use crate::pieces::piece_len;
@@ -44,7 +45,6 @@ impl<P> Model for Connection<P> {
 
 impl<P: Peer> Connection<P> {
     ghost use Rattle.std.specs.Prelude.{◌≡◌, [], false, true, IsTrue, ◌↔◌};
-    ghost use Rattle.sv_front.specs.Places as spec;
 
     /// A connection that was opened in that turn, whose stream is armed.
     pub fn new(alloc: Global, stream: P, until: u64, turn: u64) -> Connection<P>
@@ -141,15 +141,9 @@ impl<P: Peer> Connection<P> {
     ) -> Result<Option<Cause>, StepFault>
         ensures { Drives P.ways R.steps C.tells number reactor.old clock.old self.old result reactor.new clock.new self.new }
     {
-        let mut calls = 0;
+        let mut left = Allowance::whole();
         for _ in 0..u64::MAX {
-            if self.needs_call() {
-                if calls >= CALLS_AT_ONCE {
-                    return Ok(self.arm());
-                }
-                calls += 1;
-            }
-            match self.step(number, reactor, clock) {
+            match self.step(number, reactor, clock, &mut left) {
                 Ok(Step::GoesOn) => {}
                 Ok(Step::Rests) => return Ok(None),
                 Ok(Step::IsOver(cause)) => return Ok(Some(cause)),
@@ -159,23 +153,24 @@ impl<P: Peer> Connection<P> {
         Ok(Some(Cause::GivenUp))
     }
 
-    // Does one thing.
+    // Does one thing, of what may still be done.
     fn step<R: Reactor, C: Clock>(
         &mut self,
         number: u64,
         reactor: &mut R,
         clock: &mut C,
+        left: &mut Allowance,
     ) -> Result<Step, StepFault>
-        ensures { StepsOnce P.ways R.steps C.tells number reactor.old clock.old self.old result reactor.new clock.new self.new }
+        ensures { StepsOnce P.ways R.steps C.tells number reactor.old clock.old self.old left.old result reactor.new clock.new self.new left.new }
     {
         if !self.unsent.is_empty() {
-            return Ok(self.send_on());
+            return Ok(self.send_on(left));
         }
         if self.closes {
             return Ok(Step::IsOver(Cause::AnswerCloses));
         }
         if self.ahead.is_empty() {
-            return match self.take_in() {
+            return match self.take_in(left) {
                 Ok(step) => Ok(step),
                 Err(_) => Err(StepFault::NoMemory),
             };
@@ -193,18 +188,15 @@ impl<P: Peer> Connection<P> {
         !self.closes && self.unsent.is_empty() && self.ahead.is_empty()
     }
 
-    // Whether the connection needs to be read or to be written to.
-    fn needs_call(&self) -> bool
-        ensures { IsTrue result → Needs self.now }
-    {
-        !self.unsent.is_empty() || self.is_idle()
-    }
-
-    // Reads once.
-    fn take_in(&mut self) -> Result<Step, NoMemory>
+    // Reads once, unless others have their turn.
+    fn take_in(&mut self, left: &mut Allowance) -> Result<Step, NoMemory>
         requires { IsIdle self.old }
-        ensures { TakesIn P.ways self.old result self.new }
+        ensures { TakesIn P.ways self.old left.old result self.new left.new }
     {
+        if left.is_spent() {
+            return Ok(self.arm());
+        }
+        left.calls -= 1;
         match self.ahead.refill(self.alloc, &mut self.stream) {
             Ok(Tried::Done(0)) => Ok(Step::IsOver(Cause::PeerEnded)),
             Ok(Tried::Done(count)) => {
@@ -223,14 +215,19 @@ impl<P: Peer> Connection<P> {
         }
     }
 
-    // Writes once, so many bytes at most.
-    fn send_on(&mut self) -> Step
+    // Writes once, unless others have their turn.
+    fn send_on(&mut self, left: &mut Allowance) -> Step
         requires { 0 < length self.old.unsent }
-        ensures { SendsOn P.ways self.old result self.new }
+        ensures { SendsOn P.ways self.old left.old result self.new left.new }
     {
-        match self.stream.write(self.unsent.front()) {
+        if left.is_spent() {
+            return self.arm();
+        }
+        left.calls -= 1;
+        match self.stream.write(self.unsent.front(left.bytes)) {
             Tried::Done(count) => {
                 self.unsent.skip(count);
+                left.bytes -= count;
                 self.moved = self.moved.saturating_add(count);
                 self.stirred = true;
                 self.rests = false;
@@ -288,14 +285,14 @@ impl<P: Peer> Connection<P> {
     }
 
     // Asks to be told anew of what is ready; where that cannot be had, the connection is given up.
-    fn arm(&mut self) -> Option<Cause>
+    fn arm(&mut self) -> Step
         requires { Needs self.old }
-        ensures { spec.IsArmed P.ways self.old result self.new }
+        ensures { IsArmed P.ways self.old result self.new }
     {
         if self.stream.arm() {
             self.rests = true;
-            return None;
+            return Step::Rests;
         }
-        Some(Cause::GivenUp)
+        Step::IsOver(Cause::GivenUp)
     }
 }

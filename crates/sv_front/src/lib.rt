@@ -1,6 +1,7 @@
 //! Many connections at once, over anything that reports what is ready and anything that takes the events of a container.
 #![tactic(auto)]
 
+mod allowance;
 mod cause;
 mod connection;
 mod ending;
@@ -20,8 +21,8 @@ pub use laws::{
     numbers_are_not_used_again, rest_is_for_something, rounds_are_one,
 };
 pub use limits::{
-    ACCEPTED_AT_ONCE, BYTES_A_WINDOW, CALLS_AT_ONCE, MAX_CONNECTIONS, MAX_IDLE_SECONDS, READ_BYTES,
-    WINDOW_SECONDS, WRITE_BYTES,
+    ACCEPTED_AT_ONCE, BYTES_A_WINDOW, BYTES_AT_ONCE, CALLS_AT_ONCE, MAX_CONNECTIONS,
+    MAX_IDLE_SECONDS, READ_BYTES, WINDOW_SECONDS,
 };
 pub use network::{Network, Told};
 pub use peer::{Peer, Tried};

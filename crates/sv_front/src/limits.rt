@@ -9,11 +9,11 @@ pub const ACCEPTED_AT_ONCE: u32 = 32;
 /// How many bytes a read of a connection takes at most.
 pub const READ_BYTES: usize = 16_384;
 
-/// How many bytes a write of a connection hands over at most.
-pub const WRITE_BYTES: usize = 65_536;
-
 /// As many reads and writes are made of a connection before others have their turn.
 pub const CALLS_AT_ONCE: u32 = 8;
+
+/// How many bytes such writes hand over at most, all of them together.
+pub const BYTES_AT_ONCE: usize = 65_536;
 
 /// A connection that stands between requests is given up after so many seconds.
 pub const MAX_IDLE_SECONDS: u64 = 60;

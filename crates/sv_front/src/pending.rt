@@ -1,15 +1,15 @@
 //! Bytes that wait.
 
-ghost use Rattle.std.specs.Prelude.{◌≡◌, ◌<◌, [], length, vec_items};
+ghost use Rattle.std.specs.Prelude.{◌≡◌, ◌<◌, ◌≤◌, [], drop, length, vec_items};
 ghost use Rattle.sv_front.specs.Ways.{ReadsPiece};
 
-use crate::limits::{READ_BYTES, WRITE_BYTES};
+use crate::limits::READ_BYTES;
 use crate::peer::{Peer, Tried};
 use std::alloc::Global;
 use std::marker::Model;
 use sv_text::{Bytes, NoMemory};
 
-/// Bytes that wait to be handed on or to be written. Contracts see their list.
+/// Bytes that wait to be handed on or to be written. Contracts see their list. No more is kept than twice as many bytes as wait: none, where none wait.
 #[derive(Drop)]
 pub(crate) struct Pending {
     bytes: Vec<u8>,
@@ -17,13 +17,13 @@ pub(crate) struct Pending {
 }
 
 impl Model for Pending {
-    ghost use Rattle.std.specs.Prelude.{ℕ, List, drop, ◌≤◌, vec_len};
+    ghost use Rattle.std.specs.Prelude.{ℕ, List, drop, ◌+◌, ◌≤◌, vec_len};
 
     ghost Value = { List ℕ };
 
     ghost view = { λ p. drop p.at p.bytes.items };
 
-    ghost invariant = { λ p. p.at ≤ vec_len p.bytes };
+    ghost invariant = { λ p. p.at + p.at ≤ vec_len p.bytes };
 }
 
 impl Pending {
@@ -64,24 +64,31 @@ impl Pending {
         self.bytes.as_slice().split_at(self.at).1
     }
 
-    /// The first of the bytes, as many as a write hands over at most.
-    pub fn front(&self) -> &[u8]
-        ensures first { result.now ≡ take WRITE_BYTES self.now }
+    /// The first of the bytes, so many at most.
+    pub fn front(&self, most: usize) -> &[u8]
+        requires { 0 < most }
+        ensures first { result.now ≡ take most self.now }
         ensures some { 0 < length self.now → 0 < length result.now }
     {
         let bytes = self.as_slice();
-        if bytes.len() <= WRITE_BYTES {
+        if bytes.len() <= most {
             return bytes;
         }
-        bytes.split_at(WRITE_BYTES).0
+        bytes.split_at(most).0
     }
 
-    /// Passes over so many bytes.
+    /// Passes over so many bytes. Where that is more than half of all, their memory is given back.
     pub fn skip(&mut self, count: usize)
         requires { count ≤ length self.old }
         ensures { self.new ≡ drop count self.old }
     {
-        self.at += count;
+        let at = self.at + count;
+        if at > self.bytes.len() - at {
+            keep_rest(&mut self.bytes, at);
+            self.at = 0;
+        } else {
+            self.at = at;
+        }
     }
 
     /// Reads once, where no bytes wait.
@@ -97,6 +104,17 @@ impl Pending {
         self.bytes.resize(READ_BYTES, 0)?;
         Ok(read_piece(peer, &mut self.bytes))
     }
+}
+
+// Lets go of so many bytes at the front, and of their memory.
+fn keep_rest(bytes: &mut Vec<u8>, at: usize)
+    requires { at ≤ length (vec_items bytes.old) }
+    ensures { vec_items bytes.new ≡ drop at (vec_items bytes.old) }
+{
+    let len = bytes.len();
+    bytes.copy_within(at..len, 0);
+    bytes.truncate(len - at);
+    bytes.shrink_to_fit();
 }
 
 // Reads once into a piece, which then holds what came.

@@ -2,9 +2,9 @@ use Rattle.sv_front.proofs.Doing.{taken_within, wrote}
 use Rattle.sv_front.proofs.connection.Connection.send_on.Goals as goal
 
 pub skip-requires : goal.skip-requires
-skip-requires g c = taken_within c.in-Done.count 65536 c.self.inside.unsent c.front.result.now c.in-Done.ensures.1 c.front.ensures.first
+skip-requires g c = taken_within c.in-Done.count c.args.left.now.bytes c.self.inside.unsent c.front.result.now c.in-Done.ensures.1 c.front.ensures.first
 
 pub returns-in-Done : goal.returns-in-Done
 returns-in-Done g c =
     wrote g.P.Peer.ways c.args.self.now c.self.inside.stream c.write.new.self c.self.inside.ahead c.self.inside.unsent c.skip.new.self c.front.result.now
-    c.self.inside.closes c.self.inside.rests c.in-Done.count 65536 c.self.view_is c.in-Done.ensures c.front.ensures.first c.skip.ensures
+    c.self.inside.closes c.self.inside.rests c.in-Done.count c.args.left.now c.self.view_is (c.is_spent.ensures.calls (λ i. c.if-is_spent.false i)) c.in-Done.ensures c.front.ensures.first c.skip.ensures

@@ -1,0 +1,36 @@
+//! What may be done of a connection before others have their turn.
+
+ghost use Rattle.std.specs.Prelude.{◌≡◌};
+
+use crate::limits::{BYTES_AT_ONCE, CALLS_AT_ONCE};
+
+/// What may still be done of a connection before others have their turn.
+#[derive(Clone, Copy, Debug, PartialEq, Eq)]
+pub(crate) struct Allowance {
+    /// As many reads and writes.
+    pub calls: u32,
+    /// As many bytes of writes, all of them together.
+    pub bytes: usize,
+}
+
+impl Allowance {
+    ghost use Rattle.std.specs.Prelude.{◌≡◌, ◌<◌, false};
+
+    /// What may be done of a connection whose turn begins.
+    pub fn whole() -> Allowance
+        ensures { result ≡ record { calls = CALLS_AT_ONCE; bytes = BYTES_AT_ONCE } }
+    {
+        Allowance {
+            calls: CALLS_AT_ONCE,
+            bytes: BYTES_AT_ONCE,
+        }
+    }
+
+    /// Whether others have their turn now.
+    pub fn is_spent(self) -> bool
+        ensures calls { result ≡ false → 0 < self.calls }
+        ensures bytes { result ≡ false → 0 < self.bytes }
+    {
+        self.calls == 0 || self.bytes == 0
+    }
+}
