@@ -7,14 +7,10 @@ mod running;
 
 pub use options::Options;
 pub use running::run_application;
-pub use sv_component::{
-    Config, Event, Exchange, ExchangeFault, Filter, Gate, Init, Listener, Named, Param, Servlet,
-    Step,
-};
-pub use sv_head::Field;
 pub use sv_program::CommandFault;
-pub use sv_text::{NoMemory, Text};
 pub use sv_web::{
-    Deployment, Fault, NewCookie, RedirectKind, SameSite, Verb, asked_verb, cookie, escape_html,
-    gate_of, redirect, redirect_elsewhere, send, send_html, send_text, set_cookie, step_of,
+    Attribute, Caller, Config, Deployment, Event, Exchange, ExchangeFault, Fault, Field, Filter,
+    Gate, Init, Kind, Listener, Named, NewCookie, NoMemory, Param, RedirectKind, SameSite, Servlet,
+    Step, Text, Verb, asked_verb, cookie, escape_html, gate_of, link_to, redirect,
+    redirect_elsewhere, send, send_html, send_text, set_cookie, step_of,
 };

@@ -5,8 +5,9 @@ use std::alloc::Global;
 use sv_mapping::Kind;
 use sv_rows::{Draft, cell};
 use sv_web::{
-    Exchange, ExchangeFault, Fault, Field, NewCookie, NoMemory, RedirectKind, SameSite, Verb,
-    asked_verb, cookie, redirect, redirect_elsewhere, send, send_html, send_text, set_cookie,
+    Exchange, ExchangeFault, Fault, Field, NewCookie, NoMemory, RedirectKind, SameSite, Text, Verb,
+    asked_verb, cookie, link_to, redirect, redirect_elsewhere, send, send_html, send_text,
+    set_cookie,
 };
 use sv_wire::{Body, Response};
 
@@ -49,6 +50,23 @@ pub fn answer_cookie(
         Err(_) => told.fail(),
     }
     told.add_to(answer)
+}
+
+/// Writes the location of a path in the context of a request.
+pub fn answer_link(alloc: Global, path: &str, answer: &mut Vec<u8>) -> Result<(), NoMemory> {
+    let mut told = Draft::new(alloc);
+    match exchange(alloc, "GET", "") {
+        Ok(exchange) => tell_link(link_to(alloc, &exchange, path), &mut told),
+        Err(_) => told.fail(),
+    }
+    told.add_to(answer)
+}
+
+fn tell_link(link: Result<Text, NoMemory>, told: &mut Draft) {
+    match link {
+        Ok(link) => told.add(link.as_str()),
+        Err(_) => told.fail(),
+    }
 }
 
 fn tell_cookie(value: Option<&[u8]>, told: &mut Draft) {

@@ -1,6 +1,6 @@
 //! What is answered where memory is ample.
 
-use crate::calls::{Call, answer_all, answer_cookie};
+use crate::calls::{Call, answer_all, answer_cookie, answer_link};
 use crate::steps::answer_step;
 use std::alloc::Global;
 use sv_rows::{Asks, Draft, Strays, cell, hold, unescaped_text};
@@ -114,6 +114,17 @@ flushed | 302 | /a             | false | 200 | ""
 include | -   | http://h/a     | false | 200 | ""
 "#;
 
+/// A path in the context `/app`; its location.
+const LINKS: &str = r#"
+-- Jakarta Servlet 6.0, section 3.5; RFC 3986, sections 2.1, 3.3 and 3.4: what a path has not, and what would end or part it
+/form           | /app/form
+/               | /app/
+""              | /app
+/a b/é          | /app/a%20b/%C3%A9
+/a?b#c;d%20e    | /app/a%3Fb%23c%3Bd%2520e
+/<'"&@:=+,\\   | /app/%3C'%22&@:=+,%5C
+"#;
+
 /// A fault with its code or its kind, and its text; the step.
 const FAULTS: &str = r#"
 -- Jakarta Servlet 6.0, sections 2.3.3 and 10.9
@@ -179,6 +190,11 @@ fn an_answer_is_sent_with_its_type(rt: HostRuntime) -> Result<(), Strays> {
 #[test]
 fn a_redirect_stays_on_its_site(rt: HostRuntime) -> Result<(), Strays> {
     hold(&rt, &[REDIRECTS], &Redirects)
+}
+
+#[test]
+fn a_link_has_the_path_of_the_context(rt: HostRuntime) -> Result<(), Strays> {
+    hold(&rt, &[LINKS], &Links)
 }
 
 #[test]
@@ -259,6 +275,18 @@ impl Asks for Redirects {
     fn answer(&self, alloc: Global, row: &str, answer: &mut Vec<u8>) -> Result<(), NoMemory> {
         let row = unescaped_text(alloc, row)?;
         answer_all(alloc, "GET", Call::Redirect, row.as_str(), answer)
+    }
+}
+
+/// The location of a path.
+struct Links;
+
+impl Asks for Links {
+    const QUESTION: usize = 1;
+
+    fn answer(&self, alloc: Global, row: &str, answer: &mut Vec<u8>) -> Result<(), NoMemory> {
+        let row = unescaped_text(alloc, row)?;
+        answer_link(alloc, cell(row.as_str(), 0), answer)
     }
 }
 

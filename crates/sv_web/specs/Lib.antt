@@ -5,6 +5,7 @@ pub mod Deploying
 pub mod Elements
 pub mod Escaping
 pub mod Fault
+pub mod Linking
 pub mod Methods
 pub mod Redirecting
 pub mod Sending

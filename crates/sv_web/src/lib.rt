@@ -7,6 +7,7 @@ mod deployment;
 mod elements;
 mod escaping;
 mod fault;
+mod linking;
 mod methods;
 mod redirecting;
 mod sending;
@@ -17,6 +18,7 @@ pub use cookies::{NewCookie, SameSite, set_cookie};
 pub use deployment::Deployment;
 pub use escaping::escape_html;
 pub use fault::{Fault, gate_of, step_of};
+pub use linking::link_to;
 pub use methods::{Verb, asked_verb};
 pub use redirecting::{RedirectKind, redirect, redirect_elsewhere};
 pub use sending::{send, send_html, send_text};
@@ -26,4 +28,7 @@ pub use sv_component::{
     Step,
 };
 pub use sv_head::Field;
+pub use sv_mapping::Kind;
+pub use sv_realm::Caller;
+pub use sv_session::Attribute;
 pub use sv_text::{NoMemory, Text};

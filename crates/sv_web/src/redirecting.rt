@@ -39,9 +39,9 @@ impl RedirectKind {
 }
 
 /// Sends the client to another place of this site (Jakarta Servlet 6.0, section 5.3): sets the status and the field `location`, which both stay
-/// as they are, with the answer `false`, where the response is committed or an include is under way. The location is a path with its context's in front, and a query and
-/// a fragment, written as a URI is: it begins with one `/` that no second one follows, and has no byte that a URI may not have, so that no
-/// text leads to another site.
+/// as they are, with the answer `false`, where the response is committed or an include is under way. The location is a path with its context's in
+/// front, and a query and a fragment, written as a URI is: it begins with one `/` that no second one follows, and has no byte that a URI may not
+/// have, so that no text leads to another site.
 ///
 /// # Errors
 /// [`Fault::BadLocation`]: the text is none of these; nothing changes. [`Fault::NoMemory`]: a growth was refused; the status may have changed.
