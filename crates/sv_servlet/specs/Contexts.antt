@@ -28,18 +28,18 @@ texts_of path descriptor users = record {
   users = Some users;
 }
 
-module _ {S F L : Type 0} where
-  -- what a context is deployed with, its components as lists
-  pub record Deployed : Type 0 where
-    pub path : List ℕ
-    pub descriptor : WebApp
-    pub files : List File
-    pub users : List User
-    pub servlets : List (Named S)
-    pub filters : List (Named F)
-    pub listeners : List L
+-- what a context is deployed with, its components as lists
+pub record Deployed (S F L : Type 0) : Type 0 where
+  pub path : List ℕ
+  pub descriptor : WebApp
+  pub files : List File
+  pub users : List User
+  pub servlets : List (Named S)
+  pub filters : List (Named F)
+  pub listeners : List L
 
-  abbrev pub deployed : context.Deployment S F L → Deployed
+module _ {S F L : Type 0} where
+  abbrev pub deployed : context.Deployment S F L → Deployed S F L
   deployed given = record {
     path = given.path;
     descriptor = given.descriptor;
@@ -51,7 +51,7 @@ module _ {S F L : Type 0} where
   }
 
   -- its descriptor and its users as their texts are read, its files if they can be served, and its components as they are
-  abbrev pub deployment_of : Content S F L → Step Deployed
+  abbrev pub deployment_of : Content S F L → Step (Deployed S F L)
   deployment_of content = do
     its_descriptor ← descriptor_in (texts_of content.path content.descriptor content.users)
     its_users ← users_in (texts_of content.path content.descriptor content.users)
@@ -67,10 +67,10 @@ module _ {S F L : Type 0} where
     })
 
   -- each of them, or the first fault
-  abbrev pub deployments_of : List (Content S F L) → Step (List Deployed)
+  abbrev pub deployments_of : List (Content S F L) → Step (List (Deployed S F L))
   deployments_of contents = each deployment_of contents
 
   -- an application with a fault does not run: the fault is the answer, or want of memory
-  abbrev pub IsRefusedBy : Step (List Deployed) → Result (Unit {0}) CommandFault → Type 0
+  abbrev pub IsRefusedBy : Step (List (Deployed S F L)) → Result (Unit {0}) CommandFault → Type 0
   IsRefusedBy (Ok all) result = Unit {0}
   IsRefusedBy (Err fault) result = Gives command_fault result (Err fault)

@@ -1,13 +1,12 @@
 //! What the contexts of an application are deployed with.
 
-ghost use Rattle.std.specs.Prelude.{◌≡◌, Err, MatchOption};
+ghost use Rattle.std.specs.Prelude.{◌≡◌, Err, MatchOption, map};
 ghost use Rattle.sv_text.specs.Gives.{Gives, GivesAnswer};
 ghost use Rattle.sv_application.specs.Parts.{seen};
 ghost use Rattle.sv_deployments.specs.Files.{files_fault, told};
 ghost use Rattle.sv_files.specs.Fault.{files_of, list_fault};
 ghost use Rattle.sv_program.specs.CommandFault.{command_fault};
 ghost use Rattle.sv_servlet.specs.Contexts as spec;
-ghost use Rattle.std.specs.List.{map};
 
 use std::alloc::Global;
 use sv_component::{Filter, Listener, Servlet};
