@@ -1,5 +1,5 @@
 -- What the contexts of an application are deployed with (Jakarta Servlet 6.0, sections 4.4 and 14.4).
-use Rattle.std.specs.Prelude.{ℕ, List, [], ◌∷◌, codes, map, Option, Some, None, Result, Ok, Err}
+use Rattle.std.specs.Prelude.{ℕ, List, [], ◌∷◌, codes, Option, Some, None, Result, Ok, Err}
 use Rattle.sv_text.specs.Gives.{Gives}
 use Rattle.sv_text.specs.Steps.{◌>>=◌}
 use Rattle.sv_component.specs.declared.named.Named.{Named}

@@ -7,5 +7,5 @@ use Rattle.sv_servlet.proofs.contexts.deployments_of.Given as goal
 
 -- what is left gives the rest of the deployments
 abbrev pub invariant-loop-context : goal.invariant-loop-context
-invariant-loop-context l =
+invariant-loop-context g l =
     (each deployment_of (into_iter_items l.context-iterator) >>= λ rest. Ok (map deployed l.deployments.items ++ rest)) ≡ each deployment_of l.fn.contexts.items
