@@ -2,7 +2,6 @@
 use Rattle.std.proofs.Common.{◌≡◌, ℕ, Bool, true, false, List, [], ◌∷◌, ◌++◌, Ok, Err, refl, sym, ap, ◌∙◌, subst}
 use Rattle.std.specs.Bool.{MatchBool}
 use Rattle.std.specs.List.{AllByRecursion}
-use Rattle.std.proofs.lemmas.Bool.{cases_Bool}
 use Rattle.sv_component.specs.Call.{Call}
 use Rattle.sv_conduct.proofs.Travelling.{runs_on}
 use Rattle.sv_conduct.specs.Record.{EveryRunIsLawful, IsLawfulRun}
