@@ -7,7 +7,9 @@ ghost use Rattle.sv_front.specs.Steps.{Drives, HandsOn, IsArmed, SendsOn, StepsO
 use crate::allowance::Allowance;
 use crate::cause::Cause;
 use crate::ending::ends_message;
-use crate::limits::{BYTES_A_WINDOW, MAX_IDLE_SECONDS, WINDOW_SECONDS};
+use crate::limits::{
+    BYTES_A_WINDOW, FIRST_READ_BYTES, MAX_IDLE_SECONDS, READ_BYTES, WINDOW_SECONDS,
+};
 use crate::peer::{Peer, Tried};
 use crate::pending::Pending;
 use crate::pieces::piece_len;
@@ -28,6 +30,7 @@ pub(crate) struct Connection<P> {
     closes: bool,
     rests: bool,
     begun: bool,
+    flows: bool,
     waits: bool,
     moved: usize,
     stirred: bool,
@@ -58,6 +61,7 @@ impl<P: Peer> Connection<P> {
             closes: false,
             rests: true,
             begun: false,
+            flows: false,
             waits: false,
             moved: 0,
             stirred: false,
@@ -188,6 +192,16 @@ impl<P: Peer> Connection<P> {
         !self.closes && self.unsent.is_empty() && self.ahead.is_empty()
     }
 
+    // How many bytes a read takes at most: few at first, which most requests do not fill, and many behind a read that was filled.
+    fn read_len(&self) -> usize
+        ensures { 0 < result }
+    {
+        if self.flows {
+            return READ_BYTES;
+        }
+        FIRST_READ_BYTES
+    }
+
     // Reads once, unless others have their turn.
     fn take_in(&mut self, left: &mut Allowance) -> Result<Step, NoMemory>
         requires { IsIdle self.old }
@@ -197,10 +211,12 @@ impl<P: Peer> Connection<P> {
             return Ok(self.arm());
         }
         left.calls -= 1;
-        match self.ahead.refill(self.alloc, &mut self.stream) {
+        let most = self.read_len();
+        match self.ahead.refill(self.alloc, &mut self.stream, most) {
             Ok(Tried::Done(0)) => Ok(Step::IsOver(Cause::PeerEnded)),
             Ok(Tried::Done(count)) => {
                 self.begun = true;
+                self.flows = count == most;
                 self.moved = self.moved.saturating_add(count);
                 self.stirred = true;
                 self.rests = false;

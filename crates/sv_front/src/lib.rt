@@ -21,8 +21,8 @@ pub use laws::{
     numbers_are_not_used_again, rest_is_for_something, rounds_are_one,
 };
 pub use limits::{
-    ACCEPTED_AT_ONCE, BYTES_A_WINDOW, BYTES_AT_ONCE, CALLS_AT_ONCE, MAX_CONNECTIONS,
-    MAX_IDLE_SECONDS, READ_BYTES, WINDOW_SECONDS,
+    ACCEPTED_AT_ONCE, BYTES_A_WINDOW, BYTES_AT_ONCE, CALLS_AT_ONCE, FIRST_READ_BYTES,
+    MAX_CONNECTIONS, MAX_IDLE_SECONDS, READ_BYTES, WINDOW_SECONDS,
 };
 pub use network::{Network, Told};
 pub use peer::{Peer, Tried};

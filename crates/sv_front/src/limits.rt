@@ -9,6 +9,9 @@ pub const ACCEPTED_AT_ONCE: u32 = 32;
 /// How many bytes a read of a connection takes at most.
 pub const READ_BYTES: usize = 16_384;
 
+/// How many it takes at most unless the one before was filled. Most requests are shorter, and room for so many is had and let go at once.
+pub const FIRST_READ_BYTES: usize = 1024;
+
 /// As many reads and writes are made of a connection before others have their turn.
 pub const CALLS_AT_ONCE: u32 = 8;
 

@@ -3,7 +3,6 @@
 ghost use Rattle.std.specs.Prelude.{◌≡◌, ◌<◌, ◌≤◌, [], drop, length, vec_items};
 ghost use Rattle.sv_front.specs.Ways.{ReadsPiece};
 
-use crate::limits::READ_BYTES;
 use crate::peer::{Peer, Tried};
 use std::alloc::Global;
 use std::marker::Model;
@@ -91,17 +90,23 @@ impl Pending {
         }
     }
 
-    /// Reads once, where no bytes wait.
+    /// Reads once, so many bytes at most, where no bytes wait.
     ///
     /// # Errors
     /// Memory ran out, and nothing was read.
-    pub fn refill<P: Peer>(&mut self, alloc: Global, peer: &mut P) -> Result<Tried, NoMemory>
+    pub fn refill<P: Peer>(
+        &mut self,
+        alloc: Global,
+        peer: &mut P,
+        most: usize,
+    ) -> Result<Tried, NoMemory>
         requires { self.old ≡ [] }
+        requires { 0 < most }
         ensures { Refills P.ways peer.old result peer.new self.new }
     {
         self.bytes = Vec::new(alloc);
         self.at = 0;
-        self.bytes.resize(READ_BYTES, 0)?;
+        self.bytes.resize(most, 0)?;
         Ok(read_piece(peer, &mut self.bytes))
     }
 }
