@@ -100,8 +100,8 @@ impl Pending {
         peer: &mut P,
         most: usize,
     ) -> Result<Tried, NoMemory>
-        requires { self.old ≡ [] }
-        requires { 0 < most }
+        requires idle { self.old ≡ [] }
+        requires room { 0 < most }
         ensures { Refills P.ways peer.old result peer.new self.new }
     {
         self.bytes = Vec::new(alloc);
