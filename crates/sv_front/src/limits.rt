@@ -26,3 +26,9 @@ pub const WINDOW_SECONDS: u64 = 10;
 
 /// So many bytes are enough.
 pub const BYTES_A_WINDOW: usize = 10_240;
+
+/// All connections together hold so many bytes at most, 64 MiB: what waits to be handed on or to be written, and messages that are not over.
+pub const MAX_HELD_BYTES: u64 = 67_108_864;
+
+/// At the end what waits to be written is written within so many seconds, or is not.
+pub const FINISH_SECONDS: u64 = 5;
