@@ -1,2 +1,2 @@
-mod Doing
-mod Escapes
+mod Ending
+mod Steps

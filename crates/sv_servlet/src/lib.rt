@@ -1,22 +1,16 @@
-//! What the author of a web application names.
+//! All that the author of a web application names: components, exchanges, answers, what an application is deployed with, and its run.
 #![tactic(auto)]
 
-mod cookies;
-mod escaping;
-mod fault;
-mod methods;
-mod redirecting;
-mod sending;
+mod contexts;
+mod options;
+mod running;
 
-pub use cookies::{NewCookie, SameSite, set_cookie};
-pub use escaping::escape_html;
-pub use fault::{Fault, step_of};
-pub use methods::{Verb, asked_verb};
-pub use redirecting::{RedirectKind, redirect, redirect_elsewhere};
-pub use sending::{send, send_html, send_text};
-pub use sv_component::{
-    Config, Event, Exchange, ExchangeFault, Filter, Gate, Init, Listener, Named, Param, Servlet,
-    Step,
+pub use options::Options;
+pub use running::run_application;
+pub use sv_program::CommandFault;
+pub use sv_web::{
+    Attribute, Caller, Config, Deployment, Event, Exchange, ExchangeFault, Fault, Field, Filter,
+    Gate, Init, Kind, Listener, Named, NewCookie, NoMemory, Param, RedirectKind, SameSite, Servlet,
+    Step, Text, Verb, asked_verb, cookie, escape_html, gate_of, link_to, redirect,
+    redirect_elsewhere, send, send_html, send_text, set_cookie, step_of,
 };
-pub use sv_head::Field;
-pub use sv_text::{NoMemory, Text};

@@ -4,9 +4,10 @@ use crate::requests::exchange;
 use std::alloc::Global;
 use sv_mapping::Kind;
 use sv_rows::{Draft, cell};
-use sv_servlet::{
-    Exchange, ExchangeFault, Fault, Field, NewCookie, NoMemory, RedirectKind, SameSite, Verb,
-    asked_verb, redirect, redirect_elsewhere, send, send_html, send_text, set_cookie,
+use sv_web::{
+    Exchange, ExchangeFault, Fault, Field, NewCookie, NoMemory, RedirectKind, SameSite, Text, Verb,
+    asked_verb, cookie, link_to, redirect, redirect_elsewhere, send, send_html, send_text,
+    set_cookie,
 };
 use sv_wire::{Body, Response};
 
@@ -29,11 +30,50 @@ pub fn answer_all(
     answer: &mut Vec<u8>,
 ) -> Result<(), NoMemory> {
     let mut told = Draft::new(alloc);
-    match exchange(alloc, method) {
+    match exchange(alloc, method, "") {
         Ok(exchange) => tell_all(alloc, exchange, call, row, &mut told),
         Err(_) => told.fail(),
     }
     told.add_to(answer)
+}
+
+/// Writes the value of the cookie of that name in a request with those lines, and `-` where there is none.
+pub fn answer_cookie(
+    alloc: Global,
+    lines: &str,
+    name: &str,
+    answer: &mut Vec<u8>,
+) -> Result<(), NoMemory> {
+    let mut told = Draft::new(alloc);
+    match exchange(alloc, "GET", lines) {
+        Ok(exchange) => tell_cookie(cookie(&exchange, name), &mut told),
+        Err(_) => told.fail(),
+    }
+    told.add_to(answer)
+}
+
+/// Writes the location of a path in the context of a request.
+pub fn answer_link(alloc: Global, path: &str, answer: &mut Vec<u8>) -> Result<(), NoMemory> {
+    let mut told = Draft::new(alloc);
+    match exchange(alloc, "GET", "") {
+        Ok(exchange) => tell_link(link_to(alloc, &exchange, path), &mut told),
+        Err(_) => told.fail(),
+    }
+    told.add_to(answer)
+}
+
+fn tell_link(link: Result<Text, NoMemory>, told: &mut Draft) {
+    match link {
+        Ok(link) => told.add(link.as_str()),
+        Err(_) => told.fail(),
+    }
+}
+
+fn tell_cookie(value: Option<&[u8]>, told: &mut Draft) {
+    match value {
+        Some(value) => told.add_bytes(value),
+        None => told.add("-"),
+    }
 }
 
 fn tell_all(alloc: Global, mut exchange: Exchange, call: Call, row: &str, told: &mut Draft) {

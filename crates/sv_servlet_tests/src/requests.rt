@@ -1,16 +1,17 @@
 //! The request on which calls are made.
 
 use http::Method;
+use http_header::{HeaderName, HeaderValue};
 use std::alloc::Global;
-use sv_servlet::{Exchange, NoMemory, Text};
 use sv_session::Sessions;
 use sv_text::{Bytes, Listed};
 use sv_uri::path::Canon;
+use sv_web::{Exchange, Field, NoMemory, Text};
 use sv_wire::{CookieSettings, Message, Target};
 
-/// The exchange of a request by that method for `/app/a`, where `/app` is the context.
-pub fn exchange(alloc: Global, method: &str) -> Result<Exchange, NoMemory> {
-    let message = message(alloc, method)?;
+/// The exchange of a request by that method with those lines, for `/app/a`, where `/app` is the context.
+pub fn exchange(alloc: Global, method: &str, lines: &str) -> Result<Exchange, NoMemory> {
+    let message = message(alloc, method, lines)?;
     let canon = canon(alloc)?;
     let settings = CookieSettings::standard(alloc)?;
     exchange_of(alloc, &message, &canon, &settings)
@@ -39,7 +40,7 @@ fn canon(alloc: Global) -> Result<Canon, NoMemory> {
     })
 }
 
-fn message(alloc: Global, method: &str) -> Result<Message, NoMemory> {
+fn message(alloc: Global, method: &str, lines: &str) -> Result<Message, NoMemory> {
     let Ok(method) = Method::from_bytes(alloc, method.as_bytes()) else {
         return Err(NoMemory);
     };
@@ -47,8 +48,30 @@ fn message(alloc: Global, method: &str) -> Result<Message, NoMemory> {
         method,
         target: Target::Star,
         minor: 1,
-        fields: Listed::from_vec(Vec::new(alloc)),
+        fields: Listed::from_vec(fields(alloc, lines)?),
         body: Bytes::from_vec(Vec::new(alloc)),
         keep: true,
     })
+}
+
+/// The fields of lines with `&` between them.
+fn fields(alloc: Global, lines: &str) -> Result<Vec<Field>, NoMemory> {
+    let mut fields = Vec::new(alloc);
+    for line in lines.split('&') {
+        if let Some((name, value)) = line.trim().split_once(": ") {
+            fields.push(field(alloc, name.as_bytes(), value.as_bytes())?)?;
+        }
+    }
+    Ok(fields)
+}
+
+/// A field of a name and a value that are valid.
+fn field(alloc: Global, name: &[u8], value: &[u8]) -> Result<Field, NoMemory> {
+    let Ok(name) = HeaderName::from_bytes(alloc, name) else {
+        return Err(NoMemory);
+    };
+    let Ok(value) = HeaderValue::from_bytes(alloc, value) else {
+        return Err(NoMemory);
+    };
+    Ok(Field { name, value })
 }

@@ -2,7 +2,7 @@
 
 use std::alloc::Global;
 use sv_rows::{Draft, cell};
-use sv_servlet::{ExchangeFault, Fault, NoMemory, Step, Text, step_of};
+use sv_web::{ExchangeFault, Fault, NoMemory, Step, Text, step_of};
 
 /// Writes the step of the fault that a row has.
 pub fn answer_step(alloc: Global, row: &str, answer: &mut Vec<u8>) -> Result<(), NoMemory> {

@@ -1,10 +1,10 @@
 //! What is answered where memory is ample.
 
-use crate::calls::{Call, answer_all};
+use crate::calls::{Call, answer_all, answer_cookie, answer_link};
 use crate::steps::answer_step;
 use std::alloc::Global;
 use sv_rows::{Asks, Draft, Strays, cell, hold, unescaped_text};
-use sv_servlet::{NoMemory, escape_html};
+use sv_web::{NoMemory, escape_html};
 
 /// A text, and the page that shows it.
 const TEXTS: &str = r#"
@@ -114,6 +114,17 @@ flushed | 302 | /a             | false | 200 | ""
 include | -   | http://h/a     | false | 200 | ""
 "#;
 
+/// A path in the context `/app`; its location.
+const LINKS: &str = r#"
+-- Jakarta Servlet 6.0, section 3.5; RFC 3986, sections 2.1, 3.3 and 3.4: what a path has not, and what would end or part it
+/form           | /app/form
+/               | /app/
+""              | /app
+/a b/é          | /app/a%20b/%C3%A9
+/a?b#c;d%20e    | /app/a%3Fb%23c%3Bd%2520e
+/<'"&@:=+,\\   | /app/%3C'%22&@:=+,%5C
+"#;
+
 /// A fault with its code or its kind, and its text; the step.
 const FAULTS: &str = r#"
 -- Jakarta Servlet 6.0, sections 2.3.3 and 10.9
@@ -126,6 +137,31 @@ NoSession   | -    | -         | Failed | NoSession | NoSession
 NoMemory    | -    | -         | NoMemory
 "#;
 
+/// The lines of the request, with `&` between them; the name of a cookie; its value.
+const SENT_COOKIES: &str = r#"
+-- RFC 6265, sections 4.2.1 and 5.4: pairs with `; ` between them
+Cookie: a=1; b=2                | b   | 2
+Cookie: a=1; b=2                | a   | 1
+Cookie: a=1                     | b   | -
+Host: h                         | a   | -
+-- the first of a name, in one field and in several, whatever other fields stand between
+Cookie: a=1; a=2                | a   | 1
+Cookie: b=1 & Host: a & Cookie: a=2; b=3 | b | 1
+Cookie: b=1 & Accept: a=0 & Cookie: a=2  | a | 2
+X-Cookie: a=1                   | a   | -
+-- a pair is cut at its first `=`, and what has none is no cookie; a value may be empty
+Cookie: a=1=2                   | a   | 1=2
+Cookie: a; a=1                  | a   | 1
+Cookie: a=                      | a   | ""
+-- blanks stand around a pair and not within it; quotes belong to the value
+Cookie: b=0 ;\ta=1\t;c=2       | a   | 1
+Cookie: a= 1; b=2               | a   | \x201
+Cookie: a =1                    | a   | -
+Cookie: a="1"                   | a   | "1"
+-- names are told with their case, and whole
+Cookie: A=1; aa=2; xa=3         | a   | -
+"#;
+
 #[test]
 fn a_page_shows_a_text(rt: HostRuntime) -> Result<(), Strays> {
     hold(&rt, &[TEXTS], &Texts)
@@ -134,6 +170,11 @@ fn a_page_shows_a_text(rt: HostRuntime) -> Result<(), Strays> {
 #[test]
 fn a_cookie_follows_the_grammar(rt: HostRuntime) -> Result<(), Strays> {
     hold(&rt, &[COOKIES], &Cookies)
+}
+
+#[test]
+fn a_cookie_is_the_first_of_its_name(rt: HostRuntime) -> Result<(), Strays> {
+    hold(&rt, &[SENT_COOKIES], &SentCookies)
 }
 
 #[test]
@@ -149,6 +190,11 @@ fn an_answer_is_sent_with_its_type(rt: HostRuntime) -> Result<(), Strays> {
 #[test]
 fn a_redirect_stays_on_its_site(rt: HostRuntime) -> Result<(), Strays> {
     hold(&rt, &[REDIRECTS], &Redirects)
+}
+
+#[test]
+fn a_link_has_the_path_of_the_context(rt: HostRuntime) -> Result<(), Strays> {
+    hold(&rt, &[LINKS], &Links)
 }
 
 #[test]
@@ -185,6 +231,18 @@ impl Asks for Cookies {
     }
 }
 
+/// The cookie of a request.
+struct SentCookies;
+
+impl Asks for SentCookies {
+    const QUESTION: usize = 2;
+
+    fn answer(&self, alloc: Global, row: &str, answer: &mut Vec<u8>) -> Result<(), NoMemory> {
+        let row = unescaped_text(alloc, row)?;
+        answer_cookie(alloc, cell(row.as_str(), 0), cell(row.as_str(), 1), answer)
+    }
+}
+
 /// The answer to a request, by its method.
 struct Methods;
 
@@ -217,6 +275,18 @@ impl Asks for Redirects {
     fn answer(&self, alloc: Global, row: &str, answer: &mut Vec<u8>) -> Result<(), NoMemory> {
         let row = unescaped_text(alloc, row)?;
         answer_all(alloc, "GET", Call::Redirect, row.as_str(), answer)
+    }
+}
+
+/// The location of a path.
+struct Links;
+
+impl Asks for Links {
+    const QUESTION: usize = 1;
+
+    fn answer(&self, alloc: Global, row: &str, answer: &mut Vec<u8>) -> Result<(), NoMemory> {
+        let row = unescaped_text(alloc, row)?;
+        answer_link(alloc, cell(row.as_str(), 0), answer)
     }
 }
 

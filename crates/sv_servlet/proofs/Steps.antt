@@ -1,0 +1,26 @@
+-- What each context is deployed with, as far as a loop has come.
+use Rattle.std.proofs.Common.{◌≡◌, ◌∙◌, List, [], ◌∷◌, ◌++◌, map, Ok, Err, refl, ap, append_assoc}
+use Rattle.sv_text.specs.Steps.{◌>>=◌}
+use Rattle.sv_program.specs.Configuration.{Step, each}
+
+behind : {A : Type 0} (bs : List A) (b : A) (rest : Step (List A))
+    → (rest >>= λ more. Ok ((bs ++ b ∷ []) ++ more)) ≡ ((rest >>= λ more. Ok (b ∷ more)) >>= λ more. Ok (bs ++ more))
+behind bs b (Ok more) = ap Ok (append_assoc bs (b ∷ []) more)
+behind bs b (Err fault) = refl
+
+-- one more of those that are left
+pub one_more : {A B : Type 0} (step : A → Step B) (left rest : List A) (a : A) (b : B) (bs next : List B) (whole : Step (List B))
+    → left ≡ a ∷ rest → step a ≡ Ok b → next ≡ bs ++ b ∷ []
+    → (each step left >>= λ others. Ok (bs ++ others)) ≡ whole
+    → (each step rest >>= λ others. Ok (next ++ others)) ≡ whole
+one_more step left rest a b bs next whole front gives pushed known =
+    let shown = rw front at known in
+    rw pushed (behind bs b (each step rest) ∙ rw gives at shown)
+
+-- what is seen of one more
+pub seen_more : {A B : Type 0} (view : A → B) (made next : List A) (a : A) → next ≡ made ++ a ∷ [] → map view next ≡ map view made ++ view a ∷ []
+seen_more view made next a pushed = rw pushed (pushed_view view made a)
+  where
+    pushed_view : {A B : Type 0} (view : A → B) (xs : List A) (x : A) → map view (xs ++ x ∷ []) ≡ map view xs ++ view x ∷ []
+    pushed_view view [] x = refl
+    pushed_view view (y ∷ ys) x = ap (λ others. view y ∷ others) (pushed_view view ys x)

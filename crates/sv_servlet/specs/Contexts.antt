@@ -1,0 +1,76 @@
+-- What the contexts of an application are deployed with (Jakarta Servlet 6.0, sections 4.4 and 14.4).
+use Rattle.std.specs.Prelude.{ℕ, List, [], ◌∷◌, codes, Option, Some, None, Result, Ok, Err}
+use Rattle.sv_text.specs.Gives.{Gives}
+use Rattle.sv_text.specs.Steps.{◌>>=◌}
+use Rattle.sv_component.specs.declared.named.Named.{Named}
+use Rattle.sv_context.specs.declared.deployment.Deployment as context
+use Rattle.sv_descriptor.specs.declared.web_app.WebApp.{WebApp}
+use Rattle.sv_deployments.specs.Files.{told}
+use Rattle.sv_files.specs.Fault.{files_of}
+use Rattle.sv_files.specs.declared.file.File.{File}
+use Rattle.sv_program.specs.CommandFault.{command_fault}
+use Rattle.sv_program.specs.Configuration.{Step, descriptor_in, each, users_in}
+use Rattle.sv_program.specs.declared.command_fault.CommandFault.{CommandFault}
+use Rattle.sv_program.specs.declared.configuration.ContextTexts.{ContextTexts}
+use Rattle.sv_realm.specs.declared.user.User.{User}
+use Rattle.sv_web.specs.declared.content.Content.{Content}
+
+-- there is a users file where it has a text
+abbrev pub users_name : List ℕ → Option (List ℕ)
+users_name [] = None
+users_name (first ∷ rest) = Some (codes "users")
+
+-- the texts of a context's files
+abbrev pub texts_of : List ℕ → List ℕ → List ℕ → ContextTexts
+texts_of path descriptor users = record {
+  context = record { path = path; descriptor = codes "descriptor"; files = []; users = users_name users };
+  descriptor = Some descriptor;
+  users = Some users;
+}
+
+-- what a context is deployed with, its components as lists
+pub record Deployed (S F L : Type 0) : Type 0 where
+  pub path : List ℕ
+  pub descriptor : WebApp
+  pub files : List File
+  pub users : List User
+  pub servlets : List (Named S)
+  pub filters : List (Named F)
+  pub listeners : List L
+
+module _ {S F L : Type 0} where
+  abbrev pub deployed : context.Deployment S F L → Deployed S F L
+  deployed given = record {
+    path = given.path;
+    descriptor = given.descriptor;
+    files = given.files;
+    users = given.users;
+    servlets = given.parts.servlets.items;
+    filters = given.parts.filters.items;
+    listeners = given.parts.listeners.items;
+  }
+
+  -- its descriptor and its users as their texts are read, its files if they can be served, and its components as they are
+  abbrev pub deployment_of : Content S F L → Step (Deployed S F L)
+  deployment_of content = do
+    its_descriptor ← descriptor_in (texts_of content.path content.descriptor content.users)
+    its_users ← users_in (texts_of content.path content.descriptor content.users)
+    its_files ← told content.path (files_of content.files)
+    Ok (record {
+      path = content.path;
+      descriptor = its_descriptor;
+      files = its_files;
+      users = its_users;
+      servlets = content.servlets;
+      filters = content.filters;
+      listeners = content.listeners;
+    })
+
+  -- each of them, or the first fault
+  abbrev pub deployments_of : List (Content S F L) → Step (List (Deployed S F L))
+  deployments_of contents = each deployment_of contents
+
+  -- an application with a fault does not run: the fault is the answer, or want of memory
+  abbrev pub IsRefusedBy : Step (List (Deployed S F L)) → Result (Unit {0}) CommandFault → Type 0
+  IsRefusedBy (Ok all) result = Unit {0}
+  IsRefusedBy (Err fault) result = Gives command_fault result (Err fault)

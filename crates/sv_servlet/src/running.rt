@@ -1,0 +1,57 @@
+//! The run of an application.
+
+ghost use Rattle.sv_servlet.specs.Contexts as spec;
+
+use crate::contexts::deployments_of;
+use crate::options::Options;
+use std::io;
+use std::net::Net;
+use std::random::RandomSource;
+use std::time::Clock;
+use sv_component::{Filter, Listener, Servlet};
+use sv_context::Deployment;
+use sv_program::CommandFault;
+use sv_serve::{Seeding, listen_and_run, seed_for, start};
+
+/// Runs an application: starts its contexts behind one port, with ids of sessions by the system's random source, writes the line
+/// `listening ADDRESS:PORT`, and serves all connections that come, none waiting for another, until the process is ended from outside, or an
+/// answer wants memory; then it stops the contexts.
+///
+/// # Errors
+/// The first fault: of each context in turn that of its descriptor ([`CommandFault::Descriptor`]), its users ([`CommandFault::Users`]) and its
+/// static files ([`CommandFault::Files`]), after which no component was called; then [`CommandFault::File`] where the system's random source
+/// fails; [`CommandFault::Start`] where a component did not start, after which those that had started are stopped; and
+/// [`CommandFault::Socket`], [`CommandFault::Output`] or [`CommandFault::NoMemory`] as the run meets them.
+pub fn run_application<R, S: Servlet, F: Filter, L: Listener>(
+    rt: &R,
+    contexts: Vec<sv_web::Deployment<S, F, L>>,
+    options: Options,
+) -> Result<(), CommandFault>
+where
+    R: Net + Clock + RandomSource + Print + AllocGlobal,
+    ensures { spec.IsRefusedBy (spec.deployments_of contexts.items) result }
+{
+    let deployments = match deployments_of(rt.alloc(), contexts) {
+        Ok(deployments) => deployments,
+        Err(fault) => return Err(fault),
+    };
+    run_deployments(rt, deployments, options)
+}
+
+// Starts them, serves, and stops them.
+fn run_deployments<R, S: Servlet, F: Filter, L: Listener>(
+    rt: &R,
+    deployments: Vec<Deployment<S, F, L>>,
+    options: Options,
+) -> Result<(), CommandFault>
+where
+    R: Net + Clock + RandomSource + Print + AllocGlobal,
+{
+    let alloc = rt.alloc();
+    let seed = seed_for(alloc, rt, Seeding::Fresh, &[0; 32])?;
+    let mut container = start(alloc, deployments, &seed)?;
+    let mut writer = io::writer(rt);
+    let served = listen_and_run(alloc, rt, &mut writer, options.address, &mut container);
+    let _stopped = container.shutdown();
+    served
+}

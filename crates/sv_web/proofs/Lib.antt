@@ -1,0 +1,4 @@
+mod Doing
+mod Escapes
+mod Pushes
+mod SentLemmas

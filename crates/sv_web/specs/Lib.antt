@@ -1,0 +1,12 @@
+pub use Rattle.sv_component.specs.Call
+pub use Rattle.sv_exchange.specs.Changing
+pub mod Cookies
+pub mod Deploying
+pub mod Elements
+pub mod Escaping
+pub mod Fault
+pub mod Linking
+pub mod Methods
+pub mod Redirecting
+pub mod Sending
+pub mod SentCookies

@@ -1,0 +1,40 @@
+-- What a servlet answers, by the method of the request (Jakarta Servlet 6.0, section 2.1.1; RFC 9110, sections 9.3, 10.2.1 and 15.5.6).
+use Rattle.std.specs.Prelude.{ℕ, Bool, ◌||◌, List, [], ◌∷◌, ◌++◌, Option, None, Some, bytes_eq, codes, find, if◌then◌else◌}
+use Rattle.std.specs.List.{flat_map}
+use Rattle.sv_exchange.specs.Changing.{SetHeader, SetStatus, after_all}
+use Rattle.sv_exchange.specs.State.{State}
+use Rattle.sv_web.specs.declared.methods.Verb.{Verb}
+use Rattle.sv_web.specs.declared.methods.Verb.TheVariants.{Get, Post, Put, Patch, Delete}
+
+-- whether a request of that method asks for it: HEAD asks for GET
+abbrev pub answers : List ℕ → Verb → Bool
+answers method Get = bytes_eq method (codes "GET") || bytes_eq method (codes "HEAD")
+answers method Post = bytes_eq method (codes "POST")
+answers method Put = bytes_eq method (codes "PUT")
+answers method Patch = bytes_eq method (codes "PATCH")
+answers method Delete = bytes_eq method (codes "DELETE")
+
+-- the first of the allowed ones that is asked for
+abbrev pub asked_for : List ℕ → List Verb → Option Verb
+asked_for method allowed = find (λ verb. answers method verb) allowed
+
+-- the field `allow`: the methods that ask for each, and OPTIONS
+abbrev pub names_of : Verb → List ℕ
+names_of Get = codes "GET, HEAD, "
+names_of Post = codes "POST, "
+names_of Put = codes "PUT, "
+names_of Patch = codes "PATCH, "
+names_of Delete = codes "DELETE, "
+
+abbrev pub allow_text : List Verb → List ℕ
+allow_text allowed = flat_map names_of allowed ++ codes "OPTIONS"
+
+-- what a request is answered that asks for none of them: OPTIONS asks which there are
+abbrev pub refusal_status : List ℕ → ℕ
+refusal_status method = if bytes_eq method (codes "OPTIONS") then 204 else 405
+
+-- the answer is made where none is asked for, and nothing changes where one is
+abbrev pub left_without : Option Verb → List Verb → State → State
+left_without (Some verb) allowed before = before
+left_without None allowed before =
+    after_all (SetStatus (refusal_status before.method) ∷ SetHeader (codes "allow") (allow_text allowed) ∷ []) before

@@ -1,0 +1,35 @@
+-- Answers that send the client elsewhere (Jakarta Servlet 6.0, section 5.3; RFC 9110, sections 10.2.2 and 15.4; RFC 3986, sections 2 and 4.2).
+use Rattle.std.specs.Prelude.{ℕ, Bool, ◌&&◌, ◌||◌, not, ◌==◌, List, [], ◌∷◌, codes, nat_eq}
+use Rattle.std.specs.Char.{is_ascii_alphanumeric}
+use Rattle.std.specs.List.{list_all, list_any, starts_with}
+use Rattle.sv_exchange.specs.Changing.{SetHeader, SetStatus, after_all}
+use Rattle.sv_exchange.specs.State.{State}
+use Rattle.sv_web.specs.declared.redirecting.RedirectKind.{RedirectKind}
+use Rattle.sv_web.specs.declared.redirecting.RedirectKind.TheVariants.{MovedPermanently, Found, SeeOther, Temporary, Permanent}
+
+-- the status that says it
+abbrev pub status_of : RedirectKind → ℕ
+status_of MovedPermanently = 301
+status_of Found = 302
+status_of SeeOther = 303
+status_of Temporary = 307
+status_of Permanent = 308
+
+-- the bytes of a URI: letters, digits and marks, and `%` with which an escape begins
+abbrev pub is_location_byte : ℕ → Bool
+is_location_byte b = is_ascii_alphanumeric b || list_any (λ mark. mark == b) (codes "-._~:/?#[]@!$&'()*+,;=%")
+
+-- a location of this site: what begins with one slash is a path, and what begins with two names another site
+abbrev pub is_own_location : List ℕ → Bool
+is_own_location location =
+    starts_with nat_eq location (codes "/") && not (starts_with nat_eq location (codes "//")) && list_all is_location_byte location
+
+-- a location of any site
+abbrev pub is_location : List ℕ → Bool
+is_location location =
+    is_own_location location
+    || ((starts_with nat_eq location (codes "http://") || starts_with nat_eq location (codes "https://")) && list_all is_location_byte location)
+
+-- the status is set, and then the location
+abbrev pub redirected : RedirectKind → List ℕ → State → State
+redirected kind location before = after_all (SetStatus (status_of kind) ∷ SetHeader (codes "location") location ∷ []) before

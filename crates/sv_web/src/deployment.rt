@@ -1,0 +1,158 @@
+//! A context of an application, put together call by call.
+
+ghost use Rattle.std.specs.Prelude.{IfOk};
+ghost use Rattle.sv_text.specs.Gives.{GivesAnswer};
+
+use crate::content::Content;
+use crate::elements::{push_filter, push_listener, push_servlet};
+use std::alloc::Global;
+use std::marker::Model;
+use sv_component::{Filter, Listener, Named, Servlet};
+use sv_files::File;
+use sv_text::{Bytes, Listed, NoMemory, Text};
+
+/// A context of an application: where it stands, its servlets, filters and listeners, its static files and its users. It is put together call by
+/// call, each of which takes it and gives it back; contracts see what it holds. What is called first is declared first (Jakarta Servlet 6.0,
+/// sections 6.2.4 and 11.3.1): filters stand in a chain, and listeners are told, in that order.
+///
+/// A call that is refused with [`NoMemory`] lets all of it go.
+#[derive(Drop)]
+pub struct Deployment<S, F, L> {
+    alloc: Global,
+    path: Text,
+    descriptor: String,
+    servlets: Vec<Named<S>>,
+    filters: Vec<Named<F>>,
+    listeners: Vec<L>,
+    files: Vec<File>,
+    users: Text,
+}
+
+impl<S, F, L> Model for Deployment<S, F, L> {
+    ghost use Rattle.std.specs.Prelude.{string_bytes};
+    ghost use Rattle.sv_web.specs.declared.content.Content.{Content};
+
+    ghost Value = { Content S F L };
+
+    ghost view = { λ d. record {
+      path = d.path;
+      descriptor = string_bytes d.descriptor;
+      servlets = d.servlets.items;
+      filters = d.filters.items;
+      listeners = d.listeners.items;
+      files = d.files.items;
+      users = d.users;
+    } };
+}
+
+impl<S: Servlet, F: Filter, L: Listener> Deployment<S, F, L> {
+    ghost use Rattle.std.specs.Prelude.{◌≡◌, OnOk, string_bytes, ◌++◌};
+    ghost use Rattle.sv_web.specs.Deploying as spec;
+
+    /// A context at a path, with nothing in it: `/` for the root context, or a path as `/shop` (Jakarta Servlet 6.0, section 3.5).
+    pub fn at(alloc: Global, path: &str) -> Result<Deployment<S, F, L>, NoMemory>
+        ensures { GivesAnswer result (spec.at_path path.now) }
+    {
+        let path = if path == "/" { "" } else { path };
+        Ok(Deployment {
+            alloc,
+            path: Text::copy_of(alloc, path)?,
+            descriptor: String::new(alloc),
+            servlets: Vec::new(alloc),
+            filters: Vec::new(alloc),
+            listeners: Vec::new(alloc),
+            files: Vec::new(alloc),
+            users: Text::from_string(String::new(alloc)),
+        })
+    }
+
+    /// Adds elements of a descriptor (Jakarta Servlet 6.0, section 14.4) as TOML: constraints, a login, error pages, more mappings of what is added
+    /// by other calls. Servlets, filters and listeners are added by the other calls alone. Keys that stand in no table, as `version`, stand in
+    /// the first text, before all other calls.
+    pub fn describe(mut self, elements: &str) -> Result<Deployment<S, F, L>, NoMemory>
+        ensures { IfOk result (λ deployment. deployment ≡ spec.with_elements elements.now self) }
+    {
+        self.descriptor.push_str(elements)?;
+        self.descriptor.push_str("\n")?;
+        Ok(self)
+    }
+
+    /// Adds a servlet by its name, at some URL patterns, at least one (Jakarta Servlet 6.0, sections 4.4.1 and 12.2).
+    pub fn servlet(
+        mut self,
+        name: &str,
+        patterns: &[&str],
+        servlet: S,
+    ) -> Result<Deployment<S, F, L>, NoMemory>
+        ensures { IfOk result (λ deployment. deployment ≡ spec.with_servlet name.now patterns.now servlet self) }
+    {
+        push_servlet(&mut self.descriptor, name, patterns)?;
+        let name = Text::copy_of(self.alloc, name)?;
+        self.servlets.push(Named {
+            name,
+            component: servlet,
+        })?;
+        Ok(self)
+    }
+
+    /// Adds a filter by its name, for the client's requests whose paths fit some URL patterns, at least one (Jakarta Servlet 6.0, sections 4.4.2
+    /// and 6.2.4).
+    pub fn filter(
+        mut self,
+        name: &str,
+        patterns: &[&str],
+        filter: F,
+    ) -> Result<Deployment<S, F, L>, NoMemory>
+        ensures { IfOk result (λ deployment. deployment ≡ spec.with_filter name.now patterns.now filter self) }
+    {
+        push_filter(&mut self.descriptor, name, patterns)?;
+        let name = Text::copy_of(self.alloc, name)?;
+        self.filters.push(Named {
+            name,
+            component: filter,
+        })?;
+        Ok(self)
+    }
+
+    /// Adds a listener (Jakarta Servlet 6.0, sections 4.4.3 and 11.3).
+    pub fn listener(mut self, listener: L) -> Result<Deployment<S, F, L>, NoMemory>
+        ensures { IfOk result (λ deployment. deployment ≡ spec.with_listener listener self) }
+    {
+        push_listener(&mut self.descriptor)?;
+        self.listeners.push(listener)?;
+        Ok(self)
+    }
+
+    /// Adds a static file at a path within the context, which begins with `/` (Jakarta Servlet 6.0, section 10.10).
+    pub fn file(mut self, path: &str, bytes: &[u8]) -> Result<Deployment<S, F, L>, NoMemory>
+        ensures { IfOk result (λ deployment. deployment ≡ spec.with_file path.now bytes.now self) }
+    {
+        let path = Text::copy_of(self.alloc, path)?;
+        let bytes = Bytes::copy_of(self.alloc, bytes)?;
+        self.files.push(File { path, bytes })?;
+        Ok(self)
+    }
+
+    /// Gives the context the users of a users file, a text in TOML, in place of those that it had.
+    pub fn users(mut self, users: &str) -> Result<Deployment<S, F, L>, NoMemory>
+        ensures { IfOk result (λ deployment. deployment ≡ spec.with_users users.now self) }
+    {
+        self.users = Text::copy_of(self.alloc, users)?;
+        Ok(self)
+    }
+
+    /// Gives up what it holds, without taking memory.
+    pub fn into_content(self) -> Content<S, F, L>
+        ensures { result ≡ self }
+    {
+        Content {
+            path: self.path,
+            descriptor: Text::from_string(self.descriptor),
+            servlets: Listed::from_vec(self.servlets),
+            filters: Listed::from_vec(self.filters),
+            listeners: Listed::from_vec(self.listeners),
+            files: Listed::from_vec(self.files),
+            users: self.users,
+        }
+    }
+}

@@ -1,0 +1,34 @@
+//! What the author of a web application names: answers put together of an exchange's calls, and what an application is deployed with.
+#![tactic(auto)]
+
+mod content;
+mod cookies;
+mod deployment;
+mod elements;
+mod escaping;
+mod fault;
+mod linking;
+mod methods;
+mod redirecting;
+mod sending;
+mod sent_cookies;
+
+pub use content::Content;
+pub use cookies::{NewCookie, SameSite, set_cookie};
+pub use deployment::Deployment;
+pub use escaping::escape_html;
+pub use fault::{Fault, gate_of, step_of};
+pub use linking::link_to;
+pub use methods::{Verb, asked_verb};
+pub use redirecting::{RedirectKind, redirect, redirect_elsewhere};
+pub use sending::{send, send_html, send_text};
+pub use sent_cookies::cookie;
+pub use sv_component::{
+    Config, Event, Exchange, ExchangeFault, Filter, Gate, Init, Listener, Named, Param, Servlet,
+    Step,
+};
+pub use sv_head::Field;
+pub use sv_mapping::Kind;
+pub use sv_realm::Caller;
+pub use sv_session::Attribute;
+pub use sv_text::{NoMemory, Text};

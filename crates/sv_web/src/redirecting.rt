@@ -1,0 +1,121 @@
+//! Answers that send the client elsewhere.
+
+ghost use Rattle.std.specs.Prelude.{◌≡◌, OnOk, false, true};
+ghost use Rattle.std.specs.List.{list_all};
+ghost use Rattle.sv_exchange.specs.Changing.{Changes};
+ghost use Rattle.sv_web.specs.Redirecting.{is_location, is_location_byte, is_own_location, redirected, status_of};
+
+use crate::fault::Fault;
+use sv_component::{Exchange, ExchangeFault};
+
+/// How a client is sent elsewhere (RFC 9110, section 15.4).
+#[derive(Clone, Copy)]
+pub enum RedirectKind {
+    /// 301: for good; a POST may become a GET.
+    MovedPermanently,
+    /// 302: for now; a POST may become a GET.
+    Found,
+    /// 303: the answer to a POST is shown there, by a GET.
+    SeeOther,
+    /// 307: for now, with the same method and body.
+    Temporary,
+    /// 308: for good, with the same method and body.
+    Permanent,
+}
+
+impl RedirectKind {
+    /// The status of the answer.
+    pub fn status(self) -> u16
+        ensures { result ≡ status_of self }
+    {
+        match self {
+            RedirectKind::MovedPermanently => 301,
+            RedirectKind::Found => 302,
+            RedirectKind::SeeOther => 303,
+            RedirectKind::Temporary => 307,
+            RedirectKind::Permanent => 308,
+        }
+    }
+}
+
+/// Sends the client to another place of this site (Jakarta Servlet 6.0, section 5.3): sets the status and the field `location`, which both stay
+/// as they are, with the answer `false`, where the response is committed or an include is under way. The location is a path with its context's in
+/// front, and a query and a fragment, written as a URI is: it begins with one `/` that no second one follows, and has no byte that a URI may not
+/// have, so that no text leads to another site.
+///
+/// # Errors
+/// [`Fault::BadLocation`]: the text is none of these; nothing changes. [`Fault::NoMemory`]: a growth was refused; the status may have changed.
+pub fn redirect(exchange: &mut Exchange, kind: RedirectKind, location: &str) -> Result<bool, Fault>
+    ensures own { OnOk result (is_own_location location.now ≡ true) }
+    ensures redirected { OnOk result (exchange.new ≡ redirected kind location.now exchange.old) }
+    ensures stays { is_own_location location.now ≡ false → exchange.new ≡ exchange.old }
+    ensures reached { Changes exchange.old exchange.new }
+{
+    if !is_own_location(location.as_bytes()) {
+        return Err(Fault::BadLocation);
+    }
+    Ok(put_location(exchange, kind, location)?)
+}
+
+/// Sends the client to a place that may be of another site, as [`redirect`] does: the location is one of this site, or begins with `http://` or
+/// `https://`. A text that a client sent is not passed here.
+///
+/// # Errors
+/// Those of [`redirect`].
+pub fn redirect_elsewhere(
+    exchange: &mut Exchange,
+    kind: RedirectKind,
+    location: &str,
+) -> Result<bool, Fault>
+    ensures proper { OnOk result (is_location location.now ≡ true) }
+    ensures redirected { OnOk result (exchange.new ≡ redirected kind location.now exchange.old) }
+    ensures stays { is_location location.now ≡ false → exchange.new ≡ exchange.old }
+    ensures reached { Changes exchange.old exchange.new }
+{
+    if !is_location(location.as_bytes()) {
+        return Err(Fault::BadLocation);
+    }
+    Ok(put_location(exchange, kind, location)?)
+}
+
+// Sets the status and the location.
+fn put_location(
+    exchange: &mut Exchange,
+    kind: RedirectKind,
+    location: &str,
+) -> Result<bool, ExchangeFault>
+    ensures redirected { OnOk result (exchange.new ≡ redirected kind location.now exchange.old) }
+    ensures reached { Changes exchange.old exchange.new }
+{
+    exchange.set_status(kind.status())?;
+    exchange.set_header("location", location)
+}
+
+// Whether a text is a location of this site.
+fn is_own_location(location: &[u8]) -> bool
+    ensures { result ≡ is_own_location location.now }
+{
+    location.starts_with(b"/") && !location.starts_with(b"//") && has_location_bytes(location)
+}
+
+// Whether a text is a location of any site.
+fn is_location(location: &[u8]) -> bool
+    ensures { result ≡ is_location location.now }
+{
+    is_own_location(location)
+        || ((location.starts_with(b"http://") || location.starts_with(b"https://"))
+            && has_location_bytes(location))
+}
+
+fn has_location_bytes(location: &[u8]) -> bool
+    ensures { result ≡ list_all is_location_byte location.now }
+{
+    location.iter().all(|b| is_location_byte(*b))
+}
+
+// Whether a URI may have the byte.
+fn is_location_byte(b: u8) -> bool
+    ensures { result ≡ is_location_byte b }
+{
+    b.is_ascii_alphanumeric() || b"-._~:/?#[]@!$&'()*+,;=%".contains(&b)
+}
