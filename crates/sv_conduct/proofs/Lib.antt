@@ -4,6 +4,7 @@ mod Destined
 mod Headline
 mod OurContexts
 mod Outcomes
+mod Refusing
 mod Starting
 mod Travelling
 mod Undispatched

@@ -2,3 +2,4 @@ pub mod Order
 pub mod Record
 pub mod Refused
 pub mod Start
+pub mod Until

@@ -10,7 +10,7 @@ pub use contexts::{
     callers_come_by_login, contexts_end_expired_sessions, contexts_tell_outcomes,
     edits_alone_change_the_constraints, sessions_of_contexts_stay_in_order,
 };
-pub use record::every_run_is_lawful;
+pub use record::{every_run_is_lawful, every_run_is_lawful_until_memory_is_refused};
 pub use refused::the_undispatched_call_none;
 pub use runs::{
     callers_logged_in, callers_logged_in_since_the_start, constraints_change_by_edits_alone,

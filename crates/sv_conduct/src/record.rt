@@ -1,11 +1,13 @@
 //! The headline, over our contexts.
 
 ghost use Rattle.sv_conduct.specs.Record.{EveryRunIsLawful};
+ghost use Rattle.sv_conduct.specs.Until.{EveryRunIsLawfulUntilRefused};
 
 use crate::contexts::edits_alone_change_the_constraints;
 use sv_component::{Filter, Listener, Servlet, runs_are_journalled, runs_move_components};
+use sv_context::Context;
 use sv_outcome::just_one_case_holds;
-use sv_run::Words;
+use sv_run::{Words, want_of_memory_stops};
 
 /// Over every list of events, until memory is refused: a message goes to the context whose path serves its target, and there it enters, noted so and
 /// answered by a dispatch of the request, exactly where its path is not hidden, it is no login post and the combined constraints, as they stand, allow its
@@ -19,4 +21,13 @@ pub fn every_run_is_lawful<S: Servlet, F: Filter, L: Listener, W: Words>()
     runs_move_components::<S, F, L>();
     just_one_case_holds();
     edits_alone_change_the_constraints::<S, F, L, W>();
+}
+
+/// The same of each run of a container that runs, whether memory is refused in it or not: it is lawful as a whole, or it is so up to the event that wanted
+/// memory. That event broke off and stopped the container, so that its own entries and answer are lost, and each event behind it is refused.
+pub fn every_run_is_lawful_until_memory_is_refused<S: Servlet, F: Filter, L: Listener, W: Words>()
+    ensures { EveryRunIsLawfulUntilRefused S.servlet_step F.filter_step L.listener_step W.draws }
+{
+    every_run_is_lawful::<S, F, L, W>();
+    want_of_memory_stops::<Context<S, F, L>, W>();
 }

@@ -4,3 +4,4 @@ pub mod Sentence
 pub mod Tree
 pub mod Shown
 pub mod Offending
+pub mod Telling

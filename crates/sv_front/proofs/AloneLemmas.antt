@@ -15,7 +15,7 @@ use Rattle.sv_run.specs.declared.step_fault.StepFault.{StepFault}
 use Rattle.sv_streams.specs.Calls.{Gave, Took}
 use Rattle.sv_front.proofs.LawLemmas.{no_unused, over_stays}
 
-all_join : {A : Type 0} (P : A → Type 0) (xs ys : List A) → AllByRecursion P xs → AllByRecursion P ys → AllByRecursion P (xs ++ ys)
+pub all_join : {A : Type 0} (P : A → Type 0) (xs ys : List A) → AllByRecursion P xs → AllByRecursion P ys → AllByRecursion P (xs ++ ys)
 all_join P [] ys first second = second
 all_join P (x ∷ xs) ys (here, first) second = (here, all_join P xs ys first second)
 

@@ -17,6 +17,7 @@ use Rattle.sv_run.specs.Events.{Opened, Tick}
 use Rattle.sv_run.specs.Reacting.{Reacting}
 use Rattle.sv_run.specs.declared.reaction.Reaction.{Reaction}
 use Rattle.sv_run.specs.declared.step_fault.StepFault.{StepFault}
+use Rattle.sv_run.specs.declared.step_fault.StepFault.TheVariants.{NoMemory}
 use Rattle.sv_front.proofs.Joining.{goes_join, talks_join}
 
 and_false : (b : Bool) → (b && false) ≡ false
@@ -27,10 +28,10 @@ and_left : (b c : Bool) → (b && c) ≡ true → b ≡ true
 and_left true c is = refl
 and_left false c is = absurd (cc)
 
-same_number : (number : ℕ) → nat_eq number number ≡ true
+pub same_number : (number : ℕ) → nat_eq number number ≡ true
 same_number number = eq-eqb number number refl
 
-other_number : (number other : ℕ) → other ≢ number → nat_eq other number ≡ false
+pub other_number : (number other : ℕ) → other ≢ number → nat_eq other number ≡ false
 other_number number other apart = by (nat_eq other number) refl
   where
     by : (b : Bool) → nat_eq other number ≡ b → nat_eq other number ≡ false
@@ -118,6 +119,12 @@ module _ {R C S : Type 0} (ways : Ways S) (steps : Reacting R) (tells : C → �
     goes_join steps tells ways before between middle clock clock_between clock_middle (place_in known) (place_in known_between) places notes more goes goes_on,
     fails,
   )
+
+  -- memory ran out behind moves
+  pub starved : (before after : R) (clock clock_after : C) (known known_after : Known S)
+      → Moves ways steps tells {A = Unit {0}} before clock known (Ok tt) after clock_after known_after
+      → Moves ways steps tells {A = Unit {0}} before clock known (Err NoMemory) after clock_after known_after
+  starved before after clock clock_after known known_after (notes, goes, rests) = (notes, after, clock_after, place_in known_after, goes, inl (refl, refl))
 
   -- a tick
   pub ticked : (before after : R) (clock clock_after : C) (known : Known S) (moment : ℕ) (result : Result Reaction StepFault)

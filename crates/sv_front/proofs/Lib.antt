@@ -1,5 +1,7 @@
 mod AloneLemmas
 mod Doing
+mod FinishingLemmas
+mod HoldingLemmas
 mod Fronting
 mod Joining
 mod LawLemmas

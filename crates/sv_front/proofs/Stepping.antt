@@ -1,8 +1,8 @@
 -- One thing more that is done of a connection.
-use Rattle.std.proofs.Common.{◌≡◌, ◌⊎◌, ℕ, ◌+◌, ◌≤◌, List, [], ◌∷◌, ◌++◌, Option, None, Some, Ok, Err, inl, inr, refl, sym, ap, ◌∙◌, subst, append-nil, flat_map, length, length-append, arith}
+use Rattle.std.proofs.Common.{◌≡◌, ℕ, ◌+◌, ◌≤◌, List, [], ◌∷◌, ◌++◌, None, Some, Ok, Err, inl, inr, refl, sym, ap, ◌∙◌, subst, append-nil, flat_map, length, length-append, arith}
 use Rattle.sv_front.specs.Laws.{calls_of}
 use Rattle.sv_front.specs.Notes.{Talks}
-use Rattle.sv_front.specs.Places.{Arms, Causes, Deed, Hands, Open, Pauses, Reads, Standing, Writes}
+use Rattle.sv_front.specs.Places.{Arms, Deed, Hands, Open, Pauses, Reads, Standing, Writes}
 use Rattle.sv_front.specs.Steps.{ComesToRest, Drives, HandsOn, IsTurn, SendsOn, Spends, StepsOnce, TakesIn}
 use Rattle.sv_front.specs.Ways.{Ways}
 use Rattle.sv_front.specs.declared.allowance.Allowance.{Allowance}

@@ -1,6 +1,8 @@
 pub mod Alone
 pub mod Course
 pub mod Ending
+pub mod Finishing
+pub mod Holding
 pub mod Fronts
 pub mod Known
 pub mod Laws

@@ -1,5 +1,6 @@
 -- Where a connection stands, and what may come next.
-use Rattle.std.specs.Prelude.{◌≡◌, ◌⊎◌, ℕ, ◌<◌, Bool, false, true, List, [], ◌++◌, length}
+use Rattle.std.specs.Prelude.{◌≡◌, ◌⊎◌, ℕ, ◌+◌, ◌-◌, ◌<◌, ◌^◌, Bool, false, true, cond, List, [], ◌++◌, length, min}
+use Rattle.sv_front.specs.Ending.{ends_message}
 use Rattle.sv_front.specs.Pieces.{IsPiece}
 use Rattle.sv_front.specs.Ways.{Ways}
 use Rattle.sv_front.specs.declared.cause.Cause.{Cause}
@@ -7,14 +8,15 @@ use Rattle.sv_front.specs.declared.cause.Cause.TheVariants.{AnswerCloses, GivenU
 use Rattle.sv_run.specs.declared.reaction.Reaction.{Reaction}
 use Rattle.sv_streams.specs.Calls.{Gave, ReadFailed, Took, WriteFailed}
 
--- the stream of a connection, what was read of it and not handed on, what waits to be written to it, whether it closes behind that, and whether
--- nothing was done since a call would have had to wait or the peer was armed
+-- the stream of a connection, what was read of it and not handed on, what waits to be written to it, whether it closes behind that, whether
+-- nothing was done since a call would have had to wait or the peer was armed, and how many bytes of a message were handed on that is not over
 pub record Standing (S : Type 0) : Type 0 where
   pub stream : S
   pub ahead : List ℕ
   pub unsent : List ℕ
   pub closes : Bool
   pub rests : Bool
+  pub under_way : ℕ
 
 -- of a number: no connection had it, one has it, or the one that had it is over
 pub data Place (S : Type 0) : Type 0 where
@@ -39,10 +41,14 @@ pub data Deed : Type 0 where
   -- it was told to be over
   Ends : Cause → Reaction → Deed
 
+-- how many bytes of a message are under way behind a piece, counted up to 2^64 - 1: none, where what it brought ends the message
+abbrev pub under_way_behind : ℕ → ℕ → Reaction → ℕ
+under_way_behind before count reaction = cond (ends_message reaction.journal.entries reaction.sends) 0 (min (before + count) (2 ^ 64 - 1))
+
 module _ {S : Type 0} where
   -- a connection that was opened
   abbrev pub fresh : S → Standing S
-  fresh stream = record { stream = stream; ahead = []; unsent = []; closes = false; rests = true }
+  fresh stream = record { stream = stream; ahead = []; unsent = []; closes = false; rests = true; under_way = 0 }
 
   -- nothing waits to be handed on or to be written
   abbrev pub IsIdle : Standing S → Type 0
@@ -74,7 +80,13 @@ module _ {S : Type 0} where
         × (after ≡ record at { stream = after.stream; ahead = bytes; rests = false })
     Leads (Open at) (Hands bytes moment reaction) (Open after) =
         HasPiece at × IsPiece bytes × (at.ahead ≡ bytes ++ after.ahead)
-        × (after ≡ record at { ahead = after.ahead; unsent = reaction.sends; closes = reaction.closes; rests = false })
+        × (after ≡ record at {
+          ahead = after.ahead;
+          unsent = reaction.sends;
+          closes = reaction.closes;
+          rests = false;
+          under_way = under_way_behind at.under_way (length bytes) reaction;
+        })
     Leads (Open at) (Writes bytes) (Open after) =
         (0 < length bytes) × ways.makes at.stream (Took bytes) after.stream × (at.unsent ≡ bytes ++ after.unsent)
         × (after ≡ record at { stream = after.stream; unsent = after.unsent; rests = false })

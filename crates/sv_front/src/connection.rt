@@ -1,16 +1,20 @@
 //! One connection, as far as it gets without waiting.
 
 ghost use Rattle.std.specs.Prelude.{◌≡◌, ◌<◌, length};
+ghost use Rattle.sv_front.specs.Finishing.{SendsOut};
 ghost use Rattle.sv_front.specs.Places.{HasPiece, IsIdle, Needs};
 ghost use Rattle.sv_front.specs.Steps.{Drives, HandsOn, IsArmed, SendsOn, StepsOnce, TakesIn};
 
 use crate::allowance::Allowance;
 use crate::cause::Cause;
 use crate::ending::ends_message;
-use crate::limits::{BYTES_A_WINDOW, MAX_IDLE_SECONDS, WINDOW_SECONDS};
+use crate::limits::{
+    BYTES_A_WINDOW, FIRST_READ_BYTES, MAX_IDLE_SECONDS, READ_BYTES, WINDOW_SECONDS,
+};
 use crate::peer::{Peer, Tried};
 use crate::pending::Pending;
 use crate::pieces::piece_len;
+use crate::sent::Sent;
 use crate::step::Step;
 use std::alloc::Global;
 use std::marker::Model;
@@ -27,7 +31,9 @@ pub(crate) struct Connection<P> {
     unsent: Pending,
     closes: bool,
     rests: bool,
+    under_way: u64,
     begun: bool,
+    flows: bool,
     waits: bool,
     moved: usize,
     stirred: bool,
@@ -40,15 +46,18 @@ impl<P> Model for Connection<P> {
 
     ghost Value = { Standing P };
 
-    ghost view = { λ c. record { stream = c.stream; ahead = c.ahead; unsent = c.unsent; closes = c.closes; rests = c.rests } };
+    ghost view = { λ c. record { stream = c.stream; ahead = c.ahead; unsent = c.unsent; closes = c.closes; rests = c.rests; under_way = c.under_way } };
 }
 
 impl<P: Peer> Connection<P> {
     ghost use Rattle.std.specs.Prelude.{◌≡◌, [], false, true, IsTrue, ◌↔◌};
+    ghost use Rattle.sv_front.specs.Finishing.{is_writing};
+    ghost use Rattle.sv_front.specs.Holding.{weight};
+    ghost use Rattle.sv_front.specs.Places.{under_way_behind};
 
     /// A connection that was opened in that turn, whose stream is armed.
     pub fn new(alloc: Global, stream: P, until: u64, turn: u64) -> Connection<P>
-        ensures { result ≡ record { stream = stream; ahead = []; unsent = []; closes = false; rests = true } }
+        ensures { result ≡ record { stream = stream; ahead = []; unsent = []; closes = false; rests = true; under_way = 0 } }
     {
         Connection {
             alloc,
@@ -57,7 +66,9 @@ impl<P: Peer> Connection<P> {
             unsent: Pending::new(alloc),
             closes: false,
             rests: true,
+            under_way: 0,
             begun: false,
+            flows: false,
             waits: false,
             moved: 0,
             stirred: false,
@@ -86,6 +97,40 @@ impl<P: Peer> Connection<P> {
     /// The turn in which it came to stand between requests, where it does.
     pub fn rested(&self) -> u64 {
         self.rested
+    }
+
+    /// How many bytes it holds: those that wait to be handed on or to be written, and those of a message that is not over.
+    pub fn weight(&self) -> u64
+        ensures { result ≡ weight self.now }
+    {
+        (self.ahead.len() as u64)
+            .saturating_add(self.unsent.len() as u64)
+            .saturating_add(self.under_way)
+    }
+
+    /// Whether something waits to be written.
+    pub fn is_writing(&self) -> bool
+        ensures { result ≡ is_writing self.now }
+    {
+        !self.unsent.is_empty()
+    }
+
+    /// Writes what waits to be written, as far as that goes without waiting and before others have their turn, and does nothing else.
+    pub fn send_out(&mut self) -> Sent
+        ensures { SendsOut P.ways self.old result self.new }
+    {
+        let mut left = Allowance::whole();
+        for _ in 0..u64::MAX {
+            if self.unsent.is_empty() {
+                return Sent::All;
+            }
+            match self.send_on(&mut left) {
+                Step::GoesOn => {}
+                Step::Rests => return Sent::Waits,
+                Step::IsOver(_) => return Sent::Fails,
+            }
+        }
+        Sent::Fails
     }
 
     /// Does what can be done without waiting, at that time in seconds and in that turn, until the connection rests, or is over for that cause.
@@ -188,6 +233,16 @@ impl<P: Peer> Connection<P> {
         !self.closes && self.unsent.is_empty() && self.ahead.is_empty()
     }
 
+    // How many bytes a read takes at most: few at first, which most requests do not fill, and many behind a read that was filled.
+    fn read_len(&self) -> usize
+        ensures { 0 < result }
+    {
+        if self.flows {
+            return READ_BYTES;
+        }
+        FIRST_READ_BYTES
+    }
+
     // Reads once, unless others have their turn.
     fn take_in(&mut self, left: &mut Allowance) -> Result<Step, NoMemory>
         requires { IsIdle self.old }
@@ -197,10 +252,12 @@ impl<P: Peer> Connection<P> {
             return Ok(self.arm());
         }
         left.calls -= 1;
-        match self.ahead.refill(self.alloc, &mut self.stream) {
+        let most = self.read_len();
+        match self.ahead.refill(self.alloc, &mut self.stream, most) {
             Ok(Tried::Done(0)) => Ok(Step::IsOver(Cause::PeerEnded)),
             Ok(Tried::Done(count)) => {
                 self.begun = true;
+                self.flows = count == most;
                 self.moved = self.moved.saturating_add(count);
                 self.stirred = true;
                 self.rests = false;
@@ -261,16 +318,21 @@ impl<P: Peer> Connection<P> {
         match reactor.step(piece) {
             Ok(reaction) => {
                 self.ahead.skip(count);
-                self.keep(reaction);
+                self.keep(count, reaction);
                 Ok(())
             }
             Err(fault) => Err(fault),
         }
     }
 
-    // What a piece brought waits to be written. A message is under way until its answer was brought; `100 Continue` is none.
-    fn keep(&mut self, reaction: Reaction)
-        ensures { self.new ≡ record self.old { unsent = reaction.sends; closes = reaction.closes; rests = false } }
+    // What a piece of so many bytes brought waits to be written. A message is under way until its answer was brought; `100 Continue` is none.
+    fn keep(&mut self, count: usize, reaction: Reaction)
+        ensures { self.new ≡ record self.old {
+          unsent = reaction.sends;
+          closes = reaction.closes;
+          rests = false;
+          under_way = under_way_behind self.old.under_way count reaction;
+        } }
     {
         let Reaction {
             sends,
@@ -278,7 +340,13 @@ impl<P: Peer> Connection<P> {
             journal,
             ..
         } = reaction;
-        self.begun = !ends_message(journal.entries(), sends.as_slice());
+        let is_over = ends_message(journal.entries(), sends.as_slice());
+        self.begun = !is_over;
+        self.under_way = if is_over {
+            0
+        } else {
+            self.under_way.saturating_add(count as u64)
+        };
         self.unsent = Pending::of(sends);
         self.closes = closes;
         self.rests = false;

@@ -3,15 +3,18 @@
 ghost use Rattle.std.specs.Prelude.{◌≡◌};
 ghost use Rattle.sv_front.specs.Fronts.{Moves};
 ghost use Rattle.sv_connection.specs.Turns.{over_event};
+ghost use Rattle.sv_front.specs.Finishing.{ForgetsOne, OnlyWrites, WritesOutOne};
+ghost use Rattle.sv_front.specs.Holding.{HoldsWithin, held, weight_in};
 ghost use Rattle.sv_front.specs.Known.{DrivesOne, EndsOne, OpensNext};
 ghost use Rattle.sv_front.specs.Notes.{over_by};
 ghost use Rattle.sv_run.specs.Seen.{happening_of};
 
 use crate::cause::Cause;
 use crate::connection::Connection;
-use crate::limits::{MAX_CONNECTIONS, MAX_IDLE_SECONDS};
+use crate::limits::{MAX_CONNECTIONS, MAX_HELD_BYTES, MAX_IDLE_SECONDS};
 use crate::network::Network;
 use crate::peer::Peer;
+use crate::sent::Sent;
 use std::alloc::Global;
 use std::collections::HashMap;
 use std::marker::Model;
@@ -38,7 +41,8 @@ impl<P> Model for Front<P> {
 
 impl<P: Peer + Drop> Front<P> {
     ghost use Rattle.sv_front.specs.Known as spec;
-    ghost use Rattle.std.specs.Prelude.{[], ◌<◌, ◌-◌, ◌^◌, IsTrue};
+    ghost use Rattle.std.specs.Prelude.{[], ◌<◌, ◌≤◌, ◌-◌, ◌^◌, IsTrue, OnOk};
+    ghost use Rattle.sv_front.specs.declared.limits.TheConstants.{MAX_HELD_BYTES};
 
     /// None is known.
     pub fn new(alloc: Global) -> Front<P>
@@ -59,6 +63,11 @@ impl<P: Peer + Drop> Front<P> {
         self.connections.len() < MAX_CONNECTIONS && self.next < u64::MAX
     }
 
+    /// Whether none is known.
+    pub fn is_empty(&self) -> bool {
+        self.connections.is_empty()
+    }
+
     /// The number of the next.
     pub fn next(&self) -> u64
         ensures { result ≡ self.now.next }
@@ -66,11 +75,104 @@ impl<P: Peer + Drop> Front<P> {
         self.next
     }
 
-    /// Drives the connection of a number, where it is known, and ends it where it is over.
+    /// Drives the connection of a number, where it is known, and ends it where it is over. Where it then holds more than before, and all connections
+    /// together more than [`MAX_HELD_BYTES`], those are given up whose time would be over first, until they hold no more.
     ///
     /// # Errors
     /// Why an event was refused, or want of memory.
     pub fn serve<R: Reactor, C: Clock, N: Network<Peer = P>>(
+        &mut self,
+        number: u64,
+        reactor: &mut R,
+        clock: &mut C,
+        network: &mut N,
+    ) -> Result<(), StepFault>
+        ensures { Moves P.ways R.steps C.tells reactor.old clock.old self.old result reactor.new clock.new self.new }
+    {
+        self.serve_within(number, reactor, clock, network)
+    }
+
+    // Serves the connection of a number within what all may hold.
+    fn serve_within<R: Reactor, C: Clock, N: Network<Peer = P>>(
+        &mut self,
+        number: u64,
+        reactor: &mut R,
+        clock: &mut C,
+        network: &mut N,
+    ) -> Result<(), StepFault>
+        ensures moves { Moves P.ways R.steps C.tells reactor.old clock.old self.old result reactor.new clock.new self.new }
+        ensures within { OnOk result (HoldsWithin number self.old self.new) }
+    {
+        let before = self.weight_of(number);
+        match self.serve_one(number, reactor, clock, network) {
+            Ok(()) => {}
+            Err(fault) => return Err(fault),
+        }
+        if self.weight_of(number) <= before {
+            return Ok(());
+        }
+        self.ease(reactor, clock, network)
+    }
+
+    // Gives connections up until all together hold no more than they may.
+    fn ease<R: Reactor, C: Clock, N: Network<Peer = P>>(
+        &mut self,
+        reactor: &mut R,
+        clock: &mut C,
+        network: &mut N,
+    ) -> Result<(), StepFault>
+        ensures moves { Moves P.ways R.steps C.tells reactor.old clock.old self.old result reactor.new clock.new self.new }
+        ensures within { OnOk result (held self.new ≤ MAX_HELD_BYTES) }
+    {
+        for _ in 0..u64::MAX {
+            if self.held() <= MAX_HELD_BYTES {
+                return Ok(());
+            }
+            let Some(number) = self.slowest() else {
+                return Err(StepFault::NoMemory);
+            };
+            match self.give_up(number, reactor, clock, network) {
+                Ok(()) => {}
+                Err(fault) => return Err(fault),
+            }
+        }
+        Err(StepFault::NoMemory)
+    }
+
+    // How many bytes the connection of a number holds, none where it is not known.
+    fn weight_of(&self, number: u64) -> u64
+        ensures { result ≡ weight_in self.now number }
+    {
+        match self.connections.get(&number) {
+            Some(connection) => connection.weight(),
+            None => 0,
+        }
+    }
+
+    // How many bytes all connections hold together.
+    fn held(&self) -> u64
+        ensures { result ≡ held self.now }
+    {
+        self.connections
+            .values()
+            .fold(0, |sum: u64, it| sum.saturating_add(it.weight()))
+    }
+
+    // Of those that hold some bytes the connection whose time is over first.
+    fn slowest(&self) -> Option<u64> {
+        let mut found = None;
+        let mut least = u64::MAX;
+        for (number, connection) in self.connections.iter() {
+            if connection.weight() > 0 && (found.is_none() || connection.until() < least) {
+                least = connection.until();
+                found = Some(*number);
+            }
+        }
+        found
+    }
+
+    // Drives the connection of a number, where it is known, and ends it where it is over.
+    fn serve_one<R: Reactor, C: Clock, N: Network<Peer = P>>(
         &mut self,
         number: u64,
         reactor: &mut R,
@@ -108,6 +210,15 @@ impl<P: Peer + Drop> Front<P> {
         Ok(None)
     }
 
+    /// Forgets the connection of a number, where it is known, and gives its stream back.
+    pub fn forget<N: Network<Peer = P>>(&mut self, number: u64, network: &mut N)
+        ensures { ForgetsOne number self.old self.new }
+    {
+        if let Some(connection) = self.connections.remove(&number) {
+            network.part(number, connection.into_stream());
+        }
+    }
+
     // Forgets the connection of a number, and tells that it is over.
     fn end<R: Reactor, N: Network<Peer = P>>(
         &mut self,
@@ -118,9 +229,7 @@ impl<P: Peer + Drop> Front<P> {
     ) -> Result<(), StepFault>
         ensures { EndsOne R.steps number cause reactor.old self.old result reactor.new self.new }
     {
-        if let Some(connection) = self.connections.remove(&number) {
-            network.part(number, connection.into_stream());
-        }
+        self.forget(number, network);
         match reactor.step(over_event(number, cause)) {
             Ok(_) => Ok(()),
             Err(fault) => Err(fault),
@@ -199,6 +308,39 @@ impl<P: Peer + Drop> Front<P> {
         }
         self.next += 1;
         Ok(())
+    }
+
+    /// Writes what waits to be written to the connection of a number, where it is known, as far as that goes without waiting. Where nothing waits any
+    /// more, or a write fails, it is let go.
+    pub fn send_out<N: Network<Peer = P>>(&mut self, number: u64, network: &mut N)
+        ensures { OnlyWrites P.ways self.old self.new }
+    {
+        match self.write_out(number) {
+            None => {}
+            Some(Sent::Waits) => {}
+            Some(_) => self.forget(number, network),
+        }
+    }
+
+    // Writes what waits to be written to the connection of a number, where it is known.
+    fn write_out(&mut self, number: u64) -> Option<Sent>
+        ensures { WritesOutOne P.ways number self.old result self.new }
+    {
+        match self.connections.get_mut(&number) {
+            Some(connection) => return Some(connection.send_out()),
+            None => {}
+        }
+        None
+    }
+
+    /// A connection to which nothing waits to be written.
+    pub fn written(&self) -> Option<u64> {
+        for (number, connection) in self.connections.iter() {
+            if !connection.is_writing() {
+                return Some(*number);
+            }
+        }
+        None
     }
 
     /// A connection whose time is over.

@@ -6,8 +6,9 @@ ghost use Rattle.sv_front.specs.Fronts.{RoundsAreOne};
 ghost use Rattle.sv_front.specs.Laws.{BytesAreKept, EndsHaveACause, NumbersAreNotUsedAgain, RestIsForSomething};
 
 use crate::limits::{
-    ACCEPTED_AT_ONCE, BYTES_A_WINDOW, BYTES_AT_ONCE, CALLS_AT_ONCE, MAX_CONNECTIONS,
-    MAX_IDLE_SECONDS, READ_BYTES, WINDOW_SECONDS,
+    ACCEPTED_AT_ONCE, BYTES_A_WINDOW, BYTES_AT_ONCE, CALLS_AT_ONCE, FINISH_SECONDS,
+    FIRST_READ_BYTES, MAX_CONNECTIONS, MAX_HELD_BYTES, MAX_IDLE_SECONDS, READ_BYTES,
+    WINDOW_SECONDS,
 };
 use crate::peer::Peer;
 use sv_run::Reactor;
@@ -18,11 +19,14 @@ pub fn limits_are_as_stated()
     ensures connections { MAX_CONNECTIONS ≡ 1024 }
     ensures accepted { ACCEPTED_AT_ONCE ≡ 32 }
     ensures read { READ_BYTES ≡ 16384 }
+    ensures first_read { FIRST_READ_BYTES ≡ 1024 }
     ensures calls { CALLS_AT_ONCE ≡ 8 }
     ensures written { BYTES_AT_ONCE ≡ 65536 }
     ensures idle { MAX_IDLE_SECONDS ≡ 60 }
     ensures window { WINDOW_SECONDS ≡ 10 }
     ensures bytes { BYTES_A_WINDOW ≡ 10240 }
+    ensures held { MAX_HELD_BYTES ≡ 67108864 }
+    ensures finish { FINISH_SECONDS ≡ 5 }
 {}
 
 /// Of an open connection, what was read of it is what was handed on and what waits to be, and what was to be sent is what was written and what

@@ -5,6 +5,7 @@ mod allowance;
 mod cause;
 mod connection;
 mod ending;
+mod finishing;
 mod front;
 mod laws;
 mod limits;
@@ -13,6 +14,7 @@ mod peer;
 mod pending;
 mod pieces;
 mod running;
+mod sent;
 mod step;
 
 pub use cause::Cause;
@@ -21,8 +23,9 @@ pub use laws::{
     numbers_are_not_used_again, rest_is_for_something, rounds_are_one,
 };
 pub use limits::{
-    ACCEPTED_AT_ONCE, BYTES_A_WINDOW, BYTES_AT_ONCE, CALLS_AT_ONCE, MAX_CONNECTIONS,
-    MAX_IDLE_SECONDS, READ_BYTES, WINDOW_SECONDS,
+    ACCEPTED_AT_ONCE, BYTES_A_WINDOW, BYTES_AT_ONCE, CALLS_AT_ONCE, FINISH_SECONDS,
+    FIRST_READ_BYTES, MAX_CONNECTIONS, MAX_HELD_BYTES, MAX_IDLE_SECONDS, READ_BYTES,
+    WINDOW_SECONDS,
 };
 pub use network::{Network, Told};
 pub use peer::{Peer, Tried};

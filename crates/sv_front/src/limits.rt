@@ -9,6 +9,9 @@ pub const ACCEPTED_AT_ONCE: u32 = 32;
 /// How many bytes a read of a connection takes at most.
 pub const READ_BYTES: usize = 16_384;
 
+/// How many it takes at most unless the one before was filled. Most requests are shorter, and room for so many is had and let go at once.
+pub const FIRST_READ_BYTES: usize = 1024;
+
 /// As many reads and writes are made of a connection before others have their turn.
 pub const CALLS_AT_ONCE: u32 = 8;
 
@@ -23,3 +26,9 @@ pub const WINDOW_SECONDS: u64 = 10;
 
 /// So many bytes are enough.
 pub const BYTES_A_WINDOW: usize = 10_240;
+
+/// All connections together hold so many bytes at most, 64 MiB: what waits to be handed on or to be written, and messages that are not over.
+pub const MAX_HELD_BYTES: u64 = 67_108_864;
+
+/// At the end what waits to be written is written within so many seconds, or is not.
+pub const FINISH_SECONDS: u64 = 5;

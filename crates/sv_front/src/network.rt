@@ -11,7 +11,7 @@ pub enum Told {
     Incoming,
     /// A second has passed, or more.
     Second,
-    /// No more is to be served.
+    /// No more is to be served. What waits to be written is written first; where this is told once more, not even that.
     Stop,
 }
 

@@ -3,7 +3,6 @@
 ghost use Rattle.std.specs.Prelude.{◌≡◌, ◌<◌, ◌≤◌, [], drop, length, vec_items};
 ghost use Rattle.sv_front.specs.Ways.{ReadsPiece};
 
-use crate::limits::READ_BYTES;
 use crate::peer::{Peer, Tried};
 use std::alloc::Global;
 use std::marker::Model;
@@ -57,6 +56,13 @@ impl Pending {
         self.as_slice().is_empty()
     }
 
+    /// How many bytes wait.
+    pub fn len(&self) -> usize
+        ensures { result ≡ length self.now }
+    {
+        self.as_slice().len()
+    }
+
     /// The bytes.
     pub fn as_slice(&self) -> &[u8]
         ensures { result.now ≡ self.now }
@@ -91,17 +97,23 @@ impl Pending {
         }
     }
 
-    /// Reads once, where no bytes wait.
+    /// Reads once, so many bytes at most, where no bytes wait.
     ///
     /// # Errors
     /// Memory ran out, and nothing was read.
-    pub fn refill<P: Peer>(&mut self, alloc: Global, peer: &mut P) -> Result<Tried, NoMemory>
-        requires { self.old ≡ [] }
+    pub fn refill<P: Peer>(
+        &mut self,
+        alloc: Global,
+        peer: &mut P,
+        most: usize,
+    ) -> Result<Tried, NoMemory>
+        requires idle { self.old ≡ [] }
+        requires room { 0 < most }
         ensures { Refills P.ways peer.old result peer.new self.new }
     {
         self.bytes = Vec::new(alloc);
         self.at = 0;
-        self.bytes.resize(READ_BYTES, 0)?;
+        self.bytes.resize(most, 0)?;
         Ok(read_piece(peer, &mut self.bytes))
     }
 }

@@ -3,6 +3,7 @@
 ghost use Rattle.sv_front.specs.Fronts.{Moves, Serves};
 ghost use Rattle.sv_front.specs.Known.{Ticked};
 
+use crate::finishing::finish;
 use crate::front::Front;
 use crate::limits::{ACCEPTED_AT_ONCE, MAX_CONNECTIONS};
 use crate::network::{Network, Told};
@@ -12,10 +13,11 @@ use sv_run::{Happening, Reactor, StepFault};
 use sv_streams::Clock;
 
 /// Serves all connections of a network at once, until it tells to stop: what is ready is read, handed on in pieces and answered, as far as that
-/// goes without waiting. No connection waits for another.
+/// goes without waiting. No connection waits for another. Behind the last event what waits to be written is written, for
+/// [`FINISH_SECONDS`](crate::FINISH_SECONDS) at most.
 ///
 /// # Errors
-/// Why an event was refused, or want of memory. Nothing follows it.
+/// Why an event was refused, or want of memory. No event follows it.
 pub fn run_front<R: Reactor, N: Network, C: Clock>(
     alloc: Global,
     reactor: &mut R,
@@ -28,11 +30,15 @@ pub fn run_front<R: Reactor, N: Network, C: Clock>(
     for _ in 0..u64::MAX {
         let told = network.wait();
         if told == Told::Stop {
+            finish(&mut front, network);
             return Ok(());
         }
         match take(&mut front, told, reactor, clock, network) {
             Ok(()) => {}
-            Err(fault) => return Err(fault),
+            Err(fault) => {
+                finish(&mut front, network);
+                return Err(fault);
+            }
         }
     }
     Ok(())

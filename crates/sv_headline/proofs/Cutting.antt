@@ -1,6 +1,7 @@
 -- What a script prints whose run memory cut, of our contexts.
 use Rattle.std.proofs.Common.{◌≡◌, ◌⊎◌, ℕ, List, Result, Ok, Err, refl, inl, inr, subst}
 use Rattle.sv_component.specs.Call.{Call}
+use Rattle.sv_conduct.specs.Until.{EveryRunIsLawfulUntilRefused}
 use Rattle.sv_container.specs.Starting.{Starts}
 use Rattle.sv_container.specs.declared.container.Container.{Container}
 use Rattle.sv_container.specs.declared.new_fault.NewCode.{NewCode}
@@ -8,6 +9,8 @@ use Rattle.sv_container.specs.declared.new_fault.NewCode.TheVariants as code
 use Rattle.sv_container.specs.declared.new_fault.NewFault.{NewFault}
 use Rattle.sv_context.specs.Theory.{theory}
 use Rattle.sv_context.specs.declared.deployment.Deployment.{Deployment}
+use Rattle.sv_headline.proofs.Starting.{runs_lawfully}
+use Rattle.sv_headline.specs.Callers.{CallersOfAStartedContainerHaveLoggedIn}
 use Rattle.sv_headline.specs.Cut.{PrintsACutRun, WhatARefusedScriptPrintsBeginsTheWhole, WhatARefusedScriptPrintsIsCut}
 use Rattle.sv_journal.specs.Journal.{JournalState, new_journal}
 use Rattle.sv_replay.specs.declared.fault.ReplayFault.{ReplayFault}
@@ -49,7 +52,9 @@ module _ {O : Type 0} (takes : Making O) (context : List ℕ) (started : Journal
 
 module _ {S F L I O : Type 0} (servlet_step : S → Call → S → Type 0) (filter_step : F → Call → F → Type 0) (listener_step : L → Call → L → Type 0) (gives : Making I)
     (takes : Making O) where
-  module _ (enters : RequestsEnterExactlyWhereAllowed (theory servlet_step filter_step listener_step draws))
+  module _ (every : EveryRunIsLawfulUntilRefused servlet_step filter_step listener_step draws)
+      (callers : CallersOfAStartedContainerHaveLoggedIn servlet_step filter_step listener_step draws)
+      (enters : RequestsEnterExactlyWhereAllowed (theory servlet_step filter_step listener_step draws))
       (is_cut : runs.ARefusedRunIsCut (StepsOf servlet_step filter_step listener_step draws) (StopsOf servlet_step filter_step listener_step) gives takes)
       (lawful : runs.AScriptIsALawfulRun (StepsOf servlet_step filter_step listener_step draws) (theory servlet_step filter_step listener_step draws))
       (deployments : List (Deployment S F L)) (script script_after : I) (output output_after : O) where
@@ -69,7 +74,8 @@ module _ {S F L I O : Type 0} (servlet_step : S → Call → S → Type 0) (filt
           started = its_start;
           starts = its_starts;
           cut = is;
-          run = lawful run_of (like servlet_step filter_step listener_step gives takes) enters (record { container = its_container }) is.played is.plays;
+          run = runs_lawfully servlet_step filter_step listener_step every callers deployments its_words new_journal its_start its_container its_starts
+              is.played (lawful run_of (like servlet_step filter_step listener_step gives takes) enters (record { container = its_container }) is.played is.plays);
         }
 
     followed : (its_words : CountedWords) → AreFresh its_words → (its_start : JournalState) (begun : Result (Container S F L CountedWords) (NewFault S F L))
@@ -84,12 +90,14 @@ module _ {S F L I O : Type 0} (servlet_step : S → Call → S → Type 0) (filt
     followed its_words fresh its_start (Err fault) its_starts follows =
         inl (unwritten takes fault.context its_start output output_after fault.code follows.1)
 
-  pub is_cut_so : RequestsEnterExactlyWhereAllowed (theory servlet_step filter_step listener_step draws)
+  pub is_cut_so : EveryRunIsLawfulUntilRefused servlet_step filter_step listener_step draws
+      → CallersOfAStartedContainerHaveLoggedIn servlet_step filter_step listener_step draws
+      → RequestsEnterExactlyWhereAllowed (theory servlet_step filter_step listener_step draws)
       → runs.ARefusedRunIsCut (StepsOf servlet_step filter_step listener_step draws) (StopsOf servlet_step filter_step listener_step) gives takes
       → runs.AScriptIsALawfulRun (StepsOf servlet_step filter_step listener_step draws) (theory servlet_step filter_step listener_step draws)
       → WhatARefusedScriptPrintsIsCut servlet_step filter_step listener_step gives takes
-  is_cut_so enters is_cut lawful deployments script output script_after output_after ran =
-      followed enters is_cut lawful deployments script script_after output output_after ran.words ran.are_fresh ran.started ran.begun ran.starts ran.follows
+  is_cut_so every callers enters is_cut lawful deployments script output script_after output_after ran =
+      followed every callers enters is_cut lawful deployments script script_after output output_after ran.words ran.are_fresh ran.started ran.begun ran.starts ran.follows
 
   pub begins_so : runs.ACutTextBeginsTheWhole (StepsOf servlet_step filter_step listener_step draws) (StopsOf servlet_step filter_step listener_step) gives takes
       → WhatARefusedScriptPrintsBeginsTheWhole servlet_step filter_step listener_step gives takes

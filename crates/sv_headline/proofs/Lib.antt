@@ -1,3 +1,5 @@
 mod Cutting
 mod Printing
+mod Remembering
 mod Sending
+mod Starting

@@ -1,6 +1,7 @@
 -- What a script prints, of our contexts.
 use Rattle.std.proofs.Common.{ℕ, List, Result, Ok, Err, refl, ap, subst}
 use Rattle.sv_component.specs.Call.{Call}
+use Rattle.sv_conduct.specs.Until.{EveryRunIsLawfulUntilRefused}
 use Rattle.sv_container.specs.Starting.{Starts}
 use Rattle.sv_container.specs.declared.container.Container.{Container}
 use Rattle.sv_container.specs.declared.new_fault.NewCode.{NewCode}
@@ -8,6 +9,8 @@ use Rattle.sv_container.specs.declared.new_fault.NewCode.TheVariants as code
 use Rattle.sv_container.specs.declared.new_fault.NewFault.{NewFault}
 use Rattle.sv_context.specs.Theory.{theory}
 use Rattle.sv_context.specs.declared.deployment.Deployment.{Deployment}
+use Rattle.sv_headline.proofs.Starting.{runs_lawfully}
+use Rattle.sv_headline.specs.Callers.{CallersOfAStartedContainerHaveLoggedIn}
 use Rattle.sv_headline.specs.Headline.{IsWritten, PrintsALawfulRun, WhatAScriptPrintsIsLawful}
 use Rattle.sv_journal.specs.Journal.{JournalState, new_journal}
 use Rattle.sv_replay.specs.declared.fault.ReplayFault.{ReplayFault}
@@ -59,7 +62,9 @@ module _ {S F L I O : Type 0} (servlet_step : S → Call → S → Type 0) (filt
   like before after happening (Ok reaction) steps = (Ok steps.0, steps.1, ap Ok steps.2)
   like before after happening (Err fault) steps = (Err fault, steps, refl)
 
-  module _ (enters : RequestsEnterExactlyWhereAllowed (theory servlet_step filter_step listener_step draws))
+  module _ (every : EveryRunIsLawfulUntilRefused servlet_step filter_step listener_step draws)
+      (callers : CallersOfAStartedContainerHaveLoggedIn servlet_step filter_step listener_step draws)
+      (enters : RequestsEnterExactlyWhereAllowed (theory servlet_step filter_step listener_step draws))
       (one_text : runs.ARunWritesOneText (StepsOf servlet_step filter_step listener_step draws) (StopsOf servlet_step filter_step listener_step) gives takes)
       (lawful : runs.AScriptIsALawfulRun (StepsOf servlet_step filter_step listener_step draws) (theory servlet_step filter_step listener_step draws))
       (deployments : List (Deployment S F L)) (script script_after : I) (output output_after : O) (result : Result (Unit {0}) RunFault) where
@@ -79,15 +84,18 @@ module _ {S F L I O : Type 0} (servlet_step : S → Call → S → Type 0) (filt
           ended = follows.0;
           result_is = follows.2;
           text = one;
-          run = lawful run_of like enters (record { container = its_container }) one.played one.plays;
+          run = runs_lawfully servlet_step filter_step listener_step every callers deployments its_words new_journal its_start its_container starts
+              one.played (lawful run_of like enters (record { container = its_container }) one.played one.plays);
         }
     followed its_words fresh its_start (Err fault) starts follows written =
         absurd (unwritten takes fault.context its_start output output_after fault.code result follows.1 written)
 
-  pub prints : RequestsEnterExactlyWhereAllowed (theory servlet_step filter_step listener_step draws)
+  pub prints : EveryRunIsLawfulUntilRefused servlet_step filter_step listener_step draws
+      → CallersOfAStartedContainerHaveLoggedIn servlet_step filter_step listener_step draws
+      → RequestsEnterExactlyWhereAllowed (theory servlet_step filter_step listener_step draws)
       → runs.ARunWritesOneText (StepsOf servlet_step filter_step listener_step draws) (StopsOf servlet_step filter_step listener_step) gives takes
       → runs.AScriptIsALawfulRun (StepsOf servlet_step filter_step listener_step draws) (theory servlet_step filter_step listener_step draws)
       → WhatAScriptPrintsIsLawful servlet_step filter_step listener_step gives takes
-  prints enters one_text lawful deployments script output result script_after output_after ran written =
-      followed enters one_text lawful
+  prints every callers enters one_text lawful deployments script output result script_after output_after ran written =
+      followed every callers enters one_text lawful
       deployments script script_after output output_after result ran.words ran.are_fresh ran.started ran.begun ran.starts ran.follows written

@@ -1,6 +1,7 @@
 -- What a connection is sent, of our contexts.
 use Rattle.std.proofs.Common.{ℕ, [], ◌∷◌, ◌++◌, map, Ok, Err, refl, ap}
 use Rattle.sv_component.specs.Call.{Call}
+use Rattle.sv_conduct.specs.Until.{EveryRunIsLawfulUntilRefused}
 use Rattle.sv_connection.specs.Running.{AConnectionIsARun, events_of}
 use Rattle.sv_container.specs.Container.{state_of}
 use Rattle.sv_container.specs.declared.container.Container.{Container}
@@ -19,12 +20,19 @@ module _ {S F L W T C : Type 0} (servlet_step : S → Call → S → Type 0) (fi
   like before after happening (Ok reaction) steps = (Ok steps.0, steps.1, ap Ok steps.2)
   like before after happening (Err fault) steps = (Err fault, steps, refl)
 
-  pub is_sent : RequestsEnterExactlyWhereAllowed (theory servlet_step filter_step listener_step draws)
+  pub is_sent : EveryRunIsLawfulUntilRefused servlet_step filter_step listener_step draws
+      → RequestsEnterExactlyWhereAllowed (theory servlet_step filter_step listener_step draws)
       → ((seen : Container S F L W → State (ContextState S F L) W)
       → AConnectionIsARun (TakesSo servlet_step filter_step listener_step draws makes tells) makes tells
       (theory servlet_step filter_step listener_step draws) seen)
       → WhatAConnectionIsSentIsLawful servlet_step filter_step listener_step draws makes tells
-  is_sent enters runs connection before stream clock result after stream_after clock_after connects =
+  is_sent every enters runs connection before stream clock result after stream_after clock_after connects =
       let run = runs state_of like connection before stream clock result after stream_after clock_after connects in
       let holds = enters (state_of before) (state_of after) (events_of connection run.pieces run.over) (map Ok run.accepted ++ run.last ∷ []) run.runs in
-      record { served = run; outcomes = holds.0; entered = holds.1 }
+      record {
+        served = run;
+        outcomes = holds.0;
+        entered = holds.1;
+        lawful = λ goes_on.
+            every (state_of before) (state_of after) (events_of connection run.pieces run.over) (map Ok run.accepted ++ run.last ∷ []) goes_on run.runs;
+      }

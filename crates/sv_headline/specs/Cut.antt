@@ -3,14 +3,13 @@ use Rattle.std.specs.Prelude.{◌≡◌, ◌⊎◌, List, ◌++◌, Result, Ok, 
 use Rattle.sv_component.specs.Call.{Call}
 use Rattle.sv_container.specs.Starting.{Starts}
 use Rattle.sv_container.specs.declared.container.Container.{Container}
-use Rattle.sv_context.specs.Theory.{theory}
 use Rattle.sv_context.specs.declared.deployment.Deployment.{Deployment}
-use Rattle.sv_headline.specs.Headline.{PrintsALawfulRun}
+use Rattle.sv_headline.specs.Headline.{PrintsALawfulRun, RunsLawfully}
 use Rattle.sv_journal.specs.Journal.{JournalState, new_journal}
 use Rattle.sv_replay.specs.Asked.{reactions_text}
 use Rattle.sv_script.specs.Printed.{shutdown_text, start_text}
-use Rattle.sv_script_run.specs.Laws.{Begins, IsCut, PlaysALawfulRun}
-use Rattle.sv_server.specs.Running.{StepsOf, StopsOf, run_of}
+use Rattle.sv_script_run.specs.Laws.{Begins, IsCut}
+use Rattle.sv_server.specs.Running.{StepsOf, StopsOf}
 use Rattle.sv_server.specs.Script.{AreFresh, RunsScript, draws}
 use Rattle.sv_server.specs.declared.run_fault.RunFault.{RunFault}
 use Rattle.sv_server.specs.declared.run_fault.RunFault.TheVariants.{NoMemory}
@@ -19,8 +18,8 @@ use Rattle.sv_words.specs.declared.counted_words.CountedWords.{CountedWords}
 
 module _ {S F L I O : Type 0} (servlet_step : S → Call → S → Type 0) (filter_step : F → Call → F → Type 0) (listener_step : L → Call → L → Type 0) (gives : Making I)
     (takes : Making O) where
-  -- a container started, and memory was refused later: what was written is the text of its start and of the events before, which are a run in which a
-  -- request enters exactly where the combined constraints allow it; it was shut down, and nothing was written behind
+  -- a container started, and memory was refused later: what was written is the text of its start and of the events before, which are a lawful
+  -- run; it was shut down, and nothing was written behind
   pub record PrintsACutRun (deployments : List (Deployment S F L)) (script : I) (output : O) (script_after : I) (output_after : O) : Type 0 where
     pub words : CountedWords
     pub are_fresh : AreFresh words
@@ -29,8 +28,7 @@ module _ {S F L I O : Type 0} (servlet_step : S → Call → S → Type 0) (filt
     pub starts : Starts servlet_step filter_step listener_step deployments words new_journal (Ok container) started
     pub cut : IsCut (StepsOf servlet_step filter_step listener_step draws) (StopsOf servlet_step filter_step listener_step) gives takes
         started (record { container = container }) script output script_after output_after
-    pub run : PlaysALawfulRun (StepsOf servlet_step filter_step listener_step draws) (theory servlet_step filter_step listener_step draws)
-        run_of (record { container = container }) cut.played
+    pub run : RunsLawfully servlet_step filter_step listener_step container cut.played
 
   -- a run of a script that answers want of memory has written nothing, or that
   abbrev pub WhatARefusedScriptPrintsIsCut : Type 0

@@ -1,11 +1,15 @@
 -- What a script prints, from its bytes to those of the output (Jakarta Servlet 6.0, section 13.8).
 use Rattle.std.specs.Prelude.{◌≡◌, List, Result, Ok, Err}
 use Rattle.sv_component.specs.Call.{Call}
+use Rattle.sv_conduct.specs.Record.{IsLawfulRun}
+use Rattle.sv_container.specs.Container.{state_of}
 use Rattle.sv_container.specs.Starting.{Starts}
 use Rattle.sv_container.specs.declared.container.Container.{Container}
 use Rattle.sv_context.specs.Theory.{theory}
 use Rattle.sv_context.specs.declared.deployment.Deployment.{Deployment}
+use Rattle.sv_headline.specs.Callers.{CallersHaveLoggedIn}
 use Rattle.sv_journal.specs.Journal.{JournalState, new_journal}
+use Rattle.sv_replay.specs.Replay.{Played}
 use Rattle.sv_replay.specs.declared.fault.ReplayFault.{ReplayFault}
 use Rattle.sv_script_run.specs.Laws.{PlaysALawfulRun, IsOneText}
 use Rattle.sv_server.specs.RunFault.{ended_by}
@@ -13,6 +17,7 @@ use Rattle.sv_server.specs.Running.{StepsOf, StopsOf, run_of}
 use Rattle.sv_server.specs.Script.{AreFresh, RunsScript, draws}
 use Rattle.sv_server.specs.declared.run_fault.RunFault.{RunFault}
 use Rattle.sv_server.specs.declared.run_fault.RunFault.TheVariants.{Script, Start, Output, NoMemory, Connection}
+use Rattle.sv_server.specs.declared.running.Running.{Running}
 use Rattle.sv_streams.specs.Calls.{Making}
 use Rattle.sv_words.specs.declared.counted_words.CountedWords.{CountedWords}
 
@@ -25,10 +30,19 @@ IsWritten (Err Output) = ⊥
 IsWritten (Err NoMemory) = ⊥
 IsWritten (Err Connection) = ⊥
 
+module _ {S F L : Type 0} (servlet_step : S → Call → S → Type 0) (filter_step : F → Call → F → Type 0) (listener_step : L → Call → L → Type 0) where
+  -- the events that a script asks for are a run of the container, of which their texts tell; the run is lawful; and whoever is logged in behind it has
+  -- logged in
+  pub record RunsLawfully (container : Container S F L CountedWords) (played : Played (Running S F L CountedWords)) : Type 0 where
+    pub plays : PlaysALawfulRun (StepsOf servlet_step filter_step listener_step draws) (theory servlet_step filter_step listener_step draws)
+        run_of (record { container = container }) played
+    pub lawful : IsLawfulRun servlet_step filter_step listener_step draws (state_of container) plays.answers (run_of played.reactor)
+    pub callers : CallersHaveLoggedIn servlet_step filter_step listener_step draws plays.answers (run_of played.reactor)
+
 module _ {S F L I O : Type 0} (servlet_step : S → Call → S → Type 0) (filter_step : F → Call → F → Type 0) (listener_step : L → Call → L → Type 0) (gives : Making I)
     (takes : Making O) where
   -- a container started with the deployments; what was written is the text of its start, of the events that the script asks for, and of its stop; and
-  -- these events are a run in which a request enters exactly where the combined constraints allow it
+  -- these events are a lawful run
   pub record PrintsALawfulRun (deployments : List (Deployment S F L)) (script : I) (output : O) (result : Result (Unit {0}) RunFault) (script_after : I)
       (output_after : O) : Type 0 where
     pub words : CountedWords
@@ -40,8 +54,7 @@ module _ {S F L I O : Type 0} (servlet_step : S → Call → S → Type 0) (filt
     pub result_is : result ≡ ended_by ended
     pub text : IsOneText (StepsOf servlet_step filter_step listener_step draws) (StopsOf servlet_step filter_step listener_step) gives takes
         started (record { container = container }) script output ended script_after output_after
-    pub run : PlaysALawfulRun (StepsOf servlet_step filter_step listener_step draws) (theory servlet_step filter_step listener_step draws)
-        run_of (record { container = container }) text.played
+    pub run : RunsLawfully servlet_step filter_step listener_step container text.played
 
   abbrev pub WhatAScriptPrintsIsLawful : Type 0
   WhatAScriptPrintsIsLawful =

@@ -1,11 +1,16 @@
 //! The headline over scripts and over connections, each the contract of a function that only calls other laws.
 
+ghost use Rattle.sv_headline.specs.Callers.{CallersOfAStartedContainerHaveLoggedIn};
 ghost use Rattle.sv_headline.specs.Connection.{WhatAConnectionIsSentIsLawful};
 ghost use Rattle.sv_headline.specs.Cut.{WhatARefusedScriptPrintsBeginsTheWhole, WhatARefusedScriptPrintsIsCut};
 ghost use Rattle.sv_headline.specs.Headline.{WhatAScriptPrintsIsLawful};
+ghost use Rattle.sv_headline.specs.Memory.{AScriptInMemoryPrintsItsRun};
 
 use sv_component::{Filter, Listener, Servlet};
-use sv_conduct::requests_enter_exactly_where_allowed;
+use sv_conduct::{
+    callers_logged_in_since_the_start, every_run_is_lawful_until_memory_is_refused,
+    requests_enter_exactly_where_allowed, sessions_of_contexts_stay_in_order,
+};
 use sv_connection::a_connection_is_a_run;
 use sv_container::Container;
 use sv_context::Context;
@@ -15,18 +20,38 @@ use sv_script_run::{
     a_script_is_a_lawful_run,
 };
 use sv_server::Running;
-use sv_streams::{Clock, Sink, Source, Stream};
+use sv_streams::{Clock, MemoryStream, Sink, Source, Stream};
 use sv_words::CountedWords;
 
+/// In each run of a container that was started, until memory is refused, a session holds a caller only by a login that fits, which nothing has undone:
+/// whoever is logged in has logged in (Jakarta Servlet 6.0, section 13.6.3).
+pub fn callers_of_a_started_container_have_logged_in<S: Servlet, F: Filter, L: Listener, W: Words>()
+    ensures { CallersOfAStartedContainerHaveLoggedIn S.servlet_step F.filter_step L.listener_step W.draws }
+{
+    sessions_of_contexts_stay_in_order::<S, F, L>();
+    callers_logged_in_since_the_start::<S, F, L, W>();
+}
+
 /// Where a run of a script ended well, or a line of the script is to blame, what was written is the text of a container's run: from its start over
-/// the events that the script asks for, up to its stop. The entries of those events tell the outcome of each message once, in order, and a request
-/// enters exactly where the combined constraints allow its method and its path to the caller of its session (Jakarta Servlet 6.0, section 13.8).
+/// the events that the script asks for, up to its stop. That run is lawful (`every_run_is_lawful` of `sv_conduct`): a message enters exactly where the
+/// combined constraints allow its method and its path to the caller of its session, every other has a named cause, and components are moved by exactly
+/// the calls that the entries of the text note (Jakarta Servlet 6.0, section 13.8). Whoever is logged in behind it has logged in.
 pub fn what_a_script_prints_is_lawful<S: Servlet, F: Filter, L: Listener, I: Source, O: Sink>()
     ensures { WhatAScriptPrintsIsLawful S.servlet_step F.filter_step L.listener_step I.makes O.makes }
 {
+    every_run_is_lawful_until_memory_is_refused::<S, F, L, CountedWords>();
+    callers_of_a_started_container_have_logged_in::<S, F, L, CountedWords>();
     requests_enter_exactly_where_allowed::<S, F, L, CountedWords>();
     a_run_writes_one_text::<Running<S, F, L, CountedWords>, I, O>();
     a_script_is_a_lawful_run::<Running<S, F, L, CountedWords>, Context<S, F, L>, CountedWords>();
+}
+
+/// A script in memory that ended well has written, behind what was there, the text of the run that its bytes ask for: that of the start of a container,
+/// those of the events of its lines, numbered from 1, and that of the stop, of a run that is lawful.
+pub fn a_script_in_memory_prints_its_run<S: Servlet, F: Filter, L: Listener>()
+    ensures { AScriptInMemoryPrintsItsRun S.servlet_step F.filter_step L.listener_step }
+{
+    what_a_script_prints_is_lawful::<S, F, L, MemoryStream, MemoryStream>();
 }
 
 /// A run of a script that answers want of memory has written nothing, or the text of a container's start and of the events before the refusal, and
@@ -34,6 +59,8 @@ pub fn what_a_script_prints_is_lawful<S: Servlet, F: Filter, L: Listener, I: Sou
 pub fn what_a_refused_script_prints_is_cut<S: Servlet, F: Filter, L: Listener, I: Source, O: Sink>()
     ensures { WhatARefusedScriptPrintsIsCut S.servlet_step F.filter_step L.listener_step I.makes O.makes }
 {
+    every_run_is_lawful_until_memory_is_refused::<S, F, L, CountedWords>();
+    callers_of_a_started_container_have_logged_in::<S, F, L, CountedWords>();
     requests_enter_exactly_where_allowed::<S, F, L, CountedWords>();
     a_refused_run_is_cut::<Running<S, F, L, CountedWords>, I, O>();
     a_script_is_a_lawful_run::<Running<S, F, L, CountedWords>, Context<S, F, L>, CountedWords>();
@@ -56,7 +83,8 @@ pub fn what_a_refused_script_prints_begins_the_whole<
 /// What is written of a connection is what a container's run sends, from its opening to its end or to the event that is refused, over the pieces that
 /// are read of it: one answer after another, all of it, or a part from the first byte on where a write failed (RFC 9112, section 9). The entries of that
 /// run tell the outcome of each message once, in order, and a request enters exactly where the combined constraints allow its method and its path to the
-/// caller of its session (Jakarta Servlet 6.0, section 13.8).
+/// caller of its session (Jakarta Servlet 6.0, section 13.8). If the container ran, that run is lawful (`every_run_is_lawful` of `sv_conduct`), up to where
+/// memory was refused.
 pub fn what_a_connection_is_sent_is_lawful<
     S: Servlet,
     F: Filter,
@@ -67,6 +95,7 @@ pub fn what_a_connection_is_sent_is_lawful<
 >()
     ensures { WhatAConnectionIsSentIsLawful S.servlet_step F.filter_step L.listener_step W.draws T.makes C.tells }
 {
+    every_run_is_lawful_until_memory_is_refused::<S, F, L, W>();
     requests_enter_exactly_where_allowed::<S, F, L, W>();
     a_connection_is_a_run::<Container<S, F, L, W>, T, C, Context<S, F, L>, W>();
 }

@@ -6,5 +6,5 @@ mod printing;
 mod request_head;
 
 pub use measure::{PlainLoop, Work, run_rounds, time_of_round};
-pub use printing::{Rounds, report, report_beyond, report_bound, report_bytes, report_time};
+pub use printing::{Rounds, report, report_bound, report_bytes, report_time};
 pub use request_head::HEAD;

@@ -69,22 +69,6 @@ pub fn report_time<R: Clock + Print, W: Work>(
     Some(time)
 }
 
-/// Measures a piece of work that begins with another one, and prints what it takes beyond that one's time where figures are wanted.
-pub fn report_beyond<R: Clock + Print, W: Work>(
-    rt: &R,
-    rounds: Rounds,
-    name: &str,
-    work: &mut W,
-    before: Duration,
-) -> Option<()> {
-    let time = time_of_round(rt, work, rounds.count)?;
-    if rounds.figures {
-        println!(rt; "{name}: {} ns", time.saturating_sub(before).as_nanos()).ok()
-    } else {
-        println!(rt; "{name} measured").ok()
-    }
-}
-
 /// Measures a piece of work on a long stream, and prints its time for a byte where figures are wanted. It answers the time
 /// of the work.
 pub fn report_bytes<R: Clock + Print, W: Work>(

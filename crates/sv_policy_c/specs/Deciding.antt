@@ -1,5 +1,5 @@
 -- What the exported functions do with an engine.
-use Rattle.std.specs.Prelude.{◌≡◌, ℕ, Bool, true, false, List, [], ◌∷◌, ◌++◌, Option, None, Some, Ok, Err}
+use Rattle.std.specs.Prelude.{◌≡◌, ℕ, Bool, true, false, List, [], ◌∷◌, ◌++◌, Option, None, Some, IsSome, Ok, Err, IsUtf8}
 use Rattle.std.specs.Option.{option_map}
 use Rattle.sv_schema.specs.Fault.{Reads, descriptor_fault_text}
 use Rattle.sv_schema.specs.declared.fault.DescriptorFault.{DescriptorFault}
@@ -51,14 +51,27 @@ with_caller false engine = record { path = engine.path; policy = engine.policy; 
 abbrev pub with_role : List ℕ → Engine → Engine
 with_role role engine = record { path = engine.path; policy = engine.policy; caller = option_map (λ roles. roles ++ (role ∷ [])) engine.caller }
 
+-- where memory did not run out, the role is a text and there is a caller
 abbrev pub AddsRole : List ℕ → Engine → Engine → Status → Type 0
-AddsRole role before after status.Written = after ≡ with_role role before
-AddsRole role before after other = after ≡ before
+AddsRole role before after status.Written = IsSome before.caller × (after ≡ with_role role before)
+AddsRole role before after status.Nothing = (before.caller ≡ None) × (after ≡ before)
+AddsRole role before after status.NotText = ¬ (IsUtf8 role) × (after ≡ before)
+AddsRole role before after status.NoMemory = after ≡ before
+AddsRole role before after status.Fault = ⊥
+AddsRole role before after status.Method = ⊥
+AddsRole role before after status.Short = ⊥
 
 -- what an exported function does where the handle holds an engine, and where it holds none
 abbrev pub IfHeld : (Engine → Status → Type 0) → Option Engine → Status → Type 0
 IfHeld does None told = told ≡ status.Nothing
 IfHeld does (Some engine) told = does engine told
+
+-- only what is not UTF-8 is called no text
+abbrev pub CallsNoText : List ℕ → Status → Type 0
+CallsNoText text told = told ≡ status.NotText → ¬ (IsUtf8 text)
+
+abbrev pub CallsNoTexts : List ℕ → List ℕ → Status → Type 0
+CallsNoTexts first second told = told ≡ status.NotText → ¬ (IsUtf8 first × IsUtf8 second)
 
 -- the number is that of a status for which the fact holds
 abbrev pub Returns : ℕ → (Status → Type 0) → Type 0

@@ -1,6 +1,6 @@
 //! What the exported functions do with an engine.
 
-ghost use Rattle.std.specs.Prelude.{◌≡◌, Ok, Err, IfOk, IfErr};
+ghost use Rattle.std.specs.Prelude.{◌≡◌, ◌≢◌, Ok, Err, IfOk, IfErr};
 ghost use Rattle.sv_policy_c.specs.Deciding as spec;
 ghost use Rattle.sv_policy_c.specs.Engine.{engine_of, explained};
 ghost use Rattle.sv_policy_c.specs.Uncovered.{uncovered_in, Lists};
@@ -26,7 +26,8 @@ pub(crate) fn decide(
     answer: &mut [u8],
     length: &mut usize,
 ) -> Status
-    ensures { spec.WritesAnswer (explained engine.now method.now target.now) answer.old answer.new length.new result }
+    ensures said { spec.WritesAnswer (explained engine.now method.now target.now) answer.old answer.new length.new result }
+    ensures text { spec.CallsNoText method.now result }
 {
     let Ok(method) = str::from_utf8(method) else {
         return Status::NotText;
@@ -45,7 +46,8 @@ fn write_explanation(
     answer: &mut [u8],
     length: &mut usize,
 ) -> Status
-    ensures { spec.WritesAnswer (Ok explanation.now) answer.old answer.new length.new result }
+    ensures said { spec.WritesAnswer (Ok explanation.now) answer.old answer.new length.new result }
+    ensures text { result ≢ Status.NotText }
 {
     match format!(in alloc; "{explanation}") {
         Ok(text) => written(put(answer, length, text.as_str())),
@@ -74,6 +76,7 @@ pub(crate) fn open(
 ) -> Result<Box<Engine>, Status>
     ensures opened { IfOk result (λ engine. engine_of path.now descriptor.now ≡ Ok engine.value) }
     ensures refused { IfErr result (spec.RefusesDescriptor (engine_of path.now descriptor.now) answer.old answer.new length.new) }
+    ensures text { IfErr result (spec.CallsNoTexts path.now descriptor.now) }
 {
     let Ok(path) = str::from_utf8(path) else {
         return Err(Status::NotText);
@@ -104,7 +107,8 @@ fn write_fault(
     answer: &mut [u8],
     length: &mut usize,
 ) -> Status
-    ensures { spec.RefusesDescriptor (Err fault.now) answer.old answer.new length.new result }
+    ensures said { spec.RefusesDescriptor (Err fault.now) answer.old answer.new length.new result }
+    ensures text { result ≢ Status.NotText }
 {
     match format!(in alloc; "{fault}") {
         Ok(text) => refused(put(answer, length, text.as_str())),
@@ -165,7 +169,8 @@ pub(crate) fn list_uncovered(
     answer: &mut [u8],
     length: &mut usize,
 ) -> Status
-    ensures { Lists (uncovered_in path.now descriptor.now) answer.old answer.new length.new result }
+    ensures said { Lists (uncovered_in path.now descriptor.now) answer.old answer.new length.new result }
+    ensures text { spec.CallsNoTexts path.now descriptor.now result }
 {
     let Ok(path) = str::from_utf8(path) else {
         return Status::NotText;
@@ -183,7 +188,8 @@ pub(crate) fn list_uncovered(
 }
 
 fn list_lines(lines: &str, answer: &mut [u8], length: &mut usize) -> Status
-    ensures { Lists (Ok lines.now) answer.old answer.new length.new result }
+    ensures said { Lists (Ok lines.now) answer.old answer.new length.new result }
+    ensures text { result ≢ Status.NotText }
 {
     written(put(answer, length, lines))
 }
@@ -196,7 +202,8 @@ fn list_fault(
     answer: &mut [u8],
     length: &mut usize,
 ) -> Status
-    ensures { Lists (Err (Descriptor _context.now fault.now)) answer.old answer.new length.new result }
+    ensures said { Lists (Err (Descriptor _context.now fault.now)) answer.old answer.new length.new result }
+    ensures text { result ≢ Status.NotText }
 {
     match format!(in alloc; "{fault}") {
         Ok(text) => refused(put(answer, length, text.as_str())),

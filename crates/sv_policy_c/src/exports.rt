@@ -23,7 +23,8 @@ pub extern "C" fn sv_policy_open(
     answer: &mut [u8],
     length: &mut usize,
 ) -> u32
-    ensures { spec.Returns result (spec.Opens (engine_of path.now descriptor.now) policy.old.value policy.new.value answer.old answer.new length.new) }
+    ensures opened { spec.Returns result (spec.Opens (engine_of path.now descriptor.now) policy.old.value policy.new.value answer.old answer.new length.new) }
+    ensures text { spec.Returns result (spec.CallsNoTexts path.now descriptor.now) }
 {
     match open(alloc, path, descriptor, answer, length) {
         Ok(engine) => {
@@ -48,6 +49,7 @@ pub extern "C" fn sv_policy_close(alloc: Global, policy: &mut PolicyHandle)
 #[unsafe(no_mangle)]
 pub extern "C" fn sv_policy_caller(alloc: Global, policy: &mut PolicyHandle, is_known: bool) -> u32
     ensures caller { policy.new.value ≡ option_map (spec.with_caller is_known) policy.old.value }
+    ensures told { spec.Returns result (spec.IfHeld (λ _ told. told ≡ Status.Written) policy.old.value) }
 {
     let Some(mut engine) = policy.take(alloc) else {
         return Status::Nothing.number();
@@ -83,6 +85,7 @@ pub extern "C" fn sv_policy_decide(
     ensures kept { policy.new.value ≡ policy.old.value }
     ensures decided { spec.Returns result (spec.IfHeld
         (λ engine. spec.WritesAnswer (explained engine method.now target.now) answer.old answer.new length.new) policy.old.value) }
+    ensures text { spec.Returns result (spec.CallsNoText method.now) }
 {
     let Some(engine) = policy.take(alloc) else {
         return Status::Nothing.number();
@@ -102,7 +105,8 @@ pub extern "C" fn sv_policy_uncovered(
     answer: &mut [u8],
     length: &mut usize,
 ) -> u32
-    ensures { spec.Returns result (Lists (uncovered_in path.now descriptor.now) answer.old answer.new length.new) }
+    ensures said { spec.Returns result (Lists (uncovered_in path.now descriptor.now) answer.old answer.new length.new) }
+    ensures text { spec.Returns result (spec.CallsNoTexts path.now descriptor.now) }
 {
     list_uncovered(alloc, path, descriptor, answer, length).number()
 }

@@ -3,10 +3,12 @@
 use crate::limits::EVENTS_AT_ONCE;
 use mio::Events;
 
-/// The tokens of the events of one wait, and how many of them were told.
+/// The tokens of the events of one wait, and how many of them were told. One whose peer has ended, or failed, is told once more: what it sent before
+/// is read first, and the end only behind that.
 #[derive(Drop)]
 pub(crate) struct Ready {
     tokens: [usize; EVENTS_AT_ONCE],
+    again: [bool; EVENTS_AT_ONCE],
     count: usize,
     told: usize,
 }
@@ -16,6 +18,7 @@ impl Ready {
     pub fn new() -> Ready {
         Ready {
             tokens: [0; EVENTS_AT_ONCE],
+            again: [false; EVENTS_AT_ONCE],
             count: 0,
             told: 0,
         }
@@ -27,8 +30,16 @@ impl Ready {
             return None;
         }
         let token = self.tokens.get(self.told).copied();
-        self.told = self.told.saturating_add(1);
+        self.pass();
         token
+    }
+
+    // Goes on to the next event, unless this one is told once more.
+    fn pass(&mut self) {
+        match self.again.get_mut(self.told) {
+            Some(again) if *again => *again = false,
+            _ => self.told = self.told.saturating_add(1),
+        }
     }
 
     /// Whether an event was not told yet.
@@ -40,8 +51,10 @@ impl Ready {
     pub fn refill(&mut self, events: &Events) {
         self.told = 0;
         self.count = 0;
-        for (place, event) in self.tokens.iter_mut().zip(events.iter()) {
-            *place = event.token().0;
+        let places = self.tokens.iter_mut().zip(self.again.iter_mut());
+        for ((token, again), event) in places.zip(events.iter()) {
+            *token = event.token().0;
+            *again = event.is_read_closed() || event.is_error();
             self.count = self.count.saturating_add(1);
         }
     }

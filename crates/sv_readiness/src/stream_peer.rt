@@ -1,6 +1,6 @@
 //! The stream of a connection whose calls do not wait.
 
-ghost use Rattle.std.specs.Prelude.{◌≡◌};
+ghost use Rattle.std.specs.Prelude.{◌≡◌, false};
 
 use crate::calls::{try_read, try_write};
 use mio::event::Source;
@@ -9,11 +9,16 @@ use std::io::{Read, Write};
 use sv_front::{Peer, Tried};
 
 /// A stream whose readiness is reported under a token.
+///
+/// A read that leaves room in its buffer has taken all that had come. The next read answers that it would have to wait, without asking the system,
+/// unless the stream rests in between: a write that would have to wait, and being told anew, are where a connection rests. What comes behind such a
+/// read is reported, and an end that had come with it is told once more (see `Ready`).
 #[derive(Drop)]
 pub struct StreamPeer<'a, T> {
     stream: T,
     registry: &'a Registry,
     token: Token,
+    is_drained: bool,
 }
 
 impl<'a, T: Source> StreamPeer<'a, T> {
@@ -21,11 +26,13 @@ impl<'a, T: Source> StreamPeer<'a, T> {
     pub fn new(stream: T, registry: &'a Registry, token: Token) -> StreamPeer<'a, T>
         ensures stream { result.stream ≡ stream }
         ensures token { result.token ≡ token }
+        ensures drained { result.is_drained ≡ false }
     {
         StreamPeer {
             stream,
             registry,
             token,
+            is_drained: false,
         }
     }
 
@@ -48,17 +55,33 @@ impl<T: Read + Write + Source> Peer for StreamPeer<'_, T> {
     } };
 
     fn read(&mut self, buffer: &mut [u8]) -> Tried {
-        try_read(&mut self.stream, buffer)
+        if self.is_drained {
+            self.is_drained = false;
+            return Tried::Paused;
+        }
+        let tried = try_read(&mut self.stream, buffer);
+        self.is_drained = leaves_room(tried, buffer.len());
+        tried
     }
 
     fn write(&mut self, bytes: &[u8]) -> Tried {
-        try_write(&mut self.stream, bytes)
+        let tried = try_write(&mut self.stream, bytes);
+        if tried == Tried::Paused {
+            self.is_drained = false;
+        }
+        tried
     }
 
     fn arm(&mut self) -> bool {
+        self.is_drained = false;
         let both = Interest::READABLE | Interest::WRITABLE;
         self.registry
             .reregister(&mut self.stream, self.token, both)
             .is_ok()
     }
+}
+
+// Whether a read took less than its buffer holds, and it was not the end.
+fn leaves_room(tried: Tried, len: usize) -> bool {
+    matches!(tried, Tried::Done(count) if 0 < count && count < len)
 }

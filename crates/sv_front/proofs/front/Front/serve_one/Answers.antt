@@ -1,5 +1,5 @@
 use Rattle.sv_front.proofs.Fronting.{drive_failed, driven_none, driven_some}
-use Rattle.sv_front.proofs.front.Front.serve.Goals as goal
+use Rattle.sv_front.proofs.front.Front.serve_one.Goals as goal
 
 pub returns-in-Ok-None : goal.returns-in-Ok-None
 returns-in-Ok-None g c =

@@ -1,13 +1,9 @@
-//! What exchanges, dispatches, look-ups, sessions and files cost. With the argument `figures` it prints nanoseconds, without it only what was measured. With the arguments
+//! What exchanges, look-ups, sessions and files cost. With the argument `figures` it prints nanoseconds, without it only what was measured. With the arguments
 //! `exchanges N` it begins and finishes N exchanges and says that they were made, so that what they take can be counted from outside.
 #![tactic(auto)]
 
-mod components;
-mod contexts;
 mod cookies;
 mod crowds;
-mod dispatch_figures;
-mod dispatches;
 mod exchange_figures;
 mod exchanges;
 mod files;
@@ -48,7 +44,6 @@ fn run<R: Env + Clock + Print + AllocGlobal>(rt: &R) -> Option<()> {
 
 fn measure<R: Clock + Print + AllocGlobal>(rt: &R, figures: bool) -> Option<()> {
     exchange_figures::exchange(rt, figures)?;
-    dispatch_figures::dispatches(rt, figures)?;
     lookup_figures::contexts(rt, figures)?;
     lookup_figures::connections(rt, figures)?;
     sessions::sessions(rt, figures)?;

@@ -1,0 +1,7 @@
+use Rattle.sv_conduct.proofs.Refusing.{until_refused}
+use Rattle.sv_conduct.proofs.record.every_run_is_lawful_until_memory_is_refused.Goals as goal
+
+pub returns : goal.returns
+returns g c =
+    until_refused g.S.Servlet.servlet_step g.F.Filter.filter_step g.L.Listener.listener_step g.W.Words.draws
+    c.every_run_is_lawful.ensures c.want_of_memory_stops.ensures

@@ -1,0 +1,7 @@
+-- A descriptor that is read is called a text.
+use Rattle.sv_policy_c.specs.declared.status.Status.TheVariants as status
+use Rattle.sv_policy_c.proofs.Held.{written_calls}
+use Rattle.sv_policy_c.proofs.exports.sv_policy_open.Goals as goal
+
+pub returns-in-Ok-clause-text : goal.returns-in-Ok-clause-text
+returns-in-Ok-clause-text c = (status.Written, c.number.ensures, written_calls c.args.path.now c.args.descriptor.now)
