@@ -1,0 +1,107 @@
+//! The entries, in a SQLite file.
+
+use sqlite::{Alter, Connection, Error, Row, params};
+use std::alloc::Global;
+
+/// How many entries a page shows at most.
+pub const PAGE_LEN: usize = 50;
+
+/// Numbers are given once, so that a form of an old page names no other entry.
+const TABLE: &str = "CREATE TABLE IF NOT EXISTS entry (
+    number INTEGER PRIMARY KEY AUTOINCREMENT,
+    author TEXT NOT NULL,
+    moment INTEGER NOT NULL,
+    words TEXT NOT NULL
+) STRICT";
+
+/// An entry, as its author wrote it.
+#[derive(Drop)]
+pub struct Entry {
+    /// The number, by which it is taken out; those of later entries are greater.
+    pub number: i64,
+    /// The name of the user who wrote it.
+    pub author: String,
+    /// When it was written, in seconds since 1970.
+    pub moment: i64,
+    /// What was written.
+    pub words: String,
+}
+
+/// The database could not be read or written, or lacked memory: what was asked for was not done.
+#[derive(Debug, Drop)]
+pub struct BookFault;
+
+impl From<Error> for BookFault {
+    fn from(_error: Error) -> BookFault {
+        BookFault
+    }
+}
+
+/// The entries that were acknowledged.
+#[derive(Drop)]
+pub struct Book<S: Alter> {
+    connection: Connection<S>,
+}
+
+impl<S: Alter + Drop> Book<S> {
+    /// The book of this database, whose table is made where it is missing.
+    ///
+    /// # Errors
+    /// [`BookFault`]: the database is no book, or cannot be written.
+    pub fn new(connection: Connection<S>) -> Result<Book<S>, BookFault> {
+        let mut book = Book { connection };
+        book.connection.execute_batch(TABLE)?;
+        Ok(book)
+    }
+
+    /// Writes an entry down, with the second since 1970 in which that was. It stands in the file when this returns, whatever becomes of the program.
+    ///
+    /// # Errors
+    /// [`BookFault`]: it was not written.
+    pub fn write(&mut self, author: &str, moment: u64, words: &str) -> Result<(), BookFault> {
+        let moment = i64::try_from(moment).unwrap_or(i64::MAX);
+        self.connection.execute(
+            "INSERT INTO entry (author, moment, words) VALUES (?1, ?2, ?3)",
+            params![author, moment, words],
+        )?;
+        Ok(())
+    }
+
+    /// Takes the entry of that number out, where there is one.
+    ///
+    /// # Errors
+    /// [`BookFault`]: it was not taken out.
+    pub fn remove(&mut self, number: i64) -> Result<(), BookFault> {
+        self.connection
+            .execute("DELETE FROM entry WHERE number = ?1", params![number])?;
+        Ok(())
+    }
+
+    /// The newest entries whose numbers are below that one, the last that was written first, and at most [`PAGE_LEN`].
+    ///
+    /// # Errors
+    /// [`BookFault`]: they could not be read.
+    pub fn newest_below(&mut self, alloc: Global, number: i64) -> Result<Vec<Entry>, BookFault> {
+        let found = self.connection.query_all(
+            "SELECT number, author, moment, words FROM entry WHERE number < ?1 ORDER BY number DESC LIMIT ?2",
+            params![number, PAGE_LEN as i64],
+        )?;
+        let mut entries = Vec::new(alloc);
+        for row in found {
+            if entries.push(entry_of(&row)?).is_err() {
+                return Err(BookFault);
+            }
+        }
+        Ok(entries)
+    }
+}
+
+// The entry of a row.
+fn entry_of(row: &Row) -> Result<Entry, BookFault> {
+    Ok(Entry {
+        number: row.get(0)?,
+        author: row.get(1)?,
+        moment: row.get(2)?,
+        words: row.get(3)?,
+    })
+}

@@ -1,0 +1,212 @@
+//! The servlet of the book.
+
+ghost use Rattle.std.specs.Prelude.{◌≡◌, OnOk, false, true};
+ghost use Rattle.sv_servlet.specs.Changing.{Changes};
+ghost use Rattle.guestbook.specs.Token.{is_own_form};
+
+use crate::book::{Book, BookFault};
+use crate::pages::{Member, book_page};
+use crate::token::{is_own_form, token_of};
+use crate::visits::Visits;
+use sqlite::Alter;
+use std::alloc::Global;
+use sv_servlet::{
+    Config, Exchange, Fault, Init, NoMemory, RedirectKind, Servlet, Step, Text, Verb, asked_verb,
+    redirect, send_html, step_of,
+};
+
+/// The greatest entry, in bytes of UTF-8.
+const MAX_WORDS: usize = 4_000;
+
+/// The role of those who take entries out.
+const ADMINISTRATOR: &str = "administrator";
+
+/// Shows the book, and takes its forms: who may send which one is for the descriptor to say.
+#[derive(Drop)]
+pub struct Guestbook<S: Alter> {
+    pub book: Book<S>,
+    pub visits: Visits,
+}
+
+impl<S: Alter + Drop> Servlet for Guestbook<S> {
+    fn init(&mut self, _alloc: Global, _config: &Config) -> Init {
+        Init::Ready
+    }
+
+    fn service(&mut self, alloc: Global, exchange: &mut Exchange, _turn: u32) -> Step {
+        step_of(alloc, answered(alloc, self, exchange))
+    }
+
+    fn destroy(&mut self) {}
+}
+
+/// What a form is sent for.
+#[derive(Clone, Copy)]
+enum Form {
+    Write,
+    Remove,
+    Leave,
+}
+
+impl Form {
+    // The form that is sent to that path.
+    fn at(path: &str) -> Option<Form> {
+        match path {
+            "/write" => Some(Form::Write),
+            "/remove" => Some(Form::Remove),
+            "/leave" => Some(Form::Leave),
+            _ => None,
+        }
+    }
+}
+
+// The answer, by the path.
+fn answered<S: Alter + Drop>(
+    alloc: Global,
+    guestbook: &mut Guestbook<S>,
+    exchange: &mut Exchange,
+) -> Result<Step, Fault>
+    ensures { Changes exchange.old exchange.new }
+{
+    match Form::at(exchange.path()) {
+        Some(form) => take_form(alloc, &mut guestbook.book, exchange, form)?,
+        None => show_book(alloc, guestbook, exchange)?,
+    }
+    Ok(Step::Done)
+}
+
+// The page of the entries.
+fn show_book<S: Alter + Drop>(
+    alloc: Global,
+    guestbook: &mut Guestbook<S>,
+    exchange: &mut Exchange,
+) -> Result<(), Fault>
+    ensures { Changes exchange.old exchange.new }
+{
+    if asked_verb(alloc, exchange, &[Verb::Get])?.is_some() {
+        let page = page_of(alloc, guestbook, exchange)?;
+        send_html(exchange, page.as_str())?;
+    }
+    Ok(())
+}
+
+// The page for whoever asks.
+fn page_of<S: Alter + Drop>(
+    alloc: Global,
+    guestbook: &mut Guestbook<S>,
+    exchange: &Exchange,
+) -> Result<String, Fault> {
+    let entries = answer_of(
+        alloc,
+        guestbook.book.newest_below(alloc, first_below(exchange)?),
+    )?;
+    let token = token_of(alloc, exchange)?;
+    let reader = member_of(exchange, token.as_ref());
+    Ok(book_page(alloc, entries.as_slice(), reader, guestbook.visits.count())?)
+}
+
+// The user of the session, where one is logged in.
+fn member_of<'a>(exchange: &'a Exchange, token: Option<&'a Text>) -> Option<Member<'a>> {
+    let caller = exchange.caller()?;
+    let token = token?;
+    Some(Member {
+        name: caller.name.as_str(),
+        is_administrator: exchange.is_user_in_role(ADMINISTRATOR),
+        token: token.as_str(),
+    })
+}
+
+// The number below which the page begins: that of the query, where it has one.
+fn first_below(exchange: &Exchange) -> Result<i64, NoMemory> {
+    let before = exchange.parameter("before")?;
+    let before = before.as_ref().map_or("", Text::as_str);
+    Ok(before.parse::<i64>().unwrap_or(i64::MAX))
+}
+
+// A form's path: by POST the form does what it is for, and by GET, as a login leads there, nothing. Both lead back to the book.
+fn take_form<S: Alter + Drop>(
+    alloc: Global,
+    book: &mut Book<S>,
+    exchange: &mut Exchange,
+    form: Form,
+) -> Result<(), Fault>
+    ensures { Changes exchange.old exchange.new }
+{
+    match asked_verb(alloc, exchange, &[Verb::Get, Verb::Post])? {
+        None => return Ok(()),
+        Some(Verb::Post) => obey(alloc, book, exchange, form)?,
+        Some(_) => {}
+    }
+    redirect(exchange, RedirectKind::SeeOther, "/")?;
+    Ok(())
+}
+
+// Does what the form is for, if it has the token of its session.
+fn obey<S: Alter + Drop>(
+    alloc: Global,
+    book: &mut Book<S>,
+    exchange: &mut Exchange,
+    form: Form,
+) -> Result<(), Fault>
+    ensures own { OnOk result (is_own_form exchange.old ≡ true) }
+    ensures kept { is_own_form exchange.old ≡ false → book.new ≡ book.old }
+    ensures reached { Changes exchange.old exchange.new }
+{
+    if !is_own_form(alloc, exchange)? {
+        return Err(Fault::Error(
+            403,
+            Text::copy_of(alloc, "This form is of another session.")?,
+        ));
+    }
+    match form {
+        Form::Write => write(alloc, book, exchange)?,
+        Form::Remove => remove(alloc, book, exchange)?,
+        Form::Leave => {
+            exchange.logout()?;
+        }
+    }
+    Ok(())
+}
+
+// An entry of the caller.
+fn write<S: Alter + Drop>(
+    alloc: Global,
+    book: &mut Book<S>,
+    exchange: &Exchange,
+) -> Result<(), Fault> {
+    let words = exchange.parameter("words")?;
+    let words = words.as_ref().map_or("", Text::as_str);
+    if words.trim().is_empty() || words.len() > MAX_WORDS {
+        return Err(Fault::Error(
+            400,
+            Text::copy_of(alloc, "An entry has 1 to 4000 bytes, and not blanks alone.")?,
+        ));
+    }
+    let author = exchange.caller().map_or("", |caller| caller.name.as_str());
+    answer_of(alloc, book.write(author, exchange.moment(), words))
+}
+
+// An entry less.
+fn remove<S: Alter + Drop>(
+    alloc: Global,
+    book: &mut Book<S>,
+    exchange: &Exchange,
+) -> Result<(), Fault> {
+    let number = exchange.parameter("number")?;
+    let number = number.as_ref().map_or("", Text::as_str);
+    match number.parse::<i64>() {
+        Ok(number) => answer_of(alloc, book.remove(number)),
+        Err(_) => Err(Fault::Error(400, Text::copy_of(alloc, "This is no number of an entry.")?)),
+    }
+}
+
+// What the book answered; its fault fails this request alone.
+fn answer_of<T>(alloc: Global, answer: Result<T, BookFault>) -> Result<T, Fault> {
+    match answer {
+        Ok(value) => Ok(value),
+        Err(BookFault) => Err(Fault::Failed(
+            Text::copy_of(alloc, "BookFault")?,
+            Text::copy_of(alloc, "The book cannot be read or written.")?,
+        )),
+    }
+}

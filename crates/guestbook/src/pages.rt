@@ -1,0 +1,167 @@
+//! The page of the entries, as HTML.
+
+use crate::book::{Entry, PAGE_LEN};
+use crate::paragraph::push_paragraph;
+use httpdate::HttpDate;
+use std::alloc::Global;
+use std::str;
+use sv_servlet::{NoMemory, escape_html};
+
+/// Who reads the page, where a user is logged in.
+#[derive(Clone, Copy)]
+pub struct Member<'a> {
+    /// The name of the user.
+    pub name: &'a str,
+    /// Whether the user may take entries out.
+    pub is_administrator: bool,
+    /// What each form of this session sends back.
+    pub token: &'a str,
+}
+
+/// The page of these entries, with the forms that its reader may send, and how many requests came since the start.
+///
+/// # Errors
+/// [`NoMemory`]: a growth was refused.
+pub fn book_page(
+    alloc: Global,
+    entries: &[Entry],
+    reader: Option<Member<'_>>,
+    requests: u64,
+) -> Result<String, NoMemory> {
+    let mut page = String::new(alloc);
+    page.push_str(HEAD)?;
+    match reader {
+        Some(member) => push_forms(alloc, &mut page, member)?,
+        None => page.push_str(INVITATION)?,
+    }
+    push_entries(alloc, &mut page, entries, reader)?;
+    push_older(alloc, &mut page, entries)?;
+    page.push_str(format!(in alloc;
+        "<footer>{requests} requests since the start</footer>\n</main>\n</html>\n"
+    )?.as_str())?;
+    Ok(page)
+}
+
+/// The page down to its heading.
+const HEAD: &str = r#"<!doctype html>
+<html lang="en">
+<meta charset="utf-8">
+<meta name="viewport" content="width=device-width, initial-scale=1">
+<link rel="stylesheet" href="/style.css">
+<title>Guestbook</title>
+<main>
+<h1><a href="/">Guestbook</a></h1>
+"#;
+
+/// What strangers are shown in place of forms.
+const INVITATION: &str =
+    r#"<p class="greeting">Members write here. <a class="button" href="/write">Log in</a></p>
+"#;
+
+// What a member may do.
+fn push_forms(alloc: Global, page: &mut String, member: Member<'_>) -> Result<(), NoMemory> {
+    let name = escape_html(alloc, member.name)?;
+    let name = name.as_str();
+    let token = member.token;
+    page.push_str(format!(in alloc;
+        r#"<form class="greeting" method="post" action="/leave">
+<input type="hidden" name="token" value="{token}">
+<span>You are <b>{name}</b>.</span> <button class="plain">Log out</button>
+</form>
+<form class="card" method="post" action="/write">
+<input type="hidden" name="token" value="{token}">
+<label>Your entry <textarea name="words" rows="3" maxlength="1000" required></textarea></label>
+<button>Write</button>
+</form>
+"#
+    )?
+    .as_str())?;
+    Ok(())
+}
+
+// The entries, the newest first.
+fn push_entries(
+    alloc: Global,
+    page: &mut String,
+    entries: &[Entry],
+    reader: Option<Member<'_>>,
+) -> Result<(), NoMemory> {
+    page.push_str("<ol class=\"entries\">\n")?;
+    for entry in entries {
+        push_entry(alloc, page, entry, reader)?;
+    }
+    page.push_str("</ol>\n")?;
+    Ok(())
+}
+
+// An entry, which an administrator may take out.
+fn push_entry(
+    alloc: Global,
+    page: &mut String,
+    entry: &Entry,
+    reader: Option<Member<'_>>,
+) -> Result<(), NoMemory> {
+    page.push_str("<li class=\"card\">\n")?;
+    push_paragraph(alloc, page, "words", entry.words.as_str())?;
+    page.push_str("<div class=\"from\">\n")?;
+    push_paragraph(alloc, page, "author", entry.author.as_str())?;
+    push_date(page, entry.moment)?;
+    if let Some(member) = reader {
+        push_removal(alloc, page, entry.number, member)?;
+    }
+    page.push_str("</div>\n</li>\n")?;
+    Ok(())
+}
+
+// The day of a moment, as `25 Nov 2026`: the middle of what a Date field has (RFC 9110, section 5.6.7).
+fn push_date(page: &mut String, moment: i64) -> Result<(), NoMemory> {
+    let Ok(seconds) = u64::try_from(moment) else {
+        return Ok(());
+    };
+    let Ok(date) = HttpDate::from_unix_secs(seconds) else {
+        return Ok(());
+    };
+    let date = date.to_bytes();
+    if let Ok(day) = str::from_utf8(&date[5..16]) {
+        page.push_str("<time>")?;
+        page.push_str(day)?;
+        page.push_str("</time>\n")?;
+    }
+    Ok(())
+}
+
+// The form by which an administrator takes an entry out.
+fn push_removal(
+    alloc: Global,
+    page: &mut String,
+    number: i64,
+    member: Member<'_>,
+) -> Result<(), NoMemory> {
+    if !member.is_administrator {
+        return Ok(());
+    }
+    let token = member.token;
+    page.push_str(format!(in alloc;
+        r#"<form method="post" action="/remove">
+<input type="hidden" name="token" value="{token}">
+<button class="plain" name="number" value="{number}">Remove</button>
+</form>
+"#
+    )?
+    .as_str())?;
+    Ok(())
+}
+
+// Where a page is full, the way to the next one.
+fn push_older(alloc: Global, page: &mut String, entries: &[Entry]) -> Result<(), NoMemory> {
+    if entries.len() < PAGE_LEN {
+        return Ok(());
+    }
+    if let Some(last) = entries.last() {
+        let number = last.number;
+        page.push_str(format!(in alloc;
+            "<p><a href=\"/?before={number}\">Older entries</a></p>\n"
+        )?.as_str())?;
+    }
+    Ok(())
+}

@@ -1,0 +1,54 @@
+//! Who may ask for what on the site, and its users.
+
+/// Who may ask for what, how users log in, and that the fields of the filter stand on the pages of the login as well (Jakarta Servlet 6.0,
+/// sections 6.2.5, 13.4 and 13.6.3): elements of a `web.xml` as TOML.
+pub const DESCRIPTOR: &str = r#"
+version = 2
+
+[session-config]
+session-timeout = 30
+
+[[filter-mapping]]
+filter-name = "shield"
+url-pattern = ["/*"]
+dispatcher = ["FORWARD"]
+
+[[security-constraint]]
+web-resource-collection = [{ url-pattern = ["/write", "/leave"] }]
+auth-constraint = { role-name = ["member"] }
+
+[[security-constraint]]
+web-resource-collection = [{ url-pattern = ["/remove"] }]
+auth-constraint = { role-name = ["administrator"] }
+
+[[security-role]]
+role-name = "member"
+
+[[security-role]]
+role-name = "administrator"
+
+[login-config]
+auth-method = "FORM"
+form-login-config = { form-login-page = "/login.html", form-error-page = "/login-failed.html" }
+"#;
+
+/// The users of the example: the passwords of ann, ben and eve are `violet`, `harbor` and `lantern`. `tools/new-user` makes an entry.
+pub const USERS: &str = r#"
+[[user]]
+name = "ann"
+salt = "48ba2ada87e2708b4838c28924ca0c0c"
+digest = "c7635b1fe3fac18b2dead17125cd4795eb5aac3c1aa67eb0f080c5b2c257628e"
+roles = ["member"]
+
+[[user]]
+name = "ben"
+salt = "07106ad032dcab52f2f4f7608c87857b"
+digest = "82713d0aeac56b9d9ac5af7eec4ce82687181c4db6f8d0b6669c5664580a5a0e"
+roles = ["member"]
+
+[[user]]
+name = "eve"
+salt = "27ef721078f1c2c58339cfccd7910e55"
+digest = "46a6ec95492c6f50c913985ede0e4a7a3c2e4def7a9b509f29a2f24d8d6b5009"
+roles = ["member", "administrator"]
+"#;
