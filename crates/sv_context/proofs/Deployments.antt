@@ -1,5 +1,5 @@
 -- A deployment and its end.
-use Rattle.std.proofs.Common.{◌≡◌, ℕ, Bool, true, false, List, [], length, refl, sym, ap, subst, None, Result, Ok, Err}
+use Rattle.std.proofs.Common.{◌≡◌, ℕ, Bool, true, false, List, [], length, refl, sym, ap, subst, Result, Ok, Err}
 use Rattle.std.specs.Prelude.{MatchBool}
 use Rattle.sv_component.specs.Runs.{Runs}
 use Rattle.sv_component.specs.Steps.{ComponentSteps}
