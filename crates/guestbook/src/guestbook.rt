@@ -1,7 +1,7 @@
 //! The servlet of the book.
 
 ghost use Rattle.std.specs.Prelude.{◌≡◌, OnOk, false, true};
-ghost use Rattle.sv_servlet.specs.Changing.{Changes};
+ghost use Rattle.sv_servlet.specs.Changing.{Reaches};
 ghost use Rattle.guestbook.specs.Token.{is_own_form};
 
 use crate::book::{Book, BookFault};
@@ -66,7 +66,7 @@ fn answered<S: Alter + Drop>(
     guestbook: &mut Guestbook<S>,
     exchange: &mut Exchange,
 ) -> Result<Step, Fault>
-    ensures { Changes exchange.old exchange.new }
+    ensures { Reaches exchange.old exchange.new }
 {
     match Form::at(exchange.path()) {
         Some(form) => take_form(alloc, &mut guestbook.book, exchange, form)?,
@@ -81,7 +81,7 @@ fn show_book<S: Alter + Drop>(
     guestbook: &mut Guestbook<S>,
     exchange: &mut Exchange,
 ) -> Result<(), Fault>
-    ensures { Changes exchange.old exchange.new }
+    ensures { Reaches exchange.old exchange.new }
 {
     if asked_verb(alloc, exchange, &[Verb::Get])?.is_some() {
         let page = page_of(alloc, guestbook, exchange)?;
@@ -130,7 +130,7 @@ fn take_form<S: Alter + Drop>(
     exchange: &mut Exchange,
     form: Form,
 ) -> Result<(), Fault>
-    ensures { Changes exchange.old exchange.new }
+    ensures { Reaches exchange.old exchange.new }
 {
     match asked_verb(alloc, exchange, &[Verb::Get, Verb::Post])? {
         None => return Ok(()),
@@ -150,7 +150,7 @@ fn obey<S: Alter + Drop>(
 ) -> Result<(), Fault>
     ensures own { OnOk result (is_own_form exchange.old ≡ true) }
     ensures kept { is_own_form exchange.old ≡ false → book.new ≡ book.old }
-    ensures reached { Changes exchange.old exchange.new }
+    ensures reached { Reaches exchange.old exchange.new }
 {
     if !is_own_form(alloc, exchange)? {
         return Err(Fault::Error(

@@ -1,7 +1,7 @@
 //! Fields that tell browsers what a page of this site may do.
 
 ghost use Rattle.std.specs.Prelude.{◌≡◌, OnOk};
-ghost use Rattle.sv_servlet.specs.Changing.{Changes, after_all};
+ghost use Rattle.sv_servlet.specs.Changing.{Reaches, after_all};
 ghost use Rattle.guestbook.specs.Shielding.{security_fields};
 
 use std::alloc::Global;
@@ -40,7 +40,7 @@ impl Filter for Shield {
 
 fn set_security_fields(exchange: &mut Exchange) -> Result<(), ExchangeFault>
     ensures set { OnOk result (exchange.new ≡ after_all security_fields exchange.old) }
-    ensures reached { Changes exchange.old exchange.new }
+    ensures reached { Reaches exchange.old exchange.new }
 {
     exchange.set_header("content-security-policy", POLICY)?;
     exchange.set_header("x-content-type-options", "nosniff")?;

@@ -1,7 +1,7 @@
 //! An application of its own: a servlet, a filter and a listener in one context, behind `./hello PORT`.
 #![tactic(auto)]
 
-ghost use Rattle.sv_servlet.specs.Changing.{Changes};
+ghost use Rattle.sv_servlet.specs.Changing.{Reaches};
 
 use std::alloc::Global;
 use std::process::ExitCode;
@@ -35,7 +35,7 @@ impl Servlet for Greet {
 
 // The answer to the caller of this number.
 fn greeting(alloc: Global, exchange: &mut Exchange, number: u64) -> Result<Step, Fault>
-    ensures { Changes exchange.old exchange.new }
+    ensures { Reaches exchange.old exchange.new }
 {
     let name = exchange.parameter("name")?;
     let name = name.as_ref().map_or("world", Text::as_str);

@@ -1,6 +1,6 @@
 //! A servlet that ends the session.
 
-ghost use Rattle.sv_exchange.specs.Changing.{Changes};
+ghost use Rattle.sv_exchange.specs.Changing.{Reaches};
 
 use crate::plain::{done, unless_refused, write_plain};
 use std::alloc::Global;
@@ -31,7 +31,7 @@ impl Servlet for Bye {
 }
 
 fn end_session(exchange: &mut Exchange) -> Result<(), NoMemory>
-    ensures { Changes exchange.old exchange.new }
+    ensures { Reaches exchange.old exchange.new }
 {
     unless_refused(exchange.session_end())?;
     write_plain(exchange, b"bye\n")

@@ -1,6 +1,6 @@
 //! A servlet that counts in the session.
 
-ghost use Rattle.sv_exchange.specs.Changing.{Changes};
+ghost use Rattle.sv_exchange.specs.Changing.{Reaches};
 
 use crate::parameter::number;
 use crate::plain::{done, set_plain, unless_refused};
@@ -44,7 +44,7 @@ fn full(alloc: Global) -> Step {
 }
 
 fn count(alloc: Global, exchange: &mut Exchange) -> Result<(), NoMemory>
-    ensures { Changes exchange.old exchange.new }
+    ensures { Reaches exchange.old exchange.new }
 {
     let count = number(exchange.session_get("n").unwrap_or("")).saturating_add(1);
     set_plain(exchange)?;

@@ -1,7 +1,7 @@
 //! A servlet that includes.
 
 ghost use Rattle.std.specs.Prelude.{◌≡◌, []};
-ghost use Rattle.sv_exchange.specs.Changing.{Changes};
+ghost use Rattle.sv_exchange.specs.Changing.{Reaches};
 
 use crate::parameter::{keep_parameter, no_text};
 use crate::plain::{done, unless_refused, write_plain};
@@ -32,7 +32,7 @@ impl Nest {
 
     // Writes the first line, and asks for the include.
     fn include(&self, alloc: Global, exchange: &mut Exchange) -> Result<Step, NoMemory>
-        ensures { Changes exchange.old exchange.new }
+        ensures { Reaches exchange.old exchange.new }
     {
         let line = format!(in alloc; "a{}\n", self.calls)?;
         write_plain(exchange, line.as_bytes())?;
@@ -63,7 +63,7 @@ impl Servlet for Nest {
 }
 
 fn write_included(alloc: Global, exchange: &mut Exchange, calls: u64) -> Result<(), NoMemory>
-    ensures { Changes exchange.old exchange.new }
+    ensures { Reaches exchange.old exchange.new }
 {
     unless_refused(exchange.set_header("x-in", "1"))?;
     write_line(alloc, exchange, "b", calls)
@@ -75,7 +75,7 @@ fn write_line(
     word: &str,
     calls: u64,
 ) -> Result<(), NoMemory>
-    ensures { Changes exchange.old exchange.new }
+    ensures { Reaches exchange.old exchange.new }
 {
     let line = format!(in alloc; "{word}{calls}\n")?;
     unless_refused(exchange.write(line.as_bytes()))

@@ -1,6 +1,6 @@
 //! A servlet that logs the caller out.
 
-ghost use Rattle.sv_exchange.specs.Changing.{Changes};
+ghost use Rattle.sv_exchange.specs.Changing.{Reaches};
 
 use crate::plain::{done, unless_refused, write_plain};
 use std::alloc::Global;
@@ -31,7 +31,7 @@ impl Servlet for Out {
 }
 
 fn log_out(exchange: &mut Exchange) -> Result<(), NoMemory>
-    ensures { Changes exchange.old exchange.new }
+    ensures { Reaches exchange.old exchange.new }
 {
     unless_refused(exchange.logout())?;
     write_plain(exchange, b"out\n")

@@ -1,6 +1,6 @@
 //! A servlet that tells its paths.
 
-ghost use Rattle.sv_exchange.specs.Changing.{Changes};
+ghost use Rattle.sv_exchange.specs.Changing.{Reaches};
 
 use crate::plain::{done, write_plain};
 use std::alloc::Global;
@@ -31,7 +31,7 @@ impl Servlet for Paths {
 }
 
 fn write_paths(alloc: Global, exchange: &mut Exchange) -> Result<(), NoMemory>
-    ensures { Changes exchange.old exchange.new }
+    ensures { Reaches exchange.old exchange.new }
 {
     let servlet = exchange.servlet_path();
     let info = exchange.path_info().unwrap_or("-");

@@ -1,7 +1,7 @@
 //! A servlet whose answer leaves in pieces.
 
 ghost use Rattle.std.specs.Prelude.{◌≡◌, []};
-ghost use Rattle.sv_exchange.specs.Changing.{Changes};
+ghost use Rattle.sv_exchange.specs.Changing.{Reaches};
 
 use crate::parameter::{keep_parameter, no_text};
 use crate::plain::{unless_refused, write_plain};
@@ -53,7 +53,7 @@ impl Servlet for Stream {
 }
 
 fn write_in_pieces(exchange: &mut Exchange) -> Result<(), NoMemory>
-    ensures { Changes exchange.old exchange.new }
+    ensures { Reaches exchange.old exchange.new }
 {
     write_plain(exchange, b"one\n")?;
     unless_refused(exchange.flush())?;

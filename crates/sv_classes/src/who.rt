@@ -1,6 +1,6 @@
 //! A servlet that tells the caller.
 
-ghost use Rattle.sv_exchange.specs.Changing.{Changes};
+ghost use Rattle.sv_exchange.specs.Changing.{Reaches};
 
 use crate::plain::{done, write_plain};
 use std::alloc::Global;
@@ -31,7 +31,7 @@ impl Servlet for Who {
 }
 
 fn write_caller(alloc: Global, exchange: &mut Exchange) -> Result<(), NoMemory>
-    ensures { Changes exchange.old exchange.new }
+    ensures { Reaches exchange.old exchange.new }
 {
     let line = format!(in alloc; "caller {}\n", caller_name(exchange))?;
     write_plain(exchange, line.as_bytes())

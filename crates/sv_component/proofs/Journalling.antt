@@ -4,7 +4,7 @@ use Rattle.std.specs.Prelude.{cond}
 use Rattle.std.proofs.lemmas.Bool.{cases_Bool}
 use Rattle.std.proofs.lemmas.List.{append_assoc, append-nil}
 use Rattle.sv_component.specs.Call.{Call}
-use Rattle.sv_component.specs.Runs.{Moves, Record, Runs, record_entry}
+use Rattle.sv_component.specs.Runs.{IsRun, Moves, Record, record_entry}
 use Rattle.sv_component.specs.World.{World}
 use Rattle.sv_component.proofs.Moving.{same_entries}
 use Rattle.sv_journal.specs.Journal.{Gains, JournalState, Takes, broken, with_entry}
@@ -53,8 +53,8 @@ gains_one before middle after entry entries takes gains = elim (cases_Bool befor
 ]
 
 module _ {S F L : Type 0} (ss : S → Call → S → Type 0) (fs : F → Call → F → Type 0) (ls : L → Call → L → Type 0) where
-  pub run_gains : (from to : World S F L) (records : List Record) → Runs ss fs ls from records to → Gains from.journal (map (record_entry from) records) to.journal
-  unfolding Runs
+  pub run_gains : (from to : World S F L) (records : List Record) → IsRun ss fs ls from records to → Gains from.journal (map (record_entry from) records) to.journal
+  unfolding IsRun
   run_gains from to [] ran = subst (λ w. Gains from.journal [] w.journal) (sym ran) (gains_none from.journal)
   run_gains from to (made ∷ others) ran =
       let moves : Moves ss fs ls from made ran.0 = ran.1 in

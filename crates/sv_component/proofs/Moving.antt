@@ -10,7 +10,7 @@ use Rattle.sv_component.specs.Call.{Call}
 use Rattle.sv_component.specs.Laws.{ComponentsMoved, NamedMovedAt}
 use Rattle.sv_component.specs.Motion.{Moved, MovedAt, calls_at, filter_calls, listener_calls, servlet_calls}
 use Rattle.sv_component.specs.Noted.{filter_entry, servlet_entry}
-use Rattle.sv_component.specs.Runs.{Moves, MovesAt, NamedStep, OfFilter, OfListener, OfServlet, Record, Runs, record_entry}
+use Rattle.sv_component.specs.Runs.{IsRun, Moves, MovesAt, NamedStep, OfFilter, OfListener, OfServlet, Record, record_entry}
 use Rattle.sv_component.specs.World.{World, name_at}
 use Rattle.sv_component.specs.declared.named.Named.{Named}
 use Rattle.sv_journal.specs.Entry.{heard}
@@ -102,8 +102,8 @@ module _ {C : Type 0} (step : C → Call → C → Type 0) where
       named_text found = unwrap_or (option_map (λ named. named.name) found) []
 
 module _ {S F L : Type 0} (ss : S → Call → S → Type 0) (fs : F → Call → F → Type 0) (ls : L → Call → L → Type 0) where
-  pub servlets_ran : (from to : World S F L) (records : List Record) → Runs ss fs ls from records to → ListRuns (NamedStep ss) from.servlets (servlet_calls records) to.servlets
-  unfolding Runs ListRuns
+  pub servlets_ran : (from to : World S F L) (records : List Record) → IsRun ss fs ls from records to → ListRuns (NamedStep ss) from.servlets (servlet_calls records) to.servlets
+  unfolding IsRun ListRuns
   servlets_ran from to [] ran = ap (λ w. w.servlets) ran
   servlets_ran from to (OfServlet place call ∷ others) ran =
       let moves : Moves ss fs ls from (OfServlet place call) ran.0 = ran.1 in
@@ -115,8 +115,8 @@ module _ {S F L : Type 0} (ss : S → Call → S → Type 0) (fs : F → Call �
       let moves : Moves ss fs ls from (OfListener place event) ran.0 = ran.1 in
       subst (λ xs. ListRuns (NamedStep ss) xs (servlet_calls others) to.servlets) moves.component.1 (servlets_ran ran.0 to others ran.2)
 
-  pub filters_ran : (from to : World S F L) (records : List Record) → Runs ss fs ls from records to → ListRuns (NamedStep fs) from.filters (filter_calls records) to.filters
-  unfolding Runs ListRuns
+  pub filters_ran : (from to : World S F L) (records : List Record) → IsRun ss fs ls from records to → ListRuns (NamedStep fs) from.filters (filter_calls records) to.filters
+  unfolding IsRun ListRuns
   filters_ran from to [] ran = ap (λ w. w.filters) ran
   filters_ran from to (OfServlet place call ∷ others) ran =
       let moves : Moves ss fs ls from (OfServlet place call) ran.0 = ran.1 in
@@ -128,8 +128,8 @@ module _ {S F L : Type 0} (ss : S → Call → S → Type 0) (fs : F → Call �
       let moves : Moves ss fs ls from (OfListener place event) ran.0 = ran.1 in
       subst (λ xs. ListRuns (NamedStep fs) xs (filter_calls others) to.filters) moves.component.2 (filters_ran ran.0 to others ran.2)
 
-  pub listeners_ran : (from to : World S F L) (records : List Record) → Runs ss fs ls from records to → ListRuns ls from.listeners (listener_calls records) to.listeners
-  unfolding Runs ListRuns
+  pub listeners_ran : (from to : World S F L) (records : List Record) → IsRun ss fs ls from records to → ListRuns ls from.listeners (listener_calls records) to.listeners
+  unfolding IsRun ListRuns
   listeners_ran from to [] ran = ap (λ w. w.listeners) ran
   listeners_ran from to (OfServlet place call ∷ others) ran =
       let moves : Moves ss fs ls from (OfServlet place call) ran.0 = ran.1 in
@@ -141,7 +141,7 @@ module _ {S F L : Type 0} (ss : S → Call → S → Type 0) (fs : F → Call �
       let moves : Moves ss fs ls from (OfListener place event) ran.0 = ran.1 in
       (ran.0.listeners, moves.component.0, listeners_ran ran.0 to others ran.2)
 
-  pub components_moved : (from to : World S F L) (records : List Record) → Runs ss fs ls from records to → ComponentsMoved ss fs ls from records to
+  pub components_moved : (from to : World S F L) (records : List Record) → IsRun ss fs ls from records to → ComponentsMoved ss fs ls from records to
   components_moved from to records ran =
       let servlets = servlets_ran from to records ran in
       let filters = filters_ran from to records ran in

@@ -1,8 +1,8 @@
 -- Laws over runs, for components of any kind.
-use Rattle.std.specs.Prelude.{◌≡◌, ℕ, List, ◌++◌, map, slice_get, Some}
+use Rattle.std.specs.Prelude.{◌≡◌, ◌↔◌, ℕ, List, ◌++◌, map, slice_get, Some}
 use Rattle.sv_component.specs.Call.{Call}
 use Rattle.sv_component.specs.Motion.{Moved, MovedAt, calls_at, filter_calls, listener_calls, servlet_calls}
-use Rattle.sv_component.specs.Runs.{Record, Runs, SameCounts, record_entry}
+use Rattle.sv_component.specs.Runs.{IsRun, Record, Runs, SameCounts, record_entry}
 use Rattle.sv_component.specs.World.{World}
 use Rattle.sv_component.specs.declared.named.Named.{Named}
 use Rattle.sv_journal.specs.Journal.{Gains}
@@ -22,17 +22,23 @@ pub record ComponentsMoved {S F L : Type 0} (servlet_step : S → Call → S →
 
 abbrev pub RunsMoveComponents : {S F L : Type 0} → (S → Call → S → Type 0) → (F → Call → F → Type 0) → (L → Call → L → Type 0) → Type 0
 RunsMoveComponents {S} {F} {L} servlet_step filter_step listener_step =
-    (from to : World S F L) (records : List Record) → Runs servlet_step filter_step listener_step from records to
+    (from to : World S F L) (records : List Record) → IsRun servlet_step filter_step listener_step from records to
     → ComponentsMoved servlet_step filter_step listener_step from records to
 
 -- the journal gains the entries of a run, or a front of them and breaks
 abbrev pub RunsAreJournalled : {S F L : Type 0} → (S → Call → S → Type 0) → (F → Call → F → Type 0) → (L → Call → L → Type 0) → Type 0
 RunsAreJournalled {S} {F} {L} servlet_step filter_step listener_step =
-    (from to : World S F L) (records : List Record) → Runs servlet_step filter_step listener_step from records to
+    (from to : World S F L) (records : List Record) → IsRun servlet_step filter_step listener_step from records to
     → Gains from.journal (map (record_entry from) records) to.journal
 
 -- two runs, one behind the other, are one
 abbrev pub RunsJoin : {S F L : Type 0} → (S → Call → S → Type 0) → (F → Call → F → Type 0) → (L → Call → L → Type 0) → Type 0
 RunsJoin {S} {F} {L} servlet_step filter_step listener_step =
-    (from middle to : World S F L) (front back : List Record) → Runs servlet_step filter_step listener_step from front middle
-    → Runs servlet_step filter_step listener_step middle back to → Runs servlet_step filter_step listener_step from (front ++ back) to
+    (from middle to : World S F L) (front back : List Record) → IsRun servlet_step filter_step listener_step from front middle
+    → IsRun servlet_step filter_step listener_step middle back to → IsRun servlet_step filter_step listener_step from (front ++ back) to
+
+-- what is made behind whatever was done is a run, and a run may be made behind whatever was done
+abbrev pub RunsAreWhole : {S F L : Type 0} → (S → Call → S → Type 0) → (F → Call → F → Type 0) → (L → Call → L → Type 0) → Type 0
+RunsAreWhole {S} {F} {L} servlet_step filter_step listener_step =
+    (before after : World S F L) (records : List Record)
+    → (Runs servlet_step filter_step listener_step before records after ↔ IsRun servlet_step filter_step listener_step before records after)

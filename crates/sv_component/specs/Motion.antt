@@ -1,7 +1,7 @@
 -- The motion of one component: its states from before to after, one step for each of its calls in order, and none besides.
 use Rattle.std.specs.Prelude.{◌≡◌, ℕ, List, [], ◌∷◌, ◌==◌, slice_get, Some, if◌then◌else◌}
 use Rattle.sv_component.specs.Call.{Call, Heard}
-use Rattle.sv_component.specs.Runs.{Record, OfFilter, OfListener, OfServlet}
+use Rattle.sv_component.specs.Runs.{OfFilter, OfListener, OfServlet, Record}
 
 unfoldable pub Moved : {C : Type 0} → (C → Call → C → Type 0) → C → List Call → C → Type 0
 Moved step before [] after = after ≡ before

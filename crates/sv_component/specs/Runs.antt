@@ -54,24 +54,15 @@ pub record Moves {S F L : Type 0} (servlet_step : S → Call → S → Type 0) (
   pub context : after.context ≡ before.context
 
 -- the records are made one after another
-unfoldable pub Runs : {S F L : Type 0} → (S → Call → S → Type 0) → (F → Call → F → Type 0) → (L → Call → L → Type 0) → World S F L → List Record → World S F L → Type 0
-Runs servlet_step filter_step listener_step before [] after = after ≡ before
-Runs {S} {F} {L} servlet_step filter_step listener_step before (made ∷ others) after =
-    (middle : World S F L) × Moves servlet_step filter_step listener_step before made middle × Runs servlet_step filter_step listener_step middle others after
+unfoldable pub IsRun : {S F L : Type 0} → (S → Call → S → Type 0) → (F → Call → F → Type 0) → (L → Call → L → Type 0) → World S F L → List Record → World S F L → Type 0
+IsRun servlet_step filter_step listener_step before [] after = after ≡ before
+IsRun {S} {F} {L} servlet_step filter_step listener_step before (made ∷ others) after =
+    (middle : World S F L) × Moves servlet_step filter_step listener_step before made middle × IsRun servlet_step filter_step listener_step middle others after
 
--- whatever was made before, this is made behind it
-abbrev pub Grows : {S F L : Type 0} → (S → Call → S → Type 0) → (F → Call → F → Type 0) → (L → Call → L → Type 0) → World S F L → (List Record → List Record) → World S F L → Type 0
-Grows {S} {F} {L} servlet_step filter_step listener_step before more after =
-    (from : World S F L) (done : List Record) → Runs servlet_step filter_step listener_step from done before → Runs servlet_step filter_step listener_step from (more done) after
-
--- one record more
-abbrev pub then_made : Record → List Record → List Record
-then_made made done = done ++ made ∷ []
-
--- behind what was done, the first so many of the records
-unfoldable pub each : (ℕ → Record) → ℕ → List Record → List Record
-each records zero done = done
-each records (suc count) done = each records count done ++ records count ∷ []
+-- behind whatever was done, these are made: the same as a run of them, in the form that composes without a middle
+abbrev pub Runs : {S F L : Type 0} → (S → Call → S → Type 0) → (F → Call → F → Type 0) → (L → Call → L → Type 0) → World S F L → List Record → World S F L → Type 0
+Runs {S} {F} {L} servlet_step filter_step listener_step before records after =
+    (from : World S F L) (done : List Record) → IsRun servlet_step filter_step listener_step from done before → IsRun servlet_step filter_step listener_step from (done ++ records) after
 
 -- no component came or went
 pub record SameCounts {S F L : Type 0} (before after : World S F L) : Type 0 where

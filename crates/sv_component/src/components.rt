@@ -11,7 +11,7 @@ use sv_text::NoMemory;
 /// each can only make the changing calls.
 pub trait Servlet: Drop {
     ghost use Rattle.sv_component.specs.Call.{Call, Inited, Serviced, Destroyed};
-    ghost use Rattle.sv_exchange.specs.Changing.{Changes};
+    ghost use Rattle.sv_exchange.specs.Changing.{Reaches};
 
     /// What a call may do to the servlet. Left out, each call may do anything.
     ghost servlet_step: { Self → Call → Self → Type 0 } = { λ _ _ _. Unit {0} };
@@ -24,7 +24,7 @@ pub trait Servlet: Drop {
     /// asked for within one dispatch.
     fn service(&mut self, alloc: Global, exchange: &mut Exchange, turn: u32) -> Step
         ensures step { servlet_step self.old (Serviced exchange.old turn result exchange.new) self.new }
-        ensures reached { Changes exchange.old exchange.new };
+        ensures reached { Reaches exchange.old exchange.new };
 
     /// Ends the service. No call follows.
     fn destroy(&mut self)
@@ -36,7 +36,7 @@ pub trait Servlet: Drop {
 pub trait Filter: Drop {
     ghost use Rattle.std.specs.Prelude.{is_ok};
     ghost use Rattle.sv_component.specs.Call.{Call, Inited, Entered, Left, Destroyed};
-    ghost use Rattle.sv_exchange.specs.Changing.{Changes};
+    ghost use Rattle.sv_exchange.specs.Changing.{Reaches};
 
     /// What a call may do to the filter. Left out, each call may do anything.
     ghost filter_step: { Self → Call → Self → Type 0 } = { λ _ _ _. Unit {0} };
@@ -48,12 +48,12 @@ pub trait Filter: Drop {
     /// Called before the filters and the servlet or file behind it.
     fn before(&mut self, alloc: Global, exchange: &mut Exchange) -> Gate
         ensures step { filter_step self.old (Entered exchange.old result exchange.new) self.new }
-        ensures reached { Changes exchange.old exchange.new };
+        ensures reached { Reaches exchange.old exchange.new };
 
     /// Called after them, where `before` let them be called.
     fn after(&mut self, alloc: Global, exchange: &mut Exchange) -> Result<(), NoMemory>
         ensures step { filter_step self.old (Left exchange.old (is_ok result) exchange.new) self.new }
-        ensures reached { Changes exchange.old exchange.new };
+        ensures reached { Reaches exchange.old exchange.new };
 
     /// Ends the service. No call follows.
     fn destroy(&mut self)

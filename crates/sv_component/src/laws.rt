@@ -1,6 +1,6 @@
 //! Laws over runs of components.
 
-ghost use Rattle.sv_component.specs.Laws.{RunsAreJournalled, RunsJoin, RunsMoveComponents};
+ghost use Rattle.sv_component.specs.Laws.{RunsAreJournalled, RunsAreWhole, RunsJoin, RunsMoveComponents};
 
 use crate::components::{Filter, Listener, Servlet};
 
@@ -17,4 +17,9 @@ pub fn runs_are_journalled<S: Servlet, F: Filter, L: Listener>()
 /// The law that two runs, one behind the other, are one.
 pub fn runs_join<S: Servlet, F: Filter, L: Listener>()
     ensures { RunsJoin S.servlet_step F.filter_step L.listener_step }
+{}
+
+/// The law that calls are made behind whatever was done exactly where they are a run of their own.
+pub fn runs_are_whole<S: Servlet, F: Filter, L: Listener>()
+    ensures { RunsAreWhole S.servlet_step F.filter_step L.listener_step }
 {}

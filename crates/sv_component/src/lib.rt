@@ -13,7 +13,7 @@ mod standing;
 pub use answers::{Gate, Init, Step};
 pub use components::{Filter, Listener, Servlet};
 pub use config::{Config, Param};
-pub use laws::{runs_are_journalled, runs_join, runs_move_components};
+pub use laws::{runs_are_journalled, runs_are_whole, runs_join, runs_move_components};
 pub use named::Named;
 pub use noted::{gate_answer, init_answer, step_answer};
 pub use standing::Standing;

@@ -9,7 +9,7 @@ use Rattle.sv_component.proofs.Moving.{same_entries}
 use Rattle.sv_component.proofs.Running.{runs_grown, runs_join}
 use Rattle.sv_component.specs.Call.{Call}
 use Rattle.sv_component.specs.Laws.{RunsAreJournalled, RunsMoveComponents}
-use Rattle.sv_component.specs.Runs.{OfFilter, OfListener, OfServlet, Record, Runs, record_entry}
+use Rattle.sv_component.specs.Runs.{IsRun, OfFilter, OfListener, OfServlet, Record, record_entry}
 use Rattle.sv_component.specs.World.{World}
 use Rattle.sv_context.proofs.Journals.{runs_unnoted}
 use Rattle.sv_context.specs.Answered.{Answers, Tells}
@@ -21,7 +21,6 @@ use Rattle.sv_context.specs.State.{ContextState, world_of}
 use Rattle.sv_context.specs.Theory.{theory}
 use Rattle.sv_journal.specs.Journal.{JournalState, new_journal, with_entry}
 use Rattle.sv_journal.specs.declared.entry.Entry.{Entry}
-use Rattle.sv_listeners.specs.Telling.{then_all}
 use Rattle.sv_outcome.specs.Laws.{JustOneCaseHolds}
 use Rattle.sv_outcome.specs.OutcomeEntry.{outcome_entry}
 use Rattle.sv_outcome.specs.declared.outcome.Outcome.{Outcome}
@@ -121,17 +120,17 @@ calls_behind : (entry : Entry) (behind : List Entry) → is_outcome entry ≡ tr
 calls_behind entry behind is = rw is refl
 
 module _ {S F L : Type 0} (ss : S → Call → S → Type 0) (fs : F → Call → F → Type 0) (ls : L → Call → L → Type 0) (law : RunsAreJournalled ss fs ls) where
-  run_of_none : (world : World S F L) → Runs ss fs ls world [] world
-  unfolding Runs
+  run_of_none : (world : World S F L) → IsRun ss fs ls world [] world
+  unfolding IsRun
   run_of_none world = refl
 
-  entries_stay : (from to : World S F L) (made wanted : List Record) → Runs ss fs ls from made to → map (record_entry to) wanted ≡ map (record_entry from) wanted
-  unfolding Runs
+  entries_stay : (from to : World S F L) (made wanted : List Record) → IsRun ss fs ls from made to → map (record_entry to) wanted ≡ map (record_entry from) wanted
+  unfolding IsRun
   entries_stay from to [] wanted ran = ap (λ world. map (record_entry world) wanted) ran
   entries_stay from to (made ∷ others) wanted ran =
       entries_stay ran.0 to others wanted ran.2 ∙ same_entries ss fs ls from made ran.0 ran.1 wanted
 
-  entry_stays : (from to : World S F L) (made : List Record) (wanted : Record) → Runs ss fs ls from made to → record_entry to wanted ≡ record_entry from wanted
+  entry_stays : (from to : World S F L) (made : List Record) (wanted : Record) → IsRun ss fs ls from made to → record_entry to wanted ≡ record_entry from wanted
   entry_stays from to made wanted ran = first (entries_stay from to made (wanted ∷ []) ran)
     where
       first : {X : Type 0} {one other : X} → ◌≡◌ {A = List X} (one ∷ []) (other ∷ []) → one ≡ other
@@ -139,7 +138,7 @@ module _ {S F L : Type 0} (ss : S → Call → S → Type 0) (fs : F → Call �
 
   -- what a journal that stayed whole has gained
   gained : (context after : ContextState S F L) (noted noted' : JournalState) (made : List Record)
-      → Runs ss fs ls (world_of context noted) made (world_of after noted')
+      → IsRun ss fs ls (world_of context noted) made (world_of after noted')
       → noted'.whole ≡ true → noted'.entries ≡ noted.entries ++ map (record_entry (world_of context unnoted)) made
   gained context after noted noted' made runs is_whole =
       let gains = law (world_of context noted) (world_of after noted') made runs in
@@ -151,7 +150,7 @@ module _ {S F L : Type 0} (ss : S → Call → S → Type 0) (fs : F → Call �
   world_in context = world_of context unnoted
 
   abbrev Trip : ContextState S F L → List Entry → ContextState S F L → Type 0
-  Trip = travelling.Trip (Runs ss fs ls) record_entry run_of_none (runs_join ss fs ls) entry_stays world_in
+  Trip = travelling.Trip (IsRun ss fs ls) record_entry run_of_none (runs_join ss fs ls) entry_stays world_in
 
   module _ {Words : Type 0} (draws : Words → ℕ × ℕ → Words → Type 0) where
     abbrev Handles : Handling (ContextState S F L) → Type 0
@@ -185,7 +184,7 @@ module _ {S F L : Type 0} (ss : S → Call → S → Type 0) (fs : F → Call �
         → Trip context told after × (filter is_outcome told ≡ [])
     expires_trip context after moment told expires =
         let made = ends_told expires.ended (length context.listeners) in
-        let runs = runs_grown ss fs ls (world_of context new_journal) (world_of after (whole told)) (then_all made) expires.told in
+        let runs = runs_grown ss fs ls (world_of context new_journal) (world_of after (whole told)) made expires.told in
         let are = gained context after new_journal (whole told) made runs refl in (
           record {
             made = made;
@@ -252,7 +251,7 @@ module _ {S F L : Type 0} (ss : S → Call → S → Type 0) (fs : F → Call �
           ]
 
       abbrev Went : Option (ContextState S F L) → List Record → Option (ContextState S F L) → Type 0
-      Went = travelling.Went (Runs ss fs ls) record_entry run_of_none (runs_join ss fs ls) entry_stays world_in
+      Went = travelling.Went (IsRun ss fs ls) record_entry run_of_none (runs_join ss fs ls) entry_stays world_in
 
       is_moved : (before after : Option (ContextState S F L)) (calls : List Record) → Went before calls after → IsMovedBy ss fs ls before calls after
       is_moved None after calls went = went
@@ -260,7 +259,7 @@ module _ {S F L : Type 0} (ss : S → Call → S → Type 0) (fs : F → Call �
 
       pub every_run_is_lawful : ChangesConstraintsByEdits (theory ss fs ls draws) → EveryRunIsLawful ss fs ls draws
       every_run_is_lawful keeps before after happenings answers run runs =
-          let goes = travelling.run_goes (Runs ss fs ls) record_entry run_of_none (runs_join ss fs ls) entry_stays world_in (theory ss fs ls draws) IsLawful
+          let goes = travelling.run_goes (IsRun ss fs ls) record_entry run_of_none (runs_join ss fs ls) entry_stays world_in (theory ss fs ls draws) IsLawful
           (λ entry named. named) handled handles_trip expires_trip edits_trip before after happenings answers run runs in
           record {
             destined = all_destined (theory ss fs ls draws) (edits_alone_by ss fs ls) keeps before after happenings answers run runs;

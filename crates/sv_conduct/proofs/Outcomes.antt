@@ -4,11 +4,10 @@ use Rattle.std.specs.List.{filter}
 use Rattle.sv_component.specs.Call.{Call, Destroyed, Entered, Heard, Inited, Left, Serviced}
 use Rattle.sv_component.specs.Laws.{RunsAreJournalled}
 use Rattle.sv_component.specs.Noted.{filter_entry, servlet_entry}
-use Rattle.sv_component.specs.Runs.{Grows, OfFilter, OfListener, OfServlet, Record, Runs, record_entry}
+use Rattle.sv_component.specs.Runs.{IsRun, OfFilter, OfListener, OfServlet, Record, Runs, record_entry}
 use Rattle.sv_component.specs.World.{World, name_at}
 use Rattle.sv_journal.specs.Journal.{JournalState}
 use Rattle.sv_journal.specs.declared.entry.Entry.{Entry}
-use Rattle.sv_listeners.specs.Telling.{then_all}
 use Rattle.sv_run.specs.Lawful.{is_outcome}
 
 servlet_silent : (context name : List ℕ) (call : Call) → is_outcome (servlet_entry context name call) ≡ false
@@ -45,7 +44,7 @@ pub record GainsSilently (before after : JournalState) : Type 0 where
   pub no_outcome : filter is_outcome behind ≡ []
 
 module _ {S F L : Type 0} (ss : S → Call → S → Type 0) (fs : F → Call → F → Type 0) (ls : L → Call → L → Type 0) (law : RunsAreJournalled ss fs ls) where
-  pub run_is_silent : (from to : World S F L) (made : List Record) → Runs ss fs ls from made to → to.journal.whole ≡ true
+  pub run_is_silent : (from to : World S F L) (made : List Record) → IsRun ss fs ls from made to → to.journal.whole ≡ true
       → GainsSilently from.journal to.journal
   run_is_silent from to made runs whole =
       let gains = law from to made runs in
@@ -56,10 +55,10 @@ module _ {S F L : Type 0} (ss : S → Call → S → Type 0) (fs : F → Call �
         no_outcome = subst (λ told. filter is_outcome told ≡ []) all (none_told from made);
       }
 
-  run_of_none : (world : World S F L) → Runs ss fs ls world [] world
-  unfolding Runs
+  run_of_none : (world : World S F L) → IsRun ss fs ls world [] world
+  unfolding IsRun
   run_of_none world = refl
 
-  pub growth_is_silent : (from to : World S F L) (records : List Record) → Grows ss fs ls from (then_all records) to → to.journal.whole ≡ true
+  pub growth_is_silent : (from to : World S F L) (records : List Record) → Runs ss fs ls from records to → to.journal.whole ≡ true
       → GainsSilently from.journal to.journal
   growth_is_silent from to records grows whole = run_is_silent from to ([] ++ records) (grows from [] (run_of_none from)) whole

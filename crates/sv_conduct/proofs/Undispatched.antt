@@ -8,7 +8,7 @@ use Rattle.sv_admission.specs.declared.answer.Answer.TheVariants as answers
 use Rattle.sv_admission.specs.declared.limits.TheConstants.{SEE_OTHER}
 use Rattle.sv_component.proofs.Running.{runs_grown}
 use Rattle.sv_component.specs.Call.{Call}
-use Rattle.sv_component.specs.Runs.{OfFilter, OfListener, OfServlet, Record, Runs}
+use Rattle.sv_component.specs.Runs.{IsRun, OfFilter, OfListener, OfServlet, Record}
 use Rattle.sv_component.specs.World.{World}
 use Rattle.sv_component.specs.declared.named.Named.{Named}
 use Rattle.sv_conduct.specs.Refused.{TheUndispatchedCallNone, is_dispatch, is_dispatched, servlets_and_filters}
@@ -23,7 +23,7 @@ use Rattle.sv_exchange.specs.State as exchanges
 use Rattle.sv_journal.specs.Journal.{JournalState, new_journal, with_entry}
 use Rattle.sv_journal.specs.declared.event.Event.{Event}
 use Rattle.sv_lifecycle.specs.SessionEnds.{end_events}
-use Rattle.sv_listeners.specs.Telling.{then_all, told}
+use Rattle.sv_listeners.specs.Telling.{told}
 use Rattle.sv_run.proofs.Breaking.{event_same}
 use Rattle.sv_run.specs.Effect.{whole}
 use Rattle.sv_session.specs.declared.ended_session.EndedSession.{EndedSession}
@@ -114,9 +114,9 @@ module _ (site : Site) where
 
 module _ {S F L : Type 0} (ss : S → Call → S → Type 0) (fs : F → Call → F → Type 0) (ls : L → Call → L → Type 0) where
   -- what is heard moves neither servlets nor filters
-  heard_runs : (before after : World S F L) (made : List Record) → Runs ss fs ls before made after → AreHeard made
+  heard_runs : (before after : World S F L) (made : List Record) → IsRun ss fs ls before made after → AreHeard made
       → (after.servlets ≡ before.servlets) × (after.filters ≡ before.filters)
-  unfolding Runs
+  unfolding IsRun
   heard_runs before after [] ran heard = (ap (λ (w : World S F L). w.servlets) ran, ap (λ (w : World S F L). w.filters) ran)
   heard_runs before after (OfListener place event ∷ others) ran heard =
       let rest = heard_runs ran.0 after others ran.2 heard.1 in
@@ -149,7 +149,7 @@ module _ {S F L : Type 0} (ss : S → Call → S → Type 0) (fs : F → Call �
       let made = ends_told did.ended (length context.listeners) in
       same_both context after
       (heard_runs (world_of context noted) (world_of after noted') made
-      (runs_grown ss fs ls (world_of context noted) (world_of after noted') (then_all made) did.told)
+      (runs_grown ss fs ls (world_of context noted) (world_of after noted') made did.told)
       (ends_heard did.ended (length context.listeners)))
 
   pub the_undispatched_call_none : {Words : Type 0} (draws : Words → ℕ × ℕ → Words → Type 0) → TheUndispatchedCallNone ss fs ls draws

@@ -2,7 +2,7 @@
 use Rattle.std.proofs.Common.{◌≡◌, true, List, [], ◌∷◌, ◌++◌, length, map, refl, sym, ap, ◌∙◌, subst}
 use Rattle.sv_component.proofs.Running.{runs_grown}
 use Rattle.sv_component.specs.Call.{Call}
-use Rattle.sv_component.specs.Runs.{Runs}
+use Rattle.sv_component.specs.Runs.{IsRun}
 use Rattle.sv_container.specs.Deploying.{UndeploysAll}
 use Rattle.sv_container.specs.Stopping.{AllStopQuietly, StoppedContainersStopQuietly, StopsQuietly, contexts_to_stop, journal_to_stop}
 use Rattle.sv_context.specs.Deployment.{Undeploys}
@@ -19,7 +19,7 @@ module _ {S F L : Type 0} (ss : S → Call → S → Type 0) (fs : F → Call �
       → StopsQuietly ss fs ls context before back.parts after
   one_quiet context before after back undeploys =
       let made = stop_calls (length context.listeners) (in_service context) [] in
-      subst (λ path. Runs ss fs ls (world_of context before) made (world path back.parts after)) (ap (λ (content : Content). content.context_path) undeploys.content)
+      subst (λ path. IsRun ss fs ls (world_of context before) made (world path back.parts after)) (ap (λ (content : Content). content.context_path) undeploys.content)
       (runs_grown ss fs ls (world_of (without_sessions context) before) (world back.path back.parts after) (λ done. done ++ made) undeploys.stops)
 
   all_quiet : (contexts : List (ContextState S F L)) (before after : JournalState) (back : List (Deployment S F L))

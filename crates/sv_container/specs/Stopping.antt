@@ -1,7 +1,7 @@
 -- The stop of a container (Jakarta Servlet 6.0, sections 2.3.4, 6.2.1 and 11.3.4).
 use Rattle.std.specs.Prelude.{◌≡◌, Bool, true, false, List, [], ◌∷◌, length, map}
 use Rattle.sv_component.specs.Call.{Call}
-use Rattle.sv_component.specs.Runs.{Runs}
+use Rattle.sv_component.specs.Runs.{IsRun}
 use Rattle.sv_container.specs.Deploying.{UndeploysAll}
 use Rattle.sv_context.specs.Forgetting.{without_sessions}
 use Rattle.sv_context.specs.State.{ContextState, in_service, world_of}
@@ -34,7 +34,7 @@ module _ {S F L : Type 0} (servlet_step : S → Call → S → Type 0) (filter_s
   -- each listener hears in reverse that the context stops
   abbrev pub StopsQuietly : ContextState S F L → JournalState → Parts S F L → JournalState → Type 0
   StopsQuietly context before parts after =
-      Runs servlet_step filter_step listener_step (world_of context before)
+      IsRun servlet_step filter_step listener_step (world_of context before)
       (stop_calls (length context.listeners) (in_service context) []) (world context.content.context_path parts after)
 
   abbrev pub AllStopQuietly : List (ContextState S F L) → JournalState → List (Parts S F L) → JournalState → Type 0

@@ -4,12 +4,11 @@ use Rattle.std.specs.Prelude.{IfErr, IfOk}
 use Rattle.sv_admission.specs.Asked.{Asked}
 use Rattle.sv_component.proofs.Running.{runs_grown, runs_join}
 use Rattle.sv_component.specs.Call.{Call}
-use Rattle.sv_component.specs.Runs.{Runs}
+use Rattle.sv_component.specs.Runs.{IsRun}
 use Rattle.sv_dispatch.specs.Did.{seen}
 use Rattle.sv_exchange.specs.State as exchanges
 use Rattle.sv_journal.specs.Journal.{JournalState, new_journal, with_entry}
 use Rattle.sv_journal.specs.declared.entry.Entry.{Entry}
-use Rattle.sv_listeners.specs.Telling.{then_all}
 use Rattle.sv_run.specs.Contexts.{Request}
 use Rattle.sv_run.specs.Effect.{noting, whole}
 use Rattle.sv_site.specs.Site.{site_of}
@@ -36,7 +35,7 @@ module _ {S F L : Type 0} (ss : S → Call → S → Type 0) (fs : F → Call �
   }
 
   uncalled_moves : (before after : ContextState S F L) → after ≡ record before { store = after.store } → IsMoved ss fs ls before after
-  unfolding Runs
+  unfolding IsRun
   uncalled_moves before after same = record {
     made = [];
     runs = ap (λ context. world_of context unnoted) same;
@@ -85,9 +84,9 @@ module _ {S F L : Type 0} (ss : S → Call → S → Type 0) (fs : F → Call �
 
   -- an expiry moves the components
   expiry_runs : (moment : ℕ) (before after : ContextState S F L) (noted noted' : JournalState) (did : Expires ss fs ls moment before noted after noted')
-      → Runs ss fs ls (world_of before noted) (ends_told did.ended (length before.listeners)) (world_of after noted')
+      → IsRun ss fs ls (world_of before noted) (ends_told did.ended (length before.listeners)) (world_of after noted')
   expiry_runs moment before after noted noted' did =
-      runs_grown ss fs ls (world_of before noted) (world_of after noted') (then_all (ends_told did.ended (length before.listeners))) did.told
+      runs_grown ss fs ls (world_of before noted) (world_of after noted') (ends_told did.ended (length before.listeners)) did.told
 
   pub expiry_moves : (moment : ℕ) (before after : ContextState S F L) (noted noted' : JournalState) → Expires ss fs ls moment before noted after noted' → IsMoved ss fs ls before after
   expiry_moves moment before after noted noted' did = record {

@@ -2,7 +2,7 @@
 use Rattle.std.proofs.Common.{◌≡◌, ℕ, Bool, true, false, List, [], length, refl, sym, ap, subst, inl, None, Result, Ok, Err}
 use Rattle.std.specs.Prelude.{MatchBool}
 use Rattle.sv_component.specs.Call.{Call}
-use Rattle.sv_component.specs.Runs.{Grows}
+use Rattle.sv_component.specs.Runs.{Runs}
 use Rattle.sv_descriptor.specs.declared.web_app.WebApp.{WebApp}
 use Rattle.sv_files.specs.declared.file.File.{File}
 use Rattle.sv_journal.specs.Journal.{JournalState}
@@ -16,7 +16,6 @@ use Rattle.sv_lifecycle.specs.declared.parts.Parts.{Parts}
 use Rattle.sv_lifecycle.specs.declared.start_fault.StartCode.{StartCode}
 use Rattle.sv_lifecycle.specs.declared.start_fault.StartCode.TheVariants.{NoMemory, PartsMismatch}
 use Rattle.sv_lifecycle.specs.declared.start_fault.StartFault.{StartFault}
-use Rattle.sv_listeners.specs.Telling.{then_all}
 use Rattle.sv_policy.specs.Compiled.{Standing}
 use Rattle.sv_realm.specs.declared.user.User.{User}
 use Rattle.sv_session.specs.Store.{Store}
@@ -42,13 +41,13 @@ module _ {S F L : Type 0} (ss : S → Call → S → Type 0) (fs : F → Call �
   -- the stop of the started components is that of the context
   pub stopped_so : (content : Content) (policy : Standing) (users : List User) (live : LiveState S F L) (store : Store) (parts : Parts S F L) (noted noted_after : JournalState)
       → AreComponentsOf content live
-      → Grows ss fs ls (live_world live noted) (then_all (stop_calls (length live.parts.listeners.items) (standing.in_service live) store.sessions)) (world live.context parts noted_after)
-      → Grows ss fs ls (world_of (context_of content policy users live store) noted)
-      (then_all (stop_calls (length live.parts.listeners.items) (in_service (context_of content policy users live store)) store.sessions)) (world content.context_path parts noted_after)
+      → Runs ss fs ls (live_world live noted) (stop_calls (length live.parts.listeners.items) (standing.in_service live) store.sessions) (world live.context parts noted_after)
+      → Runs ss fs ls (world_of (context_of content policy users live store) noted)
+      (stop_calls (length live.parts.listeners.items) (in_service (context_of content policy users live store)) store.sessions) (world content.context_path parts noted_after)
   stopped_so content policy users live store parts noted noted_after components stops =
-      subst (λ from. Grows ss fs ls from (then_all (stop_calls (length live.parts.listeners.items) (standing.in_service live) store.sessions)) (world content.context_path parts noted_after))
+      subst (λ from. Runs ss fs ls from (stop_calls (length live.parts.listeners.items) (standing.in_service live) store.sessions) (world content.context_path parts noted_after))
       (world_same content policy users live store noted components)
-      (subst (λ path. Grows ss fs ls (live_world live noted) (then_all (stop_calls (length live.parts.listeners.items) (standing.in_service live) store.sessions)) (world path parts noted_after))
+      (subst (λ path. Runs ss fs ls (live_world live noted) (stop_calls (length live.parts.listeners.items) (standing.in_service live) store.sessions) (world path parts noted_after))
       components.context stops)
 
   -- a deployment whose start began nothing
@@ -87,12 +86,12 @@ module _ {S F L : Type 0} (ss : S → Call → S → Type 0) (fs : F → Call �
   pub undeployed_so : (content : Content) (policy : Standing) (users : List User) (live : LiveState S F L) (store : Store) (parts : Parts S F L) (noted noted_after : JournalState)
       (path : List ℕ) (app : WebApp) (files : List File)
       → AreComponentsOf content live → record { context_path = path; app = app; files = files } ≡ content
-      → Grows ss fs ls (live_world live noted) (then_all (stop_calls (length live.parts.listeners.items) (standing.in_service live) store.sessions)) (world live.context parts noted_after)
+      → Runs ss fs ls (live_world live noted) (stop_calls (length live.parts.listeners.items) (standing.in_service live) store.sessions) (world live.context parts noted_after)
       → Undeploys ss fs ls (context_of content policy users live store) noted (record { path = path; descriptor = app; files = files; users = users; parts = parts }) noted_after
   undeployed_so content policy users live store parts noted noted_after path app files components same stops = record {
     stops =
-        subst (λ path. Grows ss fs ls (world_of (context_of content policy users live store) noted)
-        (then_all (stop_calls (length live.parts.listeners.items) (in_service (context_of content policy users live store)) store.sessions)) (world path parts noted_after))
+        subst (λ path. Runs ss fs ls (world_of (context_of content policy users live store) noted)
+        (stop_calls (length live.parts.listeners.items) (in_service (context_of content policy users live store)) store.sessions) (world path parts noted_after))
         (sym (ap (λ (its : Content). its.context_path) same))
         (stopped_so content policy users live store parts noted noted_after components stops);
     content = same;

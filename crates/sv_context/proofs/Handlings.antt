@@ -6,7 +6,7 @@ use Rattle.sv_admission.specs.Asked.{Asked}
 use Rattle.sv_admission.specs.declared.admission.Admission.{Admission}
 use Rattle.sv_admission.specs.declared.answer.Answer.{Answer}
 use Rattle.sv_component.specs.Call.{Call}
-use Rattle.sv_component.specs.Runs.{Runs}
+use Rattle.sv_component.specs.Runs.{IsRun}
 use Rattle.sv_exchange.specs.Beginning.{begun, finished}
 use Rattle.sv_exchange.specs.State as exchanges
 use Rattle.sv_exchange.specs.declared.held_session.HeldSession.{HeldSession}
@@ -101,9 +101,9 @@ module _ {S F L : Type 0} (ss : S → Call → S → Type 0) (fs : F → Call �
             subst (λ x. Answered (site_of content) asked.canon (admitted before asked).event (admitted before asked).answer (state_in before x) did.made (state_in after x') result) begun_so
             (subst (λ (a : Admission). Answered (site_of content) asked.canon a.event a.answer (state_in before x) did.made (state_in after x') result) is did.does_so);
         runs =
-            subst (λ (a : Admission). Runs ss fs ls (world_of before (with_entry a.entry noted)) did.made (world_of after noted')) is
-            (subst (λ world. Runs ss fs ls world did.made (world_of after noted')) (world_same content policy users live store (with_entry admission.entry noted) components)
-            (subst (λ world. Runs ss fs ls (live_world live (with_entry admission.entry noted)) did.made world)
+            subst (λ (a : Admission). IsRun ss fs ls (world_of before (with_entry a.entry noted)) did.made (world_of after noted')) is
+            (subst (λ world. IsRun ss fs ls world did.made (world_of after noted')) (world_same content policy users live store (with_entry admission.entry noted) components)
+            (subst (λ world. IsRun ss fs ls (live_world live (with_entry admission.entry noted)) did.made world)
             (world_same content policy users live' store' noted'
             (answered_components content (site_of content) asked.canon admission.event admission.answer live live' x x' (with_entry admission.entry noted) noted' result did components))
             did.runs));

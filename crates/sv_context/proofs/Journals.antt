@@ -2,7 +2,7 @@
 use Rattle.std.proofs.Common.{◌≡◌, ◌⊎◌, Bool, true, false, inl, inr, List, [], ◌∷◌, refl, sym, ap, ap₂, ◌∙◌, subst, append_assoc, append-nil}
 use Rattle.std.specs.Prelude.{cond}
 use Rattle.sv_component.specs.Call.{Call}
-use Rattle.sv_component.specs.Runs.{Moves, OfFilter, OfListener, OfServlet, Record, Runs, record_entry}
+use Rattle.sv_component.specs.Runs.{IsRun, Moves, OfFilter, OfListener, OfServlet, Record, record_entry}
 use Rattle.sv_component.specs.World.{World}
 use Rattle.sv_journal.specs.Journal.{JournalState, Takes, broken, with_entry}
 use Rattle.sv_journal.specs.declared.entry.Entry.{Entry}
@@ -48,10 +48,10 @@ module _ {S F L : Type 0} (ss : S → Call → S → Type 0) (fs : F → Call �
   pub record NotesSo (before : World S F L) (records : List Record) (after : World S F L) : Type 0 where
     pub entries : List Entry
     pub journal : after.journal.whole ≡ true → after.journal ≡ noting entries before.journal
-    pub elsewhere : (journal : JournalState) → journal.whole ≡ true → Runs ss fs ls (over journal before) records (over (noting entries journal) after)
+    pub elsewhere : (journal : JournalState) → journal.whole ≡ true → IsRun ss fs ls (over journal before) records (over (noting entries journal) after)
 
   none_noted : (before after : World S F L) → after ≡ before → NotesSo before [] after
-  unfolding Runs
+  unfolding IsRun
   none_noted before after same = record {
     entries = [];
     journal = λ is_whole. ap (λ w. w.journal) same ∙ sym (nothing_noted before.journal);
@@ -63,7 +63,7 @@ module _ {S F L : Type 0} (ss : S → Call → S → Type 0) (fs : F → Call �
 
   one_noted : (before middle after : World S F L) (made : Record) (others : List Record) → Moves ss fs ls before made middle
       → NotesSo middle others after → NotesSo before (made ∷ others) after
-  unfolding Runs
+  unfolding IsRun
   one_noted before middle after made others moves rest =
       let entry = record_entry before made in
       record {
@@ -75,20 +75,20 @@ module _ {S F L : Type 0} (ss : S → Call → S → Type 0) (fs : F → Call �
         elsewhere = λ journal is_whole. (
           over (with_entry entry journal) middle,
           moves_over before middle made journal (with_entry entry journal) moves (takes_whole journal entry is_whole),
-          subst (λ its_journal. Runs ss fs ls (over (with_entry entry journal) middle) others (over its_journal after)) (noting_more entry rest.entries journal)
+          subst (λ its_journal. IsRun ss fs ls (over (with_entry entry journal) middle) others (over its_journal after)) (noting_more entry rest.entries journal)
               (rest.elsewhere (with_entry entry journal) is_whole),
         );
       }
 
-  pub runs_note : (before : World S F L) (records : List Record) (after : World S F L) → Runs ss fs ls before records after → NotesSo before records after
-  unfolding Runs
+  pub runs_note : (before : World S F L) (records : List Record) (after : World S F L) → IsRun ss fs ls before records after → NotesSo before records after
+  unfolding IsRun
   runs_note before [] after ran = none_noted before after ran
   runs_note before (made ∷ others) after ran = one_noted before ran.0 after made others ran.1 (runs_note ran.0 others after ran.2)
 
   -- the same run over a journal that takes nothing
-  pub runs_unnoted : (before : World S F L) (records : List Record) (after : World S F L) → Runs ss fs ls before records after
-      → Runs ss fs ls (over unnoted before) records (over unnoted after)
-  unfolding Runs
+  pub runs_unnoted : (before : World S F L) (records : List Record) (after : World S F L) → IsRun ss fs ls before records after
+      → IsRun ss fs ls (over unnoted before) records (over unnoted after)
+  unfolding IsRun
   runs_unnoted before [] after ran = ap (over unnoted) ran
   runs_unnoted before (made ∷ others) after ran = (
     over unnoted ran.0,

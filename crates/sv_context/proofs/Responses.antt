@@ -5,7 +5,7 @@ use Rattle.sv_admission.specs.declared.answer.Answer.{Answer}
 use Rattle.sv_admission.specs.declared.limits.TheConstants.{SEE_OTHER}
 use Rattle.sv_component.proofs.Running.{runs_grown}
 use Rattle.sv_component.specs.Call.{Call}
-use Rattle.sv_component.specs.Runs.{Grows, Record, Runs}
+use Rattle.sv_component.specs.Runs.{IsRun, Record, Runs}
 use Rattle.sv_dispatch.proofs.RunningDeeds.{there_or_not}
 use Rattle.sv_dispatch.specs.Did.{seen}
 use Rattle.sv_dispatch.specs.Running.{made_seen}
@@ -18,7 +18,7 @@ use Rattle.sv_journal.specs.declared.event.Event.{Event}
 use Rattle.sv_journal.specs.declared.event.Event.TheVariants.{RequestDestroyed, RequestInitialized}
 use Rattle.sv_lifecycle.specs.Calling.{StandsAsBefore}
 use Rattle.sv_lifecycle.specs.Standing.{LiveState, live_world}
-use Rattle.sv_listeners.specs.Telling.{then_all, told}
+use Rattle.sv_listeners.specs.Telling.{told}
 use Rattle.sv_served.proofs.ContextDeeds.{by_alone, by_not, by_then}
 use Rattle.sv_served.proofs.ExchangeDeeds.{alone_makes, alone_not, alone_then}
 use Rattle.sv_served.specs.ServedBy.{Alone, ServedBy}
@@ -94,13 +94,13 @@ module _ (location : List ℕ) (x y : exchanges.State) (said : Result Bool Excha
 module _ {S F L : Type 0} (ss : S → Call → S → Type 0) (fs : F → Call → F → Type 0) (ls : L → Call → L → Type 0) where
   -- the listeners hear an event
   pub by_hearing : (live live' : LiveState S F L) (x : exchanges.State) (noted noted' : JournalState) (event : Event) (result : Result (Unit {0}) NoMemory)
-      → Grows ss fs ls (live_world live noted) (then_all (told event (length live.parts.listeners.items))) (live_world live' noted')
+      → Runs ss fs ls (live_world live noted) (told event (length live.parts.listeners.items)) (live_world live' noted')
       → StandsAsBefore live live'
       → ServedBy ss fs ls (hears (length live.parts.listeners.items) event) live x noted (seen result) live' x noted'
   by_hearing live live' x noted noted' event result made stands = record {
     made = told event (length live.parts.listeners.items);
     does_so = (refl, ap (λ its_standings. record { exchange = x; standings = its_standings }) stands.standings, there_or_not result);
-    runs = runs_grown ss fs ls (live_world live noted) (live_world live' noted') (then_all (told event (length live.parts.listeners.items))) made;
+    runs = runs_grown ss fs ls (live_world live noted) (live_world live' noted') (told event (length live.parts.listeners.items)) made;
     counts = stands.counts;
     context = stands.context;
     initialised = stands.initialised;
@@ -109,10 +109,10 @@ module _ {S F L : Type 0} (ss : S → Call → S → Type 0) (fs : F → Call �
   -- what is done without a call leaves the journal
   pub journal_stays : {A : Type 0} (does : Does A) (live live' : LiveState S F L) (x x' : exchanges.State) (noted noted' : JournalState) (result : Option A)
       → IsQuiet does → ServedBy ss fs ls does live x noted result live' x' noted' → noted' ≡ noted
-  unfolding Runs
+  unfolding IsRun
   journal_stays does live live' x x' noted noted' result quiet did =
       let none : did.made ≡ [] = quiet _ did.made _ result did.does_so in
-      ap (λ w. w.journal) (subst (λ calls. Runs ss fs ls (live_world live noted) calls (live_world live' noted')) none did.runs)
+      ap (λ w. w.journal) (subst (λ calls. IsRun ss fs ls (live_world live noted) calls (live_world live' noted')) none did.runs)
 
   -- a request, of which the listeners hear
   module _ (site : Site) (dispatches : Does (Unit {0})) (live live' : LiveState S F L) (x : exchanges.State) (noted noted' : JournalState) (hearing : length live.parts.listeners.items ≡ site.listeners) where

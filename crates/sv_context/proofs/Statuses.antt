@@ -10,7 +10,7 @@ use Rattle.sv_admission.specs.declared.limits.TheConstants.{SEE_OTHER}
 use Rattle.sv_component.specs.Runs.{Record}
 use Rattle.sv_exchange.proofs.Reaching.{reaches_to}
 use Rattle.sv_exchange.specs.Keeping.{broken_off}
-use Rattle.sv_exchange.specs.Changing.{Change, SetStatus, SetHeader, AddHeader, Write, SetAttribute, Flush, SessionOpen, SessionSet, SessionRemove, SessionEnd, Logout, Changes, after_all, answer, changed, is_open, is_settable, left_by}
+use Rattle.sv_exchange.specs.Changing.{Change, SetStatus, SetHeader, AddHeader, Write, SetAttribute, Flush, SessionOpen, SessionSet, SessionRemove, SessionEnd, Logout, Reaches, after_all, answer, changed, is_open, is_settable, left_by}
 use Rattle.sv_exchange.specs.Sessions.{ended, has_session, logged_out, on_session, opened, session_of, session_value, with_attribute, without_attribute, without_caller}
 use Rattle.sv_exchange.specs.declared.exchange_fault.ExchangeFault.{ExchangeFault}
 use Rattle.sv_exchange.specs.declared.limits.TheConstants.{LEAST_STATUS, MAX_STATUS, NOT_MODIFIED, RESET_CONTENT}
@@ -89,7 +89,7 @@ all_code : (changes : List Change) (x : Exchange) → HasCode x → HasCode (aft
 all_code [] x code = code
 all_code (change ∷ changes) x code = all_code changes (left_by (answer change x) change x) (made_code change x code)
 
-changes_code : (x y : Exchange) → Changes x y → HasCode x → HasCode y
+changes_code : (x y : Exchange) → Reaches x y → HasCode x → HasCode y
 changes_code x y changing code = let reached = reaches_to x y changing in subst HasCode (sym reached.1) (all_code reached.0 x code)
 
 emptied_code : (test : Bool) (x : Exchange) → HasCode x → HasCode (if test then x else record x { buffer = [] })

@@ -4,7 +4,7 @@ use Rattle.sv_admission.specs.Asked.{Asked, asked_by}
 use Rattle.sv_admission.specs.Judged.{post_in}
 use Rattle.sv_admission.specs.Laws.{found_of}
 use Rattle.sv_component.specs.Call.{Call}
-use Rattle.sv_component.specs.Runs.{Record, Runs}
+use Rattle.sv_component.specs.Runs.{IsRun, Record}
 use Rattle.sv_journal.specs.Journal.{JournalState, broken, new_journal}
 use Rattle.sv_journal.specs.declared.entry.Entry.{Entry}
 use Rattle.sv_login.specs.Post.{user_sent}
@@ -28,7 +28,7 @@ module _ {S F L : Type 0} (servlet_step : S → Call → S → Type 0) (filter_s
   -- some calls move the components, whatever is noted of them, and of these only servlets that are gone behind them are destroyed
   pub record IsMoved (before after : ContextState S F L) : Type 0 where
     pub made : List Record
-    pub runs : Runs servlet_step filter_step listener_step (world_of before unnoted) made (world_of after unnoted)
+    pub runs : IsRun servlet_step filter_step listener_step (world_of before unnoted) made (world_of after unnoted)
     pub retires : Retires before.standings made after.standings
     pub stays : IsSameDeployment before after
 

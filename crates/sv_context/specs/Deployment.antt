@@ -1,7 +1,7 @@
 -- The start and the stop of a context (Jakarta Servlet 6.0, sections 2.3, 7.5, 10.12 and 11.3).
 use Rattle.std.specs.Prelude.{◌≡◌, ◌*◌, length, Result, Ok, Err}
 use Rattle.sv_component.specs.Call.{Call}
-use Rattle.sv_component.specs.Runs.{Grows}
+use Rattle.sv_component.specs.Runs.{Runs}
 use Rattle.sv_descriptor.specs.Version.{max_sessions}
 use Rattle.sv_descriptor.specs.declared.web_app.WebApp.{WebApp}
 use Rattle.sv_journal.specs.Journal.{JournalState}
@@ -10,7 +10,6 @@ use Rattle.sv_lifecycle.specs.Standing.{LiveState}
 use Rattle.sv_lifecycle.specs.Starting.{Starts}
 use Rattle.sv_lifecycle.specs.World.{world}
 use Rattle.sv_lifecycle.specs.declared.start_fault.StartFault.{StartFault}
-use Rattle.sv_listeners.specs.Telling.{then_all}
 use Rattle.sv_policy.specs.Compiled.{Standing, compiled}
 use Rattle.sv_session.specs.Store.{Store, empty_store}
 use Rattle.sv_site.specs.Site.{Content}
@@ -46,7 +45,7 @@ module _ {S F L : Type 0} (servlet_step : S → Call → S → Type 0) (filter_s
 
   -- the context stops, and what it was deployed with is handed back, the components as the calls of the stop left them
   pub record Undeploys (context : ContextState S F L) (before : JournalState) (result : Deployment S F L) (after : JournalState) : Type 0 where
-    pub stops : Grows servlet_step filter_step listener_step
-        (world_of context before) (then_all (stop_calls (length context.listeners) (in_service context) context.store.sessions)) (world result.path result.parts after)
+    pub stops : Runs servlet_step filter_step listener_step
+        (world_of context before) (stop_calls (length context.listeners) (in_service context) context.store.sessions) (world result.path result.parts after)
     pub content : content_of result ≡ context.content
     pub users : result.users ≡ context.users

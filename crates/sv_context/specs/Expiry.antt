@@ -2,10 +2,9 @@
 use Rattle.std.specs.Prelude.{◌≡◌, ℕ, List, length}
 use Rattle.std.specs.List.{flat_map}
 use Rattle.sv_component.specs.Call.{Call}
-use Rattle.sv_component.specs.Runs.{Grows, Record}
+use Rattle.sv_component.specs.Runs.{Record, Runs}
 use Rattle.sv_journal.specs.Journal.{JournalState}
 use Rattle.sv_lifecycle.specs.SessionEnds.{all_told, end_events}
-use Rattle.sv_listeners.specs.Telling.{then_all}
 use Rattle.sv_session.specs.Runs as sessions
 use Rattle.sv_session.specs.declared.ended_session.EndedSession.{EndedSession}
 use Rattle.sv_context.specs.State.{ContextState, IsSameDeployment, world_of}
@@ -19,6 +18,6 @@ module _ {S F L : Type 0} (servlet_step : S → Call → S → Type 0) (filter_s
   pub record Expires (moment : ℕ) (before : ContextState S F L) (noted : JournalState) (after : ContextState S F L) (noted_after : JournalState) : Type 0 where
     pub ended : List EndedSession
     pub ends : sessions.Expires moment before.store ended after.store
-    pub told : Grows servlet_step filter_step listener_step (world_of before noted) (then_all (ends_told ended (length before.listeners))) (world_of after noted_after)
+    pub told : Runs servlet_step filter_step listener_step (world_of before noted) (ends_told ended (length before.listeners)) (world_of after noted_after)
     pub stays : IsSameDeployment before after
     pub standings : after.standings ≡ before.standings

@@ -4,7 +4,7 @@ use Rattle.sv_admission.specs.Admission.{admission, settled_in}
 use Rattle.sv_admission.specs.Asked.{Asked}
 use Rattle.sv_admission.specs.declared.admission.Admission.{Admission}
 use Rattle.sv_component.specs.Call.{Call}
-use Rattle.sv_component.specs.Runs.{Record, Runs}
+use Rattle.sv_component.specs.Runs.{IsRun, Record}
 use Rattle.sv_context_path.specs.Within.{path_within}
 use Rattle.sv_exchange.specs.Beginning.{begun, finished}
 use Rattle.sv_exchange.specs.State as exchanges
@@ -41,7 +41,7 @@ module _ {S F L : Type 0} (servlet_step : S → Call → S → Type 0) (filter_s
     pub made : List Record
     pub answers : Answered (site_of before.content) asked.canon (admitted before asked).event (admitted before asked).answer
         (state_in before (exchange_begun before asked)) made (state_in after exchange) result
-    pub runs : Runs servlet_step filter_step listener_step (world_of before (with_entry (admitted before asked).entry noted)) made (world_of after noted_after)
+    pub runs : IsRun servlet_step filter_step listener_step (world_of before (with_entry (admitted before asked).entry noted)) made (world_of after noted_after)
     pub stays : IsSameDeployment before after
 
   -- the message is noted and answered, and the sessions are those that its exchange leaves

@@ -2,7 +2,7 @@
 use Rattle.std.proofs.Common.{[], ◌++◌, refl, ap, ◌∙◌}
 use Rattle.sv_component.proofs.Running.{runs_join}
 use Rattle.sv_component.specs.Call.{Call}
-use Rattle.sv_component.specs.Runs.{Runs}
+use Rattle.sv_component.specs.Runs.{IsRun}
 use Rattle.sv_run.specs.Lawful.{EditsAlone, IsMotion, KeepsPath}
 use Rattle.sv_site.specs.Site.{Content}
 use Rattle.sv_context.specs.Conduct.{IsMoved, conduct, unnoted}
@@ -26,7 +26,7 @@ deployment_then before between after one two = record {
 module _ {S F L : Type 0} (ss : S → Call → S → Type 0) (fs : F → Call → F → Type 0) (ls : L → Call → L → Type 0) where
   -- no calls move nothing
   stands : (context : ContextState S F L) → IsMoved ss fs ls context context
-  unfolding Runs
+  unfolding IsRun
   stands context = record { made = []; runs = refl; retires = retires_none context.standings context.standings refl; stays = same_deployment context }
 
   goes_on : (before between after : ContextState S F L) → IsMoved ss fs ls before between → IsMoved ss fs ls between after → IsMoved ss fs ls before after

@@ -6,7 +6,7 @@ use Rattle.std.specs.Borrow.{GName}
 use Rattle.sv_component.proofs.Journalling.{run_gains}
 use Rattle.sv_component.proofs.Running.{runs_grown}
 use Rattle.sv_component.specs.Call.{Call, Entered, Left, Serviced}
-use Rattle.sv_component.specs.Runs.{Grows, OfFilter, OfServlet, Record, Runs}
+use Rattle.sv_component.specs.Runs.{IsRun, OfFilter, OfServlet, Record, Runs}
 use Rattle.sv_component.specs.Standing.{is_gone}
 use Rattle.sv_component.specs.World.{World}
 use Rattle.sv_component.specs.declared.answers.Gate.{Gate}
@@ -18,7 +18,7 @@ use Rattle.sv_component.specs.declared.standing.Standing.TheVariants.{Gone}
 use Rattle.sv_dispatch.specs.Did.{Frame, seen, staying}
 use Rattle.sv_dispatch.specs.Running.{done_seen, gate_seen, made_seen, offer_seen, step_seen}
 use Rattle.sv_dispatch.specs.Seen.{offers}
-use Rattle.sv_exchange.specs.Changing.{Change, Changes, Does, Write, answer, has_room, left_by}
+use Rattle.sv_exchange.specs.Changing.{Change, Reaches, Does, Write, answer, has_room, left_by}
 use Rattle.sv_exchange.specs.State as exchanges
 use Rattle.sv_exchange.specs.declared.exchange_fault.ExchangeFault.{ExchangeFault}
 use Rattle.sv_exchange.specs.declared.exchange_fault.ExchangeFault.TheVariants as faults
@@ -27,7 +27,6 @@ use Rattle.sv_lifecycle.specs.Calling.{CallsOnce, Enters, Leaves, Serves, Stands
 use Rattle.sv_lifecycle.specs.Standing.{LiveState, live_world, standing_at}
 use Rattle.sv_lifecycle.specs.World.{HasSameCounts}
 use Rattle.sv_lifecycle.specs.declared.order.Place.{Place}
-use Rattle.sv_listeners.specs.Telling.{then_all}
 use Rattle.sv_text.specs.declared.no_memory.NoMemory.{NoMemory}
 use Rattle.sv_tree.specs.Does as does
 use Rattle.sv_tree.specs.Asking.{asks, without_events}
@@ -198,23 +197,23 @@ whole_ends true given value result e ends = ends_by given result value e ends
 
 module _ {S F L : Type 0} (ss : S → Call → S → Type 0) (fs : F → Call → F → Type 0) (ls : L → Call → L → Type 0) where
   -- a journal that is whole was whole before
-  pub was_whole : (before after : World S F L) (records : List Record) → Grows ss fs ls before (then_all records) after → after.journal.whole ≡ true → before.journal.whole ≡ true
-  was_whole before after records grows whole = ((run_gains ss fs ls before after records (runs_grown ss fs ls before after (then_all records) grows)).all whole).0
+  pub was_whole : (before after : World S F L) (records : List Record) → Runs ss fs ls before records after → after.journal.whole ≡ true → before.journal.whole ≡ true
+  was_whole before after records grows whole = ((run_gains ss fs ls before after records (runs_grown ss fs ls before after records grows)).all whole).0
 
 -- a call, and what is told behind it
 module _ {S F L : Type 0} (ss : S → Call → S → Type 0) (fs : F → Call → F → Type 0) (ls : L → Call → L → Type 0) (live live' live'' : LiveState S F L) (noted noted' noted'' : JournalState) (x x' x'' : exchanges.State) where
   -- the calls that were made
   abbrev pub Noted : Record → Type 0
-  Noted call = Grows ss fs ls (live_world live noted) (then_all (call ∷ all_told (length live.parts.listeners.items) x'.events)) (live_world live'' noted'')
+  Noted call = Runs ss fs ls (live_world live noted) (call ∷ all_told (length live.parts.listeners.items) x'.events) (live_world live'' noted'')
 
   pub call_noted : (call : Record) → CallsOnce ss fs ls live noted call live' noted'
-      → Grows ss fs ls (live_world live' noted') (then_all (all_told (length live'.parts.listeners.items) x'.events)) (live_world live'' noted'') → Noted call
+      → Runs ss fs ls (live_world live' noted') (all_told (length live'.parts.listeners.items) x'.events) (live_world live'' noted'') → Noted call
   call_noted call once tellings from done so_far =
-      subst (λ listeners. Runs ss fs ls from (done ++ call ∷ all_told listeners x'.events) (live_world live'' noted'')) once.stands.counts.listeners
-      (subst (λ calls. Runs ss fs ls from calls (live_world live'' noted'')) (append_assoc done (call ∷ []) (all_told (length live'.parts.listeners.items) x'.events))
+      subst (λ listeners. IsRun ss fs ls from (done ++ call ∷ all_told listeners x'.events) (live_world live'' noted'')) once.stands.counts.listeners
+      (subst (λ calls. IsRun ss fs ls from calls (live_world live'' noted'')) (append_assoc done (call ∷ []) (all_told (length live'.parts.listeners.items) x'.events))
       (tellings from (done ++ call ∷ []) (once.made from done so_far)))
 
-  module _ (place : ℕ) (changes : Changes x x') (stands : StandsAsBefore live' live'') (told : x'' ≡ without_events x') where
+  module _ (place : ℕ) (changes : Reaches x x') (stands : StandsAsBefore live' live'') (told : x'' ≡ without_events x') where
     left : (call : Record) (once : CallsOnce ss fs ls live noted call live' noted') → at live''.standings x'' ≡ with_exchange (without_events x') (at live.standings x)
     left call once = ap₂ at (stands.standings ∙ once.stands.standings) told
 

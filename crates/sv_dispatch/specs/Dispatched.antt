@@ -1,7 +1,7 @@
 -- A dispatch over a started context.
 use Rattle.std.specs.Prelude.{◌≡◌, List, Option, None, length}
 use Rattle.sv_component.specs.Call.{Call}
-use Rattle.sv_component.specs.Runs.{Record, Runs}
+use Rattle.sv_component.specs.Runs.{IsRun, Record}
 use Rattle.sv_dispatch.specs.Running.{state_of}
 use Rattle.sv_exchange.specs.State as exchanges
 use Rattle.sv_journal.specs.Journal.{JournalState}
@@ -26,7 +26,7 @@ module _ {S F L : Type 0} (servlet_step : S → Call → S → Type 0) (filter_s
   pub record Dispatched (site : Site) (kind : Kind) (canon : Canon) (live : LiveState S F L) (exchange : exchanges.State) (noted : JournalState) (result : Option Finished) (live_after : LiveState S F L) (exchange_after : exchanges.State) (noted_after : JournalState) : Type 0 where
     pub made : List Record
     pub is_tree : Tree site MAX_NESTING kind canon (state_of live exchange) made (state_of live_after exchange_after) result
-    pub runs : Runs servlet_step filter_step listener_step (live_world live noted) made (live_world live_after noted_after)
+    pub runs : IsRun servlet_step filter_step listener_step (live_world live noted) made (live_world live_after noted_after)
     pub servlets : length live_after.parts.servlets.items ≡ length live.parts.servlets.items
     pub filters : length live_after.parts.filters.items ≡ length live.parts.filters.items
     pub listeners : length live_after.parts.listeners.items ≡ length live.parts.listeners.items

@@ -28,7 +28,7 @@ pub(crate) struct Running<'a, S, F, L> {
 
 impl<S: Servlet, F: Filter, L: Listener> Machine for Running<'_, S, F, L> {
     ghost use Rattle.std.specs.Prelude.{length};
-    ghost use Rattle.sv_component.specs.Runs.{Runs};
+    ghost use Rattle.sv_component.specs.Runs.{IsRun};
     ghost use Rattle.sv_dispatch.specs.Running.{state_of};
     ghost use Rattle.sv_lifecycle.specs.Standing.{live_world};
 
@@ -46,7 +46,7 @@ impl<S: Servlet, F: Filter, L: Listener> Machine for Running<'_, S, F, L> {
       whole = m.journal.now.whole;
     } };
 
-    ghost ran = { λ from calls to. Runs S.servlet_step F.filter_step L.listener_step
+    ghost ran = { λ from calls to. IsRun S.servlet_step F.filter_step L.listener_step
         (live_world from.live.now from.journal.now) calls (live_world to.live.now to.journal.now) };
 
     fn is_committed(&self) -> bool {

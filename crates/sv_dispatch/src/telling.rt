@@ -1,10 +1,10 @@
 //! What happened to the session of a request is told.
 
 ghost use Rattle.std.specs.Prelude.{◌≡◌, length};
-ghost use Rattle.sv_component.specs.Runs.{Grows};
+ghost use Rattle.sv_component.specs.Runs.{Runs};
 ghost use Rattle.sv_lifecycle.specs.Calling.{StandsAsBefore};
 ghost use Rattle.sv_lifecycle.specs.Standing.{live_world};
-ghost use Rattle.sv_listeners.specs.Telling.{then_all, told};
+ghost use Rattle.sv_listeners.specs.Telling.{told};
 ghost use Rattle.sv_tree.specs.Asking.{without_events};
 ghost use Rattle.sv_tree.specs.Telling.{all_told};
 
@@ -21,8 +21,8 @@ pub(crate) fn tell_events<S: Servlet, F: Filter, L: Listener>(
     exchange: &mut Exchange,
     journal: &mut Journal,
 )
-    ensures made { Grows S.servlet_step F.filter_step L.listener_step (live_world live.old journal.old)
-        (then_all (all_told (length live.old.parts.listeners.items) exchange.old.events)) (live_world live.new journal.new) }
+    ensures made { Runs S.servlet_step F.filter_step L.listener_step (live_world live.old journal.old)
+        (all_told (length live.old.parts.listeners.items) exchange.old.events) (live_world live.new journal.new) }
     ensures stands { StandsAsBefore live.old live.new }
     ensures told { exchange.new ≡ without_events exchange.old }
 {
@@ -38,8 +38,8 @@ fn tell_event<S: Servlet, F: Filter, L: Listener>(
     event: Event,
     journal: &mut Journal,
 )
-    ensures made { Grows S.servlet_step F.filter_step L.listener_step (live_world live.old journal.old)
-        (then_all (told event (length live.old.parts.listeners.items))) (live_world live.new journal.new) }
+    ensures made { Runs S.servlet_step F.filter_step L.listener_step (live_world live.old journal.old)
+        (told event (length live.old.parts.listeners.items)) (live_world live.new journal.new) }
     ensures stands { StandsAsBefore live.old live.new }
 {
     live.tell_all(alloc, &event, journal);

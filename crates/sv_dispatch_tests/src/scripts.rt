@@ -1,6 +1,6 @@
 //! Components that do what their parameters say.
 
-ghost use Rattle.sv_exchange.specs.Changing.{Changes};
+ghost use Rattle.sv_exchange.specs.Changing.{Reaches};
 
 use std::alloc::Global;
 use sv_component::{Config, Exchange, ExchangeFault, Filter, Gate, Init, Servlet, Step};
@@ -90,7 +90,7 @@ impl Filter for Script {
 
 /// Makes the calls that acts name; those that an exchange refuses are passed over.
 fn play(alloc: Global, exchange: &mut Exchange, acts: &str)
-    ensures { Changes exchange.old exchange.new }
+    ensures { Reaches exchange.old exchange.new }
 {
     for act in acts.split(',') {
         let (name, rest) = act.split_once(':').unwrap_or((act, ""));
@@ -104,7 +104,7 @@ fn make(
     name: &str,
     rest: &str,
 ) -> Result<bool, ExchangeFault>
-    ensures { Changes exchange.old exchange.new }
+    ensures { Reaches exchange.old exchange.new }
 {
     match name {
         "write" => exchange.write(rest.as_bytes()),
@@ -118,7 +118,7 @@ fn make(
 }
 
 fn make_named(exchange: &mut Exchange, name: &str, rest: &str) -> Result<bool, ExchangeFault>
-    ensures { Changes exchange.old exchange.new }
+    ensures { Reaches exchange.old exchange.new }
 {
     let (key, value) = rest.split_once('=').unwrap_or((rest, ""));
     match name {
@@ -129,7 +129,7 @@ fn make_named(exchange: &mut Exchange, name: &str, rest: &str) -> Result<bool, E
 }
 
 fn make_in_session(exchange: &mut Exchange, name: &str, rest: &str) -> Result<bool, ExchangeFault>
-    ensures { Changes exchange.old exchange.new }
+    ensures { Reaches exchange.old exchange.new }
 {
     match name {
         "open" => exchange.session_open(),
@@ -141,7 +141,7 @@ fn make_in_session(exchange: &mut Exchange, name: &str, rest: &str) -> Result<bo
 
 /// Writes so many bytes.
 fn fill(alloc: Global, exchange: &mut Exchange, count: usize) -> Result<bool, ExchangeFault>
-    ensures { Changes exchange.old exchange.new }
+    ensures { Reaches exchange.old exchange.new }
 {
     let bytes = Vec::from_elem(alloc, b'x', count)?;
     exchange.write(bytes.as_slice())
@@ -149,7 +149,7 @@ fn fill(alloc: Global, exchange: &mut Exchange, count: usize) -> Result<bool, Ex
 
 /// Writes what the exchange tells, with a blank behind it.
 fn tell(alloc: Global, exchange: &mut Exchange, what: &str) -> Result<bool, ExchangeFault>
-    ensures { Changes exchange.old exchange.new }
+    ensures { Reaches exchange.old exchange.new }
 {
     let line = format!(in alloc; "{} ", told(alloc, exchange, what)?)?;
     exchange.write(line.as_bytes())

@@ -5,7 +5,7 @@ use Rattle.std.specs.List.{list_any}
 use Rattle.std.specs.Option.{option_map_or}
 use Rattle.sv_exchange.specs.declared.exchange_fault.ExchangeFault.{ExchangeFault}
 use Rattle.sv_exchange.specs.declared.exchange_fault.ExchangeFault.TheVariants as faults
-use Rattle.sv_exchange.specs.Changing.{Change, SetStatus, SetHeader, AddHeader, Write, SetAttribute, Flush, SessionOpen, SessionSet, SessionRemove, SessionEnd, Logout, Changes, after_all, answer, changed, is_free, is_open, is_settable, left_by}
+use Rattle.sv_exchange.specs.Changing.{Change, SetStatus, SetHeader, AddHeader, Write, SetAttribute, Flush, SessionOpen, SessionSet, SessionRemove, SessionEnd, Logout, Reaches, after_all, answer, changed, is_free, is_open, is_settable, left_by}
 use Rattle.sv_exchange.specs.Dispatches.{is_include, is_within_include}
 use Rattle.sv_exchange.specs.Fields.{is_field, is_reserved_field}
 use Rattle.sv_exchange.specs.Keeping.{SameHead}
@@ -81,5 +81,5 @@ all_head (change ∷ changes) x h =
     let second = all_head changes y (ap (λ dispatches. list_any is_include dispatches) (made_request change x).dispatches ∙ h) in
     (second.0 ∙ first.0, second.1 ∙ first.1)
 
-pub changes_keep_head : (x y : State) → Changes x y → is_within_include x ≡ true → SameHead x y
+pub changes_keep_head : (x y : State) → Reaches x y → is_within_include x ≡ true → SameHead x y
 changes_keep_head x y changing h = let reached = reaches_to x y changing in subst (SameHead x) (sym reached.1) (all_head reached.0 x h)

@@ -3,7 +3,7 @@ use Rattle.std.specs.Prelude.{ℕ, Bool, true, false, Option, None, Some, is_som
 use Rattle.std.specs.Option.{option_map_or}
 use Rattle.std.proofs.Common.{List, [], ◌∷◌, refl, sym, ◌∙◌, subst}
 use Rattle.sv_exchange.specs.declared.exchange_fault.ExchangeFault.{ExchangeFault}
-use Rattle.sv_exchange.specs.Changing.{Change, SetStatus, SetHeader, AddHeader, Write, SetAttribute, Flush, SessionOpen, SessionSet, SessionRemove, SessionEnd, Logout, Changes, after_all, answer, changed, left_by}
+use Rattle.sv_exchange.specs.Changing.{Change, SetStatus, SetHeader, AddHeader, Write, SetAttribute, Flush, SessionOpen, SessionSet, SessionRemove, SessionEnd, Logout, Reaches, after_all, answer, changed, left_by}
 use Rattle.sv_exchange.specs.Keeping.{SameRequest}
 use Rattle.sv_exchange.specs.Sessions.{ended, has_session, logged_out, on_session, opened, session_of, session_value, with_attribute, without_attribute, without_caller}
 use Rattle.sv_exchange.specs.State.{State}
@@ -79,5 +79,5 @@ all_request (change ∷ changes) x =
     let y = left_by (answer change x) change x in
     request_then x y (after_all changes y) (made_request change x) (all_request changes y)
 
-pub changes_keep : (x y : State) → Changes x y → SameRequest x y
+pub changes_keep : (x y : State) → Reaches x y → SameRequest x y
 changes_keep x y changing = let reached = reaches_to x y changing in subst (SameRequest x) (sym reached.1) (all_request reached.0 x)

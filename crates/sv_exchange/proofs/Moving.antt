@@ -10,7 +10,7 @@ use Rattle.sv_session.specs.declared.session_fault.SessionFault.{SessionFault}
 use Rattle.sv_text.specs.Faults.{first_or, when}
 use Rattle.sv_exchange.specs.declared.exchange_fault.ExchangeFault.{ExchangeFault}
 use Rattle.sv_exchange.specs.declared.exchange_fault.ExchangeFault.TheVariants as faults
-use Rattle.sv_exchange.specs.Changing.{Change, SetStatus, SetHeader, AddHeader, Write, SetAttribute, Flush, SessionOpen, SessionSet, SessionRemove, SessionEnd, Logout, Changes, after_all, answer, changed, left_by}
+use Rattle.sv_exchange.specs.Changing.{Change, SetStatus, SetHeader, AddHeader, Write, SetAttribute, Flush, SessionOpen, SessionSet, SessionRemove, SessionEnd, Logout, Reaches, after_all, answer, changed, left_by}
 use Rattle.sv_exchange.specs.Sessions.{ended, fault_of, has_session, logged_out, on_session, opened, opening_faults, session_of, session_value, with_attribute, without_attribute, without_caller}
 use Rattle.sv_exchange.specs.State.{State}
 use Rattle.sv_exchange.proofs.Keeping.{made_request}
@@ -100,5 +100,5 @@ module _ (joins : MovesJoin) where
       let y = left_by (answer change x) change x in
       joined x y (after_all changes y) (made_request change x).moment (left_moves (answer change x) change x refl) (all_move changes y)
 
-  pub changes_move : (x y : State) → Changes x y → Moves x y
+  pub changes_move : (x y : State) → Reaches x y → Moves x y
   changes_move x y changing = let reached = reaches_to x y changing in subst (Moves x) (sym reached.1) (all_move reached.0 x)

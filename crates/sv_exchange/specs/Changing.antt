@@ -93,9 +93,9 @@ after_all [] before = before
 after_all (change ∷ changes) before = after_all changes (left_by (answer change before) change before)
 
 -- reached by changing calls alone
-unfoldable pub Reaches : State → State → Type 0
-Reaches before after = (changes : List Change) × (after ≡ after_all changes before)
+unfoldable pub IsReached : State → State → Type 0
+IsReached before after = (changes : List Change) × (after ≡ after_all changes before)
 
 -- the same, in the form that composes without a middle
-abbrev pub Changes : State → State → Type 0
-Changes before after = (from : State) → Reaches from before → Reaches from after
+abbrev pub Reaches : State → State → Type 0
+Reaches before after = (from : State) → IsReached from before → IsReached from after

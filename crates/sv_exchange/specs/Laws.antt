@@ -1,6 +1,6 @@
 -- Laws over the definitions.
 use Rattle.std.specs.Prelude.{◌≡◌, ◌↔◌, true, List}
-use Rattle.sv_exchange.specs.Changing.{Change, Changes, after_all}
+use Rattle.sv_exchange.specs.Changing.{Change, Reaches, after_all}
 use Rattle.sv_exchange.specs.Dispatches.{is_within_include}
 use Rattle.sv_exchange.specs.Keeping.{SameHead, SameRequest}
 use Rattle.sv_exchange.specs.State.{State}
@@ -8,16 +8,16 @@ use Rattle.sv_session.specs.Runs.{MovedByComponents}
 
 -- what changes is reached by a list of calls, and the other way round
 abbrev pub ChangesAreCalls : Type 0
-ChangesAreCalls = (before after : State) → (Changes before after ↔ ((changes : List Change) × (after ≡ after_all changes before)))
+ChangesAreCalls = (before after : State) → (Reaches before after ↔ ((changes : List Change) × (after ≡ after_all changes before)))
 
 -- changing calls leave the request as it is
 abbrev pub ChangesKeepTheRequest : Type 0
-ChangesKeepTheRequest = (before after : State) → Changes before after → SameRequest before after
+ChangesKeepTheRequest = (before after : State) → Reaches before after → SameRequest before after
 
 -- within an include changing calls leave the status and the fields as they are (section 9.3)
 abbrev pub IncludesKeepTheHead : Type 0
-IncludesKeepTheHead = (before after : State) → Changes before after → is_within_include before ≡ true → SameHead before after
+IncludesKeepTheHead = (before after : State) → Reaches before after → is_within_include before ≡ true → SameHead before after
 
 -- changing calls move the sessions of the context by calls that components can bring about at the request's moment
 abbrev pub ChangesMoveTheSessions : Type 0
-ChangesMoveTheSessions = (before after : State) → Changes before after → MovedByComponents before.moment before.store after.store
+ChangesMoveTheSessions = (before after : State) → Reaches before after → MovedByComponents before.moment before.store after.store

@@ -11,14 +11,14 @@ use crate::limits::{LEAST_STATUS, MAX_BODY_LEN, MAX_STATUS, NOT_MODIFIED, RESET_
 
 impl Exchange {
     ghost use Rattle.sv_exchange.specs.Dispatches.{is_within_include};
-    ghost use Rattle.sv_exchange.specs.Changing.{AddHeader, Changes, Does, Flush, SetAttribute, SetHeader, SetStatus, Write, answer, has_room, is_free, is_open};
+    ghost use Rattle.sv_exchange.specs.Changing.{AddHeader, Reaches, Does, Flush, SetAttribute, SetHeader, SetStatus, Write, answer, has_room, is_free, is_open};
 
     /// Sets the status. `Ok(false)` says that it is ignored: the response is committed, an include is under way, or the status is
     /// outside 200 to 599 or one of 205 and 304. No fault comes.
     pub fn set_status(&mut self, status: u16) -> Result<bool, ExchangeFault>
         ensures does { Does (SetStatus status) result self.old self.new }
         ensures answered { result ≡ answer (SetStatus status) self.old }
-        ensures reached { Changes self.old self.new }
+        ensures reached { Reaches self.old self.new }
     {
         self.do_set_status(status)
     }
@@ -28,7 +28,7 @@ impl Exchange {
     /// is under way, or the server alone writes fields of the name. The faults are `BadHeader`, then `NoMemory`; nothing changes then.
     pub fn set_header(&mut self, name: &str, value: &str) -> Result<bool, ExchangeFault>
         ensures does { Does (SetHeader name.now value.now) result self.old self.new }
-        ensures reached { Changes self.old self.new }
+        ensures reached { Reaches self.old self.new }
     {
         self.do_set_header(name, value)
     }
@@ -36,7 +36,7 @@ impl Exchange {
     /// Adds a field behind the others, whatever their names. It is ignored and refused as [`set_header`](Exchange::set_header) is.
     pub fn add_header(&mut self, name: &str, value: &str) -> Result<bool, ExchangeFault>
         ensures does { Does (AddHeader name.now value.now) result self.old self.new }
-        ensures reached { Changes self.old self.new }
+        ensures reached { Reaches self.old self.new }
     {
         self.do_add_header(name, value)
     }
@@ -45,7 +45,7 @@ impl Exchange {
     /// [`MAX_BODY_LEN`], then `NoMemory`; nothing is written then.
     pub fn write(&mut self, bytes: &[u8]) -> Result<bool, ExchangeFault>
         ensures does { Does (Write bytes.now) result self.old self.new }
-        ensures reached { Changes self.old self.new }
+        ensures reached { Reaches self.old self.new }
     {
         self.do_write(bytes)
     }
@@ -54,7 +54,7 @@ impl Exchange {
     /// it is ignored: dispatches alone set names that begin with `jakarta.servlet.`. The fault is `NoMemory`; nothing changes then.
     pub fn set_attribute(&mut self, name: &str, value: &str) -> Result<bool, ExchangeFault>
         ensures does { Does (SetAttribute name.now value.now) result self.old self.new }
-        ensures reached { Changes self.old self.new }
+        ensures reached { Reaches self.old self.new }
     {
         self.do_set_attribute(name, value)
     }
@@ -64,7 +64,7 @@ impl Exchange {
     /// then.
     pub fn flush(&mut self) -> Result<bool, ExchangeFault>
         ensures does { Does Flush result self.old self.new }
-        ensures reached { Changes self.old self.new }
+        ensures reached { Reaches self.old self.new }
     {
         self.do_flush()
     }

@@ -4,7 +4,7 @@ ghost use Rattle.sv_exchange.specs.Laws.{ChangesAreCalls, ChangesKeepTheRequest,
 
 use sv_session::components_keep_the_sessions;
 
-/// The law that `Changes` says that a list of changing calls leads from the one exchange to the other.
+/// The law that `Reaches` says that a list of changing calls leads from the one exchange to the other.
 pub fn changes_are_calls()
     ensures { ChangesAreCalls }
 {}

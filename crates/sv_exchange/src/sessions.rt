@@ -12,14 +12,14 @@ use sv_journal::Event;
 use sv_text::Text;
 
 impl Exchange {
-    ghost use Rattle.sv_exchange.specs.Changing.{Changes, Does, Logout, SessionEnd, SessionOpen, SessionRemove, SessionSet, answer};
+    ghost use Rattle.sv_exchange.specs.Changing.{Reaches, Does, Logout, SessionEnd, SessionOpen, SessionRemove, SessionSet, answer};
 
     /// Opens a session, whose cookie the response sets, and tells `SessionCreated`; nothing changes where the request has a session that
     /// lives (Jakarta Servlet 6.0, section 7.2). It is never ignored. The faults are `Committed`, `TooManySessions`, `SerialSpent` and
     /// `NoMemory`, in that order; nothing changes then.
     pub fn session_open(&mut self) -> Result<bool, ExchangeFault>
         ensures does { Does SessionOpen result self.old self.new }
-        ensures reached { Changes self.old self.new }
+        ensures reached { Reaches self.old self.new }
     {
         self.do_session_open()
     }
@@ -29,7 +29,7 @@ impl Exchange {
     /// passed, and `NoMemory`, in that order; nothing changes then.
     pub fn session_set(&mut self, name: &str, value: &str) -> Result<bool, ExchangeFault>
         ensures does { Does (SessionSet name.now value.now) result self.old self.new }
-        ensures reached { Changes self.old self.new }
+        ensures reached { Reaches self.old self.new }
     {
         self.do_session_set(name, value)
     }
@@ -38,7 +38,7 @@ impl Exchange {
     /// Servlet 6.0, section 7.4). It is never ignored. The faults are `NoSession`, then `NoMemory`; nothing changes then.
     pub fn session_remove(&mut self, name: &str) -> Result<bool, ExchangeFault>
         ensures does { Does (SessionRemove name.now) result self.old self.new }
-        ensures reached { Changes self.old self.new }
+        ensures reached { Reaches self.old self.new }
     {
         self.do_session_remove(name)
     }
@@ -48,7 +48,7 @@ impl Exchange {
     /// `NoMemory`; nothing changes then.
     pub fn session_end(&mut self) -> Result<bool, ExchangeFault>
         ensures does { Does SessionEnd result self.old self.new }
-        ensures reached { Changes self.old self.new }
+        ensures reached { Reaches self.old self.new }
     {
         self.do_session_end()
     }
@@ -58,7 +58,7 @@ impl Exchange {
     pub fn logout(&mut self) -> Result<bool, ExchangeFault>
         ensures does { Does Logout result self.old self.new }
         ensures answered { result ≡ answer Logout self.old }
-        ensures reached { Changes self.old self.new }
+        ensures reached { Reaches self.old self.new }
     {
         self.do_logout()
     }

@@ -9,14 +9,14 @@ use Rattle.std.proofs.lemmas.List.Elements.{All-append, All-filter, All-map}
 use Rattle.std.proofs.lemmas.List.FromFn.{get_or-range_with_len, length-range_with_len}
 use Rattle.std.proofs.lemmas.List.Sorted.{All-permutation}
 use Rattle.sv_component.specs.Call.{Call}
-use Rattle.sv_component.specs.Runs.{Grows, Record}
+use Rattle.sv_component.specs.Runs.{Record, Runs}
 use Rattle.sv_component.specs.World.{World}
 use Rattle.sv_component.specs.declared.answers.Init.{Init}
 use Rattle.sv_component.specs.declared.answers.Init.TheVariants as inits
 use Rattle.sv_descriptor.specs.declared.web_app.WebApp.{WebApp}
 use Rattle.sv_journal.specs.Journal.{JournalState}
 use Rattle.sv_journal.specs.declared.event.Event.TheVariants.{ContextInitialized}
-use Rattle.sv_listeners.specs.Telling.{then_all, told}
+use Rattle.sv_listeners.specs.Telling.{told}
 use Rattle.sv_component.proofs.Journalling.{run_gains}
 use Rattle.sv_component.proofs.Running.{runs_grown}
 use Rattle.sv_listeners.proofs.Growing.{grows_join, grows_none}
@@ -103,19 +103,19 @@ module _ {S F L : Type 0} (ss : S → Call → S → Type 0) (fs : F → Call �
   -- the telling and the inits are one run
   begin_calls : (app : WebApp) (parts told_parts : Parts S F L) (plan : Plan) (noted told_noted : JournalState) (how_far : Begun) (after : Parts S F L) (plan_after : Plan) (noted_after : JournalState)
       → Fits app parts
-      → Grows ss fs ls (world plan.context parts noted) (then_all (told ContextInitialized (length parts.listeners.items))) (world plan.context told_parts told_noted)
+      → Runs ss fs ls (world plan.context parts noted) (told ContextInitialized (length parts.listeners.items)) (world plan.context told_parts told_noted)
       → (begins : Begins ss fs ls app told_parts plan told_noted how_far after plan_after noted_after)
-      → Grows ss fs ls (world plan.context parts noted) (then_all (start_calls app (begins.begun ++ option_to_list begins.stopper))) (world plan.context after noted_after)
+      → Runs ss fs ls (world plan.context parts noted) (start_calls app (begins.begun ++ option_to_list begins.stopper)) (world plan.context after noted_after)
   begin_calls app parts told_parts plan noted told_noted how_far after plan_after noted_after fits tells begins =
       grows_join ss fs ls (world plan.context parts noted) (world plan.context told_parts told_noted) (world plan.context after noted_after)
       (told ContextInitialized (length app.listeners)) (map (inited app) (begins.begun ++ option_to_list begins.stopper))
-      (subst (λ count. Grows ss fs ls (world plan.context parts noted) (then_all (told ContextInitialized count)) (world plan.context told_parts told_noted)) fits.listeners tells)
+      (subst (λ count. Runs ss fs ls (world plan.context parts noted) (told ContextInitialized count) (world plan.context told_parts told_noted)) fits.listeners tells)
       begins.made
 
   -- a start that went through
   pub started : (app : WebApp) (parts told_parts : Parts S F L) (plan : Plan) (noted told_noted : JournalState) (how_far : Begun) (after : Parts S F L) (plan_after : Plan) (noted_after : JournalState)
       → (kept : List Place) → Fits app parts → IsPlan plan.context app plan → HasSameCounts parts after
-      → Grows ss fs ls (world plan.context parts noted) (then_all (told ContextInitialized (length parts.listeners.items))) (world plan.context told_parts told_noted)
+      → Runs ss fs ls (world plan.context parts noted) (told ContextInitialized (length parts.listeners.items)) (world plan.context told_parts told_noted)
       → Begins ss fs ls app told_parts plan told_noted how_far after plan_after noted_after
       → how_far.stopper ≡ None → noted_after.whole ≡ true → kept ≡ take how_far.initialised plan_after.order.items
       → Starts ss fs ls plan.context app parts noted (Ok (record { context = plan_after.context; parts = after; initialised = kept; standings = plan_after.standings.items })) noted_after
@@ -125,7 +125,7 @@ module _ {S F L : Type 0} (ss : S → Call → S → Type 0) (fs : F → Call �
       let rooms : length plan.standings.items ≡ length app.servlets = ap length is_plan.standings ∙ length-replicate (length app.servlets) Serving in
       record {
         attempt = record { order = is_plan.loaded; begun = begins.begun; stopper = begins.stopper; calls = start_calls app begins.begun };
-        made = subst (λ begun. Grows ss fs ls (world plan.context parts noted) (then_all (start_calls app begun)) (world plan.context after noted_after)) all
+        made = subst (λ begun. Runs ss fs ls (world plan.context parts noted) (start_calls app begun) (world plan.context after noted_after)) all
             (begin_calls app parts told_parts plan noted told_noted how_far after plan_after noted_after fits tells begins);
         means = (
           fits,
@@ -181,15 +181,15 @@ module _ {S F L : Type 0} (app : WebApp) (parts : Parts S F L) (attempt : Attemp
 
 module _ {S F L : Type 0} (ss : S → Call → S → Type 0) (fs : F → Call → F → Type 0) (ls : L → Call → L → Type 0) where
   -- a journal that is whole was whole before
-  was_whole : (before after : World S F L) (records : List Record) → Grows ss fs ls before (then_all records) after → after.journal.whole ≡ true → before.journal.whole ≡ true
-  was_whole before after records grows whole = ((run_gains ss fs ls before after records (runs_grown ss fs ls before after (then_all records) grows)).all whole).0
+  was_whole : (before after : World S F L) (records : List Record) → Runs ss fs ls before records after → after.journal.whole ≡ true → before.journal.whole ≡ true
+  was_whole before after records grows whole = ((run_gains ss fs ls before after records (runs_grown ss fs ls before after records grows)).all whole).0
 
   -- a start that is undone
   pub undone : (app : WebApp) (parts told_parts : Parts S F L) (plan : Plan) (noted told_noted : JournalState) (how_far : Begun) (after : Parts S F L) (plan_after : Plan) (noted_after : JournalState)
       → (kept : List Place) (ended : Parts S F L) (noted_ended : JournalState) (why : StartCode) → Fits app parts → IsPlan plan.context app plan
-      → Grows ss fs ls (world plan.context parts noted) (then_all (told ContextInitialized (length parts.listeners.items))) (world plan.context told_parts told_noted)
+      → Runs ss fs ls (world plan.context parts noted) (told ContextInitialized (length parts.listeners.items)) (world plan.context told_parts told_noted)
       → Begins ss fs ls app told_parts plan told_noted how_far after plan_after noted_after
-      → Grows ss fs ls (world plan.context after noted_after) (then_all (stop_calls (length after.listeners.items) kept [])) (world plan.context ended noted_ended)
+      → Runs ss fs ls (world plan.context after noted_after) (stop_calls (length after.listeners.items) kept []) (world plan.context ended noted_ended)
       → length after.listeners.items ≡ length parts.listeners.items → kept ≡ take how_far.initialised plan_after.order.items
       → (how_far.stopper ≡ None → noted_after.whole ≡ false) → why ≡ code_of how_far.stopper noted_ended.whole
       → Starts ss fs ls plan.context app parts noted (Err (record { code = why; parts = ended })) noted_ended
@@ -210,8 +210,8 @@ module _ {S F L : Type 0} (ss : S → Call → S → Type 0) (fs : F → Call �
         made = grows_join ss fs ls (world plan.context parts noted) (world plan.context after noted_after) (world plan.context ended noted_ended)
             (start_calls app all) (stop_calls (length app.listeners) (initialised all) [])
             (begin_calls ss fs ls app parts told_parts plan noted told_noted how_far after plan_after noted_after fits tells begins)
-            (subst (λ n. Grows ss fs ls (world plan.context after noted_after) (then_all (stop_calls n (initialised all) [])) (world plan.context ended noted_ended)) (count ∙ fits.listeners)
-            (subst (λ xs. Grows ss fs ls (world plan.context after noted_after) (then_all (stop_calls (length after.listeners.items) xs [])) (world plan.context ended noted_ended)) places ends));
+            (subst (λ n. Runs ss fs ls (world plan.context after noted_after) (stop_calls n (initialised all) []) (world plan.context ended noted_ended)) (count ∙ fits.listeners)
+            (subst (λ xs. Runs ss fs ls (world plan.context after noted_after) (stop_calls (length after.listeners.items) xs []) (world plan.context ended noted_ended)) places ends));
         means = subst (λ c. RefusesStart app parts its_attempt c noted_ended) (sym code)
             (refused app parts its_attempt noted_ended fits is_undone begins.stopper refl noted_ended.whole refl stays);
       }

@@ -9,13 +9,12 @@ use Rattle.std.proofs.lemmas.List.Elements.{All-nil, All-push, filter-append}
 use Rattle.std.proofs.lemmas.List.Folds.{list_any-append}
 use Rattle.std.proofs.lemmas.Option.{unwrap_or-slice_get}
 use Rattle.sv_component.specs.Call.{Call}
-use Rattle.sv_component.specs.Runs.{Grows, Moves}
+use Rattle.sv_component.specs.Runs.{Moves, Runs}
 use Rattle.sv_component.specs.World.{World}
 use Rattle.sv_component.specs.declared.config.Config.{Config}
 use Rattle.sv_component.specs.declared.answers.Init.{Init}
 use Rattle.sv_component.specs.declared.answers.Init.TheVariants.{Ready, Unavailable, Failed, NoMemory}
 use Rattle.sv_descriptor.specs.declared.web_app.WebApp.{WebApp}
-use Rattle.sv_listeners.specs.Telling.{then_all}
 use Rattle.sv_listeners.proofs.Growing.{grows_more, grows_none}
 use Rattle.sv_lifecycle.specs.Begins.{Begins, HasStanding, with_answer}
 use Rattle.sv_lifecycle.specs.Calls.{Answered, config_at, init_record, inited, initialised, is_ready, lets_go_on, places_of}
@@ -91,11 +90,11 @@ front_more order step begun its_place its_answer within is front =
 module _ {S F L : Type 0} (ss : S → Call → S → Type 0) (fs : F → Call → F → Type 0) (ls : L → Call → L → Type 0) (app : WebApp) where
   -- one init more
   inits_more : (start before after : World S F L) (begun : List Answered) (its_place : Place) (its_answer : Init) (config : Config) → config ≡ config_at app its_place
-      → Grows ss fs ls start (then_all (map (inited app) begun)) before → Moves ss fs ls before (init_record its_place config its_answer) after
-      → Grows ss fs ls start (then_all (map (inited app) (begun ++ record { place = its_place; answer = its_answer } ∷ []))) after
+      → Runs ss fs ls start (map (inited app) begun) before → Moves ss fs ls before (init_record its_place config its_answer) after
+      → Runs ss fs ls start (map (inited app) (begun ++ record { place = its_place; answer = its_answer } ∷ [])) after
   inits_more start before after begun its_place its_answer config is so_far moves =
       let answered : Answered = record { place = its_place; answer = its_answer } in
-      subst (λ records. Grows ss fs ls start (then_all records) after) (sym (map_push (inited app) begun answered))
+      subst (λ records. Runs ss fs ls start records after) (sym (map_push (inited app) begun answered))
       (grows_more ss fs ls start before after (map (inited app) begun) (inited app answered) so_far
       (subst (λ c. Moves ss fs ls before (init_record its_place c its_answer) after) is moves))
 
@@ -104,7 +103,7 @@ module _ {S F L : Type 0} (ss : S → Call → S → Type 0) (fs : F → Call �
     pub begun : List Answered
     pub front : take step plan.order.items ≡ places_of begun
     pub goes : All Goes begun
-    pub made : Grows ss fs ls (world plan.context parts noted) (then_all (map (inited app) begun)) (world plan.context now_parts now_noted)
+    pub made : Runs ss fs ls (world plan.context parts noted) (map (inited app) begun) (world plan.context now_parts now_noted)
     pub kept : take count now_plan.order.items ≡ initialised begun
     pub standings : (place : ℕ) → place < length plan.standings.items → standing_at now_plan.standings.items place ≡ standing_after begun place
 
@@ -163,7 +162,7 @@ module _ {S F L : Type 0} (ss : S → Call → S → Type 0) (fs : F → Call �
         stops = tt;
         answer = refl;
         whole = λ _ is_whole. drop_all step plan.order.items (ends is_whole);
-        made = subst (λ begun. Grows ss fs ls (world plan.context parts noted) (then_all (map (inited app) begun)) (world plan.context after noted_after)) (sym all) so_far.made;
+        made = subst (λ begun. Runs ss fs ls (world plan.context parts noted) (map (inited app) begun) (world plan.context after noted_after)) (sym all) so_far.made;
         kept = so_far.kept;
         standings = so_far.standings;
         rooms = its_rooms;

@@ -1,9 +1,8 @@
 -- What a stop destroys, and in which order.
 use Rattle.std.proofs.Common.{◌≡◌, ℕ, List, length, subst}
 use Rattle.sv_component.specs.Call.{Call}
-use Rattle.sv_component.specs.Runs.{Grows}
+use Rattle.sv_component.specs.Runs.{Runs}
 use Rattle.sv_journal.specs.Journal.{JournalState}
-use Rattle.sv_listeners.specs.Telling.{then_all}
 use Rattle.sv_session.specs.Store.{Session}
 use Rattle.sv_lifecycle.specs.Calls.{stop_calls}
 use Rattle.sv_lifecycle.specs.Standing.{LiveState, in_service, live_world}
@@ -14,9 +13,9 @@ use Rattle.sv_lifecycle.specs.declared.parts.Parts.{Parts}
 module _ {S F L : Type 0} (ss : S → Call → S → Type 0) (fs : F → Call → F → Type 0) (ls : L → Call → L → Type 0) where
   pub stops : (before opened : LiveState S F L) (text : List ℕ) (places : List Place) (sessions : List Session) (noted : JournalState) (after : Parts S F L) (noted_after : JournalState)
       → opened ≡ before → text ≡ opened.context → places ≡ in_service opened
-      → Grows ss fs ls (world text opened.parts noted) (then_all (stop_calls (length opened.parts.listeners.items) places sessions)) (world text after noted_after)
-      → Grows ss fs ls (live_world before noted) (then_all (stop_calls (length before.parts.listeners.items) (in_service before) sessions)) (world before.context after noted_after)
+      → Runs ss fs ls (world text opened.parts noted) (stop_calls (length opened.parts.listeners.items) places sessions) (world text after noted_after)
+      → Runs ss fs ls (live_world before noted) (stop_calls (length before.parts.listeners.items) (in_service before) sessions) (world before.context after noted_after)
   stops before opened text places sessions noted after noted_after is named are grows =
-      subst (λ live. Grows ss fs ls (live_world live noted) (then_all (stop_calls (length live.parts.listeners.items) (in_service live) sessions)) (world live.context after noted_after)) is
-      (subst (λ context. Grows ss fs ls (world context opened.parts noted) (then_all (stop_calls (length opened.parts.listeners.items) (in_service opened) sessions)) (world context after noted_after)) named
-      (subst (λ all. Grows ss fs ls (world text opened.parts noted) (then_all (stop_calls (length opened.parts.listeners.items) all sessions)) (world text after noted_after)) are grows))
+      subst (λ live. Runs ss fs ls (live_world live noted) (stop_calls (length live.parts.listeners.items) (in_service live) sessions) (world live.context after noted_after)) is
+      (subst (λ context. Runs ss fs ls (world context opened.parts noted) (stop_calls (length opened.parts.listeners.items) (in_service opened) sessions) (world context after noted_after)) named
+      (subst (λ all. Runs ss fs ls (world text opened.parts noted) (stop_calls (length opened.parts.listeners.items) all sessions) (world text after noted_after)) are grows))

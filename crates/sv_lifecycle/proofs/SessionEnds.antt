@@ -8,9 +8,8 @@ use Rattle.std.proofs.lemmas.Bool.Decides.{nat_tests}
 use Rattle.std.proofs.lemmas.List.{append-nil, append_assoc}
 use Rattle.std.proofs.lemmas.Option.{none-some, same_Some}
 use Rattle.sv_component.specs.Call.{Call}
-use Rattle.sv_component.specs.Runs.{Grows, Record}
+use Rattle.sv_component.specs.Runs.{Record, Runs}
 use Rattle.sv_component.specs.World.{World}
-use Rattle.sv_listeners.specs.Telling.{then_all}
 use Rattle.sv_listeners.proofs.Growing.{grows_join, grows_none}
 use Rattle.sv_journal.specs.declared.event.Event.TheVariants.{AttributeRemoved}
 use Rattle.sv_session.specs.declared.attribute.Attribute.{Attribute}
@@ -133,7 +132,7 @@ removals number count attributes = all_told (map (λ attribute. AttributeRemoved
 -- ---- a front of some records is done, and these are left
 pub record Doing {S F L : Type 0} (ss : S → Call → S → Type 0) (fs : F → Call → F → Type 0) (ls : L → Call → L → Type 0) (start : World S F L) (all left : List Record) (now : World S F L) : Type 0 where
   pub done : List Record
-  pub grows : Grows ss fs ls start (then_all done) now
+  pub grows : Runs ss fs ls start done now
   pub whole : done ++ left ≡ all
 
 module _ {S F L : Type 0} (ss : S → Call → S → Type 0) (fs : F → Call → F → Type 0) (ls : L → Call → L → Type 0) where
@@ -141,13 +140,13 @@ module _ {S F L : Type 0} (ss : S → Call → S → Type 0) (fs : F → Call �
   doing_none start all = record { done = []; grows = grows_none ss fs ls start; whole = refl }
 
   pub doing_more : (start before after : World S F L) (all left front rest : List Record) → left ≡ front ++ rest
-      → Doing ss fs ls start all left before → Grows ss fs ls before (then_all front) after → Doing ss fs ls start all rest after
+      → Doing ss fs ls start all left before → Runs ss fs ls before front after → Doing ss fs ls start all rest after
   doing_more start before after all left front rest is doing grows = record {
     done = doing.done ++ front;
     grows = grows_join ss fs ls start before after doing.done front doing.grows grows;
     whole = append_assoc doing.done front rest ∙ ap (λ xs. doing.done ++ xs) (sym is) ∙ doing.whole;
   }
 
-  pub doing_all : (start now : World S F L) (all left : List Record) → left ≡ [] → Doing ss fs ls start all left now → Grows ss fs ls start (then_all all) now
+  pub doing_all : (start now : World S F L) (all left : List Record) → left ≡ [] → Doing ss fs ls start all left now → Runs ss fs ls start all now
   doing_all start now all left none doing =
-      subst (λ records. Grows ss fs ls start (then_all records) now) (sym (append-nil doing.done) ∙ ap (λ xs. doing.done ++ xs) (sym none) ∙ doing.whole) doing.grows
+      subst (λ records. Runs ss fs ls start records now) (sym (append-nil doing.done) ∙ ap (λ xs. doing.done ++ xs) (sym none) ∙ doing.whole) doing.grows

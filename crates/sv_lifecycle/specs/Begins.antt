@@ -3,12 +3,11 @@ use Rattle.std.specs.Prelude.{◌≡◌, ℕ, ◌<◌, true, false, List, [], �
 use Rattle.std.specs.List.{All}
 use Rattle.std.specs.Option.{option_map, option_to_list}
 use Rattle.sv_component.specs.Call.{Call}
-use Rattle.sv_component.specs.Runs.{Grows}
+use Rattle.sv_component.specs.Runs.{Runs}
 use Rattle.sv_component.specs.declared.answers.Init.{Init}
 use Rattle.sv_component.specs.declared.answers.Init.TheVariants.{Ready, Unavailable, Failed, NoMemory}
 use Rattle.sv_descriptor.specs.declared.web_app.WebApp.{WebApp}
 use Rattle.sv_journal.specs.Journal.{JournalState}
-use Rattle.sv_listeners.specs.Telling.{then_all}
 use Rattle.sv_lifecycle.specs.Calls.{Answered, inited, initialised, lets_go_on, places_of}
 use Rattle.sv_lifecycle.specs.Standing.{standing_after, standing_at}
 use Rattle.sv_lifecycle.specs.World.{world}
@@ -43,8 +42,8 @@ pub record Begins {S F L : Type 0} (servlet_step : S → Call → S → Type 0) 
   pub stops : IfSome stopper (λ answered. lets_go_on answered.place answered.answer ≡ false)
   pub answer : result.stopper ≡ option_map (λ answered. answered.answer) stopper
   pub whole : stopper ≡ None → noted_after.whole ≡ true → left ≡ []
-  pub made : Grows servlet_step filter_step listener_step
-      (world plan.context parts noted) (then_all (map (inited app) (begun ++ option_to_list stopper))) (world plan.context parts_after noted_after)
+  pub made : Runs servlet_step filter_step listener_step
+      (world plan.context parts noted) (map (inited app) (begun ++ option_to_list stopper)) (world plan.context parts_after noted_after)
   pub kept : take result.initialised plan_after.order.items ≡ initialised begun
   pub standings : (place : ℕ) → place < length plan.standings.items → standing_at plan_after.standings.items place ≡ standing_after begun place
   pub rooms : length plan_after.standings.items ≡ length plan.standings.items

@@ -1,7 +1,7 @@
 -- Calls of one component of a live context by its place (Jakarta Servlet 6.0, sections 2.3.3 and 6.2.1).
 use Rattle.std.specs.Prelude.{◌≡◌, ℕ, Bool, false, Result, is_ok, slice_set, if◌then◌else◌}
 use Rattle.sv_component.specs.Call.{Call, Destroyed, Entered, Left, Serviced}
-use Rattle.sv_component.specs.Runs.{Grows, OfFilter, OfServlet, Record, then_made}
+use Rattle.sv_component.specs.Runs.{OfFilter, OfServlet, Record, Runs}
 use Rattle.sv_component.specs.declared.answers.Gate.{Gate}
 use Rattle.sv_component.specs.declared.answers.Gate.TheVariants as gates
 use Rattle.sv_component.specs.declared.answers.Step.{Step}
@@ -35,7 +35,7 @@ unless_broken journal no_memory answer = if journal.whole then answer else no_me
 module _ {S F L : Type 0} (servlet_step : S → Call → S → Type 0) (filter_step : F → Call → F → Type 0) (listener_step : L → Call → L → Type 0) where
   -- this one call is made and noted, and what stands stays
   pub record CallsOnce (before : LiveState S F L) (noted : JournalState) (call : Record) (after : LiveState S F L) (noted_after : JournalState) : Type 0 where
-    pub made : Grows servlet_step filter_step listener_step (live_world before noted) (then_made call) (live_world after noted_after)
+    pub made : Runs servlet_step filter_step listener_step (live_world before noted) (call ∷ []) (live_world after noted_after)
     pub stands : StandsAsBefore before after
 
   -- the servlet at the place answers the exchange for a turn
@@ -58,5 +58,5 @@ module _ {S F L : Type 0} (servlet_step : S → Call → S → Type 0) (filter_s
 
   -- the servlet at the place is destroyed, and gone from then on
   pub record Retires (before : LiveState S F L) (noted : JournalState) (place : ℕ) (after : LiveState S F L) (noted_after : JournalState) : Type 0 where
-    pub made : Grows servlet_step filter_step listener_step (live_world before noted) (then_made (OfServlet place Destroyed)) (live_world after noted_after)
+    pub made : Runs servlet_step filter_step listener_step (live_world before noted) ((OfServlet place Destroyed) ∷ []) (live_world after noted_after)
     pub stands : StandsBut place Gone before after

@@ -2,7 +2,7 @@
 use Rattle.std.specs.Prelude.{◌≡◌, ℕ, List, [], ◌∷◌, ◌++◌, length, reverse}
 use Rattle.std.specs.List.{flat_map}
 use Rattle.sv_component.specs.Call.{Destroyed, Inited}
-use Rattle.sv_component.specs.Runs.{Record, OfFilter, OfListener, OfServlet}
+use Rattle.sv_component.specs.Runs.{OfFilter, OfListener, OfServlet, Record}
 use Rattle.sv_component.specs.declared.answers.Init.TheVariants.{Ready}
 use Rattle.sv_descriptor.specs.declared.web_app.WebApp.{WebApp}
 use Rattle.sv_journal.specs.Journal.{JournalState}

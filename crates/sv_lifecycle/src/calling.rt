@@ -2,9 +2,9 @@
 
 ghost use Rattle.std.specs.Prelude.{◌≡◌, ◌<◌, false, is_ok, length, Some};
 ghost use Rattle.sv_text.specs.Gives.{GivesAnswer};
-ghost use Rattle.sv_component.specs.Runs.{Grows};
-ghost use Rattle.sv_exchange.specs.Changing.{Changes};
-ghost use Rattle.sv_listeners.specs.Telling.{then_all, told};
+ghost use Rattle.sv_component.specs.Runs.{Runs};
+ghost use Rattle.sv_exchange.specs.Changing.{Reaches};
+ghost use Rattle.sv_listeners.specs.Telling.{told};
 ghost use Rattle.sv_lifecycle.specs.Calling.{Enters, Leaves, Retires, Serves, StandsAsBefore, StandsBut, unless_broken};
 ghost use Rattle.sv_journal.specs.declared.answer.Answer.{Answer as AnswerData};
 ghost use Rattle.sv_component.specs.declared.answers.Gate.TheVariants as gates;
@@ -66,7 +66,7 @@ impl<S: Servlet, F: Filter, L: Listener> Live<S, F, L> {
         requires not_gone { is_gone (standing_at self.old.standings place) ≡ false }
         ensures serves { Serves S.servlet_step F.filter_step L.listener_step
             self.old journal.old place turn exchange.old result self.new journal.new exchange.new }
-        ensures reached { Changes exchange.old exchange.new }
+        ensures reached { Reaches exchange.old exchange.new }
     {
         let named = &mut self.parts.servlets[place];
         let step = named.component.service(alloc, exchange, turn);
@@ -89,7 +89,7 @@ impl<S: Servlet, F: Filter, L: Listener> Live<S, F, L> {
         requires { place < length self.old.parts.filters.items }
         ensures enters { Enters S.servlet_step F.filter_step L.listener_step
             self.old journal.old place exchange.old result self.new journal.new exchange.new }
-        ensures reached { Changes exchange.old exchange.new }
+        ensures reached { Reaches exchange.old exchange.new }
     {
         let named = &mut self.parts.filters[place];
         let gate = named.component.before(alloc, exchange);
@@ -112,7 +112,7 @@ impl<S: Servlet, F: Filter, L: Listener> Live<S, F, L> {
         requires { place < length self.old.parts.filters.items }
         ensures leaves { Leaves S.servlet_step F.filter_step L.listener_step
             self.old journal.old place exchange.old result self.new journal.new exchange.new }
-        ensures reached { Changes exchange.old exchange.new }
+        ensures reached { Reaches exchange.old exchange.new }
     {
         let named = &mut self.parts.filters[place];
         let done = named.component.after(alloc, exchange);
@@ -144,8 +144,8 @@ impl<S: Servlet, F: Filter, L: Listener> Live<S, F, L> {
 
     /// Has each listener hear the event, in the telling order (Jakarta Servlet 6.0, section 11.3.3).
     pub fn tell_all(&mut self, alloc: Global, event: &Event, journal: &mut Journal)
-        ensures made { Grows S.servlet_step F.filter_step L.listener_step
-            (live_world self.old journal.old) (then_all (told event.now (length self.old.parts.listeners.items))) (live_world self.new journal.new) }
+        ensures made { Runs S.servlet_step F.filter_step L.listener_step
+            (live_world self.old journal.old) (told event.now (length self.old.parts.listeners.items)) (live_world self.new journal.new) }
         ensures stands { StandsAsBefore self.old self.new }
     {
         self.parts

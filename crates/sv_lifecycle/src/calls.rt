@@ -1,8 +1,8 @@
 //! Calls of components by their place, each followed by its entry.
 
 ghost use Rattle.std.specs.Prelude.{length};
-ghost use Rattle.sv_component.specs.Runs.{Grows, Moves};
-ghost use Rattle.sv_listeners.specs.Telling.{then_all, told};
+ghost use Rattle.sv_component.specs.Runs.{Moves, Runs};
+ghost use Rattle.sv_listeners.specs.Telling.{told};
 ghost use Rattle.sv_lifecycle.specs.Calls.{destroyed, init_record};
 ghost use Rattle.sv_lifecycle.specs.World.{HasSameCounts, IsPlaceIn, world};
 
@@ -21,8 +21,8 @@ impl<S: Servlet, F: Filter, L: Listener> Parts<S, F, L> {
         event: &Event,
         journal: &mut Journal,
     )
-        ensures made { Grows S.servlet_step F.filter_step L.listener_step
-            (world context.now self.old journal.old) (then_all (told event.now (length self.old.listeners.items))) (world context.now self.new journal.new) }
+        ensures made { Runs S.servlet_step F.filter_step L.listener_step
+            (world context.now self.old journal.old) (told event.now (length self.old.listeners.items)) (world context.now self.new journal.new) }
         ensures counts { HasSameCounts self.old self.new }
     {
         sv_listeners::tell(

@@ -2,8 +2,7 @@
 
 ghost use Rattle.std.specs.Prelude.{◌≡◌, [], drop, length, slice_get};
 ghost use Rattle.std.specs.Option.{option_map};
-ghost use Rattle.sv_component.specs.Runs.{Grows};
-ghost use Rattle.sv_listeners.specs.Telling.{then_all};
+ghost use Rattle.sv_component.specs.Runs.{Runs};
 ghost use Rattle.sv_session.specs.Calls.{ended};
 ghost use Rattle.sv_lifecycle.specs.SessionEnds.{all_told, by_number, end_events, ends_told};
 ghost use Rattle.sv_lifecycle.specs.Calling.{StandsAsBefore};
@@ -21,8 +20,8 @@ impl<S: Servlet, F: Filter, L: Listener> Live<S, F, L> {
     /// Has the listeners hear that a session has ended, and then that each of its attributes has gone, in the order in which they were first
     /// set (Jakarta Servlet 6.0, sections 7.5 and 11.3.4).
     pub fn tell_end(&mut self, alloc: Global, session: EndedSession, journal: &mut Journal)
-        ensures made { Grows S.servlet_step F.filter_step L.listener_step
-            (live_world self.old journal.old) (then_all (all_told (end_events session) (length self.old.parts.listeners.items))) (live_world self.new journal.new) }
+        ensures made { Runs S.servlet_step F.filter_step L.listener_step
+            (live_world self.old journal.old) (all_told (end_events session) (length self.old.parts.listeners.items)) (live_world self.new journal.new) }
         ensures stands { StandsAsBefore self.old self.new }
     {
         tell_end(
@@ -43,8 +42,8 @@ pub(crate) fn end_sessions<S: Servlet, F: Filter, L: Listener>(
     sessions: &mut Sessions,
     journal: &mut Journal,
 )
-    ensures made { Grows S.servlet_step F.filter_step L.listener_step
-        (world context.now parts.old journal.old) (then_all (ends_told sessions.old.sessions (length parts.old.listeners.items))) (world context.now parts.new journal.new) }
+    ensures made { Runs S.servlet_step F.filter_step L.listener_step
+        (world context.now parts.old journal.old) (ends_told sessions.old.sessions (length parts.old.listeners.items)) (world context.now parts.new journal.new) }
     ensures left { sessions.new ≡ record sessions.old { sessions = [] } }
     ensures counts { HasSameCounts parts.old parts.new }
 {
@@ -73,8 +72,8 @@ fn tell_end<S: Servlet, F: Filter, L: Listener>(
     session: EndedSession,
     journal: &mut Journal,
 )
-    ensures made { Grows S.servlet_step F.filter_step L.listener_step
-        (world context.now parts.old journal.old) (then_all (all_told (end_events session) (length parts.old.listeners.items))) (world context.now parts.new journal.new) }
+    ensures made { Runs S.servlet_step F.filter_step L.listener_step
+        (world context.now parts.old journal.old) (all_told (end_events session) (length parts.old.listeners.items)) (world context.now parts.new journal.new) }
     ensures counts { HasSameCounts parts.old parts.new }
 {
     let EndedSession { number, attributes } = session;

@@ -2,9 +2,8 @@
 
 ghost use Rattle.std.specs.Prelude.{◌≡◌, [], length, map, reverse};
 ghost use Rattle.std.specs.List.{All};
-ghost use Rattle.sv_component.specs.Runs.{Grows};
+ghost use Rattle.sv_component.specs.Runs.{Runs};
 ghost use Rattle.sv_descriptor.specs.declared.web_app.WebApp.{WebApp as AppData};
-ghost use Rattle.sv_listeners.specs.Telling.{then_all};
 ghost use Rattle.sv_lifecycle.specs.Calls.{destroyed, stop_calls};
 ghost use Rattle.sv_lifecycle.specs.Fit.{Fits};
 ghost use Rattle.sv_lifecycle.specs.Plan.{IsPlan};
@@ -72,8 +71,8 @@ impl<S: Servlet, F: Filter, L: Listener> Live<S, F, L> {
         sessions: &mut Sessions,
         journal: &mut Journal,
     ) -> Parts<S, F, L>
-        ensures made { Grows S.servlet_step F.filter_step L.listener_step
-            (live_world self journal.old) (then_all (stop_calls (length self.parts.listeners.items) (in_service self) sessions.old.sessions)) (world self.context result journal.new) }
+        ensures made { Runs S.servlet_step F.filter_step L.listener_step
+            (live_world self journal.old) (stop_calls (length self.parts.listeners.items) (in_service self) sessions.old.sessions) (world self.context result journal.new) }
         ensures left { sessions.new ≡ record sessions.old { sessions = [] } }
     {
         let Live {
@@ -153,8 +152,8 @@ fn end_all<S: Servlet, F: Filter, L: Listener>(
     journal: &mut Journal,
 )
     requires { All (IsPlaceIn parts.old) places.now }
-    ensures made { Grows S.servlet_step F.filter_step L.listener_step
-        (world context.now parts.old journal.old) (then_all (stop_calls (length parts.old.listeners.items) places.now sessions.old.sessions)) (world context.now parts.new journal.new) }
+    ensures made { Runs S.servlet_step F.filter_step L.listener_step
+        (world context.now parts.old journal.old) (stop_calls (length parts.old.listeners.items) places.now sessions.old.sessions) (world context.now parts.new journal.new) }
     ensures left { sessions.new ≡ record sessions.old { sessions = [] } }
     ensures counts { HasSameCounts parts.old parts.new }
 {
@@ -172,8 +171,8 @@ fn destroy_back<S: Servlet, F: Filter, L: Listener>(
     journal: &mut Journal,
 )
     requires { All (IsPlaceIn parts.old) places.now }
-    ensures made { Grows S.servlet_step F.filter_step L.listener_step
-        (world context.now parts.old journal.old) (then_all (map destroyed (reverse places.now))) (world context.now parts.new journal.new) }
+    ensures made { Runs S.servlet_step F.filter_step L.listener_step
+        (world context.now parts.old journal.old) (map destroyed (reverse places.now)) (world context.now parts.new journal.new) }
     ensures counts { HasSameCounts parts.old parts.new }
 {
     let count = places.len();

@@ -5,13 +5,13 @@ use Rattle.std.specs.List.{range_with_len}
 use Rattle.std.proofs.lemmas.List.{get_or-map, get_or-reverse, length-map, length-reverse, take_all, take_more}
 use Rattle.std.proofs.lemmas.List.FromFn.{get_or-range_with_len, length-range_with_len}
 use Rattle.sv_component.specs.Call.{Call, Heard}
-use Rattle.sv_component.specs.Runs.{Grows, Moves, MovesAt, OfListener, Runs}
+use Rattle.sv_component.specs.Runs.{IsRun, Moves, MovesAt, OfListener, Runs}
 use Rattle.sv_component.specs.World.{World}
 use Rattle.sv_component.proofs.Running as running
 use Rattle.sv_journal.specs.Entry.{heard}
 use Rattle.sv_journal.specs.Journal.{JournalState, Takes}
 use Rattle.sv_journal.specs.declared.event.Event.{Event}
-use Rattle.sv_listeners.specs.Telling.{Tells, hearing_order, is_end, listeners_alone, then_all, told}
+use Rattle.sv_listeners.specs.Telling.{Tells, hearing_order, is_end, listeners_alone, told}
 
 -- the place that is next when so many have heard
 place_by : Bool → ℕ → ℕ → ℕ
@@ -65,9 +65,9 @@ module _ {S F L : Type 0} (ss : S → Call → S → Type 0) (fs : F → Call �
 
   hearing_runs : (event : Event) (places : List ℕ) (world : World S F L) (from to : World (Unit {0}) (Unit {0}) L)
       → from.context ≡ world.context → from.listeners ≡ world.listeners → from.journal ≡ world.journal
-      → Runs (λ _ _ _. Unit {0}) (λ _ _ _. Unit {0}) ls from (map (λ place. OfListener place event) places) to
-      → Runs ss fs ls world (map (λ place. OfListener place event) places) (heard_world world to.listeners to.journal)
-  unfolding Runs
+      → IsRun (λ _ _ _. Unit {0}) (λ _ _ _. Unit {0}) ls from (map (λ place. OfListener place event) places) to
+      → IsRun ss fs ls world (map (λ place. OfListener place event) places) (heard_world world to.listeners to.journal)
+  unfolding IsRun
   hearing_runs event [] world from to same_context same_listeners same_journal ran =
       ap₂ (heard_world world) (ap (λ w. w.listeners) ran ∙ same_listeners) (ap (λ w. w.journal) ran ∙ same_journal)
   hearing_runs event (place ∷ places) world from to same_context same_listeners same_journal ran =
@@ -85,7 +85,7 @@ module _ {S F L : Type 0} (ss : S → Call → S → Type 0) (fs : F → Call �
 
   pub told_in_world : (world : World S F L) (event : Event) (listeners : List L) (journal : JournalState)
       → Tells ls world.context event world.listeners world.journal listeners journal
-      → Grows ss fs ls world (then_all (told event (length world.listeners))) (heard_world world listeners journal)
+      → Runs ss fs ls world (told event (length world.listeners)) (heard_world world listeners journal)
   unfolding told
   told_in_world world event listeners journal tells from done ran =
       let hearing = hearing_order event (length world.listeners) in
@@ -93,4 +93,4 @@ module _ {S F L : Type 0} (ss : S → Call → S → Type 0) (fs : F → Call �
       let after = listeners_alone world.context listeners journal in
       running.runs_join ss fs ls from world (heard_world world listeners journal) done (map (λ place. OfListener place event) hearing) ran
       (hearing_runs event hearing world alone after refl refl refl
-      (running.runs_grown (λ _ _ _. Unit {0}) (λ _ _ _. Unit {0}) ls alone after (then_all (map (λ place. OfListener place event) hearing)) tells))
+      (running.runs_grown (λ _ _ _. Unit {0}) (λ _ _ _. Unit {0}) ls alone after (map (λ place. OfListener place event) hearing) tells))

@@ -1,9 +1,9 @@
 -- The telling order (Jakarta Servlet 6.0, sections 11.3.3 and 11.3.4): listeners hear in the order in which the descriptor declares them,
 -- and of what ends in reverse.
-use Rattle.std.specs.Prelude.{ℕ, Bool, true, false, List, [], ◌++◌, length, map, reverse, if◌then◌else◌}
+use Rattle.std.specs.Prelude.{ℕ, Bool, true, false, List, [], length, map, reverse, if◌then◌else◌}
 use Rattle.std.specs.List.{range_with_len}
 use Rattle.sv_component.specs.Call.{Call}
-use Rattle.sv_component.specs.Runs.{Grows, OfListener, Record}
+use Rattle.sv_component.specs.Runs.{OfListener, Record, Runs}
 use Rattle.sv_component.specs.World.{World}
 use Rattle.sv_journal.specs.Journal.{JournalState}
 use Rattle.sv_journal.specs.declared.event.Event.{Event}
@@ -30,10 +30,6 @@ hearing_order event count = if is_end event then reverse (range_with_len 0 count
 unfoldable pub told : Event → ℕ → List Record
 told event count = map (λ place. OfListener place event) (hearing_order event count)
 
--- behind what was done, these
-abbrev pub then_all : List Record → List Record → List Record
-then_all records done = done ++ records
-
 -- listeners with their journal, and no other component
 abbrev pub listeners_alone : {L : Type 0} → List ℕ → List L → JournalState → World (Unit {0}) (Unit {0}) L
 listeners_alone its_context its_listeners its_journal = record {
@@ -47,5 +43,5 @@ listeners_alone its_context its_listeners its_journal = record {
 -- the listeners hear the event in the telling order, each hearing followed by its entry
 abbrev pub Tells : {L : Type 0} → (L → Call → L → Type 0) → List ℕ → Event → List L → JournalState → List L → JournalState → Type 0
 Tells listener_step context event listeners journal listeners_after journal_after =
-    Grows (λ _ _ _. Unit {0}) (λ _ _ _. Unit {0}) listener_step
-    (listeners_alone context listeners journal) (then_all (told event (length listeners))) (listeners_alone context listeners_after journal_after)
+    Runs (λ _ _ _. Unit {0}) (λ _ _ _. Unit {0}) listener_step
+    (listeners_alone context listeners journal) (told event (length listeners)) (listeners_alone context listeners_after journal_after)

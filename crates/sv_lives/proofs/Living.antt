@@ -1,7 +1,7 @@
 -- Calls behind calls, context by context.
 use Rattle.std.proofs.Common.{◌≡◌, ℕ, zero, suc, inl, inr, List, [], ◌∷◌, ◌++◌, Result, length, refl, sym, ap, ◌∙◌, subst}
 use Rattle.sv_component.specs.Call.{Call}
-use Rattle.sv_component.specs.Runs.{Runs}
+use Rattle.sv_component.specs.Runs.{IsRun}
 use Rattle.sv_component.proofs.Running.{runs_join}
 use Rattle.sv_context.specs.Conduct.{IsMoved, conduct, unnoted}
 use Rattle.sv_context.specs.Editing.{Edits}
@@ -17,7 +17,7 @@ module _ {S F L : Type 0} (ss : S → Call → S → Type 0) (fs : F → Call �
   lives_same : (before after : ContextState S F L) → world_of after unnoted ≡ world_of before unnoted → after.standings ≡ before.standings
       → after.initialised ≡ before.initialised → length after.servlets ≡ length before.servlets → length after.filters ≡ length before.filters
       → length after.listeners ≡ length before.listeners → Lives ss fs ls before after
-  unfolding Runs
+  unfolding IsRun
   lives_same before after same stand inited of_servlets of_filters of_listeners = record {
     made = [];
     runs = same;

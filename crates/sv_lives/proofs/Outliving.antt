@@ -3,7 +3,7 @@ use Rattle.std.proofs.Common.{◌≡◌, Bool, true, false, List, [], ◌∷◌,
 use Rattle.std.specs.List.{AllByRecursion, filter}
 use Rattle.sv_component.proofs.Running.{runs_grown}
 use Rattle.sv_component.specs.Call.{Call}
-use Rattle.sv_component.specs.Runs.{Grows, Runs}
+use Rattle.sv_component.specs.Runs.{IsRun, Runs}
 use Rattle.sv_container.specs.Container.{state_of}
 use Rattle.sv_container.specs.Deploying.{DeploysAll, UndeploysAll}
 use Rattle.sv_container.specs.Stopping.{contexts_to_stop, journal_to_stop}
@@ -23,7 +23,6 @@ use Rattle.sv_lifecycle.specs.declared.order.Place.{Place}
 use Rattle.sv_lifecycle.specs.declared.order.Place.TheVariants.{Filter, Servlet}
 use Rattle.sv_lifecycle.specs.declared.parts.Parts.{Parts}
 use Rattle.sv_lifecycle.specs.declared.start_fault.StartFault.{StartFault}
-use Rattle.sv_listeners.specs.Telling.{then_all}
 use Rattle.sv_lives.specs.Ends.{AllLiveToTheirStops, EachIsDestroyedOnce, EndsOnce, HasComponent, LivesToItsStop, calls_of_stop, component_calls, was_initialised}
 use Rattle.sv_lives.specs.Lives.{AllLive, Lives}
 use Rattle.sv_lives.proofs.Beginning.{AreStarted, are_started}
@@ -63,14 +62,14 @@ module _ {S F L : Type 0} (ss : S → Call → S → Type 0) (fs : F → Call �
   abbrev Stops : ContextState S F L → Parts S F L → Type 0
   Stops context parts =
       (sessions : List Session)
-      × Runs ss fs ls (world_of context unnoted) (calls_of_stop context sessions) (world context.content.context_path parts unnoted)
+      × IsRun ss fs ls (world_of context unnoted) (calls_of_stop context sessions) (world context.content.context_path parts unnoted)
 
   one_stops : (context : ContextState S F L) (sessions : List Session) (before after : JournalState) (back : Deployment S F L)
-      → Grows ss fs ls (world_of context before) (then_all (calls_of_stop context sessions)) (world back.path back.parts after)
+      → Runs ss fs ls (world_of context before) (calls_of_stop context sessions) (world back.path back.parts after)
       → content_of back ≡ context.content → Stops context back.parts
   one_stops context sessions before after back grows content = (
     sessions,
-    subst (λ path. Runs ss fs ls (world_of context unnoted) (calls_of_stop context sessions) (world path back.parts unnoted))
+    subst (λ path. IsRun ss fs ls (world_of context unnoted) (calls_of_stop context sessions) (world path back.parts unnoted))
         (ap (λ (its : Content). its.context_path) content)
         (runs_unnoted ss fs ls (world_of context before) (calls_of_stop context sessions) (world back.path back.parts after)
         (runs_grown ss fs ls (world_of context before) (world back.path back.parts after) (λ done. done ++ calls_of_stop context sessions) grows)),

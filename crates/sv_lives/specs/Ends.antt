@@ -3,7 +3,7 @@ use Rattle.std.specs.Prelude.{◌≡◌, ℕ, ◌<◌, ◌==◌, Bool, true, fal
 use Rattle.std.specs.List.{list_any}
 use Rattle.sv_component.specs.Call.{Call, Destroyed}
 use Rattle.sv_component.specs.Motion.{calls_at, filter_calls, servlet_calls}
-use Rattle.sv_component.specs.Runs.{Record, Runs}
+use Rattle.sv_component.specs.Runs.{IsRun, Record}
 use Rattle.sv_container.specs.Container.{state_of}
 use Rattle.sv_container.specs.Starting.{Starts}
 use Rattle.sv_container.specs.Stopping.{ShutsDown}
@@ -64,7 +64,7 @@ module _ {S F L : Type 0} (servlet_step : S → Call → S → Type 0) (filter_s
   pub record LivesToItsStop (first last : ContextState S F L) (parts : Parts S F L) : Type 0 where
     pub lives : Lives servlet_step filter_step listener_step first last
     pub sessions : List Session
-    pub stops : Runs servlet_step filter_step listener_step (world_of last unnoted) (calls_of_stop last sessions)
+    pub stops : IsRun servlet_step filter_step listener_step (world_of last unnoted) (calls_of_stop last sessions)
         (world last.content.context_path parts unnoted)
     pub ends : (place : Place) → HasComponent first place
         → EndsOnce (was_initialised first place) (component_calls place (lives.made ++ calls_of_stop last sessions))

@@ -1,7 +1,7 @@
 -- The lives of components over every list of events (Jakarta Servlet 6.0, sections 2.3.3.2 and 2.3.4).
 use Rattle.std.specs.Prelude.{◌≡◌, ℕ, zero, suc, List, [], ◌∷◌, length}
 use Rattle.sv_component.specs.Call.{Call}
-use Rattle.sv_component.specs.Runs.{Record, Runs}
+use Rattle.sv_component.specs.Runs.{IsRun, Record}
 use Rattle.sv_context.specs.Conduct.{conduct, unnoted}
 use Rattle.sv_context.specs.Retiring.{Retires}
 use Rattle.sv_context.specs.State.{ContextState, world_of}
@@ -19,7 +19,7 @@ module _ {S F L : Type 0} (servlet_step : S → Call → S → Type 0) (filter_s
   -- is destroyed, once and last, and no other is destroyed, nor is a filter. None comes or goes
   pub record Lives (before after : ContextState S F L) : Type 0 where
     pub made : List Record
-    pub runs : Runs servlet_step filter_step listener_step (world_of before unnoted) made (world_of after unnoted)
+    pub runs : IsRun servlet_step filter_step listener_step (world_of before unnoted) made (world_of after unnoted)
     pub retires : Retires before.standings made after.standings
     pub initialised : after.initialised ≡ before.initialised
     pub servlets : length after.servlets ≡ length before.servlets

@@ -3,7 +3,7 @@ use Rattle.std.proofs.Common.{◌≡◌, inl, inr, ℕ, Bool, true, false, List,
 use Rattle.std.specs.Prelude.{OnOk}
 use Rattle.sv_component.proofs.Running.{runs_join}
 use Rattle.sv_component.specs.Call.{Call}
-use Rattle.sv_component.specs.Runs.{Record, Runs}
+use Rattle.sv_component.specs.Runs.{IsRun, Record}
 use Rattle.sv_dispatch.specs.Dispatched.{Dispatched, Refused}
 use Rattle.sv_dispatch.specs.Running.{state_of}
 use Rattle.sv_exchange.specs.State as exchanges
@@ -59,7 +59,7 @@ module _ {S F L : Type 0} (ss : S → Call → S → Type 0) (fs : F → Call �
 
   pub by_alone : {A : Type 0} (does : Does A) (live : LiveState S F L) (x y : exchanges.State) (noted : JournalState) (result : Option A)
       → Alone does x y result → ServedBy ss fs ls does live x noted result live y noted
-  unfolding Runs
+  unfolding IsRun
   by_alone does live x y noted result did = record {
     made = [];
     does_so = did live.standings;

@@ -2,7 +2,7 @@
 use Rattle.std.proofs.Common.{◌≡◌, ◌||◌, Bool, true, false, List, [], ◌∷◌, ◌++◌, refl, sym, ap, ◌∙◌, if◌then◌else◌}
 use Rattle.std.specs.List.{list_any}
 use Rattle.std.proofs.lemmas.List.Folds.{list_any-append}
-use Rattle.sv_exchange.specs.Changing.{Change, Changes, answer, left_by}
+use Rattle.sv_exchange.specs.Changing.{Change, Reaches, answer, left_by}
 use Rattle.sv_exchange.specs.Dispatches.{Leaves, entered, error_in, is_include, is_include_kind, is_within_include}
 use Rattle.sv_exchange.specs.Keeping as keeping
 use Rattle.sv_exchange.specs.Keeping.{SameHead, counted}
@@ -85,11 +85,11 @@ made_unchanged change x =
     )
 
 -- what a component leaves, once what happened is told
-pub unchanged : (x y : Exchange) → Changes x y → Unchanged x (without_events y)
+pub unchanged : (x y : Exchange) → Reaches x y → Unchanged x (without_events y)
 unchanged x y changing = (request_by x y (changes_keep x y changing), changes_keep_head x y changing)
 
 -- the same where the call of a component was counted
-pub called_unchanged : (x y : Exchange) → Changes (counted x) y → Unchanged x (without_events y)
+pub called_unchanged : (x y : Exchange) → Reaches (counted x) y → Unchanged x (without_events y)
 called_unchanged x y changing =
     let same = changes_keep (counted x) y changing in (
       record {
@@ -110,7 +110,7 @@ called_unchanged x y changing =
 abbrev pub SameAccount : Exchange → Exchange → Type 0
 SameAccount x y = (y.calls ≡ x.calls) × (y.kept ≡ x.kept)
 
-pub changes_account : (x y : Exchange) → Changes x y → SameAccount x y
+pub changes_account : (x y : Exchange) → Reaches x y → SameAccount x y
 changes_account x y changing = let same = changes_keep x y changing in (same.calls, same.kept)
 
 pub made_account : (change : Change) (x : Exchange) → SameAccount x (left_by (answer change x) change x)

@@ -1,6 +1,6 @@
 -- Each filter that passed is called just once more, the last first.
 use Rattle.std.proofs.Common.{◌≡◌, inl, inr, ℕ, Bool, true, List, [], ◌∷◌, ◌++◌, Option, None, Some, refl, sym, ap, ◌∙◌, subst, if◌then◌else◌, eq-eqb}
-use Rattle.sv_component.specs.Runs.{Record, OfListener}
+use Rattle.sv_component.specs.Runs.{OfListener, Record}
 use Rattle.sv_component.specs.declared.answers.Gate.{Gate}
 use Rattle.sv_component.specs.declared.answers.Gate.TheVariants as gates
 use Rattle.sv_component.specs.declared.answers.Step.{Step}

@@ -3,12 +3,12 @@ use Rattle.std.specs.Prelude.{codes, decimal, length}
 use Rattle.std.proofs.lemmas.List.{append-nil}
 use Rattle.std.proofs.Common.{◌≡◌, inl, inr, ℕ, zero, suc, ◌-◌, Bool, true, false, List, [], ◌∷◌, ◌++◌, Option, None, Some, Result, Ok, Err, refl, sym, ap, ◌∙◌, subst}
 use Rattle.sv_component.specs.Call.{Destroyed}
-use Rattle.sv_component.specs.Runs.{Record, OfServlet}
+use Rattle.sv_component.specs.Runs.{OfServlet, Record}
 use Rattle.sv_component.specs.declared.answers.Gate.{Gate}
 use Rattle.sv_component.specs.declared.answers.Gate.TheVariants as gates
 use Rattle.sv_component.specs.declared.answers.Step.{Step}
 use Rattle.sv_component.specs.declared.answers.Step.TheVariants as steps
-use Rattle.sv_exchange.specs.Changing.{Change, SetHeader, SetStatus, AddHeader, Write, SetAttribute, Flush, SessionOpen, SessionSet, SessionRemove, SessionEnd, Logout, Changes, answer, has_room, left_by}
+use Rattle.sv_exchange.specs.Changing.{Change, SetHeader, SetStatus, AddHeader, Write, SetAttribute, Flush, SessionOpen, SessionSet, SessionRemove, SessionEnd, Logout, Reaches, answer, has_room, left_by}
 use Rattle.sv_exchange.specs.Dispatches.{Leaves, is_within_include}
 use Rattle.sv_mapping.specs.declared.kind.Kind.{Kind}
 use Rattle.sv_mapping.specs.declared.kind.Kind.TheVariants as kinds
@@ -78,11 +78,11 @@ IsOwn (SessionRemove name) = ⊥
 IsOwn SessionEnd = ⊥
 IsOwn Logout = ⊥
 
-pub away_unchanged : (x : State) (place : ℕ) (step : Step) (e : Exchange) → Changes (counted x).exchange e
+pub away_unchanged : (x : State) (place : ℕ) (step : Step) (e : Exchange) → Reaches (counted x).exchange e
     → Unchanged x.exchange (away_by place step (called e x)).exchange
 away_unchanged x place step e changes = subst (Unchanged x.exchange) (sym (away_same place step (called e x))) (called_unchanged x.exchange e changes)
 
-pub away_calls : (x : State) (place : ℕ) (step : Step) (e : Exchange) → Changes (counted x).exchange e
+pub away_calls : (x : State) (place : ℕ) (step : Step) (e : Exchange) → Reaches (counted x).exchange e
     → (away_by place step (called e x)).exchange.calls ≡ suc x.exchange.calls
 away_calls x place step e changes = ap (λ e. e.calls) (away_same place step (called e x)) ∙ (changes_account (counted x).exchange e changes).0
 
@@ -108,9 +108,9 @@ module _ (site : Site) (Q : ℕ → State → List Record → State → Bool →
     pub keeps : (room : ℕ) (x : State) (kept : KeptError) → Q room x [] (with_kept kept x) true
     pub makes : (room : ℕ) (x : State) (change : Change) → IsOwn change → Q room x [] (on_exchange (λ e. left_by (answer change e) change e) x) true
     pub empties : (room : ℕ) (x : State) → Q room x [] (on_exchange files.emptied x) true
-    pub breaks : (room : ℕ) (x : State) (place turn : ℕ) (step : Step) (e : Exchange) → is_full x ≡ false → stands place x ≡ Serving → Changes (counted x).exchange e
+    pub breaks : (room : ℕ) (x : State) (place turn : ℕ) (step : Step) (e : Exchange) → is_full x ≡ false → stands place x ≡ Serving → Reaches (counted x).exchange e
         → Q room x (service_of place turn (counted x).exchange step e ∷ told_by site e) (called e x) false
-    pub serves : (room : ℕ) (x : State) (place turn : ℕ) (step : Step) (e : Exchange) → is_full x ≡ false → stands place x ≡ Serving → Changes (counted x).exchange e
+    pub serves : (room : ℕ) (x : State) (place turn : ℕ) (step : Step) (e : Exchange) → is_full x ≡ false → stands place x ≡ Serving → Reaches (counted x).exchange e
         → Q room x (service_of place turn (counted x).exchange step e ∷ told_by site e) (away_by place step (called e x)) true
     pub destroys : (room : ℕ) (x : State) (place : ℕ) (b : Bool) → stands place x ≡ Serving
         → Q room x (OfServlet place Destroyed ∷ []) (with_standing place Gone x) b
@@ -251,7 +251,7 @@ module _ (site : Site) (Q : ℕ → State → List Record → State → Bool →
 
       -- what stands behind the call of a servlet
       behind_call : (place turn : ℕ) (x : State) (e : Exchange) (step : Step) (does : Does (Option Finished)) → Keeps room does
-          → is_full x ≡ false → stands place x ≡ Serving → Changes (counted x).exchange e
+          → is_full x ≡ false → stands place x ≡ Serving → Reaches (counted x).exchange e
           → (y : State) (r : List Record) (result : Option (Option Finished)) → does (away_by place step (called e x)) r y result
           → Q room x (service_of place turn (counted x).exchange step e ∷ (told_by site e ++ r)) y (came result)
       behind_call place turn x e step does h left serving changes y r result done =
@@ -259,13 +259,13 @@ module _ (site : Site) (Q : ℕ → State → List Record → State → Bool →
           (law.serves room x place turn step e left serving changes) (h (away_by place step (called e x)) y r result done)
 
       -- the changing calls of a component leave the standings as they are
-      still_serving : (place : ℕ) (x : State) (e : Exchange) → stands place x ≡ Serving → Changes (counted x).exchange e → stands place (called e x) ≡ Serving
+      still_serving : (place : ℕ) (x : State) (e : Exchange) → stands place x ≡ Serving → Reaches (counted x).exchange e → stands place (called e x) ≡ Serving
       still_serving place x e serving changes =
           ap (λ moment. standing_at moment place x.standings) (called_unchanged x.exchange e changes).0.moment ∙ serving
 
       -- a servlet that is destroyed behind its call
       destroyed : (place turn : ℕ) (x : State) (e : Exchange)
-          → is_full x ≡ false → stands place x ≡ Serving → Changes (counted x).exchange e
+          → is_full x ≡ false → stands place x ≡ Serving → Reaches (counted x).exchange e
           → (y : State) (r : List Record) (result : Option (Option Finished))
           → (destroys place >> last (endings.is_missing site (Servlet place))) (called e x) r y result
           → Q room x (service_of place turn (counted x).exchange (steps.Unavailable None) e ∷ (told_by site e ++ r)) y (came result)
@@ -286,7 +286,7 @@ module _ (site : Site) (Q : ℕ → State → List Record → State → Bool →
           (subst (λ s. Q room s t.back y (came result)) t.begins.1 end)))
 
       stepped_keeps : (place turn : ℕ) (x : State) (e : Exchange)
-          → is_full x ≡ false → stands place x ≡ Serving → Changes (counted x).exchange e
+          → is_full x ≡ false → stands place x ≡ Serving → Reaches (counted x).exchange e
           → (step : Step) (y : State) (r : List Record) (result : Option (Option Finished))
           → tree.Stepped site room inner place step (called e x) r y result
           → Q room x (service_of place turn (counted x).exchange step e ∷ (told_by site e ++ r)) y (came result)
@@ -382,20 +382,20 @@ module _ (site : Site) (Q : ℕ → State → List Record → State → Bool →
 
   -- what the calls of filters keep
   pub record FilterSteps : Type 0 where
-    pub before : (room place : ℕ) (x : State) (gate : Gate) (e : Exchange) (b : Bool) → is_full x ≡ false → Changes (counted x).exchange e
+    pub before : (room place : ℕ) (x : State) (gate : Gate) (e : Exchange) (b : Bool) → is_full x ≡ false → Reaches (counted x).exchange e
         → Q room x (before_of place (counted x).exchange gate e ∷ told_by site e) (called e x) b
-    pub after : (room place : ℕ) (x : State) (done : Bool) (e : Exchange) (b : Bool) → Changes x.exchange e
+    pub after : (room place : ℕ) (x : State) (done : Bool) (e : Exchange) (b : Bool) → Reaches x.exchange e
         → Q room x (after_of place x.exchange done e ∷ told_by site e) (called e x) b
 
   module _ (law : Steps) (calls : FilterSteps) where
     -- the call of a component, where it keeps it however it is answered
     asked_keeps : {A : Type 0} (room : ℕ) (call : Exchange → A → Exchange → Record) (change : State → State) (x : State)
-        → ((answer : A) (e : Exchange) (b : Bool) → Changes (change x).exchange e → Q room x (call (change x).exchange answer e ∷ told_by site e) (called e (change x)) b)
+        → ((answer : A) (e : Exchange) (b : Bool) → Reaches (change x).exchange e → Q room x (call (change x).exchange answer e ∷ told_by site e) (called e (change x)) b)
         → (x' y : State) (r : List Record) (result : Option A) → x' ≡ change x → x'.exchange ≡ (change x).exchange → Asks site.listeners call x' r y result → Q room x r y (came result)
     asked_keeps room call change x kept x' y r result same exchange asked =
         subst (λ s. Q room x r s (came result)) (sym (asked.is ∙ ap (called asked.exchange) same))
         (subst (λ s. Q room x s (called asked.exchange (change x)) (came result)) (sym (asked.is_made ∙ ap (λ before. call before asked.answer asked.exchange ∷ told_by site asked.exchange) exchange))
-        (kept asked.answer asked.exchange (came result) (subst (λ before. Changes before asked.exchange) exchange asked.changes)))
+        (kept asked.answer asked.exchange (came result) (subst (λ before. Reaches before asked.exchange) exchange asked.changes)))
 
     passed_keeps : (room : ℕ) (resource : Resource) (passed : List ℕ) (filter : ℕ) (next : Does Reached) → Keeps room next
         → (x y : State) (r : List Record) (result : Option Reached) → is_full x ≡ false

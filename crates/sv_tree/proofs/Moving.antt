@@ -1,7 +1,7 @@
 -- What is done to answer a request moves the sessions as components may.
 use Rattle.std.proofs.Common.{◌≡◌, inl, inr, ℕ, suc, Bool, true, false, List, [], ◌∷◌, Some, refl, sym, ap, ◌∙◌, subst, if◌then◌else◌}
 use Rattle.sv_component.specs.Runs.{Record}
-use Rattle.sv_exchange.specs.Changing.{Change, Changes, answer, left_by}
+use Rattle.sv_exchange.specs.Changing.{Change, Reaches, answer, left_by}
 use Rattle.sv_exchange.specs.Dispatches.{Leaves}
 use Rattle.sv_exchange.specs.Keeping.{broken_off}
 use Rattle.sv_exchange.specs.Laws.{ChangesAreCalls, ChangesMoveTheSessions}
@@ -78,10 +78,10 @@ module _ (calls : ChangesAreCalls) (moves : ChangesMoveTheSessions) (joins : Mov
   ]
 
   -- the call of a component, that counts or not
-  called_moved : (x e : Exchange) → Changes (record x { calls = suc x.calls }) e → IsMoved x (without_events e)
+  called_moved : (x e : Exchange) → Reaches (record x { calls = suc x.calls }) e → IsMoved x (without_events e)
   called_moved x e changes = record { moment = (called_unchanged x e changes).0.moment; sessions = moves (record x { calls = suc x.calls }) e changes }
 
-  after_moved : (x e : Exchange) → Changes x e → IsMoved x (without_events e)
+  after_moved : (x e : Exchange) → Reaches x e → IsMoved x (without_events e)
   after_moved x e changes = record { moment = (unchanged x e changes).0.moment; sessions = moves x e changes }
 
   module _ (site : Site) where

@@ -4,7 +4,7 @@ use Rattle.std.proofs.Common.{◌≡◌, ℕ, suc, ◌+◌, ◌≤◌, Bool, tru
 use Rattle.std.proofs.lemmas.List.{length-append}
 use Rattle.sv_component.specs.Runs.{Record}
 use Rattle.sv_component.specs.declared.answers.Step.{Step}
-use Rattle.sv_exchange.specs.Changing.{Changes}
+use Rattle.sv_exchange.specs.Changing.{Reaches}
 use Rattle.sv_exchange.specs.Dispatches.{Leaves, client_in, entered, error_in}
 use Rattle.sv_exchange.specs.Keeping as counting
 use Rattle.sv_journal.specs.declared.event.Event.{Event}
@@ -112,13 +112,13 @@ within-append bound (call ∷ r) s one two = (one.0, within-append bound r s one
 within-told : (bound listeners : ℕ) (events : List Event) → AreWithin bound (all_told listeners events)
 within-told bound listeners events = all_keep_alone (AreWithin bound) (λ place event r h. (omega arith, h)) listeners events tt
 
-nest_one : (room : ℕ) (x e : Exchange) → Changes x e → (e.dispatches ≡ x.dispatches) × (length x.dispatches ≤ length x.dispatches + room)
+nest_one : (room : ℕ) (x e : Exchange) → Reaches x e → (e.dispatches ≡ x.dispatches) × (length x.dispatches ≤ length x.dispatches + room)
 nest_one room x e changes = ((unchanged x e changes).0.dispatches, omega arith)
 
-nest_called : (room : ℕ) (x e : Exchange) → Changes (counting.counted x) e → (e.dispatches ≡ x.dispatches) × (length x.dispatches ≤ length x.dispatches + room)
+nest_called : (room : ℕ) (x e : Exchange) → Reaches (counting.counted x) e → (e.dispatches ≡ x.dispatches) × (length x.dispatches ≤ length x.dispatches + room)
 nest_called room x e changes = ((called_unchanged x e changes).0.dispatches, omega arith)
 
-away_nests : (site : Site) (room : ℕ) (x : State) (place turn : ℕ) (step : Step) (e : Exchange) → Changes (counted x).exchange e
+away_nests : (site : Site) (room : ℕ) (x : State) (place turn : ℕ) (step : Step) (e : Exchange) → Reaches (counted x).exchange e
     → Nests room x (service_of place turn (counted x).exchange step e ∷ told_by site e) (away_by place step (called e x)) true
 away_nests site room x place turn step e changes = (
   λ _. (away_unchanged x place step e changes).0.dispatches,

@@ -4,7 +4,7 @@ use Rattle.std.proofs.Common.{◌≡◌, ℕ, Bool, true, false, List, [], ◌�
 use Rattle.sv_component.specs.Runs.{Record}
 use Rattle.sv_component.specs.declared.answers.Step.{Step}
 use Rattle.sv_component.specs.declared.answers.Step.TheVariants as steps
-use Rattle.sv_exchange.specs.Changing.{Changes}
+use Rattle.sv_exchange.specs.Changing.{Reaches}
 use Rattle.sv_exchange.specs.Dispatches.{entered}
 use Rattle.sv_journal.specs.declared.event.Event.{Event}
 use Rattle.sv_mapping.specs.declared.kind.Kind.{Kind}
@@ -49,7 +49,7 @@ serve_joins room x y z r s b one two =
       two.2 ∙ one.2,
     )
 
-served : (x : State) (place turn : ℕ) (step : Step) (e : Exchange) → stands place x ≡ Serving → Changes (counted x).exchange e
+served : (x : State) (place turn : ℕ) (step : Step) (e : Exchange) → stands place x ≡ Serving → Reaches (counted x).exchange e
     → Serves 0 x (service_of place turn (counted x).exchange step e ∷ []) (away_by place step (called e x)) true
 served x place turn (steps.Unavailable None) e serving changes = ((serving, tt), λ _. refl, (called_unchanged x.exchange e changes).0.moment)
 served x place turn (steps.Unavailable (Some seconds)) e serving changes = (

@@ -1,7 +1,7 @@
 -- Calls of filters and servlets within a dispatch, and what is told behind them (Jakarta Servlet 6.0, sections 2.3.3, 6.2.1 and 11.3).
 use Rattle.std.specs.Prelude.{◌≡◌, ◌⊎◌, ℕ, List, [], ◌∷◌, Option, None, Some}
 use Rattle.sv_component.specs.Runs.{Record}
-use Rattle.sv_exchange.specs.Changing.{Changes}
+use Rattle.sv_exchange.specs.Changing.{Reaches}
 use Rattle.sv_tree.specs.Does.{Does}
 use Rattle.sv_tree.specs.State.{Exchange, State, with_exchange}
 use Rattle.sv_tree.specs.Telling.{all_told}
@@ -17,7 +17,7 @@ pub record Asks {A : Type 0} (listeners : ℕ) (call : Exchange → A → Exchan
   -- as the component leaves it
   pub exchange : Exchange
   pub is_made : calls ≡ call before.exchange answer exchange ∷ all_told listeners exchange.events
-  pub changes : Changes before.exchange exchange
+  pub changes : Reaches before.exchange exchange
   pub is : after ≡ with_exchange (without_events exchange) before
   pub ends : (result ≡ Some answer) ⊎ (result ≡ None)
 

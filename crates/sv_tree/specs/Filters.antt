@@ -1,7 +1,7 @@
 -- The filters of a dispatch (Jakarta Servlet 6.0, section 6.2).
 use Rattle.std.specs.Prelude.{ℕ, Bool, List, [], ◌∷◌, Option, None, Some}
 use Rattle.sv_component.specs.Call.{Entered, Left}
-use Rattle.sv_component.specs.Runs.{Record, OfFilter}
+use Rattle.sv_component.specs.Runs.{OfFilter, Record}
 use Rattle.sv_component.specs.declared.answers.Gate.{Gate}
 use Rattle.sv_component.specs.declared.answers.Gate.TheVariants as gates
 use Rattle.sv_tree.specs.Asking.{asks}

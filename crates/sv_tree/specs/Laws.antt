@@ -2,7 +2,7 @@
 use Rattle.std.specs.Prelude.{◌≡◌, ◌⊎◌, ℕ, ◌+◌, ◌≤◌, ◌==◌, Bool, true, false, ◌||◌, List, [], ◌∷◌, ◌++◌, codes, decimal, length, not, Option, None, Some, slice_set, if◌then◌else◌}
 use Rattle.std.specs.List.{filter, flat_map}
 use Rattle.sv_component.specs.Call.{Destroyed, Entered, Left, Serviced}
-use Rattle.sv_component.specs.Runs.{Record, OfFilter, OfListener, OfServlet}
+use Rattle.sv_component.specs.Runs.{OfFilter, OfListener, OfServlet, Record}
 use Rattle.sv_component.specs.declared.answers.Gate.TheVariants as gates
 use Rattle.sv_component.specs.declared.answers.Step.TheVariants as steps
 use Rattle.sv_exchange.specs.Changing.{Change}

@@ -1,7 +1,7 @@
 -- A dispatch (Jakarta Servlet 6.0, chapters 6 and 9): its filters, the servlet or file behind them, and the dispatches within.
 use Rattle.std.specs.Prelude.{ℕ, zero, suc, ◌-◌, Bool, false, List, [], Option, None, Some, Result, Ok, Err, ◌⊎◌, ◌≡◌, ◌∷◌, if◌then◌else◌}
 use Rattle.sv_component.specs.Call.{Destroyed, Serviced}
-use Rattle.sv_component.specs.Runs.{Record, OfServlet}
+use Rattle.sv_component.specs.Runs.{OfServlet, Record}
 use Rattle.sv_component.specs.declared.answers.Step.{Step}
 use Rattle.sv_component.specs.declared.answers.Step.TheVariants as steps
 use Rattle.sv_mapping.specs.declared.kind.Kind.{Kind}

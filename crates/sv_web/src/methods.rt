@@ -1,7 +1,7 @@
 //! What a servlet answers, by the method of the request.
 
 ghost use Rattle.std.specs.Prelude.{◌≡◌, IfOk, OnOk, None};
-ghost use Rattle.sv_exchange.specs.Changing.{Changes};
+ghost use Rattle.sv_exchange.specs.Changing.{Reaches};
 ghost use Rattle.sv_text.specs.Gives.{GivesAnswer};
 ghost use Rattle.sv_web.specs.Methods.{allow_text, asked_for, answers, left_without, names_of, refusal_status};
 
@@ -65,7 +65,7 @@ pub fn asked_verb(
 ) -> Result<Option<Verb>, Fault>
     ensures asked { IfOk result (λ verb. verb ≡ asked_for exchange.old.method allowed.now) }
     ensures left { IfOk result (λ verb. exchange.new ≡ left_without verb allowed.now exchange.old) }
-    ensures reached { Changes exchange.old exchange.new }
+    ensures reached { Reaches exchange.old exchange.new }
 {
     let asked = asked_for(exchange.method(), allowed);
     if asked.is_none() {
@@ -88,7 +88,7 @@ fn asked_for(method: &str, allowed: &[Verb]) -> Option<Verb>
 // Tells the methods that are answered.
 fn refuse(alloc: Global, exchange: &mut Exchange, allowed: &[Verb]) -> Result<(), Fault>
     ensures left { OnOk result (exchange.new ≡ left_without None allowed.now exchange.old) }
-    ensures reached { Changes exchange.old exchange.new }
+    ensures reached { Reaches exchange.old exchange.new }
 {
     let allow = allow_text(alloc, allowed)?;
     exchange.set_status(refusal_status(exchange.method()))?;

@@ -2,7 +2,7 @@
 
 ghost use Rattle.std.specs.Prelude.{◌≡◌, OnOk, false, true};
 ghost use Rattle.std.specs.List.{list_all};
-ghost use Rattle.sv_exchange.specs.Changing.{Changes};
+ghost use Rattle.sv_exchange.specs.Changing.{Reaches};
 ghost use Rattle.sv_web.specs.Redirecting.{is_location, is_location_byte, is_own_location, redirected, status_of};
 
 use crate::fault::Fault;
@@ -49,7 +49,7 @@ pub fn redirect(exchange: &mut Exchange, kind: RedirectKind, location: &str) -> 
     ensures own { OnOk result (is_own_location location.now ≡ true) }
     ensures redirected { OnOk result (exchange.new ≡ redirected kind location.now exchange.old) }
     ensures stays { is_own_location location.now ≡ false → exchange.new ≡ exchange.old }
-    ensures reached { Changes exchange.old exchange.new }
+    ensures reached { Reaches exchange.old exchange.new }
 {
     if !is_own_location(location.as_bytes()) {
         return Err(Fault::BadLocation);
@@ -70,7 +70,7 @@ pub fn redirect_elsewhere(
     ensures proper { OnOk result (is_location location.now ≡ true) }
     ensures redirected { OnOk result (exchange.new ≡ redirected kind location.now exchange.old) }
     ensures stays { is_location location.now ≡ false → exchange.new ≡ exchange.old }
-    ensures reached { Changes exchange.old exchange.new }
+    ensures reached { Reaches exchange.old exchange.new }
 {
     if !is_location(location.as_bytes()) {
         return Err(Fault::BadLocation);
@@ -85,7 +85,7 @@ fn put_location(
     location: &str,
 ) -> Result<bool, ExchangeFault>
     ensures redirected { OnOk result (exchange.new ≡ redirected kind location.now exchange.old) }
-    ensures reached { Changes exchange.old exchange.new }
+    ensures reached { Reaches exchange.old exchange.new }
 {
     exchange.set_status(kind.status())?;
     exchange.set_header("location", location)

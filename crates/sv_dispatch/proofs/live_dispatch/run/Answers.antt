@@ -1,11 +1,11 @@
 use Rattle.std.proofs.Common.{[], refl, ap}
-use Rattle.sv_component.specs.Runs.{Runs}
+use Rattle.sv_component.specs.Runs.{IsRun}
 use Rattle.sv_dispatch.specs.Did.{seen}
 use Rattle.sv_dispatch.proofs.LiveDeeds.{but_whole, still_whole}
 use Rattle.sv_dispatch.proofs.live_dispatch.run.Goals as goal
 
 pub returns-clause-made : goal.returns-clause-made
-unfolding Runs
+unfolding IsRun
 returns-clause-made g c =
     let stays = but_whole (seen c.dispatch_by.result) _ _ c.dispatch_by.ensures.does.stays in
     record {

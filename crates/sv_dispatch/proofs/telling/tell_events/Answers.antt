@@ -1,8 +1,8 @@
 use Rattle.std.proofs.Common.{length, subst}
-use Rattle.sv_component.specs.Runs.{Grows}
+use Rattle.sv_component.specs.Runs.{Runs}
 use Rattle.sv_lifecycle.proofs.SessionEnds.{doing_all, doing_more}
 use Rattle.sv_lifecycle.specs.Standing.{live_world}
-use Rattle.sv_listeners.specs.Telling.{then_all, told}
+use Rattle.sv_listeners.specs.Telling.{told}
 use Rattle.sv_tree.specs.Telling.{all_told}
 use Rattle.sv_dispatch.proofs.TellingDeeds.{is_without, none_told, still_without, taken}
 use Rattle.sv_dispatch.proofs.RunningDeeds.{stands_then}
@@ -20,7 +20,7 @@ loop-event-preserved g c =
       made = doing_more g.S.Servlet.servlet_step g.F.Filter.filter_step g.L.Listener.listener_step start before after (all_told count c.args.exchange.now.events)
           (all_told count c.loop-event.exchange.events) (told c.in-Some.event count) (all_told count c.take_event.new.self.events)
           (taken c.loop-event.exchange c.take_event.new.self c.in-Some.ensures.left count c.in-Some.event c.in-Some.ensures.oldest) c.loop-event.invariant.made
-          (subst (λ n. Grows g.S.Servlet.servlet_step g.F.Filter.filter_step g.L.Listener.listener_step before (then_all (told c.in-Some.event n)) after)
+          (subst (λ n. Runs g.S.Servlet.servlet_step g.F.Filter.filter_step g.L.Listener.listener_step before (told c.in-Some.event n) after)
           c.loop-event.invariant.stands.counts.listeners c.tell_event.ensures.made);
     }
 

@@ -1,6 +1,5 @@
 use Rattle.std.proofs.Common.{List, length, ◌∙◌, ap, subst}
-use Rattle.sv_component.specs.Runs.{Grows}
-use Rattle.sv_listeners.specs.Telling.{then_all}
+use Rattle.sv_component.specs.Runs.{Runs}
 use Rattle.sv_session.specs.Store.{Session}
 use Rattle.sv_lifecycle.specs.SessionEnds.{all_told, end_events, ends_told}
 use Rattle.sv_lifecycle.specs.World.{world}
@@ -21,7 +20,7 @@ loop-session-preserved g c =
           (ends_told c.loop-session.sessions.sessions count) (all_told (end_events c.in-Some.session) count) (ends_told c.end_least.new.sessions.sessions count)
           (ends_more c.loop-session.sessions.sessions c.end_least.new.sessions.sessions c.in-Some.session count c.in-Some.ensures.ended c.in-Some.ensures.left)
           c.loop-session.invariant.made
-          (subst (λ n. Grows g.S.Servlet.servlet_step g.F.Filter.filter_step g.L.Listener.listener_step before (then_all (all_told (end_events c.in-Some.session) n)) after)
+          (subst (λ n. Runs g.S.Servlet.servlet_step g.F.Filter.filter_step g.L.Listener.listener_step before (all_told (end_events c.in-Some.session) n) after)
           c.loop-session.invariant.counts.listeners c.tell_end.ensures.made);
     }
 

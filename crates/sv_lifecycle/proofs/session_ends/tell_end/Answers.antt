@@ -1,7 +1,7 @@
 use Rattle.std.proofs.Common.{length, ap, subst}
-use Rattle.sv_component.specs.Runs.{Grows}
+use Rattle.sv_component.specs.Runs.{Runs}
 use Rattle.sv_journal.specs.declared.event.Event.TheVariants.{AttributeRemoved}
-use Rattle.sv_listeners.specs.Telling.{then_all, told}
+use Rattle.sv_listeners.specs.Telling.{told}
 use Rattle.sv_lifecycle.specs.SessionEnds.{all_told, end_events}
 use Rattle.sv_lifecycle.specs.World.{world}
 use Rattle.sv_lifecycle.proofs.Places.{counts_join}
@@ -21,6 +21,6 @@ loop-attribute-preserved g c =
       made = doing_more g.S.Servlet.servlet_step g.F.Filter.filter_step g.L.Listener.listener_step start before after (all_told (end_events c.args.session) count)
           (removals number count c.loop-attribute.attribute-iterator.rest.items) (told event count) (removals number count c.next.new.self.rest.items)
           (ap (removals number count) c.in-Some.ensures.steps.0) c.loop-attribute.invariant.made
-          (subst (λ n. Grows g.S.Servlet.servlet_step g.F.Filter.filter_step g.L.Listener.listener_step before (then_all (told event n)) after)
+          (subst (λ n. Runs g.S.Servlet.servlet_step g.F.Filter.filter_step g.L.Listener.listener_step before (told event n) after)
           c.loop-attribute.invariant.counts.listeners c.tell-in-loop-attribute.ensures.made);
     }

@@ -1,7 +1,7 @@
 use Rattle.std.proofs.Common.{[], length, replicate, sym, ◌∙◌, ap, subst}
-use Rattle.sv_component.specs.Runs.{Grows}
+use Rattle.sv_component.specs.Runs.{Runs}
 use Rattle.sv_journal.specs.declared.event.Event.TheVariants.{ContextInitialized}
-use Rattle.sv_listeners.specs.Telling.{then_all, told}
+use Rattle.sv_listeners.specs.Telling.{told}
 use Rattle.sv_session.specs.Store.{Store}
 use Rattle.sv_lifecycle.specs.Calls.{stop_calls}
 use Rattle.sv_lifecycle.specs.Starting.{code_of}
@@ -31,8 +31,8 @@ invariant_of-result g c =
 
 pub returns-then-whole : goal.returns-then-whole
 returns-then-whole g c = λ app fits is_plan.
-    let tells = subst (λ context. Grows g.S.Servlet.servlet_step g.F.Filter.filter_step g.L.Listener.listener_step (world context c.args.parts c.args.journal.now)
-    (then_all (told ContextInitialized (length c.args.parts.listeners.items))) (world context c.tell.new.self c.tell.new.journal)) c.as_str.ensures c.tell.ensures.made in
+    let tells = subst (λ context. Runs g.S.Servlet.servlet_step g.F.Filter.filter_step g.L.Listener.listener_step (world context c.args.parts c.args.journal.now)
+    (told ContextInitialized (length c.args.parts.listeners.items)) (world context c.tell.new.self c.tell.new.journal)) c.as_str.ensures c.tell.ensures.made in
     started g.S.Servlet.servlet_step g.F.Filter.filter_step g.L.Listener.listener_step app c.args.parts c.tell.new.self c.args.plan c.args.journal.now c.tell.new.journal c.begin_all-begun.result
     c.begin_all-begun.new.parts c.begin_all-begun.new.plan c.begin_all-begun.new.journal c.truncate.new.self.items fits is_plan
     (counts_join c.args.parts c.tell.new.self c.begin_all-begun.new.parts c.tell.ensures.counts c.begin_all-begun.ensures.counts) tells (c.begin_all-begun.ensures.begins app is_plan.configs)
@@ -47,14 +47,14 @@ end_all-requires g c =
 
 pub returns : goal.returns
 returns g c = λ app fits is_plan.
-    let tells = subst (λ context. Grows g.S.Servlet.servlet_step g.F.Filter.filter_step g.L.Listener.listener_step (world context c.args.parts c.args.journal.now)
-    (then_all (told ContextInitialized (length c.args.parts.listeners.items))) (world context c.tell.new.self c.tell.new.journal)) c.as_str.ensures c.tell.ensures.made in
+    let tells = subst (λ context. Runs g.S.Servlet.servlet_step g.F.Filter.filter_step g.L.Listener.listener_step (world context c.args.parts c.args.journal.now)
+    (told ContextInitialized (length c.args.parts.listeners.items)) (world context c.tell.new.self c.tell.new.journal)) c.as_str.ensures c.tell.ensures.made in
     let begins = c.begin_all-begun.ensures.begins app is_plan.configs in
-    let ends = subst (λ context. Grows g.S.Servlet.servlet_step g.F.Filter.filter_step g.L.Listener.listener_step (world context c.begin_all-begun.new.parts c.begin_all-begun.new.journal)
-    (then_all (stop_calls (length c.begin_all-begun.new.parts.listeners.items) c.as_slice.result.now [])) (world context c.end_all.new.parts c.end_all.new.journal))
+    let ends = subst (λ context. Runs g.S.Servlet.servlet_step g.F.Filter.filter_step g.L.Listener.listener_step (world context c.begin_all-begun.new.parts c.begin_all-begun.new.journal)
+    (stop_calls (length c.begin_all-begun.new.parts.listeners.items) c.as_slice.result.now []) (world context c.end_all.new.parts c.end_all.new.journal))
     (c.as_str-2.ensures ∙ begins.context)
-    (subst (λ (store : Store). Grows g.S.Servlet.servlet_step g.F.Filter.filter_step g.L.Listener.listener_step (world c.as_str-2.result.now c.begin_all-begun.new.parts c.begin_all-begun.new.journal)
-    (then_all (stop_calls (length c.begin_all-begun.new.parts.listeners.items) c.as_slice.result.now store.sessions)) (world c.as_str-2.result.now c.end_all.new.parts c.end_all.new.journal))
+    (subst (λ (store : Store). Runs g.S.Servlet.servlet_step g.F.Filter.filter_step g.L.Listener.listener_step (world c.as_str-2.result.now c.begin_all-begun.new.parts c.begin_all-begun.new.journal)
+    (stop_calls (length c.begin_all-begun.new.parts.listeners.items) c.as_slice.result.now store.sessions) (world c.as_str-2.result.now c.end_all.new.parts c.end_all.new.journal))
     c.new-no_sessions.ensures c.end_all.ensures.made) in
     undone g.S.Servlet.servlet_step g.F.Filter.filter_step g.L.Listener.listener_step app c.args.parts c.tell.new.self c.args.plan c.args.journal.now c.tell.new.journal c.begin_all-begun.result
     c.begin_all-begun.new.parts c.begin_all-begun.new.plan c.begin_all-begun.new.journal c.as_slice.result.now c.end_all.new.parts c.end_all.new.journal c.code_of-code.result fits is_plan tells begins ends
