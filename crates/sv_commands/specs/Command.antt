@@ -3,7 +3,7 @@ use Rattle.std.specs.Prelude.{◌≡◌, ℕ, List, [], ◌∷◌, Option, Resul
 use Rattle.sv_application.specs.declared.program_filter.ProgramFilter.{ProgramFilter}
 use Rattle.sv_application.specs.declared.program_listener.ProgramListener.{ProgramListener}
 use Rattle.sv_application.specs.declared.program_servlet.ProgramServlet.{ProgramServlet}
-use Rattle.sv_component.specs.Call.{Call}
+use Rattle.sv_component.specs.Steps.{ComponentSteps}
 use Rattle.sv_program.specs.Arguments.{name_words}
 use Rattle.sv_program.specs.FileStore.{Giving}
 use Rattle.sv_program.specs.FirstLine.{first_options, RunsFirst}
@@ -51,13 +51,12 @@ ServesNothing (Run running) = ⊥
 ServesNothing (SelfTest config) = ⊥
 ServesNothing other = Unit {0}
 
-module _ (servlet_step : ProgramServlet → Call → ProgramServlet → Type 0) (filter_step : ProgramFilter → Call → ProgramFilter → Type 0)
-    (listener_step : ProgramListener → Call → ProgramListener → Type 0) where
+module _ (moving : ComponentSteps ProgramServlet ProgramFilter ProgramListener) where
   -- what a run of the command answers, by what its store gives and its reader's known bytes, and adds to its writer's; what a container's events
   -- write is told by the contracts of `replay`, `serve`, `run` and `self_test`
   abbrev pub RunsCommand : {S : Type 0} → Giving S → FolderGiving S → Command → Result (Unit {0}) CommandFault → S → S → Option (List ℕ) → Option (List ℕ) → Option (List ℕ) → Type 0
   RunsCommand gives files (First deny_uncovered) result before after stream old new = (after ≡ before) × RunsFirst deny_uncovered result stream old new
-  RunsCommand gives files (Policy question) result before after stream old new = RunsPolicy servlet_step filter_step listener_step gives files question result before after old new
+  RunsCommand gives files (Policy question) result before after stream old new = RunsPolicy moving gives files question result before after old new
   RunsCommand gives files (Uncovered config) result before after stream old new = Prints (AreLines gives config.now) result before after old new
   RunsCommand gives files (Replay config) result before after stream old new = ReadsFiles gives files config.now result before after
   RunsCommand gives files (Serve service) result before after stream old new = ReadsFiles gives files service.config.now result before after

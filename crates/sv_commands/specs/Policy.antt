@@ -4,7 +4,7 @@ use Rattle.std.specs.Option.{option_copied}
 use Rattle.sv_application.specs.declared.program_filter.ProgramFilter.{ProgramFilter}
 use Rattle.sv_application.specs.declared.program_listener.ProgramListener.{ProgramListener}
 use Rattle.sv_application.specs.declared.program_servlet.ProgramServlet.{ProgramServlet}
-use Rattle.sv_component.specs.Call.{Call}
+use Rattle.sv_component.specs.Steps.{ComponentSteps}
 use Rattle.sv_container.specs.Explaining.{policies_of}
 use Rattle.sv_container.specs.declared.container.Container.{Container}
 use Rattle.sv_deployments.specs.Configuration.{FindsConfiguration}
@@ -51,13 +51,12 @@ abbrev pub EndsBy : {A : Type 0} → Result A CommandFault → Step (List ℕ) �
 EndsBy (Ok container) line result old new = UnlessNoMemory result (Ends line result old new)
 EndsBy (Err found) line result old new = result ≡ Err found
 
-module _ (servlet_step : ProgramServlet → Call → ProgramServlet → Type 0) (filter_step : ProgramFilter → Call → ProgramFilter → Type 0)
-    (listener_step : ProgramListener → Call → ProgramListener → Type 0) where
+module _ (moving : ComponentSteps ProgramServlet ProgramFilter ProgramListener) where
   -- a fault of the files is told; without one, what they configure is started and asked
   abbrev pub GoesOn : Result Configuration CommandFault → Question → Result (Unit {0}) CommandFault → Option (List ℕ) → Option (List ℕ) → Type 0
   GoesOn (Ok configuration) question result old new =
       (begun : Result (Container ProgramServlet ProgramFilter ProgramListener SeededWords) CommandFault)
-      × StartsWith servlet_step filter_step listener_step configuration.deployments.items configuration.seed begun
+      × StartsWith moving configuration.deployments.items configuration.seed begun
       × EndsBy begun (policy_line configuration.deployments.items question) result old new
   GoesOn (Err found) question result old new = result ≡ Err found
 

@@ -3,7 +3,7 @@ use Rattle.std.specs.Prelude.{◌≡◌, ℕ, List, Result, Ok, Err}
 use Rattle.sv_application.specs.declared.program_filter.ProgramFilter.{ProgramFilter}
 use Rattle.sv_application.specs.declared.program_listener.ProgramListener.{ProgramListener}
 use Rattle.sv_application.specs.declared.program_servlet.ProgramServlet.{ProgramServlet}
-use Rattle.sv_component.specs.Call.{Call}
+use Rattle.sv_component.specs.Steps.{ComponentSteps}
 use Rattle.sv_container.specs.NewCode.{code_number}
 use Rattle.sv_deployments.specs.Configuration.{FindsConfiguration}
 use Rattle.sv_deployments.specs.Folders.{FolderGiving}
@@ -28,13 +28,12 @@ abbrev pub ended : Result (Unit {0}) RunFault → Result (Unit {0}) CommandFault
 ended (Ok done) = Ok done
 ended (Err found) = Err (fault_of found)
 
-module _ {I O : Type 0} (servlet_step : ProgramServlet → Call → ProgramServlet → Type 0) (filter_step : ProgramFilter → Call → ProgramFilter → Type 0)
-    (listener_step : ProgramListener → Call → ProgramListener → Type 0) (gives : Making I) (takes : Making O) where
+module _ {I O : Type 0} (moving : ComponentSteps ProgramServlet ProgramFilter ProgramListener) (gives : Making I) (takes : Making O) where
   -- a fault of the files is told, and nothing is read or written; without one, what they configure runs the script
   abbrev pub GoesOn : Result Configuration CommandFault → I → O → Result (Unit {0}) CommandFault → I → O → Type 0
   GoesOn (Ok configuration) script output result script_after output_after =
       (ending : Result (Unit {0}) RunFault)
-      × RunsScript servlet_step filter_step listener_step gives takes configuration.deployments.items script output ending script_after output_after
+      × RunsScript moving gives takes configuration.deployments.items script output ending script_after output_after
       × (result ≡ ended ending)
   GoesOn (Err found) script output result script_after output_after = (result ≡ Err found) × (script_after ≡ script) × (output_after ≡ output)
 

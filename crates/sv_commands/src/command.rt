@@ -1,5 +1,6 @@
 //! The command that the program's arguments name.
 
+ghost use Rattle.sv_component.specs.Steps.{steps_of};
 ghost use Rattle.std.specs.Prelude.{◌≡◌, ◌≢◌, [], IfErr, IfSome, IsSome, map, string_bytes};
 ghost use Rattle.sv_program.specs.Arguments.{Names, name_words};
 ghost use Rattle.sv_commands.specs.Command.{words_of, ReadsFiles, RunsCommand, ServesNothing};
@@ -113,7 +114,7 @@ impl<'a> Command<'a> {
         reader: R,
         writer: &mut W,
     ) -> Result<(), CommandFault>
-        ensures run { RunsCommand ⟦<ProgramServlet as Servlet>⟧.servlet_step ⟦<ProgramFilter as Filter>⟧.filter_step ⟦<ProgramListener as Listener>⟧.listener_step
+        ensures run { RunsCommand (steps_of ⟦<ProgramServlet as Servlet>⟧.servlet_step ⟦<ProgramFilter as Filter>⟧.filter_step ⟦<ProgramListener as Listener>⟧.listener_step)
             S.gives_text S.gives_files self.entry result store.old store.new (R.remaining reader) (W.contents writer.old) (W.contents writer.new) }
         ensures untouched { ServesNothing self.entry → IfErr result (λ fault. fault ≢ CommandFault.Output → writer.new ≡ writer.old) }
     {

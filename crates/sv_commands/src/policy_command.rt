@@ -1,5 +1,6 @@
 //! The command `policy`: what the container of a server says of a request.
 
+ghost use Rattle.sv_component.specs.Steps.{steps_of};
 ghost use Rattle.std.specs.Prelude.{◌≡◌, ◌≢◌, [], ◌∷◌, ◌++◌, IfErr};
 ghost use Rattle.std.specs.Option.{option_copied};
 ghost use Rattle.sv_container.specs.Container.{state_of};
@@ -32,7 +33,7 @@ pub fn policy<S: FileStore + FolderStore, W: Write>(
     writer: &mut W,
     question: &Question<'_>,
 ) -> Result<(), CommandFault>
-    ensures run { spec.RunsPolicy ⟦<ProgramServlet as Servlet>⟧.servlet_step ⟦<ProgramFilter as Filter>⟧.filter_step ⟦<ProgramListener as Listener>⟧.listener_step
+    ensures run { spec.RunsPolicy (steps_of ⟦<ProgramServlet as Servlet>⟧.servlet_step ⟦<ProgramFilter as Filter>⟧.filter_step ⟦<ProgramListener as Listener>⟧.listener_step)
         S.gives_text S.gives_files question.now result store.old store.new (W.contents writer.old) (W.contents writer.new) }
     ensures untouched { IfErr result (λ fault. fault ≢ CommandFault.Output → writer.new ≡ writer.old) }
 {

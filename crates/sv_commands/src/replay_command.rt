@@ -1,5 +1,6 @@
 //! The command `replay`: a script over a server's container.
 
+ghost use Rattle.sv_component.specs.Steps.{steps_of};
 ghost use Rattle.std.specs.Prelude.{◌≡◌};
 ghost use Rattle.sv_commands.specs.Replay as spec;
 
@@ -24,7 +25,7 @@ pub fn replay<S: FileStore + FolderStore, I: Source, O: Sink>(
     output: &mut O,
     config: &str,
 ) -> Result<(), CommandFault>
-    ensures { spec.RunsReplay ⟦<ProgramServlet as Servlet>⟧.servlet_step ⟦<ProgramFilter as Filter>⟧.filter_step ⟦<ProgramListener as Listener>⟧.listener_step
+    ensures { spec.RunsReplay (steps_of ⟦<ProgramServlet as Servlet>⟧.servlet_step ⟦<ProgramFilter as Filter>⟧.filter_step ⟦<ProgramListener as Listener>⟧.listener_step)
         I.makes O.makes S.gives_text S.gives_files config.now store.old script.old output.old result store.new script.new output.new }
 {
     let configuration = match read_deployments(alloc, store, config) {

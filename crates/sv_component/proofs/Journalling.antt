@@ -3,10 +3,10 @@ use Rattle.std.proofs.Common.{◌≡◌, Bool, true, false, ◌⊎◌, inl, inr,
 use Rattle.std.specs.Prelude.{cond}
 use Rattle.std.proofs.lemmas.Bool.{cases_Bool}
 use Rattle.std.proofs.lemmas.List.{append_assoc, append-nil}
-use Rattle.sv_component.specs.Call.{Call}
 use Rattle.sv_component.specs.Runs.{IsRun, Moves, Record, record_entry}
 use Rattle.sv_component.specs.World.{World}
 use Rattle.sv_component.proofs.Moving.{same_entries}
+use Rattle.sv_component.specs.Steps.{ComponentSteps}
 use Rattle.sv_journal.specs.Journal.{Gains, JournalState, Takes, broken, with_entry}
 use Rattle.sv_journal.specs.declared.entry.Entry.{Entry}
 
@@ -52,11 +52,11 @@ gains_one before middle after entry entries takes gains = elim (cases_Bool befor
       gains_broken before middle after entry entries (ap (λ j. j.entries) same) (ap (λ j. j.whole) same ∙ not_whole) gains
 ]
 
-module _ {S F L : Type 0} (ss : S → Call → S → Type 0) (fs : F → Call → F → Type 0) (ls : L → Call → L → Type 0) where
-  pub run_gains : (from to : World S F L) (records : List Record) → IsRun ss fs ls from records to → Gains from.journal (map (record_entry from) records) to.journal
+module _ {S F L : Type 0} (moving : ComponentSteps S F L) where
+  pub run_gains : (from to : World S F L) (records : List Record) → IsRun moving from records to → Gains from.journal (map (record_entry from) records) to.journal
   unfolding IsRun
   run_gains from to [] ran = subst (λ w. Gains from.journal [] w.journal) (sym ran) (gains_none from.journal)
   run_gains from to (made ∷ others) ran =
-      let moves : Moves ss fs ls from made ran.0 = ran.1 in
+      let moves : Moves moving from made ran.0 = ran.1 in
       gains_one from.journal ran.0.journal to.journal (record_entry from made) (map (record_entry from) others) moves.journal
-      (subst (λ entries. Gains ran.0.journal entries to.journal) (same_entries ss fs ls from made ran.0 moves others) (run_gains ran.0 to others ran.2))
+      (subst (λ entries. Gains ran.0.journal entries to.journal) (same_entries moving from made ran.0 moves others) (run_gains ran.0 to others ran.2))

@@ -13,6 +13,7 @@ use Rattle.sv_component.specs.Noted.{filter_entry, servlet_entry}
 use Rattle.sv_component.specs.Runs.{IsRun, Moves, MovesAt, NamedStep, OfFilter, OfListener, OfServlet, Record, record_entry}
 use Rattle.sv_component.specs.World.{World, name_at}
 use Rattle.sv_component.specs.declared.named.Named.{Named}
+use Rattle.sv_component.specs.Steps.{ComponentSteps}
 use Rattle.sv_journal.specs.Entry.{heard}
 
 module _ {A : Type 0} (step : A → Call → A → Type 0) where
@@ -101,74 +102,74 @@ module _ {C : Type 0} (step : C → Call → C → Type 0) where
       named_text : Option (Named C) → List ℕ
       named_text found = unwrap_or (option_map (λ named. named.name) found) []
 
-module _ {S F L : Type 0} (ss : S → Call → S → Type 0) (fs : F → Call → F → Type 0) (ls : L → Call → L → Type 0) where
-  pub servlets_ran : (from to : World S F L) (records : List Record) → IsRun ss fs ls from records to → ListRuns (NamedStep ss) from.servlets (servlet_calls records) to.servlets
+module _ {S F L : Type 0} (moving : ComponentSteps S F L) where
+  pub servlets_ran : (from to : World S F L) (records : List Record) → IsRun moving from records to → ListRuns (NamedStep moving.servlet) from.servlets (servlet_calls records) to.servlets
   unfolding IsRun ListRuns
   servlets_ran from to [] ran = ap (λ w. w.servlets) ran
   servlets_ran from to (OfServlet place call ∷ others) ran =
-      let moves : Moves ss fs ls from (OfServlet place call) ran.0 = ran.1 in
+      let moves : Moves moving from (OfServlet place call) ran.0 = ran.1 in
       (ran.0.servlets, moves.component.0, servlets_ran ran.0 to others ran.2)
   servlets_ran from to (OfFilter place call ∷ others) ran =
-      let moves : Moves ss fs ls from (OfFilter place call) ran.0 = ran.1 in
-      subst (λ xs. ListRuns (NamedStep ss) xs (servlet_calls others) to.servlets) moves.component.1 (servlets_ran ran.0 to others ran.2)
+      let moves : Moves moving from (OfFilter place call) ran.0 = ran.1 in
+      subst (λ xs. ListRuns (NamedStep moving.servlet) xs (servlet_calls others) to.servlets) moves.component.1 (servlets_ran ran.0 to others ran.2)
   servlets_ran from to (OfListener place event ∷ others) ran =
-      let moves : Moves ss fs ls from (OfListener place event) ran.0 = ran.1 in
-      subst (λ xs. ListRuns (NamedStep ss) xs (servlet_calls others) to.servlets) moves.component.1 (servlets_ran ran.0 to others ran.2)
+      let moves : Moves moving from (OfListener place event) ran.0 = ran.1 in
+      subst (λ xs. ListRuns (NamedStep moving.servlet) xs (servlet_calls others) to.servlets) moves.component.1 (servlets_ran ran.0 to others ran.2)
 
-  pub filters_ran : (from to : World S F L) (records : List Record) → IsRun ss fs ls from records to → ListRuns (NamedStep fs) from.filters (filter_calls records) to.filters
+  pub filters_ran : (from to : World S F L) (records : List Record) → IsRun moving from records to → ListRuns (NamedStep moving.filter) from.filters (filter_calls records) to.filters
   unfolding IsRun ListRuns
   filters_ran from to [] ran = ap (λ w. w.filters) ran
   filters_ran from to (OfServlet place call ∷ others) ran =
-      let moves : Moves ss fs ls from (OfServlet place call) ran.0 = ran.1 in
-      subst (λ xs. ListRuns (NamedStep fs) xs (filter_calls others) to.filters) moves.component.1 (filters_ran ran.0 to others ran.2)
+      let moves : Moves moving from (OfServlet place call) ran.0 = ran.1 in
+      subst (λ xs. ListRuns (NamedStep moving.filter) xs (filter_calls others) to.filters) moves.component.1 (filters_ran ran.0 to others ran.2)
   filters_ran from to (OfFilter place call ∷ others) ran =
-      let moves : Moves ss fs ls from (OfFilter place call) ran.0 = ran.1 in
+      let moves : Moves moving from (OfFilter place call) ran.0 = ran.1 in
       (ran.0.filters, moves.component.0, filters_ran ran.0 to others ran.2)
   filters_ran from to (OfListener place event ∷ others) ran =
-      let moves : Moves ss fs ls from (OfListener place event) ran.0 = ran.1 in
-      subst (λ xs. ListRuns (NamedStep fs) xs (filter_calls others) to.filters) moves.component.2 (filters_ran ran.0 to others ran.2)
+      let moves : Moves moving from (OfListener place event) ran.0 = ran.1 in
+      subst (λ xs. ListRuns (NamedStep moving.filter) xs (filter_calls others) to.filters) moves.component.2 (filters_ran ran.0 to others ran.2)
 
-  pub listeners_ran : (from to : World S F L) (records : List Record) → IsRun ss fs ls from records to → ListRuns ls from.listeners (listener_calls records) to.listeners
+  pub listeners_ran : (from to : World S F L) (records : List Record) → IsRun moving from records to → ListRuns moving.listener from.listeners (listener_calls records) to.listeners
   unfolding IsRun ListRuns
   listeners_ran from to [] ran = ap (λ w. w.listeners) ran
   listeners_ran from to (OfServlet place call ∷ others) ran =
-      let moves : Moves ss fs ls from (OfServlet place call) ran.0 = ran.1 in
-      subst (λ xs. ListRuns ls xs (listener_calls others) to.listeners) moves.component.2 (listeners_ran ran.0 to others ran.2)
+      let moves : Moves moving from (OfServlet place call) ran.0 = ran.1 in
+      subst (λ xs. ListRuns moving.listener xs (listener_calls others) to.listeners) moves.component.2 (listeners_ran ran.0 to others ran.2)
   listeners_ran from to (OfFilter place call ∷ others) ran =
-      let moves : Moves ss fs ls from (OfFilter place call) ran.0 = ran.1 in
-      subst (λ xs. ListRuns ls xs (listener_calls others) to.listeners) moves.component.2 (listeners_ran ran.0 to others ran.2)
+      let moves : Moves moving from (OfFilter place call) ran.0 = ran.1 in
+      subst (λ xs. ListRuns moving.listener xs (listener_calls others) to.listeners) moves.component.2 (listeners_ran ran.0 to others ran.2)
   listeners_ran from to (OfListener place event ∷ others) ran =
-      let moves : Moves ss fs ls from (OfListener place event) ran.0 = ran.1 in
+      let moves : Moves moving from (OfListener place event) ran.0 = ran.1 in
       (ran.0.listeners, moves.component.0, listeners_ran ran.0 to others ran.2)
 
-  pub components_moved : (from to : World S F L) (records : List Record) → IsRun ss fs ls from records to → ComponentsMoved ss fs ls from records to
+  pub components_moved : (from to : World S F L) (records : List Record) → IsRun moving from records to → ComponentsMoved moving from records to
   components_moved from to records ran =
       let servlets = servlets_ran from to records ran in
       let filters = filters_ran from to records ran in
       let listeners = listeners_ran from to records ran in
       record {
-        servlets = λ place. named_list_moved ss from.servlets to.servlets (servlet_calls records) servlets place;
-        filters = λ place. named_list_moved fs from.filters to.filters (filter_calls records) filters place;
-        listeners = λ place. list_moved ls from.listeners to.listeners (listener_calls records) listeners place;
+        servlets = λ place. named_list_moved moving.servlet from.servlets to.servlets (servlet_calls records) servlets place;
+        filters = λ place. named_list_moved moving.filter from.filters to.filters (filter_calls records) filters place;
+        listeners = λ place. list_moved moving.listener from.listeners to.listeners (listener_calls records) listeners place;
         counts = record {
-          servlets = list_length (NamedStep ss) from.servlets to.servlets (servlet_calls records) servlets;
-          filters = list_length (NamedStep fs) from.filters to.filters (filter_calls records) filters;
-          listeners = list_length ls from.listeners to.listeners (listener_calls records) listeners;
+          servlets = list_length (NamedStep moving.servlet) from.servlets to.servlets (servlet_calls records) servlets;
+          filters = list_length (NamedStep moving.filter) from.filters to.filters (filter_calls records) filters;
+          listeners = list_length moving.listener from.listeners to.listeners (listener_calls records) listeners;
         };
       }
 
-  servlet_name : (from : World S F L) (made : Record) (middle : World S F L) → Moves ss fs ls from made middle → (place : ℕ) → name_at middle.servlets place ≡ name_at from.servlets place
-  servlet_name from (OfServlet moved call) middle moves place = sym (same_names ss from.servlets moved call middle.servlets moves.component.0 place)
+  servlet_name : (from : World S F L) (made : Record) (middle : World S F L) → Moves moving from made middle → (place : ℕ) → name_at middle.servlets place ≡ name_at from.servlets place
+  servlet_name from (OfServlet moved call) middle moves place = sym (same_names moving.servlet from.servlets moved call middle.servlets moves.component.0 place)
   servlet_name from (OfFilter moved call) middle moves place = ap (λ xs. name_at xs place) moves.component.1
   servlet_name from (OfListener moved event) middle moves place = ap (λ xs. name_at xs place) moves.component.1
 
-  filter_name : (from : World S F L) (made : Record) (middle : World S F L) → Moves ss fs ls from made middle → (place : ℕ) → name_at middle.filters place ≡ name_at from.filters place
+  filter_name : (from : World S F L) (made : Record) (middle : World S F L) → Moves moving from made middle → (place : ℕ) → name_at middle.filters place ≡ name_at from.filters place
   filter_name from (OfServlet moved call) middle moves place = ap (λ xs. name_at xs place) moves.component.1
-  filter_name from (OfFilter moved call) middle moves place = sym (same_names fs from.filters moved call middle.filters moves.component.0 place)
+  filter_name from (OfFilter moved call) middle moves place = sym (same_names moving.filter from.filters moved call middle.filters moves.component.0 place)
   filter_name from (OfListener moved event) middle moves place = ap (λ xs. name_at xs place) moves.component.2
 
   -- one record changes no context and no name, so entries are the same before and after
-  same_entry : (from : World S F L) (made : Record) (middle : World S F L) → Moves ss fs ls from made middle → (other : Record) → record_entry middle other ≡ record_entry from other
+  same_entry : (from : World S F L) (made : Record) (middle : World S F L) → Moves moving from made middle → (other : Record) → record_entry middle other ≡ record_entry from other
   same_entry from made middle moves (OfServlet place call) =
       ap (λ context. servlet_entry context (name_at middle.servlets place) call) moves.context
       ∙ ap (λ name. servlet_entry from.context name call) (servlet_name from made middle moves place)
@@ -177,7 +178,7 @@ module _ {S F L : Type 0} (ss : S → Call → S → Type 0) (fs : F → Call �
       ∙ ap (λ name. filter_entry from.context name call) (filter_name from made middle moves place)
   same_entry from made middle moves (OfListener place event) = ap (λ context. heard context place event) moves.context
 
-  pub same_entries : (from : World S F L) (made : Record) (middle : World S F L) → Moves ss fs ls from made middle → (others : List Record)
+  pub same_entries : (from : World S F L) (made : Record) (middle : World S F L) → Moves moving from made middle → (others : List Record)
       → map (record_entry middle) others ≡ map (record_entry from) others
   same_entries from made middle moves [] = refl
   same_entries from made middle moves (other ∷ others) =

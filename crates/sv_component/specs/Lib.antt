@@ -6,4 +6,5 @@ pub mod Motion
 pub mod Noted
 pub mod Runs
 pub mod Standing
+pub mod Steps
 pub mod World

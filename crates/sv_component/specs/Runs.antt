@@ -4,6 +4,7 @@ use Rattle.sv_component.specs.Call.{Call, Heard}
 use Rattle.sv_component.specs.Noted.{filter_entry, servlet_entry}
 use Rattle.sv_component.specs.World.{World, name_at}
 use Rattle.sv_component.specs.declared.named.Named.{Named}
+use Rattle.sv_component.specs.Steps.{ComponentSteps}
 use Rattle.sv_journal.specs.Entry.{heard}
 use Rattle.sv_journal.specs.Journal.{Takes}
 use Rattle.sv_journal.specs.declared.entry.Entry.{Entry}
@@ -36,33 +37,33 @@ record_entry world (OfFilter place call) = filter_entry world.context (name_at w
 record_entry world (OfListener place event) = heard world.context place event
 
 -- the component of the record moves, and no other
-abbrev pub MovesComponent : {S F L : Type 0} → (S → Call → S → Type 0) → (F → Call → F → Type 0) → (L → Call → L → Type 0) → World S F L → Record → World S F L → Type 0
-MovesComponent servlet_step filter_step listener_step before (OfServlet place call) after =
-    MovesAt (NamedStep servlet_step) before.servlets place call after.servlets
+abbrev pub MovesComponent : {S F L : Type 0} → ComponentSteps S F L → World S F L → Record → World S F L → Type 0
+MovesComponent moving before (OfServlet place call) after =
+    MovesAt (NamedStep moving.servlet) before.servlets place call after.servlets
     × (after.filters ≡ before.filters) × (after.listeners ≡ before.listeners)
-MovesComponent servlet_step filter_step listener_step before (OfFilter place call) after =
-    MovesAt (NamedStep filter_step) before.filters place call after.filters
+MovesComponent moving before (OfFilter place call) after =
+    MovesAt (NamedStep moving.filter) before.filters place call after.filters
     × (after.servlets ≡ before.servlets) × (after.listeners ≡ before.listeners)
-MovesComponent servlet_step filter_step listener_step before (OfListener place event) after =
-    MovesAt listener_step before.listeners place (Heard event) after.listeners
+MovesComponent moving before (OfListener place event) after =
+    MovesAt moving.listener before.listeners place (Heard event) after.listeners
     × (after.servlets ≡ before.servlets) × (after.filters ≡ before.filters)
 
 -- the component of the record moves, and the journal takes its entry
-pub record Moves {S F L : Type 0} (servlet_step : S → Call → S → Type 0) (filter_step : F → Call → F → Type 0) (listener_step : L → Call → L → Type 0) (before : World S F L) (made : Record) (after : World S F L) : Type 0 where
-  pub component : MovesComponent servlet_step filter_step listener_step before made after
+pub record Moves {S F L : Type 0} (moving : ComponentSteps S F L) (before : World S F L) (made : Record) (after : World S F L) : Type 0 where
+  pub component : MovesComponent moving before made after
   pub journal : Takes before.journal (record_entry before made) after.journal
   pub context : after.context ≡ before.context
 
 -- the records are made one after another
-unfoldable pub IsRun : {S F L : Type 0} → (S → Call → S → Type 0) → (F → Call → F → Type 0) → (L → Call → L → Type 0) → World S F L → List Record → World S F L → Type 0
-IsRun servlet_step filter_step listener_step before [] after = after ≡ before
-IsRun {S} {F} {L} servlet_step filter_step listener_step before (made ∷ others) after =
-    (middle : World S F L) × Moves servlet_step filter_step listener_step before made middle × IsRun servlet_step filter_step listener_step middle others after
+unfoldable pub IsRun : {S F L : Type 0} → ComponentSteps S F L → World S F L → List Record → World S F L → Type 0
+IsRun moving before [] after = after ≡ before
+IsRun {S} {F} {L} moving before (made ∷ others) after =
+    (middle : World S F L) × Moves moving before made middle × IsRun moving middle others after
 
 -- behind whatever was done, these are made: the same as a run of them, in the form that composes without a middle
-abbrev pub Runs : {S F L : Type 0} → (S → Call → S → Type 0) → (F → Call → F → Type 0) → (L → Call → L → Type 0) → World S F L → List Record → World S F L → Type 0
-Runs {S} {F} {L} servlet_step filter_step listener_step before records after =
-    (from : World S F L) (done : List Record) → IsRun servlet_step filter_step listener_step from done before → IsRun servlet_step filter_step listener_step from (done ++ records) after
+abbrev pub Runs : {S F L : Type 0} → ComponentSteps S F L → World S F L → List Record → World S F L → Type 0
+Runs {S} {F} {L} moving before records after =
+    (from : World S F L) (done : List Record) → IsRun moving from done before → IsRun moving from (done ++ records) after
 
 -- no component came or went
 pub record SameCounts {S F L : Type 0} (before after : World S F L) : Type 0 where

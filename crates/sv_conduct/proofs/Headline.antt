@@ -7,10 +7,10 @@ use Rattle.sv_admission.specs.declared.answer.Answer.{Answer as Reply}
 use Rattle.sv_admission.specs.declared.answer.Answer.TheVariants as replies
 use Rattle.sv_component.proofs.Moving.{same_entries}
 use Rattle.sv_component.proofs.Running.{runs_grown, runs_join}
-use Rattle.sv_component.specs.Call.{Call}
 use Rattle.sv_component.specs.Laws.{RunsAreJournalled, RunsMoveComponents}
 use Rattle.sv_component.specs.Runs.{IsRun, OfFilter, OfListener, OfServlet, Record, record_entry}
 use Rattle.sv_component.specs.World.{World}
+use Rattle.sv_component.specs.Steps.{ComponentSteps}
 use Rattle.sv_context.proofs.Journals.{runs_unnoted}
 use Rattle.sv_context.specs.Answered.{Answers, Tells}
 use Rattle.sv_context.specs.Conduct.{asked_of, unnoted}
@@ -119,18 +119,18 @@ module _ {S F L : Type 0} where
 calls_behind : (entry : Entry) (behind : List Entry) → is_outcome entry ≡ true → filter is_call (entry ∷ behind) ≡ filter is_call behind
 calls_behind entry behind is = rw is refl
 
-module _ {S F L : Type 0} (ss : S → Call → S → Type 0) (fs : F → Call → F → Type 0) (ls : L → Call → L → Type 0) (law : RunsAreJournalled ss fs ls) where
-  run_of_none : (world : World S F L) → IsRun ss fs ls world [] world
+module _ {S F L : Type 0} (moving : ComponentSteps S F L) (law : RunsAreJournalled moving) where
+  run_of_none : (world : World S F L) → IsRun moving world [] world
   unfolding IsRun
   run_of_none world = refl
 
-  entries_stay : (from to : World S F L) (made wanted : List Record) → IsRun ss fs ls from made to → map (record_entry to) wanted ≡ map (record_entry from) wanted
+  entries_stay : (from to : World S F L) (made wanted : List Record) → IsRun moving from made to → map (record_entry to) wanted ≡ map (record_entry from) wanted
   unfolding IsRun
   entries_stay from to [] wanted ran = ap (λ world. map (record_entry world) wanted) ran
   entries_stay from to (made ∷ others) wanted ran =
-      entries_stay ran.0 to others wanted ran.2 ∙ same_entries ss fs ls from made ran.0 ran.1 wanted
+      entries_stay ran.0 to others wanted ran.2 ∙ same_entries moving from made ran.0 ran.1 wanted
 
-  entry_stays : (from to : World S F L) (made : List Record) (wanted : Record) → IsRun ss fs ls from made to → record_entry to wanted ≡ record_entry from wanted
+  entry_stays : (from to : World S F L) (made : List Record) (wanted : Record) → IsRun moving from made to → record_entry to wanted ≡ record_entry from wanted
   entry_stays from to made wanted ran = first (entries_stay from to made (wanted ∷ []) ran)
     where
       first : {X : Type 0} {one other : X} → ◌≡◌ {A = List X} (one ∷ []) (other ∷ []) → one ≡ other
@@ -138,7 +138,7 @@ module _ {S F L : Type 0} (ss : S → Call → S → Type 0) (fs : F → Call �
 
   -- what a journal that stayed whole has gained
   gained : (context after : ContextState S F L) (noted noted' : JournalState) (made : List Record)
-      → IsRun ss fs ls (world_of context noted) made (world_of after noted')
+      → IsRun moving (world_of context noted) made (world_of after noted')
       → noted'.whole ≡ true → noted'.entries ≡ noted.entries ++ map (record_entry (world_of context unnoted)) made
   gained context after noted noted' made runs is_whole =
       let gains = law (world_of context noted) (world_of after noted') made runs in
@@ -150,11 +150,11 @@ module _ {S F L : Type 0} (ss : S → Call → S → Type 0) (fs : F → Call �
   world_in context = world_of context unnoted
 
   abbrev Trip : ContextState S F L → List Entry → ContextState S F L → Type 0
-  Trip = travelling.Trip (IsRun ss fs ls) record_entry run_of_none (runs_join ss fs ls) entry_stays world_in
+  Trip = travelling.Trip (IsRun moving) record_entry run_of_none (runs_join moving) entry_stays world_in
 
   module _ {Words : Type 0} (draws : Words → ℕ × ℕ → Words → Type 0) where
     abbrev Handles : Handling (ContextState S F L) → Type 0
-    Handles handling = (theory ss fs ls draws).conduct.Handles handling
+    Handles handling = (theory moving draws).conduct.Handles handling
 
     noted_by : (handling : Handling (ContextState S F L)) (handles : Handles handling)
         → handling.entries
@@ -176,30 +176,30 @@ module _ {S F L : Type 0} (ss : S → Call → S → Type 0) (fs : F → Call �
               ∙ calls_behind (admitted context asked).entry (map (record_entry (world_of context unnoted)) made)
               (outcome_told context.content.context_path asked.canon.path (outcome_in context.content context.policy context.users asked context.store))
               ∙ all_calls (world_of context unnoted) made;
-          runs = runs_unnoted ss fs ls (world_of context (with_entry (admitted context asked).entry new_journal)) made (world_of handling.after (whole handling.entries))
+          runs = runs_unnoted moving (world_of context (with_entry (admitted context asked).entry new_journal)) made (world_of handling.after (whole handling.entries))
               handles.is_answered.runs;
         }
 
-    expires_trip : (context after : ContextState S F L) (moment : ℕ) (told : List Entry) → (theory ss fs ls draws).conduct.Expires context moment told after
+    expires_trip : (context after : ContextState S F L) (moment : ℕ) (told : List Entry) → (theory moving draws).conduct.Expires context moment told after
         → Trip context told after × (filter is_outcome told ≡ [])
     expires_trip context after moment told expires =
         let made = ends_told expires.ended (length context.listeners) in
-        let runs = runs_grown ss fs ls (world_of context new_journal) (world_of after (whole told)) made expires.told in
+        let runs = runs_grown moving (world_of context new_journal) (world_of after (whole told)) made expires.told in
         let are = gained context after new_journal (whole told) made runs refl in (
           record {
             made = made;
             noted = ap (filter is_call) are ∙ all_calls (world_of context unnoted) made;
-            runs = runs_unnoted ss fs ls (world_of context new_journal) made (world_of after (whole told)) runs;
+            runs = runs_unnoted moving (world_of context new_journal) made (world_of after (whole told)) runs;
           },
           ap (filter is_outcome) are ∙ no_outcomes (world_of context unnoted) made,
         )
 
     edits_trip : (before after : ContextState S F L) (edit : Edit) (answer : Result ℕ EditFault)
-        → (theory ss fs ls draws).conduct.Edits before edit answer after
+        → (theory moving draws).conduct.Edits before edit answer after
         → world_of after unnoted ≡ world_of before unnoted
     edits_trip before after edit answer edits = ap (λ (context : ContextState S F L). world_of context unnoted) edits.stays
 
-    module _ (one_case : JustOneCaseHolds) (moves : RunsMoveComponents ss fs ls) where
+    module _ (one_case : JustOneCaseHolds) (moves : RunsMoveComponents moving) where
       -- what is done of a message, by dispatches that are those of its answer
       done_by : (handling : Handling (ContextState S F L)) → Handles handling → (entry : Entry) (dispatches : Site → Does (Unit {0}))
           → (admitted handling.context (asked_of handling.context handling.request)).entry ≡ entry
@@ -251,18 +251,18 @@ module _ {S F L : Type 0} (ss : S → Call → S → Type 0) (fs : F → Call �
           ]
 
       abbrev Went : Option (ContextState S F L) → List Record → Option (ContextState S F L) → Type 0
-      Went = travelling.Went (IsRun ss fs ls) record_entry run_of_none (runs_join ss fs ls) entry_stays world_in
+      Went = travelling.Went (IsRun moving) record_entry run_of_none (runs_join moving) entry_stays world_in
 
-      is_moved : (before after : Option (ContextState S F L)) (calls : List Record) → Went before calls after → IsMovedBy ss fs ls before calls after
+      is_moved : (before after : Option (ContextState S F L)) (calls : List Record) → Went before calls after → IsMovedBy moving before calls after
       is_moved None after calls went = went
       is_moved (Some first) after calls went = (went.0, went.1, moves (world_of first unnoted) (world_of went.0 unnoted) calls went.2)
 
-      pub every_run_is_lawful : ChangesConstraintsByEdits (theory ss fs ls draws) → EveryRunIsLawful ss fs ls draws
+      pub every_run_is_lawful : ChangesConstraintsByEdits (theory moving draws) → EveryRunIsLawful moving draws
       every_run_is_lawful keeps before after happenings answers run runs =
-          let goes = travelling.run_goes (IsRun ss fs ls) record_entry run_of_none (runs_join ss fs ls) entry_stays world_in (theory ss fs ls draws) IsLawful
+          let goes = travelling.run_goes (IsRun moving) record_entry run_of_none (runs_join moving) entry_stays world_in (theory moving draws) IsLawful
           (λ entry named. named) handled handles_trip expires_trip edits_trip before after happenings answers run runs in
           record {
-            destined = all_destined (theory ss fs ls draws) (edits_alone_by ss fs ls) keeps before after happenings answers run runs;
+            destined = all_destined (theory moving draws) (edits_alone_by moving) keeps before after happenings answers run runs;
             messages = goes.lawful;
             outcomes = goes.outcomes;
             calls = goes.travels.calls;

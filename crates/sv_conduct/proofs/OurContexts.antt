@@ -5,8 +5,8 @@ use Rattle.sv_admission.specs.Admission.{outcome_in}
 use Rattle.sv_admission.specs.Asked.{Asked}
 use Rattle.sv_admission.specs.Judged.{post_in}
 use Rattle.sv_admission.specs.Laws.{LeavesNoneExpired}
-use Rattle.sv_component.specs.Call.{Call}
 use Rattle.sv_component.specs.Laws.{RunsAreJournalled}
+use Rattle.sv_component.specs.Steps.{ComponentSteps}
 use Rattle.sv_context.specs.Conduct.{asked_of}
 use Rattle.sv_context.specs.Deployment.{deployed, no_sessions}
 use Rattle.sv_context.specs.Handled.{GivesResponse, admitted, exchange_begun, state_in}
@@ -61,10 +61,10 @@ ordered_through law moment [] before after expires orderly = subst IsOrderly (sy
 ordered_through law moment (session ∷ ended) before after expires orderly =
     ordered_through law moment ended (left_by_expiry moment before) after expires.1 (law (Expire moment) before orderly)
 
-module _ {S F L : Type 0} (ss : S → Call → S → Type 0) (fs : F → Call → F → Type 0) (ls : L → Call → L → Type 0) where
+module _ {S F L : Type 0} (moving : ComponentSteps S F L) where
   -- behind its admission the answer to a message moves the sessions as components may
   handled_moves : Moves → (asked : Asked) (context after : ContextState S F L) (response : Response) (noted_after : JournalState)
-      (handled : GivesResponse ss fs ls asked context new_journal response after noted_after) → IsMoved (exchange_begun context asked) handled.exchange
+      (handled : GivesResponse moving asked context new_journal response after noted_after) → IsMoved (exchange_begun context asked) handled.exchange
   handled_moves moves asked context after response noted_after handled =
       answered_moves (site_of context.content) (moves.dispatches (site_of context.content)) moves.steps moves.join
       asked.canon (admitted context asked).event (admitted context asked).answer
@@ -75,7 +75,7 @@ module _ {S F L : Type 0} (ss : S → Call → S → Type 0) (fs : F → Call �
   deployed_empty deployment (Ok live) context is = cc
   deployed_empty deployment (Err fault) context is = cc
 
-  pub in_order : EmptyIsOrderly → CallsLeaveOrder → MovesLeaveOrder → Moves → SessionsStayInOrder ss fs ls
+  pub in_order : EmptyIsOrderly → CallsLeaveOrder → MovesLeaveOrder → Moves → SessionsStayInOrder moving
   in_order empty call moved_calls moves = record {
     begins = λ deployment context noted noted_after deploys.
         let store = deployed_empty deployment deploys.started context deploys.is in
@@ -91,8 +91,8 @@ module _ {S F L : Type 0} (ss : S → Call → S → Type 0) (fs : F → Call �
   }
 
   module _ {Words : Type 0} (draws : Words → ℕ × ℕ → Words → Type 0) where
-    pub ends_expired : ExpiryLeavesNone ss fs ls → ExpiryOfNoneIsNothing ss fs ls → LeavesNoneExpired → MovedLeaveNoneExpired → Moves
-        → EndsExpired (theory ss fs ls draws)
+    pub ends_expired : ExpiryLeavesNone moving → ExpiryOfNoneIsNothing moving → LeavesNoneExpired → MovedLeaveNoneExpired → Moves
+        → EndsExpired (theory moving draws)
     ends_expired leaves_none none_is_nothing admission leave moves = record {
       settles = λ context after moment told expires. leaves_none moment context after new_journal (whole told) expires;
       stays = λ context moment none. (none_is_nothing moment context new_journal none).0;
@@ -107,12 +107,12 @@ module _ {S F L : Type 0} (ss : S → Call → S → Type 0) (fs : F → Call �
           subst (HasNoneExpired asked.moment) (sym handles.store) (subst (λ now. HasNoneExpired now handles.exchange.store) moved.moment kept);
     }
 
-    pub tells_outcomes : RunsAreJournalled ss fs ls → TellsOutcomes (theory ss fs ls draws)
+    pub tells_outcomes : RunsAreJournalled moving → TellsOutcomes (theory moving draws)
     tells_outcomes law = record {
       tells = λ handling handles.
           let asked = asked_of handling.context handling.request in
           let entry = (admitted handling.context asked).entry in
-          let gains = run_is_silent ss fs ls law (world_of handling.context (with_entry entry new_journal)) (world_of handling.after (whole handling.entries))
+          let gains = run_is_silent moving law (world_of handling.context (with_entry entry new_journal)) (world_of handling.after (whole handling.entries))
           handles.is_answered.made handles.is_answered.runs refl in
           record {
             behind = gains.behind;
@@ -120,11 +120,11 @@ module _ {S F L : Type 0} (ss : S → Call → S → Type 0) (fs : F → Call �
             no_other = gains.no_outcome;
           };
       ends_silently = λ context after moment told expires.
-          let gains = growth_is_silent ss fs ls law (world_of context new_journal) (world_of after (whole told)) _ expires.told refl in
+          let gains = growth_is_silent moving law (world_of context new_journal) (world_of after (whole told)) _ expires.told refl in
           subst (λ entries. filter is_outcome entries ≡ []) (sym gains.are) gains.no_outcome;
     }
 
-    pub gives_callers : CallersAreEntered → MovedGiveNoCaller → Moves → GivesCallersByLogin (theory ss fs ls draws)
+    pub gives_callers : CallersAreEntered → MovedGiveNoCaller → Moves → GivesCallersByLogin (theory moving draws)
     gives_callers entered give_none moves = record {
       by_login = λ handling number caller handles holds.
           let context = handling.context in
@@ -141,7 +141,7 @@ module _ {S F L : Type 0} (ss : S → Call → S → Type 0) (fs : F → Call �
           held_through entered number caller moment expires.ended context.store after.store expires.ends holds;
     }
 
-    pub changes_constraints : ChangesConstraintsByEdits (theory ss fs ls draws)
+    pub changes_constraints : ChangesConstraintsByEdits (theory moving draws)
     changes_constraints = record {
       edits = λ before after edit answer edits. edits.outcome;
       by_request = λ handling handles. record {

@@ -6,6 +6,7 @@ use Rattle.sv_component.specs.Laws.{RunsAreJournalled}
 use Rattle.sv_component.specs.Noted.{filter_entry, servlet_entry}
 use Rattle.sv_component.specs.Runs.{IsRun, OfFilter, OfListener, OfServlet, Record, Runs, record_entry}
 use Rattle.sv_component.specs.World.{World, name_at}
+use Rattle.sv_component.specs.Steps.{ComponentSteps}
 use Rattle.sv_journal.specs.Journal.{JournalState}
 use Rattle.sv_journal.specs.declared.entry.Entry.{Entry}
 use Rattle.sv_run.specs.Lawful.{is_outcome}
@@ -43,8 +44,8 @@ pub record GainsSilently (before after : JournalState) : Type 0 where
   pub are : after.entries ≡ before.entries ++ behind
   pub no_outcome : filter is_outcome behind ≡ []
 
-module _ {S F L : Type 0} (ss : S → Call → S → Type 0) (fs : F → Call → F → Type 0) (ls : L → Call → L → Type 0) (law : RunsAreJournalled ss fs ls) where
-  pub run_is_silent : (from to : World S F L) (made : List Record) → IsRun ss fs ls from made to → to.journal.whole ≡ true
+module _ {S F L : Type 0} (moving : ComponentSteps S F L) (law : RunsAreJournalled moving) where
+  pub run_is_silent : (from to : World S F L) (made : List Record) → IsRun moving from made to → to.journal.whole ≡ true
       → GainsSilently from.journal to.journal
   run_is_silent from to made runs whole =
       let gains = law from to made runs in
@@ -55,10 +56,10 @@ module _ {S F L : Type 0} (ss : S → Call → S → Type 0) (fs : F → Call �
         no_outcome = subst (λ told. filter is_outcome told ≡ []) all (none_told from made);
       }
 
-  run_of_none : (world : World S F L) → IsRun ss fs ls world [] world
+  run_of_none : (world : World S F L) → IsRun moving world [] world
   unfolding IsRun
   run_of_none world = refl
 
-  pub growth_is_silent : (from to : World S F L) (records : List Record) → Runs ss fs ls from records to → to.journal.whole ≡ true
+  pub growth_is_silent : (from to : World S F L) (records : List Record) → Runs moving from records to → to.journal.whole ≡ true
       → GainsSilently from.journal to.journal
   growth_is_silent from to records grows whole = run_is_silent from to ([] ++ records) (grows from [] (run_of_none from)) whole

@@ -2,7 +2,7 @@
 use Rattle.std.proofs.Common.{◌≡◌, ℕ, Bool, true, false, List, [], ◌∷◌, ◌++◌, Ok, Err, refl, sym, ap, ◌∙◌, subst}
 use Rattle.std.specs.Bool.{MatchBool}
 use Rattle.std.specs.List.{AllByRecursion}
-use Rattle.sv_component.specs.Call.{Call}
+use Rattle.sv_component.specs.Steps.{ComponentSteps}
 use Rattle.sv_conduct.proofs.Travelling.{runs_on}
 use Rattle.sv_conduct.specs.Record.{EveryRunIsLawful, IsLawfulRun}
 use Rattle.sv_conduct.specs.Until.{EveryRunIsLawfulUntilRefused, IsLawfulUpTo}
@@ -101,10 +101,10 @@ module _ {Context Words : Type 0} (theory : Theory Context Words) where
         refuses = rest.0;
       }
 
-module _ {S F L Words : Type 0} (ss : S → Call → S → Type 0) (fs : F → Call → F → Type 0) (ls : L → Call → L → Type 0) (draws : Words → ℕ × ℕ → Words → Type 0)
-    (law : EveryRunIsLawful ss fs ls draws) (stops : WantOfMemoryStops (contexts.theory ss fs ls draws)) where
+module _ {S F L Words : Type 0} (moving : ComponentSteps S F L) (draws : Words → ℕ × ℕ → Words → Type 0)
+    (law : EveryRunIsLawful moving draws) (stops : WantOfMemoryStops (contexts.theory moving draws)) where
   up_to : (before after : State (ContextState S F L) Words) (happenings : List Happening) (answers : List (Answer (ContextState S F L)))
-      → IsRefusedAt (contexts.theory ss fs ls draws) before happenings answers after → IsLawfulUpTo ss fs ls draws before happenings answers after
+      → IsRefusedAt (contexts.theory moving draws) before happenings answers after → IsLawfulUpTo moving draws before happenings answers after
   up_to before after happenings answers at = record {
     front = at.front;
     wanting = at.wanting;
@@ -120,11 +120,11 @@ module _ {S F L Words : Type 0} (ss : S → Call → S → Type 0) (fs : F → C
     refuses = at.refuses;
   }
 
-  pub until_refused : EveryRunIsLawfulUntilRefused ss fs ls draws
+  pub until_refused : EveryRunIsLawfulUntilRefused moving draws
   until_refused before after happenings answers runs run =
       by_stop after.stopped refl
     where
       by_stop : (stopped : Bool) → after.stopped ≡ stopped
-          → MatchBool stopped (IsLawfulUpTo ss fs ls draws before happenings answers after) (IsLawfulRun ss fs ls draws before answers after)
-      by_stop true is = up_to before after happenings answers (refused_at (contexts.theory ss fs ls draws) stops before after happenings answers runs is run)
+          → MatchBool stopped (IsLawfulUpTo moving draws before happenings answers after) (IsLawfulRun moving draws before answers after)
+      by_stop true is = up_to before after happenings answers (refused_at (contexts.theory moving draws) stops before after happenings answers runs is run)
       by_stop false is = law before after happenings answers run is

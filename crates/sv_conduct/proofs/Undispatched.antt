@@ -7,10 +7,10 @@ use Rattle.sv_admission.specs.declared.answer.Answer.{Answer}
 use Rattle.sv_admission.specs.declared.answer.Answer.TheVariants as answers
 use Rattle.sv_admission.specs.declared.limits.TheConstants.{SEE_OTHER}
 use Rattle.sv_component.proofs.Running.{runs_grown}
-use Rattle.sv_component.specs.Call.{Call}
 use Rattle.sv_component.specs.Runs.{IsRun, OfFilter, OfListener, OfServlet, Record}
 use Rattle.sv_component.specs.World.{World}
 use Rattle.sv_component.specs.declared.named.Named.{Named}
+use Rattle.sv_component.specs.Steps.{ComponentSteps}
 use Rattle.sv_conduct.specs.Refused.{TheUndispatchedCallNone, is_dispatch, is_dispatched, servlets_and_filters}
 use Rattle.sv_context.specs.Answered.{Answered, Answers, SendsTo, Tells}
 use Rattle.sv_context.specs.Conduct.{asked_of}
@@ -112,9 +112,9 @@ module _ (site : Site) where
       (subst AreHeard (sym (answer_silent canon answer none both.between y both.back result both.goes_on)) tt))
   answered_heard canon event answer x y r result none (inr first) = tells_heard event x y r None first.0
 
-module _ {S F L : Type 0} (ss : S → Call → S → Type 0) (fs : F → Call → F → Type 0) (ls : L → Call → L → Type 0) where
+module _ {S F L : Type 0} (moving : ComponentSteps S F L) where
   -- what is heard moves neither servlets nor filters
-  heard_runs : (before after : World S F L) (made : List Record) → IsRun ss fs ls before made after → AreHeard made
+  heard_runs : (before after : World S F L) (made : List Record) → IsRun moving before made after → AreHeard made
       → (after.servlets ≡ before.servlets) × (after.filters ≡ before.filters)
   unfolding IsRun
   heard_runs before after [] ran heard = (ap (λ (w : World S F L). w.servlets) ran, ap (λ (w : World S F L). w.filters) ran)
@@ -129,7 +129,7 @@ module _ {S F L : Type 0} (ss : S → Call → S → Type 0) (fs : F → Call �
   same_both context after same = λ i. (same.0 i, same.1 i)
 
   answered_same : (asked : Asked) (context after : ContextState S F L) (noted noted' : JournalState) (exchange : exchanges.State) (result : Option (Unit {0}))
-      → is_dispatch (admitted context asked).answer ≡ false → IsAnswered ss fs ls asked context noted exchange result after noted'
+      → is_dispatch (admitted context asked).answer ≡ false → IsAnswered moving asked context noted exchange result after noted'
       → servlets_and_filters after ≡ servlets_and_filters context
   answered_same asked context after noted noted' exchange result none did =
       same_both context after
@@ -138,23 +138,23 @@ module _ {S F L : Type 0} (ss : S → Call → S → Type 0) (fs : F → Call �
       (state_in context (exchange_begun context asked)) (state_in after exchange) did.made result none did.answers))
 
   cut_same : (asked : Asked) (context after : ContextState S F L) (noted noted' : JournalState)
-      → is_dispatch (admitted context asked).answer ≡ false → CutShort ss fs ls asked context noted after noted'
+      → is_dispatch (admitted context asked).answer ≡ false → CutShort moving asked context noted after noted'
       → servlets_and_filters after ≡ servlets_and_filters context
   cut_same asked context after noted noted' none (inl ended) = ap servlets_and_filters ended.stays
   cut_same asked context after noted noted' none (inr did) = answered_same asked context after noted noted' did.0 None none did.1
 
-  expiry_same : (context after : ContextState S F L) (moment : ℕ) (noted noted' : JournalState) → Expires ss fs ls moment context noted after noted'
+  expiry_same : (context after : ContextState S F L) (moment : ℕ) (noted noted' : JournalState) → Expires moving moment context noted after noted'
       → servlets_and_filters after ≡ servlets_and_filters context
   expiry_same context after moment noted noted' did =
       let made = ends_told did.ended (length context.listeners) in
       same_both context after
       (heard_runs (world_of context noted) (world_of after noted') made
-      (runs_grown ss fs ls (world_of context noted) (world_of after noted') made did.told)
+      (runs_grown moving (world_of context noted) (world_of after noted') made did.told)
       (ends_heard did.ended (length context.listeners)))
 
-  pub the_undispatched_call_none : {Words : Type 0} (draws : Words → ℕ × ℕ → Words → Type 0) → TheUndispatchedCallNone ss fs ls draws
+  pub the_undispatched_call_none : {Words : Type 0} (draws : Words → ℕ × ℕ → Words → Type 0) → TheUndispatchedCallNone moving draws
   the_undispatched_call_none draws before after happening breaks place none =
-      event_same (theory ss fs ls draws) servlets_and_filters is_dispatched place
+      event_same (theory moving draws) servlets_and_filters is_dispatched place
       (λ handling handles undispatched.
       answered_same (asked_of handling.context handling.request) handling.context handling.after new_journal (whole handling.entries)
       handles.exchange (Some tt) undispatched handles.is_answered)

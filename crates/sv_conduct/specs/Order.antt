@@ -1,6 +1,6 @@
 -- The order of a context's sessions (Jakarta Servlet 6.0, chapter 7): no two have the same number, so that whoever holds a caller is found by it.
 use Rattle.std.specs.Prelude.{◌≡◌, ℕ, List, [], Ok}
-use Rattle.sv_component.specs.Call.{Call}
+use Rattle.sv_component.specs.Steps.{ComponentSteps}
 use Rattle.sv_context.specs.Conduct.{conduct}
 use Rattle.sv_context.specs.Deployment.{Deploys}
 use Rattle.sv_context.specs.State.{ContextState}
@@ -11,10 +11,10 @@ use Rattle.sv_run.specs.Contexts.{Handling}
 use Rattle.sv_session.specs.Store.{IsOrderly}
 
 -- there is order at first, where there is no session, and each request and each expiry leaves it
-pub record SessionsStayInOrder {S F L : Type 0} (servlet_step : S → Call → S → Type 0) (filter_step : F → Call → F → Type 0) (listener_step : L → Call → L → Type 0) : Type 0 where
+pub record SessionsStayInOrder {S F L : Type 0} (moving : ComponentSteps S F L) : Type 0 where
   pub begins : (deployment : Deployment S F L) (context : ContextState S F L) (noted noted_after : JournalState)
-      → Deploys servlet_step filter_step listener_step deployment noted (Ok context) noted_after → (context.store.sessions ≡ []) × IsOrderly context.store
+      → Deploys moving deployment noted (Ok context) noted_after → (context.store.sessions ≡ []) × IsOrderly context.store
   pub handles : (handling : Handling (ContextState S F L))
-      → (conduct servlet_step filter_step listener_step).Handles handling → IsOrderly handling.context.store → IsOrderly handling.after.store
+      → (conduct moving).Handles handling → IsOrderly handling.context.store → IsOrderly handling.after.store
   pub expires : (context after : ContextState S F L) (moment : ℕ) (told : List Entry)
-      → (conduct servlet_step filter_step listener_step).Expires context moment told after → IsOrderly context.store → IsOrderly after.store
+      → (conduct moving).Expires context moment told after → IsOrderly context.store → IsOrderly after.store

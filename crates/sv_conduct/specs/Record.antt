@@ -11,6 +11,7 @@ use Rattle.sv_admission.specs.declared.answer.Answer.TheVariants as replies
 use Rattle.sv_component.specs.Call.{Call}
 use Rattle.sv_component.specs.Laws.{ComponentsMoved}
 use Rattle.sv_component.specs.Runs.{Record, record_entry}
+use Rattle.sv_component.specs.Steps.{ComponentSteps}
 use Rattle.sv_constraints.specs.Verdict.{verdict}
 use Rattle.sv_constraints.specs.declared.owned_decision.OwnedDecision.{OwnedDecision}
 use Rattle.sv_constraints.specs.declared.owned_decision.OwnedDecision.TheVariants.{Open}
@@ -159,19 +160,19 @@ calls_of place (made ∷ others) = if made.0 == place then made.1 ∷ calls_of p
 abbrev pub entry_at : {S F L : Type 0} → List (ContextState S F L) → ℕ × Record → Option Entry
 entry_at contexts made = option_map (λ context. record_entry (world_of context unnoted) made.1) (slice_get contexts made.0)
 
-module _ {S F L : Type 0} (servlet_step : S → Call → S → Type 0) (filter_step : F → Call → F → Type 0) (listener_step : L → Call → L → Type 0) where
+module _ {S F L : Type 0} (moving : ComponentSteps S F L) where
   -- each component of a context is moved by exactly its calls, in their order
   abbrev pub IsMovedBy : Option (ContextState S F L) → List Record → Option (ContextState S F L) → Type 0
   IsMovedBy None calls after = after ≡ None
   IsMovedBy (Some first) calls after =
       (last : ContextState S F L) × (after ≡ Some last)
-      × ComponentsMoved servlet_step filter_step listener_step (world_of first unnoted) calls (world_of last unnoted)
+      × ComponentsMoved moving (world_of first unnoted) calls (world_of last unnoted)
 
   module _ {Words : Type 0} (draws : Words → ℕ × ℕ → Words → Type 0) where
     pub record IsLawfulRun (before : State (ContextState S F L) Words) (answers : List (Answer (ContextState S F L)))
         (after : State (ContextState S F L) Words) : Type 0 where
       -- each message goes to the context whose path serves its target, or to none
-      pub destined : AllByRecursion (IsDestinedBy (destination (theory servlet_step filter_step listener_step draws) before.world.contexts)) (deeds_of answers)
+      pub destined : AllByRecursion (IsDestinedBy (destination (theory moving draws) before.world.contexts)) (deeds_of answers)
       -- there it enters exactly where it may, and every other stays out by a named cause; within its dispatches nothing is decided again
       pub messages : AllByRecursion IsLawful (deeds_of answers)
       -- the journal tells the outcomes of the messages, in their order
@@ -184,4 +185,4 @@ module _ {S F L : Type 0} (servlet_step : S → Call → S → Type 0) (filter_s
     abbrev pub EveryRunIsLawful : Type 0
     EveryRunIsLawful =
         (before after : State (ContextState S F L) Words) (happenings : List Happening) (answers : List (Answer (ContextState S F L)))
-        → Run (theory servlet_step filter_step listener_step draws) before happenings answers after → after.stopped ≡ false → IsLawfulRun before answers after
+        → Run (theory moving draws) before happenings answers after → after.stopped ≡ false → IsLawfulRun before answers after

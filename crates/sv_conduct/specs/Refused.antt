@@ -3,8 +3,8 @@ use Rattle.std.specs.Prelude.{◌≡◌, ℕ, Bool, true, false, List, Some, Non
 use Rattle.std.specs.List.{AllByRecursion}
 use Rattle.sv_admission.specs.declared.answer.Answer.{Answer}
 use Rattle.sv_admission.specs.declared.answer.Answer.TheVariants.{Entered, Page, Error, SeeOther}
-use Rattle.sv_component.specs.Call.{Call}
 use Rattle.sv_component.specs.declared.named.Named.{Named}
+use Rattle.sv_component.specs.Steps.{ComponentSteps}
 use Rattle.sv_context.specs.Conduct.{asked_of}
 use Rattle.sv_context.specs.Handled.{admitted}
 use Rattle.sv_context.specs.State.{ContextState}
@@ -29,11 +29,11 @@ is_dispatched context request = is_dispatch (admitted context (asked_of context 
 abbrev pub servlets_and_filters : {S F L : Type 0} → ContextState S F L → List (Named S) × List (Named F)
 servlets_and_filters context = (context.servlets, context.filters)
 
-module _ {S F L Words : Type 0} (servlet_step : S → Call → S → Type 0) (filter_step : F → Call → F → Type 0) (listener_step : L → Call → L → Type 0) (draws : Words → ℕ × ℕ → Words → Type 0) where
+module _ {S F L Words : Type 0} (moving : ComponentSteps S F L) (draws : Words → ℕ × ℕ → Words → Type 0) where
   -- in an event that wants memory, however far it came, the servlets and filters of a context of whose requests none is dispatched are as before
   abbrev pub TheUndispatchedCallNone : Type 0
   TheUndispatchedCallNone =
       (before after : State (ContextState S F L) Words) (happening : Happening)
-      (breaks : Breaks (theory servlet_step filter_step listener_step draws) before happening after) (place : ℕ)
+      (breaks : Breaks (theory moving draws) before happening after) (place : ℕ)
       → AllByRecursion (λ given. given.place ≡ place → is_dispatched given.context given.request ≡ false) breaks.given
       → slice_get (map servlets_and_filters after.world.contexts) place ≡ slice_get (map servlets_and_filters before.world.contexts) place

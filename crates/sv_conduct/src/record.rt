@@ -1,5 +1,6 @@
 //! The headline, over our contexts.
 
+ghost use Rattle.sv_component.specs.Steps.{steps_of};
 ghost use Rattle.sv_conduct.specs.Record.{EveryRunIsLawful};
 ghost use Rattle.sv_conduct.specs.Until.{EveryRunIsLawfulUntilRefused};
 
@@ -15,7 +16,7 @@ use sv_run::{Words, want_of_memory_stops};
 /// error, a page of form login or that of the error; within a dispatch nothing is decided again; and each component is moved by exactly the calls that the
 /// journal notes of it, in their order.
 pub fn every_run_is_lawful<S: Servlet, F: Filter, L: Listener, W: Words>()
-    ensures { EveryRunIsLawful S.servlet_step F.filter_step L.listener_step W.draws }
+    ensures { EveryRunIsLawful (steps_of S.servlet_step F.filter_step L.listener_step) W.draws }
 {
     runs_are_journalled::<S, F, L>();
     runs_move_components::<S, F, L>();
@@ -26,7 +27,7 @@ pub fn every_run_is_lawful<S: Servlet, F: Filter, L: Listener, W: Words>()
 /// The same of each run of a container that runs, whether memory is refused in it or not: it is lawful as a whole, or it is so up to the event that wanted
 /// memory. That event broke off and stopped the container, so that its own entries and answer are lost, and each event behind it is refused.
 pub fn every_run_is_lawful_until_memory_is_refused<S: Servlet, F: Filter, L: Listener, W: Words>()
-    ensures { EveryRunIsLawfulUntilRefused S.servlet_step F.filter_step L.listener_step W.draws }
+    ensures { EveryRunIsLawfulUntilRefused (steps_of S.servlet_step F.filter_step L.listener_step) W.draws }
 {
     every_run_is_lawful::<S, F, L, W>();
     want_of_memory_stops::<Context<S, F, L>, W>();

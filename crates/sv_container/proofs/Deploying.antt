@@ -1,7 +1,7 @@
 -- Contexts that start and stop one after another.
 use Rattle.std.proofs.Common.{◌≡◌, ℕ, suc, ◌<◌, ◌≤◌, List, [], ◌∷◌, ◌++◌, length, map, slice_index_or, Result, Ok, Err, refl, ap, ◌∙◌, subst, arith, length-append}
 use Rattle.std.proofs.lemmas.List.{length-map}
-use Rattle.sv_component.specs.Call.{Call}
+use Rattle.sv_component.specs.Steps.{ComponentSteps}
 use Rattle.sv_container.specs.Deploying.{DeploysAll, UndeploysAll}
 use Rattle.sv_container.specs.Explaining.{ExplainsWhatWasDeployed, policies_of_contexts}
 use Rattle.sv_container.specs.Paths.{paths_of}
@@ -37,18 +37,18 @@ module _ {S F L : Type 0} where
   policy_started deployment (Ok live) = refl
   policy_started deployment (Err fault) = refl
 
-module _ {S F L : Type 0} (servlet_step : S → Call → S → Type 0) (filter_step : F → Call → F → Type 0) (listener_step : L → Call → L → Type 0) where
+module _ {S F L : Type 0} (moving : ComponentSteps S F L) where
   -- one more context starts
   pub deploys_next : (front : List (Deployment S F L)) (before between after : JournalState) (contexts : List (ContextState S F L))
       (deployment : Deployment S F L) (context : ContextState S F L)
-      → DeploysAll servlet_step filter_step listener_step front before contexts between
-      → Deploys servlet_step filter_step listener_step deployment between (Ok context) after
-      → DeploysAll servlet_step filter_step listener_step (front ++ deployment ∷ []) before (contexts ++ context ∷ []) after
+      → DeploysAll moving front before contexts between
+      → Deploys moving deployment between (Ok context) after
+      → DeploysAll moving (front ++ deployment ∷ []) before (contexts ++ context ∷ []) after
   deploys_next [] before between after contexts deployment context so_far starts = (
     context,
     [],
     after,
-    subst (λ (j : JournalState). Deploys servlet_step filter_step listener_step deployment j (Ok context) after) so_far.1 starts,
+    subst (λ (j : JournalState). Deploys moving deployment j (Ok context) after) so_far.1 starts,
     (refl, refl),
     ap (λ cs. cs ++ context ∷ []) so_far.0,
   )
@@ -64,14 +64,14 @@ module _ {S F L : Type 0} (servlet_step : S → Call → S → Type 0) (filter_s
   -- one more context stops
   pub undeploys_next : (front : List (ContextState S F L)) (before between after : JournalState) (back : List (Deployment S F L))
       (context : ContextState S F L) (deployment : Deployment S F L)
-      → UndeploysAll servlet_step filter_step listener_step front before back between
-      → Undeploys servlet_step filter_step listener_step context between deployment after
-      → UndeploysAll servlet_step filter_step listener_step (front ++ context ∷ []) before (back ++ deployment ∷ []) after
+      → UndeploysAll moving front before back between
+      → Undeploys moving context between deployment after
+      → UndeploysAll moving (front ++ context ∷ []) before (back ++ deployment ∷ []) after
   undeploys_next [] before between after back context deployment so_far stops = (
     deployment,
     [],
     after,
-    subst (λ (j : JournalState). Undeploys servlet_step filter_step listener_step context j deployment after) so_far.1 stops,
+    subst (λ (j : JournalState). Undeploys moving context j deployment after) so_far.1 stops,
     (refl, refl),
     ap (λ ds. ds ++ deployment ∷ []) so_far.0,
   )
@@ -86,14 +86,14 @@ module _ {S F L : Type 0} (servlet_step : S → Call → S → Type 0) (filter_s
 
   -- as many are handed back as were contexts
   pub back_counts : (contexts : List (ContextState S F L)) (before after : JournalState) (back : List (Deployment S F L))
-      → UndeploysAll servlet_step filter_step listener_step contexts before back after → length back ≡ length contexts
+      → UndeploysAll moving contexts before back after → length back ≡ length contexts
   back_counts [] before after back stops = ap length stops.0
   back_counts (context ∷ contexts) before after back stops =
       ap length stops.5 ∙ ap suc (back_counts contexts stops.2 after stops.1 stops.4)
 
   -- as many contexts start as there are deployments, at their paths
   pub paths_stay : (deployments : List (Deployment S F L)) (before after : JournalState) (contexts : List (ContextState S F L))
-      → DeploysAll servlet_step filter_step listener_step deployments before contexts after
+      → DeploysAll moving deployments before contexts after
       → map (λ context. context.content.context_path) contexts ≡ paths_of deployments
   paths_stay [] before after contexts starts = ap (map (λ context. context.content.context_path)) starts.0
   paths_stay (deployment ∷ deployments) before after contexts starts =
@@ -102,7 +102,7 @@ module _ {S F L : Type 0} (servlet_step : S → Call → S → Type 0) (filter_s
       ∷ paths_stay deployments starts.2 after starts.1 starts.4 i)
 
   -- contexts that start have the policies of the deployments
-  pub policies_stay : ExplainsWhatWasDeployed servlet_step filter_step listener_step
+  pub policies_stay : ExplainsWhatWasDeployed moving
   policies_stay [] before after contexts starts = ap policies_of_contexts starts.0
   policies_stay (deployment ∷ deployments) before after contexts starts =
       ap policies_of_contexts starts.5
@@ -110,7 +110,7 @@ module _ {S F L : Type 0} (servlet_step : S → Call → S → Type 0) (filter_s
       ∷ policies_stay deployments starts.2 after starts.1 starts.4 i)
 
   pub contexts_count : (deployments : List (Deployment S F L)) (before after : JournalState) (contexts : List (ContextState S F L))
-      → DeploysAll servlet_step filter_step listener_step deployments before contexts after → length contexts ≡ length deployments
+      → DeploysAll moving deployments before contexts after → length contexts ≡ length deployments
   contexts_count [] before after contexts starts = ap length starts.0
   contexts_count (deployment ∷ deployments) before after contexts starts =
       ap length starts.5 ∙ ap suc (contexts_count deployments starts.2 after starts.1 starts.4)

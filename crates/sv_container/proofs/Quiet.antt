@@ -1,8 +1,8 @@
 -- Contexts that stop without a word of their sessions.
 use Rattle.std.proofs.Common.{◌≡◌, true, List, [], ◌∷◌, ◌++◌, length, map, refl, sym, ap, ◌∙◌, subst}
 use Rattle.sv_component.proofs.Running.{runs_grown}
-use Rattle.sv_component.specs.Call.{Call}
 use Rattle.sv_component.specs.Runs.{IsRun}
+use Rattle.sv_component.specs.Steps.{ComponentSteps}
 use Rattle.sv_container.specs.Deploying.{UndeploysAll}
 use Rattle.sv_container.specs.Stopping.{AllStopQuietly, StoppedContainersStopQuietly, StopsQuietly, contexts_to_stop, journal_to_stop}
 use Rattle.sv_context.specs.Deployment.{Undeploys}
@@ -14,17 +14,17 @@ use Rattle.sv_lifecycle.specs.Calls.{stop_calls}
 use Rattle.sv_lifecycle.specs.World.{world}
 use Rattle.sv_site.specs.Site.{Content}
 
-module _ {S F L : Type 0} (ss : S → Call → S → Type 0) (fs : F → Call → F → Type 0) (ls : L → Call → L → Type 0) where
-  one_quiet : (context : ContextState S F L) (before after : JournalState) (back : Deployment S F L) → Undeploys ss fs ls (without_sessions context) before back after
-      → StopsQuietly ss fs ls context before back.parts after
+module _ {S F L : Type 0} (moving : ComponentSteps S F L) where
+  one_quiet : (context : ContextState S F L) (before after : JournalState) (back : Deployment S F L) → Undeploys moving (without_sessions context) before back after
+      → StopsQuietly moving context before back.parts after
   one_quiet context before after back undeploys =
       let made = stop_calls (length context.listeners) (in_service context) [] in
-      subst (λ path. IsRun ss fs ls (world_of context before) made (world path back.parts after)) (ap (λ (content : Content). content.context_path) undeploys.content)
-      (runs_grown ss fs ls (world_of (without_sessions context) before) (world back.path back.parts after) (λ done. done ++ made) undeploys.stops)
+      subst (λ path. IsRun moving (world_of context before) made (world path back.parts after)) (ap (λ (content : Content). content.context_path) undeploys.content)
+      (runs_grown moving (world_of (without_sessions context) before) (world back.path back.parts after) (λ done. done ++ made) undeploys.stops)
 
   all_quiet : (contexts : List (ContextState S F L)) (before after : JournalState) (back : List (Deployment S F L))
-      → UndeploysAll ss fs ls (map without_sessions contexts) before back after
-      → AllStopQuietly ss fs ls contexts before (map (λ deployment. deployment.parts) back) after
+      → UndeploysAll moving (map without_sessions contexts) before back after
+      → AllStopQuietly moving contexts before (map (λ deployment. deployment.parts) back) after
   all_quiet [] before after back undeploys = (ap (map (λ deployment. deployment.parts)) undeploys.0, undeploys.1)
   all_quiet (context ∷ contexts) before after back undeploys = (
     undeploys.0.parts,
@@ -35,8 +35,8 @@ module _ {S F L : Type 0} (ss : S → Call → S → Type 0) (fs : F → Call �
     ap (map (λ deployment. deployment.parts)) undeploys.5,
   )
 
-  pub stopped_stop_quietly : (Words : Type 0) → StoppedContainersStopQuietly ss fs ls Words
+  pub stopped_stop_quietly : (Words : Type 0) → StoppedContainersStopQuietly moving Words
   stopped_stop_quietly Words state parts journal stopped shuts =
-      subst (λ its. AllStopQuietly ss fs ls state.world.contexts (journal_to_stop true) its journal) (sym shuts.are)
+      subst (λ its. AllStopQuietly moving state.world.contexts (journal_to_stop true) its journal) (sym shuts.are)
       (all_quiet state.world.contexts (journal_to_stop true) journal shuts.back
-      (subst (λ flag. UndeploysAll ss fs ls (contexts_to_stop flag state.world.contexts) (journal_to_stop flag) shuts.back journal) stopped shuts.undeploys))
+      (subst (λ flag. UndeploysAll moving (contexts_to_stop flag state.world.contexts) (journal_to_stop flag) shuts.back journal) stopped shuts.undeploys))

@@ -1,6 +1,6 @@
 -- What would become of a request to a container (Jakarta Servlet 6.0, sections 3.5, 10.5, 12.1 and 13.8).
 use Rattle.std.specs.Prelude.{◌≡◌, ℕ, List, map, Option}
-use Rattle.sv_component.specs.Call.{Call}
+use Rattle.sv_component.specs.Steps.{ComponentSteps}
 use Rattle.sv_container.specs.Deploying.{DeploysAll}
 use Rattle.sv_context.specs.Deployment.{declared_policy}
 use Rattle.sv_context.specs.State.{ContextState}
@@ -22,8 +22,8 @@ abbrev pub policies_of : {S F L : Type 0} → List (Deployment S F L) → List C
 policies_of deployments = map (λ deployment. policy deployment.path (declared_policy deployment.descriptor) deployment.users) deployments
 
 -- contexts that were started answer by what was deployed
-abbrev pub ExplainsWhatWasDeployed : {S F L : Type 0} → (S → Call → S → Type 0) → (F → Call → F → Type 0) → (L → Call → L → Type 0) → Type 0
-ExplainsWhatWasDeployed {S} {F} {L} servlet_step filter_step listener_step =
+abbrev pub ExplainsWhatWasDeployed : {S F L : Type 0} → ComponentSteps S F L → Type 0
+ExplainsWhatWasDeployed {S} {F} {L} moving =
     (deployments : List (Deployment S F L)) (before after : JournalState) (contexts : List (ContextState S F L))
-    → DeploysAll servlet_step filter_step listener_step deployments before contexts after
+    → DeploysAll moving deployments before contexts after
     → policies_of_contexts contexts ≡ policies_of deployments

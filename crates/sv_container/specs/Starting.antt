@@ -1,6 +1,6 @@
 -- The start of a container (Jakarta Servlet 6.0, sections 2.3.1, 6.2.1 and 11.3.3).
 use Rattle.std.specs.Prelude.{◌≡◌, ◌⊎◌, List, ◌∷◌, ◌++◌, Result, Ok, Err}
-use Rattle.sv_component.specs.Call.{Call}
+use Rattle.sv_component.specs.Steps.{ComponentSteps}
 use Rattle.sv_container.specs.Container.{state_of}
 use Rattle.sv_container.specs.Deploying.{DeploysAll, UndeploysAll}
 use Rattle.sv_container.specs.NewCode.{code_of, named_path}
@@ -14,7 +14,7 @@ use Rattle.sv_context.specs.declared.deployment.Deployment.{Deployment}
 use Rattle.sv_host.specs.Host.{opening}
 use Rattle.sv_journal.specs.Journal.{JournalState}
 
-module _ {S F L : Type 0} (servlet_step : S → Call → S → Type 0) (filter_step : F → Call → F → Type 0) (listener_step : L → Call → L → Type 0) where
+module _ {S F L : Type 0} (moving : ComponentSteps S F L) where
   -- the deployments before one become contexts, that one does not start, and the contexts are undeployed again
   pub record Fails (deployments : List (Deployment S F L)) (before : JournalState) (fault : NewFault S F L) (after : JournalState) : Type 0 where
     pub front : List (Deployment S F L)
@@ -23,12 +23,12 @@ module _ {S F L : Type 0} (servlet_step : S → Call → S → Type 0) (filter_s
     pub are : deployments ≡ front ++ failed ∷ rest
     pub contexts : List (ContextState S F L)
     pub started : JournalState
-    pub starts : DeploysAll servlet_step filter_step listener_step front before contexts started
+    pub starts : DeploysAll moving front before contexts started
     pub refusal : DeployFault S F L
     pub undone : JournalState
-    pub fails : Deploys servlet_step filter_step listener_step failed started (Err refusal) undone
+    pub fails : Deploys moving failed started (Err refusal) undone
     pub stopped : List (Deployment S F L)
-    pub stops : UndeploysAll servlet_step filter_step listener_step contexts undone stopped after
+    pub stops : UndeploysAll moving contexts undone stopped after
     pub code : fault.code ≡ code_of refusal.fault
     pub context : fault.context ≡ named_path refusal.fault failed.path
     pub back : fault.deployments.items ≡ stopped ++ refusal.deployment ∷ rest
@@ -47,6 +47,6 @@ module _ {S F L : Type 0} (servlet_step : S → Call → S → Type 0) (filter_s
   -- the deployments become contexts, and the run begins with them, or the start is refused
   abbrev pub Starts : {W : Type 0} → List (Deployment S F L) → W → JournalState → Result (Container S F L W) (NewFault S F L) → JournalState → Type 0
   Starts deployments words before (Ok container) after =
-      (contexts : List (ContextState S F L)) × DeploysAll servlet_step filter_step listener_step deployments before contexts after
+      (contexts : List (ContextState S F L)) × DeploysAll moving deployments before contexts after
       × ArePermitted (paths_of deployments) × (state_of container ≡ opening contexts words)
   Starts deployments words before (Err fault) after = RefusesDeployments deployments before fault after

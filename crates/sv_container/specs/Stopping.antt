@@ -1,7 +1,7 @@
 -- The stop of a container (Jakarta Servlet 6.0, sections 2.3.4, 6.2.1 and 11.3.4).
 use Rattle.std.specs.Prelude.{◌≡◌, Bool, true, false, List, [], ◌∷◌, length, map}
-use Rattle.sv_component.specs.Call.{Call}
 use Rattle.sv_component.specs.Runs.{IsRun}
+use Rattle.sv_component.specs.Steps.{ComponentSteps}
 use Rattle.sv_container.specs.Deploying.{UndeploysAll}
 use Rattle.sv_context.specs.Forgetting.{without_sessions}
 use Rattle.sv_context.specs.State.{ContextState, in_service, world_of}
@@ -22,11 +22,11 @@ abbrev pub journal_to_stop : Bool → JournalState
 journal_to_stop true = broken new_journal
 journal_to_stop false = new_journal
 
-module _ {S F L : Type 0} (servlet_step : S → Call → S → Type 0) (filter_step : F → Call → F → Type 0) (listener_step : L → Call → L → Type 0) where
+module _ {S F L : Type 0} (moving : ComponentSteps S F L) where
   -- the contexts stop in the order of their list, and their components are handed back
   pub record ShutsDown {W : Type 0} (state : State (ContextState S F L) W) (parts : List (Parts S F L)) (journal : JournalState) : Type 0 where
     pub back : List (Deployment S F L)
-    pub undeploys : UndeploysAll servlet_step filter_step listener_step
+    pub undeploys : UndeploysAll moving
         (contexts_to_stop state.stopped state.world.contexts) (journal_to_stop state.stopped) back journal
     pub are : parts ≡ map (λ deployment. deployment.parts) back
 
@@ -34,7 +34,7 @@ module _ {S F L : Type 0} (servlet_step : S → Call → S → Type 0) (filter_s
   -- each listener hears in reverse that the context stops
   abbrev pub StopsQuietly : ContextState S F L → JournalState → Parts S F L → JournalState → Type 0
   StopsQuietly context before parts after =
-      IsRun servlet_step filter_step listener_step (world_of context before)
+      IsRun moving (world_of context before)
       (stop_calls (length context.listeners) (in_service context) []) (world context.content.context_path parts after)
 
   abbrev pub AllStopQuietly : List (ContextState S F L) → JournalState → List (Parts S F L) → JournalState → Type 0

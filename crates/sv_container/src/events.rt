@@ -1,5 +1,6 @@
 //! The events of a container.
 
+ghost use Rattle.sv_component.specs.Steps.{steps_of};
 ghost use Rattle.sv_container.specs.Container.{state_of};
 ghost use Rattle.sv_context.specs.Conduct.{conduct};
 ghost use Rattle.sv_context.specs.Theory.{theory};
@@ -20,9 +21,9 @@ impl<S: Servlet, F: Filter, L: Listener, W: Words> Container<S, F, L, W> {
     /// lost: the sessions that have expired have ended, the event broke off, each further event is refused as `Stopped`, and the container can be
     /// shut down. Each context was moved by the calls made so far, of which those that put a servlet out of service for good destroyed it, once.
     pub fn step(&mut self, happening: Happening) -> Result<Reaction, StepFault>
-        ensures steps { StepsSo (theory S.servlet_step F.filter_step L.listener_step W.draws)
+        ensures steps { StepsSo (theory (steps_of S.servlet_step F.filter_step L.listener_step) W.draws)
             (state_of self.old) (happening_of happening.entry) result (state_of self.new) }
-        ensures alters { AltersAll (conduct S.servlet_step F.filter_step L.listener_step) (state_of self.old).world.contexts (state_of self.new).world.contexts }
+        ensures alters { AltersAll (conduct (steps_of S.servlet_step F.filter_step L.listener_step)) (state_of self.old).world.contexts (state_of self.new).world.contexts }
     {
         self.host.step(happening)
     }
@@ -30,7 +31,7 @@ impl<S: Servlet, F: Filter, L: Listener, W: Words> Container<S, F, L, W> {
 
 impl<S: Servlet, F: Filter, L: Listener, W: Words> Reactor for Container<S, F, L, W> {
     ghost steps = { λ before happening result after.
-        StepsSo (theory S.servlet_step F.filter_step L.listener_step W.draws) (state_of before) happening result (state_of after) };
+        StepsSo (theory (steps_of S.servlet_step F.filter_step L.listener_step) W.draws) (state_of before) happening result (state_of after) };
 
     fn step(&mut self, happening: Happening) -> Result<Reaction, StepFault> {
         Container::<S, F, L, W>::step(self, happening)

@@ -1,5 +1,6 @@
 //! The laws of a container, each the contract of a function that does nothing.
 
+ghost use Rattle.sv_component.specs.Steps.{steps_of};
 ghost use Rattle.std.specs.Prelude.{◌≡◌};
 ghost use Rattle.sv_container.specs.Explaining.{ExplainsWhatWasDeployed};
 ghost use Rattle.sv_container.specs.Stopping.{StoppedContainersStopQuietly};
@@ -16,10 +17,10 @@ pub fn limits_are_as_stated()
 /// Behind an event that wanted memory the stop of a container destroys each component that was initialised and is not gone, in the reverse of the order
 /// of the inits, has the listeners hear in reverse that the context stops, context by context, and tells nothing of sessions.
 pub fn stopped_containers_stop_quietly<S: Servlet, F: Filter, L: Listener, W: Words>()
-    ensures { StoppedContainersStopQuietly S.servlet_step F.filter_step L.listener_step W }
+    ensures { StoppedContainersStopQuietly (steps_of S.servlet_step F.filter_step L.listener_step) W }
 {}
 
 /// Contexts that were started explain a request by what was deployed: their paths, descriptors and users.
 pub fn containers_explain_what_was_deployed<S: Servlet, F: Filter, L: Listener>()
-    ensures { ExplainsWhatWasDeployed S.servlet_step F.filter_step L.listener_step }
+    ensures { ExplainsWhatWasDeployed (steps_of S.servlet_step F.filter_step L.listener_step) }
 {}

@@ -1,5 +1,6 @@
 //! How a container starts.
 
+ghost use Rattle.sv_component.specs.Steps.{steps_of};
 ghost use Rattle.std.specs.Prelude.{◌≡◌, ◌+◌, ◌<◌, ◌≤◌, ℕ, List, [], ◌∷◌, ◌++◌, Err, Ok, IfOk, MatchResult, length, map, slice_index_or, vec_capacity};
 ghost use Rattle.sv_container.specs.Container.{state_of};
 ghost use Rattle.sv_container.specs.Deploying.{DeploysAll, UndeploysAll};
@@ -40,7 +41,7 @@ impl<S: Servlet, F: Filter, L: Listener, W: Drop> Container<S, F, L, W> {
         words: W,
         journal: &mut Journal,
     ) -> Result<Container<S, F, L, W>, NewFault<S, F, L>>
-        ensures { Starts S.servlet_step F.filter_step L.listener_step deployments.items words journal.old result journal.new }
+        ensures { Starts (steps_of S.servlet_step F.filter_step L.listener_step) deployments.items words journal.old result journal.new }
     {
         if let Err(refusal) = permit(alloc, deployments.as_slice()) {
             return Err(refusal.of(deployments));
@@ -76,7 +77,7 @@ fn start<S: Servlet, F: Filter, L: Listener, W: Drop>(
     requires permitted { ArePermitted (paths_of deployments.items) }
     requires ready { IsReady deployments.items room }
     requires indexed { index ≡ paths_of deployments.items }
-    ensures { Starts S.servlet_step F.filter_step L.listener_step deployments.items words journal.old result journal.new }
+    ensures { Starts (steps_of S.servlet_step F.filter_step L.listener_step) deployments.items words journal.old result journal.new }
 {
     let mut room = room;
     match deploy_all(alloc, deployments, &mut room, journal) {
@@ -120,9 +121,9 @@ fn deploy_all<S: Servlet, F: Filter, L: Listener>(
 ) -> Result<(), NewFault<S, F, L>>
     requires { IsReady deployments.items room.old }
     ensures { MatchResult result
-        (λ _. DeploysAll S.servlet_step F.filter_step L.listener_step deployments.items journal.old room.new.contexts.items journal.new
+        (λ _. DeploysAll (steps_of S.servlet_step F.filter_step L.listener_step) deployments.items journal.old room.new.contexts.items journal.new
         × HasRoomToStop (length deployments.items) room.new)
-        (λ fault. Fails S.servlet_step F.filter_step L.listener_step deployments.items journal.old fault journal.new) }
+        (λ fault. Fails (steps_of S.servlet_step F.filter_step L.listener_step) deployments.items journal.old fault journal.new) }
 {
     let mut waiting = VecDeque::from_vec(deployments);
     while let Some(deployment) = waiting.pop_front() {
@@ -142,9 +143,9 @@ fn deploy_next<S: Servlet, F: Filter, L: Listener>(
 ) -> Result<(), DeployFault<S, F, L>>
     requires { length contexts.old.items < vec_capacity contexts.old }
     ensures deploys { MatchResult result
-        (λ _. (context : ContextState S F L) × Deploys S.servlet_step F.filter_step L.listener_step deployment journal.old (Ok context) journal.new
+        (λ _. (context : ContextState S F L) × Deploys (steps_of S.servlet_step F.filter_step L.listener_step) deployment journal.old (Ok context) journal.new
         × (contexts.new.items ≡ contexts.old.items ++ context ∷ []))
-        (λ fault. Deploys S.servlet_step F.filter_step L.listener_step deployment journal.old (Err fault) journal.new
+        (λ fault. Deploys (steps_of S.servlet_step F.filter_step L.listener_step) deployment journal.old (Err fault) journal.new
         × (contexts.new.items ≡ contexts.old.items)) }
     ensures room { vec_capacity contexts.old ≤ vec_capacity contexts.new }
 {
@@ -171,7 +172,7 @@ fn undo<S: Servlet, F: Filter, L: Listener>(
     ensures code { result.code ≡ code_of fault.fault }
     ensures context { result.context ≡ named_path fault.fault (slice_index_or room.old.paths.items (length room.old.contexts.items) []) }
     ensures undone { (stopped : List (DeploymentData S F L))
-        × UndeploysAll S.servlet_step F.filter_step L.listener_step room.old.contexts.items journal.old stopped journal.new
+        × UndeploysAll (steps_of S.servlet_step F.filter_step L.listener_step) room.old.contexts.items journal.old stopped journal.new
         × (result.deployments.items ≡ stopped ++ fault.deployment ∷ rest.items) }
 {
     let path = room.paths.swap_remove(room.contexts.len());

@@ -1,5 +1,6 @@
 //! How a container stops.
 
+ghost use Rattle.sv_component.specs.Steps.{steps_of};
 ghost use Rattle.std.specs.Prelude.{◌≡◌, ◌+◌, ◌≤◌, ◌++◌, List, length, map, vec_capacity};
 ghost use Rattle.sv_container.specs.Container.{state_of};
 ghost use Rattle.sv_container.specs.Deploying.{UndeploysAll};
@@ -33,7 +34,7 @@ impl<S: Servlet, F: Filter, L: Listener, W: Drop> Container<S, F, L, W> {
     /// Stops the contexts in their order, and hands their components back (Jakarta Servlet 6.0, sections 2.3.4, 6.2.1 and 11.3.4). It takes
     /// no memory but the journal's, and no refusal of memory holds it up. After an event that wanted memory nothing is told of sessions.
     pub fn shutdown(self) -> Shutdown<S, F, L>
-        ensures { ShutsDown S.servlet_step F.filter_step L.listener_step (state_of self) result.parts.items result.journal }
+        ensures { ShutsDown (steps_of S.servlet_step F.filter_step L.listener_step) (state_of self) result.parts.items result.journal }
     {
         let Container {
             alloc,
@@ -96,7 +97,7 @@ pub(crate) fn undeploy_all<S: Servlet, F: Filter, L: Listener>(
 )
     requires { length back.old.items + length contexts.items ≤ vec_capacity back.old }
     ensures undeploys { (stopped : List (DeploymentData S F L))
-        × UndeploysAll S.servlet_step F.filter_step L.listener_step contexts.items journal.old stopped journal.new
+        × UndeploysAll (steps_of S.servlet_step F.filter_step L.listener_step) contexts.items journal.old stopped journal.new
         × (back.new.items ≡ back.old.items ++ stopped) × (length stopped ≡ length contexts.items) }
     ensures room { vec_capacity back.old ≤ vec_capacity back.new }
 {

@@ -3,8 +3,8 @@ use Rattle.std.proofs.Common.{◌≡◌, ℕ, true, inl, inr, List, [], ◌∷�
 use Rattle.std.specs.Prelude.{IfErr, IfOk}
 use Rattle.sv_admission.specs.Asked.{Asked}
 use Rattle.sv_component.proofs.Running.{runs_grown, runs_join}
-use Rattle.sv_component.specs.Call.{Call}
 use Rattle.sv_component.specs.Runs.{IsRun}
+use Rattle.sv_component.specs.Steps.{ComponentSteps}
 use Rattle.sv_dispatch.specs.Did.{seen}
 use Rattle.sv_exchange.specs.State as exchanges
 use Rattle.sv_journal.specs.Journal.{JournalState, new_journal, with_entry}
@@ -22,19 +22,19 @@ use Rattle.sv_context.proofs.Retirings.{answered_retires, ends_heard, heard_reti
 use Rattle.sv_context.specs.Retirement.{retires_none}
 use Rattle.sv_context.proofs.Journals.{NotesSo, noting_more, runs_note, runs_unnoted}
 
-module _ {S F L : Type 0} (ss : S → Call → S → Type 0) (fs : F → Call → F → Type 0) (ls : L → Call → L → Type 0) where
+module _ {S F L : Type 0} (moving : ComponentSteps S F L) where
   -- what is answered moves the components
   answered_moves : (asked : Asked) (before after : ContextState S F L) (noted noted' : JournalState) (exchange : exchanges.State) (result : Option (Unit {0}))
-      → IsAnswered ss fs ls asked before noted exchange result after noted' → IsMoved ss fs ls before after
+      → IsAnswered moving asked before noted exchange result after noted' → IsMoved moving before after
   answered_moves asked before after noted noted' exchange result did = record {
     made = did.made;
-    runs = runs_unnoted ss fs ls (world_of before (with_entry (admitted before asked).entry noted)) did.made (world_of after noted') did.runs;
+    runs = runs_unnoted moving (world_of before (with_entry (admitted before asked).entry noted)) did.made (world_of after noted') did.runs;
     retires = answered_retires (site_of before.content) asked.canon (admitted before asked).event (admitted before asked).answer
         (state_in before (exchange_begun before asked)) (state_in after exchange) did.made result did.answers;
     stays = did.stays;
   }
 
-  uncalled_moves : (before after : ContextState S F L) → after ≡ record before { store = after.store } → IsMoved ss fs ls before after
+  uncalled_moves : (before after : ContextState S F L) → after ≡ record before { store = after.store } → IsMoved moving before after
   unfolding IsRun
   uncalled_moves before after same = record {
     made = [];
@@ -52,7 +52,7 @@ module _ {S F L : Type 0} (ss : S → Call → S → Type 0) (fs : F → Call �
   }
 
   pub handling_moves : (asked : Asked) (before after : ContextState S F L) (noted noted' : JournalState) (response : Option Response)
-      → HandlesMessage ss fs ls asked before noted response after noted' → IsMoved ss fs ls before after
+      → HandlesMessage moving asked before noted response after noted' → IsMoved moving before after
   handling_moves asked before after noted noted' (Some response) did =
       answered_moves asked before after noted noted' did.exchange (Some tt) did.is_answered
   handling_moves asked before after noted noted' None (inl did) = uncalled_moves before after did.stays
@@ -60,12 +60,12 @@ module _ {S F L : Type 0} (ss : S → Call → S → Type 0) (fs : F → Call �
 
   -- what an answer notes, and the same from a new journal on
   pub handling_notes : (asked : Asked) (before after : ContextState S F L) (noted noted' : JournalState) (response : Response)
-      → GivesResponse ss fs ls asked before noted response after noted'
-      → (entries : List Entry) × GivesResponse ss fs ls asked before new_journal response after (whole entries) × (noted' ≡ noting entries noted)
+      → GivesResponse moving asked before noted response after noted'
+      → (entries : List Entry) × GivesResponse moving asked before new_journal response after (whole entries) × (noted' ≡ noting entries noted)
   handling_notes asked before after noted noted' response did =
       let entry = (admitted before asked).entry in
-      let notes : NotesSo ss fs ls (world_of before (with_entry entry noted)) did.is_answered.made (world_of after noted') =
-      runs_note ss fs ls (world_of before (with_entry entry noted)) did.is_answered.made (world_of after noted') did.is_answered.runs in (
+      let notes : NotesSo moving (world_of before (with_entry entry noted)) did.is_answered.made (world_of after noted') =
+      runs_note moving (world_of before (with_entry entry noted)) did.is_answered.made (world_of after noted') did.is_answered.runs in (
         entry ∷ notes.entries,
         record {
           exchange = did.exchange;
@@ -83,31 +83,31 @@ module _ {S F L : Type 0} (ss : S → Call → S → Type 0) (fs : F → Call �
       )
 
   -- an expiry moves the components
-  expiry_runs : (moment : ℕ) (before after : ContextState S F L) (noted noted' : JournalState) (did : Expires ss fs ls moment before noted after noted')
-      → IsRun ss fs ls (world_of before noted) (ends_told did.ended (length before.listeners)) (world_of after noted')
+  expiry_runs : (moment : ℕ) (before after : ContextState S F L) (noted noted' : JournalState) (did : Expires moving moment before noted after noted')
+      → IsRun moving (world_of before noted) (ends_told did.ended (length before.listeners)) (world_of after noted')
   expiry_runs moment before after noted noted' did =
-      runs_grown ss fs ls (world_of before noted) (world_of after noted') (ends_told did.ended (length before.listeners)) did.told
+      runs_grown moving (world_of before noted) (world_of after noted') (ends_told did.ended (length before.listeners)) did.told
 
-  pub expiry_moves : (moment : ℕ) (before after : ContextState S F L) (noted noted' : JournalState) → Expires ss fs ls moment before noted after noted' → IsMoved ss fs ls before after
+  pub expiry_moves : (moment : ℕ) (before after : ContextState S F L) (noted noted' : JournalState) → Expires moving moment before noted after noted' → IsMoved moving before after
   expiry_moves moment before after noted noted' did = record {
     made = ends_told did.ended (length before.listeners);
-    runs = runs_unnoted ss fs ls (world_of before noted) (ends_told did.ended (length before.listeners)) (world_of after noted') (expiry_runs moment before after noted noted' did);
+    runs = runs_unnoted moving (world_of before noted) (ends_told did.ended (length before.listeners)) (world_of after noted') (expiry_runs moment before after noted noted' did);
     retires = heard_retires before.standings after.standings (ends_told did.ended (length before.listeners)) (ends_heard did.ended (length before.listeners)) did.standings;
     stays = did.stays;
   }
 
   -- what an expiry notes, and the same from a new journal on
-  pub expiry_notes : (moment : ℕ) (before after : ContextState S F L) (noted noted' : JournalState) → Expires ss fs ls moment before noted after noted'
-      → (told : List Entry) × Expires ss fs ls moment before new_journal after (whole told) × (noted'.whole ≡ true → noted' ≡ noting told noted)
+  pub expiry_notes : (moment : ℕ) (before after : ContextState S F L) (noted noted' : JournalState) → Expires moving moment before noted after noted'
+      → (told : List Entry) × Expires moving moment before new_journal after (whole told) × (noted'.whole ≡ true → noted' ≡ noting told noted)
   expiry_notes moment before after noted noted' did =
       let made = ends_told did.ended (length before.listeners) in
-      let notes : NotesSo ss fs ls (world_of before noted) made (world_of after noted') =
-      runs_note ss fs ls (world_of before noted) made (world_of after noted') (expiry_runs moment before after noted noted' did) in (
+      let notes : NotesSo moving (world_of before noted) made (world_of after noted') =
+      runs_note moving (world_of before noted) made (world_of after noted') (expiry_runs moment before after noted noted' did) in (
         notes.entries,
         record {
           ended = did.ended;
           ends = did.ends;
-          told = λ from done ran. runs_join ss fs ls from (world_of before new_journal) (world_of after (whole notes.entries)) done made ran (notes.elsewhere new_journal refl);
+          told = λ from done ran. runs_join moving from (world_of before new_journal) (world_of after (whole notes.entries)) done made ran (notes.elsewhere new_journal refl);
           stays = did.stays;
           standings = did.standings;
         },
@@ -115,13 +115,13 @@ module _ {S F L : Type 0} (ss : S → Call → S → Type 0) (fs : F → Call �
       )
 
   -- a request that was cut short, the same from a new journal on
-  cut_notes : (asked : Asked) (before after : ContextState S F L) (noted noted' : JournalState) → CutShort ss fs ls asked before noted after noted'
-      → (entries : List Entry) × CutShort ss fs ls asked before new_journal after (whole entries)
+  cut_notes : (asked : Asked) (before after : ContextState S F L) (noted noted' : JournalState) → CutShort moving asked before noted after noted'
+      → (entries : List Entry) × CutShort moving asked before new_journal after (whole entries)
   cut_notes asked before after noted noted' (inl ended) = ([], inl record { entry = inl refl; stays = ended.stays })
   cut_notes asked before after noted noted' (inr did) =
       let entry = (admitted before asked).entry in
-      let notes : NotesSo ss fs ls (world_of before (with_entry entry noted)) did.1.made (world_of after noted') =
-      runs_note ss fs ls (world_of before (with_entry entry noted)) did.1.made (world_of after noted') did.1.runs in (
+      let notes : NotesSo moving (world_of before (with_entry entry noted)) did.1.made (world_of after noted') =
+      runs_note moving (world_of before (with_entry entry noted)) did.1.made (world_of after noted') did.1.runs in (
         entry ∷ notes.entries,
         inr (
           did.0,
@@ -135,16 +135,16 @@ module _ {S F L : Type 0} (ss : S → Call → S → Type 0) (fs : F → Call �
       )
 
   pub hosted_cuts : (request : Request) (before after : ContextState S F L) (noted noted' : JournalState) (result : Result Response NoMemory)
-      → HandlesMessage ss fs ls (asked_of before request) before noted (seen result) after noted'
-      → IfErr result (λ _. (conduct ss fs ls).CutsShort before request after)
+      → HandlesMessage moving (asked_of before request) before noted (seen result) after noted'
+      → IfErr result (λ _. (conduct moving).CutsShort before request after)
   hosted_cuts request before after noted noted' (Ok response) did = tt
   hosted_cuts request before after noted noted' (Err refusal) did = cut_notes (asked_of before request) before after noted noted' did
 
   -- what a request brings
   pub hosted_handles : (request : Request) (before after : ContextState S F L) (noted noted' : JournalState) (result : Result Response NoMemory)
-      → HandlesMessage ss fs ls (asked_of before request) before noted (seen result) after noted'
+      → HandlesMessage moving (asked_of before request) before noted (seen result) after noted'
       → IfOk result (λ response. (entries : List Entry)
-      × (conduct ss fs ls).Handles (record { context = before; request = request; entries = entries; response = response; after = after })
+      × (conduct moving).Handles (record { context = before; request = request; entries = entries; response = response; after = after })
       × (noted' ≡ noting entries noted))
   hosted_handles request before after noted noted' (Ok response) did = handling_notes (asked_of before request) before after noted noted' response did
   hosted_handles request before after noted noted' (Err refusal) did = tt

@@ -1,8 +1,8 @@
 -- A deployment and its end.
 use Rattle.std.proofs.Common.{◌≡◌, ℕ, Bool, true, false, List, [], length, refl, sym, ap, subst, inl, None, Result, Ok, Err}
 use Rattle.std.specs.Prelude.{MatchBool}
-use Rattle.sv_component.specs.Call.{Call}
 use Rattle.sv_component.specs.Runs.{Runs}
+use Rattle.sv_component.specs.Steps.{ComponentSteps}
 use Rattle.sv_descriptor.specs.declared.web_app.WebApp.{WebApp}
 use Rattle.sv_files.specs.declared.file.File.{File}
 use Rattle.sv_journal.specs.Journal.{JournalState}
@@ -37,28 +37,28 @@ pub refused_so : {S F L : Type 0} (deployment : Deployment S F L) (started : Res
     → started ≡ Err fault → Err (record { fault = fault.code; deployment = record deployment { parts = fault.parts } }) ≡ deployed deployment started
 refused_so deployment started fault is = rw is refl
 
-module _ {S F L : Type 0} (ss : S → Call → S → Type 0) (fs : F → Call → F → Type 0) (ls : L → Call → L → Type 0) where
+module _ {S F L : Type 0} (moving : ComponentSteps S F L) where
   -- the stop of the started components is that of the context
   pub stopped_so : (content : Content) (policy : Standing) (users : List User) (live : LiveState S F L) (store : Store) (parts : Parts S F L) (noted noted_after : JournalState)
       → AreComponentsOf content live
-      → Runs ss fs ls (live_world live noted) (stop_calls (length live.parts.listeners.items) (standing.in_service live) store.sessions) (world live.context parts noted_after)
-      → Runs ss fs ls (world_of (context_of content policy users live store) noted)
+      → Runs moving (live_world live noted) (stop_calls (length live.parts.listeners.items) (standing.in_service live) store.sessions) (world live.context parts noted_after)
+      → Runs moving (world_of (context_of content policy users live store) noted)
       (stop_calls (length live.parts.listeners.items) (in_service (context_of content policy users live store)) store.sessions) (world content.context_path parts noted_after)
   stopped_so content policy users live store parts noted noted_after components stops =
-      subst (λ from. Runs ss fs ls from (stop_calls (length live.parts.listeners.items) (standing.in_service live) store.sessions) (world content.context_path parts noted_after))
+      subst (λ from. Runs moving from (stop_calls (length live.parts.listeners.items) (standing.in_service live) store.sessions) (world content.context_path parts noted_after))
       (world_same content policy users live store noted components)
-      (subst (λ path. Runs ss fs ls (live_world live noted) (stop_calls (length live.parts.listeners.items) (standing.in_service live) store.sessions) (world path parts noted_after))
+      (subst (λ path. Runs moving (live_world live noted) (stop_calls (length live.parts.listeners.items) (standing.in_service live) store.sessions) (world path parts noted_after))
       components.context stops)
 
   -- a deployment whose start began nothing
   undone : (deployment : Deployment S F L) (code : StartCode) (journal : JournalState)
       → RefusesStart deployment.descriptor deployment.parts (record { order = []; begun = []; stopper = None; calls = [] }) code journal
-      → Deploys ss fs ls deployment journal (Err (record { fault = code; deployment = deployment })) journal
+      → Deploys moving deployment journal (Err (record { fault = code; deployment = deployment })) journal
   undone deployment code journal means = record {
     started = Err (record { code = code; parts = deployment.parts });
     starts = record {
       attempt = record { order = []; begun = []; stopper = None; calls = [] };
-      made = grows_nothing ss fs ls (world deployment.path deployment.parts journal);
+      made = grows_nothing moving (world deployment.path deployment.parts journal);
       means = means;
     };
     is = refl;
@@ -67,30 +67,30 @@ module _ {S F L : Type 0} (ss : S → Call → S → Type 0) (fs : F → Call �
   -- components that are the descriptor's, and want of memory
   pub no_memory_so : (deployment : Deployment S F L) (app : WebApp) (tested : Bool) (code : StartCode) (journal : JournalState)
       → app ≡ deployment.descriptor → MatchBool tested (Fits app deployment.parts) (Fits app deployment.parts → ⊥) → tested ≡ true → code ≡ NoMemory
-      → Deploys ss fs ls deployment journal (Err (record { fault = code; deployment = deployment })) journal
+      → Deploys moving deployment journal (Err (record { fault = code; deployment = deployment })) journal
   no_memory_so deployment app false code journal same fits is its_code = cc
   no_memory_so deployment app true code journal same fits is its_code =
-      subst (λ code. Deploys ss fs ls deployment journal (Err (record { fault = code; deployment = deployment })) journal) (sym its_code)
+      subst (λ code. Deploys moving deployment journal (Err (record { fault = code; deployment = deployment })) journal) (sym its_code)
       (undone deployment NoMemory journal (subst (λ app. Fits app deployment.parts) same fits, inl refl))
 
   -- components that are not
   pub mismatch_so : (deployment : Deployment S F L) (app : WebApp) (tested : Bool) (code : StartCode) (journal : JournalState)
       → app ≡ deployment.descriptor → MatchBool tested (Fits app deployment.parts) (Fits app deployment.parts → ⊥) → tested ≡ false → code ≡ PartsMismatch
-      → Deploys ss fs ls deployment journal (Err (record { fault = code; deployment = deployment })) journal
+      → Deploys moving deployment journal (Err (record { fault = code; deployment = deployment })) journal
   mismatch_so deployment app true code journal same fits is its_code = cc
   mismatch_so deployment app false code journal same fits is its_code =
-      subst (λ code. Deploys ss fs ls deployment journal (Err (record { fault = code; deployment = deployment })) journal) (sym its_code)
+      subst (λ code. Deploys moving deployment journal (Err (record { fault = code; deployment = deployment })) journal) (sym its_code)
       (undone deployment PartsMismatch journal (subst (λ app. Fits app deployment.parts → ⊥) same fits, refl))
 
   -- what is handed back
   pub undeployed_so : (content : Content) (policy : Standing) (users : List User) (live : LiveState S F L) (store : Store) (parts : Parts S F L) (noted noted_after : JournalState)
       (path : List ℕ) (app : WebApp) (files : List File)
       → AreComponentsOf content live → record { context_path = path; app = app; files = files } ≡ content
-      → Runs ss fs ls (live_world live noted) (stop_calls (length live.parts.listeners.items) (standing.in_service live) store.sessions) (world live.context parts noted_after)
-      → Undeploys ss fs ls (context_of content policy users live store) noted (record { path = path; descriptor = app; files = files; users = users; parts = parts }) noted_after
+      → Runs moving (live_world live noted) (stop_calls (length live.parts.listeners.items) (standing.in_service live) store.sessions) (world live.context parts noted_after)
+      → Undeploys moving (context_of content policy users live store) noted (record { path = path; descriptor = app; files = files; users = users; parts = parts }) noted_after
   undeployed_so content policy users live store parts noted noted_after path app files components same stops = record {
     stops =
-        subst (λ path. Runs ss fs ls (world_of (context_of content policy users live store) noted)
+        subst (λ path. Runs moving (world_of (context_of content policy users live store) noted)
         (stop_calls (length live.parts.listeners.items) (in_service (context_of content policy users live store)) store.sessions) (world path parts noted_after))
         (sym (ap (λ (its : Content). its.context_path) same))
         (stopped_so content policy users live store parts noted noted_after components stops);

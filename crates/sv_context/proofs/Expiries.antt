@@ -3,9 +3,9 @@ use Rattle.std.proofs.Common.{◌≡◌, ℕ, ◌<◌, Bool, List, [], ◌∷◌
 use Rattle.std.specs.List.{find}
 use Rattle.std.specs.Option.{option_and_then, option_map, option_map_or}
 use Rattle.std.proofs.lemmas.Bool.{cases_Bool}
-use Rattle.sv_component.specs.Call.{Call}
 use Rattle.sv_component.specs.Runs.{IsRun, Runs}
 use Rattle.sv_component.specs.World.{World}
+use Rattle.sv_component.specs.Steps.{ComponentSteps}
 use Rattle.sv_journal.specs.Journal.{JournalState}
 use Rattle.sv_lifecycle.specs.Calling.{StandsAsBefore}
 use Rattle.sv_lifecycle.specs.Standing.{LiveState, live_world}
@@ -104,18 +104,18 @@ same_at store (Some number) h = same_without number store (numbered number store
 pub left_same : (moment : ℕ) (store after : Store) → None ≡ expiring moment store → after ≡ left_by_expiry moment store → after ≡ store
 left_same moment store after none left = left ∙ same_at store (expired_number moment store) (sym none)
 
-module _ {S F L : Type 0} (ss : S → Call → S → Type 0) (fs : F → Call → F → Type 0) (ls : L → Call → L → Type 0) where
-  pub grows_nothing : (world : World S F L) → Runs ss fs ls world [] world
-  grows_nothing world = λ from done ran. subst (λ all. IsRun ss fs ls from all world) (sym (append-nil done)) ran
+module _ {S F L : Type 0} (moving : ComponentSteps S F L) where
+  pub grows_nothing : (world : World S F L) → Runs moving world [] world
+  grows_nothing world = λ from done ran. subst (λ all. IsRun moving from all world) (sym (append-nil done)) ran
 
   -- nothing that is told changes nothing
-  told_nothing : (before after : World S F L) → Runs ss fs ls before [] after → after ≡ before
+  told_nothing : (before after : World S F L) → Runs moving before [] after → after ≡ before
   unfolding IsRun
   told_nothing before after grows = grows before [] refl
 
   -- where none has expired
   module _ (law : ExpiryEndsWhereNoneHasExpired) (moment : ℕ) (before : ContextState S F L) (noted : JournalState) (fresh : HasNoneExpired moment before.store) where
-    pub expires_nothing : Expires ss fs ls moment before noted before noted
+    pub expires_nothing : Expires moving moment before noted before noted
     expires_nothing = record {
       ended = [];
       ends = ((law moment before.store).1 fresh, refl);
@@ -128,11 +128,11 @@ module _ {S F L : Type 0} (ss : S → Call → S → Type 0) (fs : F → Call �
     none_ended [] after ends = (refl, ends.1)
     none_ended (session ∷ others) after ends = absurd (let none = (law moment before.store).1 fresh in let some = ends.0 in cc)
 
-    pub nothing_expires : (after : ContextState S F L) (noted_after : JournalState) → Expires ss fs ls moment before noted after noted_after
+    pub nothing_expires : (after : ContextState S F L) (noted_after : JournalState) → Expires moving moment before noted after noted_after
         → (after ≡ before) × (noted_after ≡ noted)
     nothing_expires after noted_after expires =
         let none = none_ended expires.ended after.store expires.ends in
-        let told = subst (λ ended. Runs ss fs ls (world_of before noted) (ends_told ended (length before.listeners)) (world_of after noted_after)) none.0 expires.told in
+        let told = subst (λ ended. Runs moving (world_of before noted) (ends_told ended (length before.listeners)) (world_of after noted_after)) none.0 expires.told in
         let same = told_nothing (world_of before noted) (world_of after noted_after) told in (
           same_context after before expires.stays.content expires.stays.policy expires.stays.users (ap (λ world. world.servlets) same) (ap (λ world. world.filters) same)
               (ap (λ world. world.listeners) same) expires.stays.initialised expires.standings none.1,
@@ -143,7 +143,7 @@ module _ {S F L : Type 0} (ss : S → Call → S → Type 0) (fs : F → Call �
   pub record SoFar (moment : ℕ) (before : ContextState S F L) (noted : JournalState) (now : ContextState S F L) (noted_now : JournalState) : Type 0 where
     pub ended : List EndedSession
     pub ends : (rest : List EndedSession) (after : Store) → sessions.Expires moment now.store rest after → sessions.Expires moment before.store (ended ++ rest) after
-    pub told : Runs ss fs ls (world_of before noted) (ends_told ended (length before.listeners)) (world_of now noted_now)
+    pub told : Runs moving (world_of before noted) (ends_told ended (length before.listeners)) (world_of now noted_now)
     pub stays : IsSameDeployment before now
     pub standings : now.standings ≡ before.standings
 
@@ -160,7 +160,7 @@ module _ {S F L : Type 0} (ss : S → Call → S → Type 0) (fs : F → Call �
     -- one session more
     pub one_more : (session : EndedSession) (after : ContextState S F L) (noted_after : JournalState)
         → Some session ≡ expiring moment now.store → after.store ≡ left_by_expiry moment now.store
-        → Runs ss fs ls (world_of now noted_now) (all_told (end_events session) (length now.listeners)) (world_of after noted_after)
+        → Runs moving (world_of now noted_now) (all_told (end_events session) (length now.listeners)) (world_of after noted_after)
         → IsSameDeployment now after → after.standings ≡ now.standings
         → SoFar moment before noted after noted_after
     one_more session after noted_after ends left told stays standings = record {
@@ -169,8 +169,8 @@ module _ {S F L : Type 0} (ss : S → Call → S → Type 0) (fs : F → Call �
           subst (λ all. sessions.Expires moment before.store all last) (sym (append_assoc so_far.ended (session ∷ []) rest))
           (so_far.ends (session ∷ rest) last (sym ends, subst (λ store. sessions.Expires moment store rest last) left rest_ends));
       told = λ from done ran.
-          let behind = subst (λ n. Runs ss fs ls (world_of now noted_now) (all_told (end_events session) n) (world_of after noted_after)) so_far.stays.listeners told in
-          subst (λ all. IsRun ss fs ls from all (world_of after noted_after))
+          let behind = subst (λ n. Runs moving (world_of now noted_now) (all_told (end_events session) n) (world_of after noted_after)) so_far.stays.listeners told in
+          subst (λ all. IsRun moving from all (world_of after noted_after))
           (append_assoc done (ends_told so_far.ended (length before.listeners)) (all_told (end_events session) (length before.listeners))
           ∙ ap (λ more. done ++ more) (sym (told_more so_far.ended session (length before.listeners))))
           (behind from (done ++ ends_told so_far.ended (length before.listeners)) (so_far.told from done ran));
@@ -187,7 +187,7 @@ module _ {S F L : Type 0} (ss : S → Call → S → Type 0) (fs : F → Call �
     }
 
     -- no session more
-    pub all_expired : None ≡ expiring moment now.store → Expires ss fs ls moment before noted now noted_now
+    pub all_expired : None ≡ expiring moment now.store → Expires moving moment before noted now noted_now
     all_expired none = record {
       ended = so_far.ended;
       ends = subst (λ all. sessions.Expires moment before.store all now.store) (append-nil so_far.ended) (so_far.ends [] now.store (sym none, refl));
@@ -201,14 +201,14 @@ module _ {S F L : Type 0} (ss : S → Call → S → Type 0) (fs : F → Call �
       (live live_after : LiveState S F L) (store store_after : Store) (noted_now noted_after : JournalState)
       → SoFar moment before noted (context_of content policy users live store) noted_now → AreComponentsOf content live
       → (session : EndedSession) → Some session ≡ expiring moment store → store_after ≡ left_by_expiry moment store
-      → Runs ss fs ls (live_world live noted_now) (all_told (end_events session) (length live.parts.listeners.items)) (live_world live_after noted_after)
+      → Runs moving (live_world live noted_now) (all_told (end_events session) (length live.parts.listeners.items)) (live_world live_after noted_after)
       → StandsAsBefore live live_after
       → SoFar moment before noted (context_of content policy users live_after store_after) noted_after
   one_more_told moment before noted content policy users live live_after store store_after noted_now noted_after so_far components session ends left made stands =
       one_more moment before noted (context_of content policy users live store) noted_now so_far session (context_of content policy users live_after store_after) noted_after ends left
-      (subst (λ world. Runs ss fs ls world (all_told (end_events session) (length live.parts.listeners.items)) (world_of (context_of content policy users live_after store_after) noted_after))
+      (subst (λ world. Runs moving world (all_told (end_events session) (length live.parts.listeners.items)) (world_of (context_of content policy users live_after store_after) noted_after))
       (world_same content policy users live store noted_now components)
-      (subst (λ world. Runs ss fs ls (live_world live noted_now) (all_told (end_events session) (length live.parts.listeners.items)) world)
+      (subst (λ world. Runs moving (live_world live noted_now) (all_told (end_events session) (length live.parts.listeners.items)) world)
       (world_same content policy users live_after store_after noted_after (components_stay content live live_after components stands)) made))
       (record { content = refl; policy = refl; users = refl; servlets = stands.counts.servlets; filters = stands.counts.filters; listeners = stands.counts.listeners; initialised = stands.initialised })
       stands.standings

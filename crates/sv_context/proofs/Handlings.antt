@@ -5,8 +5,8 @@ use Rattle.sv_admission.specs.Admission.{settled_in}
 use Rattle.sv_admission.specs.Asked.{Asked}
 use Rattle.sv_admission.specs.declared.admission.Admission.{Admission}
 use Rattle.sv_admission.specs.declared.answer.Answer.{Answer}
-use Rattle.sv_component.specs.Call.{Call}
 use Rattle.sv_component.specs.Runs.{IsRun}
+use Rattle.sv_component.specs.Steps.{ComponentSteps}
 use Rattle.sv_exchange.specs.Beginning.{begun, finished}
 use Rattle.sv_exchange.specs.State as exchanges
 use Rattle.sv_exchange.specs.declared.held_session.HeldSession.{HeldSession}
@@ -37,11 +37,11 @@ pub begun_code : (message : Message) (canon : Canon) (path : List ℕ) (settings
     → x ≡ begun message canon path settings moment words held store → IsStatusCode x.status
 begun_code message canon path settings moment words held store x began = subst (λ (e : exchanges.State). IsStatusCode e.status) (sym began) (omega arith, omega arith)
 
-module _ {S F L : Type 0} (ss : S → Call → S → Type 0) (fs : F → Call → F → Type 0) (ls : L → Call → L → Type 0) where
+module _ {S F L : Type 0} (moving : ComponentSteps S F L) where
   -- an answer leaves the components of a content
   answered_components : (content : Content) (site : Site) (canon : Canon) (event : Option Event) (answer : Answer) (live live' : LiveState S F L) (x x' : exchanges.State)
       (noted noted' : JournalState) (result : Option (Unit {0}))
-      → ServedBy ss fs ls (Answered site canon event answer) live x noted result live' x' noted' → AreComponentsOf content live → AreComponentsOf content live'
+      → ServedBy moving (Answered site canon event answer) live x noted result live' x' noted' → AreComponentsOf content live → AreComponentsOf content live'
   answered_components content site canon event answer live live' x x' noted noted' result did components = record {
     context = did.context ∙ components.context;
     servlets = did.counts.servlets ∙ components.servlets;
@@ -51,7 +51,7 @@ module _ {S F L : Type 0} (ss : S → Call → S → Type 0) (fs : F → Call �
 
   pub components_stay : (content : Content) (site : Site) (canon : Canon) (entry : Entry) (event : Option Event) (answer : Answer) (live live' : LiveState S F L) (x x' : exchanges.State)
       (noted noted' : JournalState) (result : Option (Unit {0}))
-      → RespondsNoted ss fs ls site canon entry event answer live x noted result live' x' noted' → AreComponentsOf content live → AreComponentsOf content live'
+      → RespondsNoted moving site canon entry event answer live x noted result live' x' noted' → AreComponentsOf content live → AreComponentsOf content live'
   components_stay content site canon entry event answer live live' x x' noted noted' result (inl ended) components = subst (AreComponentsOf content) (sym ended.1) components
   components_stay content site canon entry event answer live live' x x' noted noted' result (inr did) components =
       answered_components content site canon event answer live live' x x' (with_entry entry noted) noted' result did components
@@ -59,16 +59,16 @@ module _ {S F L : Type 0} (ss : S → Call → S → Type 0) (fs : F → Call �
   -- the message was noted, and its answer begun
   pub noted_so : (site : Site) (canon : Canon) (entry : Entry) (event : Option Event) (answer : Answer) (live live' : LiveState S F L) (x x' : exchanges.State)
       (noted between noted' : JournalState) (result : Option (Unit {0})) → Takes noted entry between → between.whole ≡ true
-      → ServedBy ss fs ls (Answered site canon event answer) live x between result live' x' noted'
-      → RespondsNoted ss fs ls site canon entry event answer live x noted result live' x' noted'
+      → ServedBy moving (Answered site canon event answer) live x between result live' x' noted'
+      → RespondsNoted moving site canon entry event answer live x noted result live' x' noted'
   noted_so site canon entry event answer live live' x x' noted between noted' result takes is_whole did =
-      inr (subst (λ journal. ServedBy ss fs ls (Answered site canon event answer) live x journal result live' x' noted')
+      inr (subst (λ journal. ServedBy moving (Answered site canon event answer) live x journal result live' x' noted')
       (taken noted between entry noted.whole refl takes is_whole) did)
 
   -- the status of an answer is a status code
   pub status_so : (site : Site) (canon : Canon) (entry : Entry) (event : Option Event) (answer : Answer) (live live' : LiveState S F L) (x x' : exchanges.State)
       (noted noted' : JournalState) (response : Response)
-      → RespondsNoted ss fs ls site canon entry event answer live x noted (Some tt) live' x' noted' → IsStatusCode x.status → response ≡ finished x'
+      → RespondsNoted moving site canon entry event answer live x noted (Some tt) live' x' noted' → IsStatusCode x.status → response ≡ finished x'
       → IsStatusCode response.status
   status_so site canon entry event answer live live' x x' noted noted' response (inl ended) code response_is = let no = ended.0 in cc
   status_so site canon entry event answer live live' x x' noted noted' response (inr did) code response_is =
@@ -93,17 +93,17 @@ module _ {S F L : Type 0} (ss : S → Call → S → Type 0) (fs : F → Call �
           began ∙ ap₂ (λ session store. begun asked.message asked.canon content.context_path content.app.session.cookie asked.moment asked.words session store) (ap (λ a. a.session) is) settled
 
       answered_so : (result : Option (Unit {0}))
-          → ServedBy ss fs ls (Answered (site_of content) asked.canon admission.event admission.answer) live x (with_entry admission.entry noted) result live' x' noted'
-          → IsAnswered ss fs ls asked before noted x' result after noted'
+          → ServedBy moving (Answered (site_of content) asked.canon admission.event admission.answer) live x (with_entry admission.entry noted) result live' x' noted'
+          → IsAnswered moving asked before noted x' result after noted'
       answered_so result did = record {
         made = did.made;
         answers =
             subst (λ x. Answered (site_of content) asked.canon (admitted before asked).event (admitted before asked).answer (state_in before x) did.made (state_in after x') result) begun_so
             (subst (λ (a : Admission). Answered (site_of content) asked.canon a.event a.answer (state_in before x) did.made (state_in after x') result) is did.does_so);
         runs =
-            subst (λ (a : Admission). IsRun ss fs ls (world_of before (with_entry a.entry noted)) did.made (world_of after noted')) is
-            (subst (λ world. IsRun ss fs ls world did.made (world_of after noted')) (world_same content policy users live store (with_entry admission.entry noted) components)
-            (subst (λ world. IsRun ss fs ls (live_world live (with_entry admission.entry noted)) did.made world)
+            subst (λ (a : Admission). IsRun moving (world_of before (with_entry a.entry noted)) did.made (world_of after noted')) is
+            (subst (λ world. IsRun moving world did.made (world_of after noted')) (world_same content policy users live store (with_entry admission.entry noted) components)
+            (subst (λ world. IsRun moving (live_world live (with_entry admission.entry noted)) did.made world)
             (world_same content policy users live' store' noted'
             (answered_components content (site_of content) asked.canon admission.event admission.answer live live' x x' (with_entry admission.entry noted) noted' result did components))
             did.runs));
@@ -119,8 +119,8 @@ module _ {S F L : Type 0} (ss : S → Call → S → Type 0) (fs : F → Call �
       }
 
       -- memory ended it
-      pub cut_so : RespondsNoted ss fs ls (site_of content) asked.canon admission.entry admission.event admission.answer live x noted None live' x' noted'
-          → CutShort ss fs ls asked before noted after noted'
+      pub cut_so : RespondsNoted moving (site_of content) asked.canon admission.entry admission.event admission.answer live x noted None live' x' noted'
+          → CutShort moving asked before noted after noted'
       cut_so (inl ended) = inl record {
         entry = inr (subst (λ (a : Admission). Takes noted a.entry noted') is ended.2);
         stays = ap (λ (l : LiveState S F L). context_of content policy users l store') ended.1;
@@ -129,9 +129,9 @@ module _ {S F L : Type 0} (ss : S → Call → S → Type 0) (fs : F → Call �
 
       -- there is a response
       pub answers_so : (response : Response)
-          → RespondsNoted ss fs ls (site_of content) asked.canon admission.entry admission.event admission.answer live x noted (Some tt) live' x' noted'
+          → RespondsNoted moving (site_of content) asked.canon admission.entry admission.event admission.answer live x noted (Some tt) live' x' noted'
           → noted'.whole ≡ true → response ≡ finished x' → store' ≡ x'.store
-          → GivesResponse ss fs ls asked before noted response after noted'
+          → GivesResponse moving asked before noted response after noted'
       answers_so response (inl ended) is_whole response_is stored = let no = ended.0 in cc
       answers_so response (inr did) is_whole response_is stored = record {
         exchange = x';

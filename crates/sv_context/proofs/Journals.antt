@@ -1,9 +1,9 @@
 -- Runs over one journal and over another.
 use Rattle.std.proofs.Common.{◌≡◌, ◌⊎◌, Bool, true, false, inl, inr, List, [], ◌∷◌, refl, sym, ap, ap₂, ◌∙◌, subst, append_assoc, append-nil}
 use Rattle.std.specs.Prelude.{cond}
-use Rattle.sv_component.specs.Call.{Call}
 use Rattle.sv_component.specs.Runs.{IsRun, Moves, OfFilter, OfListener, OfServlet, Record, record_entry}
 use Rattle.sv_component.specs.World.{World}
+use Rattle.sv_component.specs.Steps.{ComponentSteps}
 use Rattle.sv_journal.specs.Journal.{JournalState, Takes, broken, with_entry}
 use Rattle.sv_journal.specs.declared.entry.Entry.{Entry}
 use Rattle.sv_run.specs.Effect.{noting}
@@ -31,15 +31,15 @@ pub noting_more : (entry : Entry) (entries : List Entry) (journal : JournalState
 noting_more entry entries journal =
     ap (λ (all : List Entry). record { entries = all; whole = journal.whole }) (append_assoc journal.entries (entry ∷ []) entries)
 
-module _ {S F L : Type 0} (ss : S → Call → S → Type 0) (fs : F → Call → F → Type 0) (ls : L → Call → L → Type 0) where
+module _ {S F L : Type 0} (moving : ComponentSteps S F L) where
   -- the entry of a record does not depend on the journal
   same_entry : (world : World S F L) (journal : JournalState) (made : Record) → record_entry (over journal world) made ≡ record_entry world made
   same_entry world journal (OfServlet place call) = refl
   same_entry world journal (OfFilter place call) = refl
   same_entry world journal (OfListener place event) = refl
 
-  moves_over : (before after : World S F L) (made : Record) (journal journal' : JournalState) → Moves ss fs ls before made after
-      → Takes journal (record_entry before made) journal' → Moves ss fs ls (over journal before) made (over journal' after)
+  moves_over : (before after : World S F L) (made : Record) (journal journal' : JournalState) → Moves moving before made after
+      → Takes journal (record_entry before made) journal' → Moves moving (over journal before) made (over journal' after)
   moves_over before after (OfServlet place call) journal journal' moves takes = record { component = moves.component; journal = takes; context = moves.context }
   moves_over before after (OfFilter place call) journal journal' moves takes = record { component = moves.component; journal = takes; context = moves.context }
   moves_over before after (OfListener place event) journal journal' moves takes = record { component = moves.component; journal = takes; context = moves.context }
@@ -48,7 +48,7 @@ module _ {S F L : Type 0} (ss : S → Call → S → Type 0) (fs : F → Call �
   pub record NotesSo (before : World S F L) (records : List Record) (after : World S F L) : Type 0 where
     pub entries : List Entry
     pub journal : after.journal.whole ≡ true → after.journal ≡ noting entries before.journal
-    pub elsewhere : (journal : JournalState) → journal.whole ≡ true → IsRun ss fs ls (over journal before) records (over (noting entries journal) after)
+    pub elsewhere : (journal : JournalState) → journal.whole ≡ true → IsRun moving (over journal before) records (over (noting entries journal) after)
 
   none_noted : (before after : World S F L) → after ≡ before → NotesSo before [] after
   unfolding IsRun
@@ -61,7 +61,7 @@ module _ {S F L : Type 0} (ss : S → Call → S → Type 0) (fs : F → Call �
       nothing_noted : (journal : JournalState) → noting [] journal ≡ journal
       nothing_noted journal = ap (λ (all : List Entry). record { entries = all; whole = journal.whole }) (append-nil journal.entries)
 
-  one_noted : (before middle after : World S F L) (made : Record) (others : List Record) → Moves ss fs ls before made middle
+  one_noted : (before middle after : World S F L) (made : Record) (others : List Record) → Moves moving before made middle
       → NotesSo middle others after → NotesSo before (made ∷ others) after
   unfolding IsRun
   one_noted before middle after made others moves rest =
@@ -75,19 +75,19 @@ module _ {S F L : Type 0} (ss : S → Call → S → Type 0) (fs : F → Call �
         elsewhere = λ journal is_whole. (
           over (with_entry entry journal) middle,
           moves_over before middle made journal (with_entry entry journal) moves (takes_whole journal entry is_whole),
-          subst (λ its_journal. IsRun ss fs ls (over (with_entry entry journal) middle) others (over its_journal after)) (noting_more entry rest.entries journal)
+          subst (λ its_journal. IsRun moving (over (with_entry entry journal) middle) others (over its_journal after)) (noting_more entry rest.entries journal)
               (rest.elsewhere (with_entry entry journal) is_whole),
         );
       }
 
-  pub runs_note : (before : World S F L) (records : List Record) (after : World S F L) → IsRun ss fs ls before records after → NotesSo before records after
+  pub runs_note : (before : World S F L) (records : List Record) (after : World S F L) → IsRun moving before records after → NotesSo before records after
   unfolding IsRun
   runs_note before [] after ran = none_noted before after ran
   runs_note before (made ∷ others) after ran = one_noted before ran.0 after made others ran.1 (runs_note ran.0 others after ran.2)
 
   -- the same run over a journal that takes nothing
-  pub runs_unnoted : (before : World S F L) (records : List Record) (after : World S F L) → IsRun ss fs ls before records after
-      → IsRun ss fs ls (over unnoted before) records (over unnoted after)
+  pub runs_unnoted : (before : World S F L) (records : List Record) (after : World S F L) → IsRun moving before records after
+      → IsRun moving (over unnoted before) records (over unnoted after)
   unfolding IsRun
   runs_unnoted before [] after ran = ap (over unnoted) ran
   runs_unnoted before (made ∷ others) after ran = (

@@ -4,8 +4,8 @@ use Rattle.std.proofs.Common.{◌≡◌, ℕ, Bool, inl, inr, List, [], ◌++◌
 use Rattle.sv_admission.specs.declared.answer.Answer.{Answer}
 use Rattle.sv_admission.specs.declared.limits.TheConstants.{SEE_OTHER}
 use Rattle.sv_component.proofs.Running.{runs_grown}
-use Rattle.sv_component.specs.Call.{Call}
 use Rattle.sv_component.specs.Runs.{IsRun, Record, Runs}
+use Rattle.sv_component.specs.Steps.{ComponentSteps}
 use Rattle.sv_dispatch.proofs.RunningDeeds.{there_or_not}
 use Rattle.sv_dispatch.specs.Did.{seen}
 use Rattle.sv_dispatch.specs.Running.{made_seen}
@@ -91,16 +91,16 @@ module _ (location : List ℕ) (x y : exchanges.State) (said : Result Bool Excha
       (subst (Alone (makes (SetStatus SEE_OTHER)) x y) some stated)
       (subst (Alone (makes located) y z) (sym then_is) (alone_makes located y z then_said then_did))
 
-module _ {S F L : Type 0} (ss : S → Call → S → Type 0) (fs : F → Call → F → Type 0) (ls : L → Call → L → Type 0) where
+module _ {S F L : Type 0} (moving : ComponentSteps S F L) where
   -- the listeners hear an event
   pub by_hearing : (live live' : LiveState S F L) (x : exchanges.State) (noted noted' : JournalState) (event : Event) (result : Result (Unit {0}) NoMemory)
-      → Runs ss fs ls (live_world live noted) (told event (length live.parts.listeners.items)) (live_world live' noted')
+      → Runs moving (live_world live noted) (told event (length live.parts.listeners.items)) (live_world live' noted')
       → StandsAsBefore live live'
-      → ServedBy ss fs ls (hears (length live.parts.listeners.items) event) live x noted (seen result) live' x noted'
+      → ServedBy moving (hears (length live.parts.listeners.items) event) live x noted (seen result) live' x noted'
   by_hearing live live' x noted noted' event result made stands = record {
     made = told event (length live.parts.listeners.items);
     does_so = (refl, ap (λ its_standings. record { exchange = x; standings = its_standings }) stands.standings, there_or_not result);
-    runs = runs_grown ss fs ls (live_world live noted) (live_world live' noted') (told event (length live.parts.listeners.items)) made;
+    runs = runs_grown moving (live_world live noted) (live_world live' noted') (told event (length live.parts.listeners.items)) made;
     counts = stands.counts;
     context = stands.context;
     initialised = stands.initialised;
@@ -108,11 +108,11 @@ module _ {S F L : Type 0} (ss : S → Call → S → Type 0) (fs : F → Call �
 
   -- what is done without a call leaves the journal
   pub journal_stays : {A : Type 0} (does : Does A) (live live' : LiveState S F L) (x x' : exchanges.State) (noted noted' : JournalState) (result : Option A)
-      → IsQuiet does → ServedBy ss fs ls does live x noted result live' x' noted' → noted' ≡ noted
+      → IsQuiet does → ServedBy moving does live x noted result live' x' noted' → noted' ≡ noted
   unfolding IsRun
   journal_stays does live live' x x' noted noted' result quiet did =
       let none : did.made ≡ [] = quiet _ did.made _ result did.does_so in
-      ap (λ w. w.journal) (subst (λ calls. IsRun ss fs ls (live_world live noted) calls (live_world live' noted')) none did.runs)
+      ap (λ w. w.journal) (subst (λ calls. IsRun moving (live_world live noted) calls (live_world live' noted')) none did.runs)
 
   -- a request, of which the listeners hear
   module _ (site : Site) (dispatches : Does (Unit {0})) (live live' : LiveState S F L) (x : exchanges.State) (noted noted' : JournalState) (hearing : length live.parts.listeners.items ≡ site.listeners) where
@@ -120,53 +120,53 @@ module _ {S F L : Type 0} (ss : S → Call → S → Type 0) (fs : F → Call �
     abbrev Dispatched : Does (Unit {0})
     Dispatched = dispatches >> hears site.listeners RequestDestroyed
 
-    begins : (result : Option (Unit {0})) → ServedBy ss fs ls (hears (length live.parts.listeners.items) RequestInitialized) live x noted result live' x noted'
-        → ServedBy ss fs ls (hears site.listeners RequestInitialized) live x noted result live' x noted'
-    begins result heard = subst (λ count. ServedBy ss fs ls (hears count RequestInitialized) live x noted result live' x noted') hearing heard
+    begins : (result : Option (Unit {0})) → ServedBy moving (hears (length live.parts.listeners.items) RequestInitialized) live x noted result live' x noted'
+        → ServedBy moving (hears site.listeners RequestInitialized) live x noted result live' x noted'
+    begins result heard = subst (λ count. ServedBy moving (hears count RequestInitialized) live x noted result live' x noted') hearing heard
 
-    pub requested_not : ServedBy ss fs ls (hears (length live.parts.listeners.items) RequestInitialized) live x noted None live' x noted'
-        → ServedBy ss fs ls (Requested site dispatches) live x noted None live' x noted'
-    requested_not heard = by_not ss fs ls (hears site.listeners RequestInitialized) (λ _. Dispatched) live live' x x noted noted' (begins None heard)
+    pub requested_not : ServedBy moving (hears (length live.parts.listeners.items) RequestInitialized) live x noted None live' x noted'
+        → ServedBy moving (Requested site dispatches) live x noted None live' x noted'
+    requested_not heard = by_not moving (hears site.listeners RequestInitialized) (λ _. Dispatched) live live' x x noted noted' (begins None heard)
 
-    module _ (heard : ServedBy ss fs ls (hears (length live.parts.listeners.items) RequestInitialized) live x noted (Some tt) live' x noted')
+    module _ (heard : ServedBy moving (hears (length live.parts.listeners.items) RequestInitialized) live x noted (Some tt) live' x noted')
         (live'' : LiveState S F L) (x'' : exchanges.State) (noted'' : JournalState) where
-      pub requested_cut : ServedBy ss fs ls dispatches live' x noted' None live'' x'' noted'' → ServedBy ss fs ls (Requested site dispatches) live x noted None live'' x'' noted''
+      pub requested_cut : ServedBy moving dispatches live' x noted' None live'' x'' noted'' → ServedBy moving (Requested site dispatches) live x noted None live'' x'' noted''
       requested_cut did =
-          by_then ss fs ls (hears site.listeners RequestInitialized) (λ _. Dispatched) live live' x x noted noted' live'' x'' noted'' tt None (begins (Some tt) heard)
-          (by_not ss fs ls dispatches (λ _. hears site.listeners RequestDestroyed) live' live'' x x'' noted' noted'' did)
+          by_then moving (hears site.listeners RequestInitialized) (λ _. Dispatched) live live' x x noted noted' live'' x'' noted'' tt None (begins (Some tt) heard)
+          (by_not moving dispatches (λ _. hears site.listeners RequestDestroyed) live' live'' x x'' noted' noted'' did)
 
       pub requested_so : (live''' : LiveState S F L) (noted''' : JournalState) (result : Option (Unit {0}))
-          → ServedBy ss fs ls dispatches live' x noted' (Some tt) live'' x'' noted''
-          → ServedBy ss fs ls (hears (length live''.parts.listeners.items) RequestDestroyed) live'' x'' noted'' result live''' x'' noted'''
-          → ServedBy ss fs ls (Requested site dispatches) live x noted result live''' x'' noted'''
+          → ServedBy moving dispatches live' x noted' (Some tt) live'' x'' noted''
+          → ServedBy moving (hears (length live''.parts.listeners.items) RequestDestroyed) live'' x'' noted'' result live''' x'' noted'''
+          → ServedBy moving (Requested site dispatches) live x noted result live''' x'' noted'''
       requested_so live''' noted''' result did last =
-          by_then ss fs ls (hears site.listeners RequestInitialized) (λ _. Dispatched) live live' x x noted noted' live''' x'' noted''' tt result (begins (Some tt) heard)
-          (by_then ss fs ls dispatches (λ _. hears site.listeners RequestDestroyed) live' live'' x x'' noted' noted'' live''' x'' noted''' tt result did
-          (subst (λ count. ServedBy ss fs ls (hears count RequestDestroyed) live'' x'' noted'' result live''' x'' noted''')
+          by_then moving (hears site.listeners RequestInitialized) (λ _. Dispatched) live live' x x noted noted' live''' x'' noted''' tt result (begins (Some tt) heard)
+          (by_then moving dispatches (λ _. hears site.listeners RequestDestroyed) live' live'' x x'' noted' noted'' live''' x'' noted''' tt result did
+          (subst (λ count. ServedBy moving (hears count RequestDestroyed) live'' x'' noted'' result live''' x'' noted''')
           (did.counts.listeners ∙ heard.counts.listeners ∙ hearing) last))
 
   module _ (site : Site) (live live' : LiveState S F L) (x : exchanges.State) (noted noted' : JournalState) where
     -- what the message did to its session
-    pub tells_none : (event : Option Event) → event ≡ None → ServedBy ss fs ls (Tells site event) live x noted (Some tt) live x noted
+    pub tells_none : (event : Option Event) → event ≡ None → ServedBy moving (Tells site event) live x noted (Some tt) live x noted
     tells_none event none =
-        subst (λ event. ServedBy ss fs ls (Tells site event) live x noted (Some tt) live x noted) (sym none)
-        (by_alone ss fs ls (gives tt) live x x noted (Some tt) (λ standings. (refl, refl, refl)))
+        subst (λ event. ServedBy moving (Tells site event) live x noted (Some tt) live x noted) (sym none)
+        (by_alone moving (gives tt) live x x noted (Some tt) (λ standings. (refl, refl, refl)))
 
     pub tells_some : (event : Option Event) (its_event : Event) (result : Option (Unit {0})) → event ≡ Some its_event → length live.parts.listeners.items ≡ site.listeners
-        → ServedBy ss fs ls (hears (length live.parts.listeners.items) its_event) live x noted result live' x noted'
-        → ServedBy ss fs ls (Tells site event) live x noted result live' x noted'
+        → ServedBy moving (hears (length live.parts.listeners.items) its_event) live x noted result live' x noted'
+        → ServedBy moving (Tells site event) live x noted result live' x noted'
     tells_some event its_event result some hearing heard =
-        subst (λ event. ServedBy ss fs ls (Tells site event) live x noted result live' x noted') (sym some)
-        (subst (λ count. ServedBy ss fs ls (hears count its_event) live x noted result live' x noted') hearing heard)
+        subst (λ event. ServedBy moving (Tells site event) live x noted result live' x noted') (sym some)
+        (subst (λ count. ServedBy moving (hears count its_event) live x noted result live' x noted') hearing heard)
 
     -- which is heard first
     pub answered_not : (canon : Canon) (event : Option Event) (answer : Answer)
-        → ServedBy ss fs ls (Tells site event) live x noted None live' x noted' → ServedBy ss fs ls (Answered site canon event answer) live x noted None live' x noted'
-    answered_not canon event answer told_it = by_not ss fs ls (Tells site event) (λ _. Answers site canon answer) live live' x x noted noted' told_it
+        → ServedBy moving (Tells site event) live x noted None live' x noted' → ServedBy moving (Answered site canon event answer) live x noted None live' x noted'
+    answered_not canon event answer told_it = by_not moving (Tells site event) (λ _. Answers site canon answer) live live' x x noted noted' told_it
 
     pub answered_so : (canon : Canon) (event : Option Event) (answer : Answer) (live'' : LiveState S F L) (x'' : exchanges.State) (noted'' : JournalState) (result : Option (Unit {0}))
-        → ServedBy ss fs ls (Tells site event) live x noted (Some tt) live' x noted'
-        → ServedBy ss fs ls (Answers site canon answer) live' x noted' result live'' x'' noted''
-        → ServedBy ss fs ls (Answered site canon event answer) live x noted result live'' x'' noted''
+        → ServedBy moving (Tells site event) live x noted (Some tt) live' x noted'
+        → ServedBy moving (Answers site canon answer) live' x noted' result live'' x'' noted''
+        → ServedBy moving (Answered site canon event answer) live x noted result live'' x'' noted''
     answered_so canon event answer live'' x'' noted'' result told_it answered =
-        by_then ss fs ls (Tells site event) (λ _. Answers site canon answer) live live' x x noted noted' live'' x'' noted'' tt result told_it answered
+        by_then moving (Tells site event) (λ _. Answers site canon answer) live live' x x noted noted' live'' x'' noted'' tt result told_it answered

@@ -3,8 +3,8 @@ use Rattle.std.specs.Prelude.{List, None, Some}
 use Rattle.sv_admission.specs.Asked.{Asked, asked_by}
 use Rattle.sv_admission.specs.Judged.{post_in}
 use Rattle.sv_admission.specs.Laws.{found_of}
-use Rattle.sv_component.specs.Call.{Call}
 use Rattle.sv_component.specs.Runs.{IsRun, Record}
+use Rattle.sv_component.specs.Steps.{ComponentSteps}
 use Rattle.sv_journal.specs.Journal.{JournalState, broken, new_journal}
 use Rattle.sv_journal.specs.declared.entry.Entry.{Entry}
 use Rattle.sv_login.specs.Post.{user_sent}
@@ -24,11 +24,11 @@ asked_of context request = asked_by request.message (handled.within context requ
 abbrev pub unnoted : JournalState
 unnoted = broken new_journal
 
-module _ {S F L : Type 0} (servlet_step : S → Call → S → Type 0) (filter_step : F → Call → F → Type 0) (listener_step : L → Call → L → Type 0) where
+module _ {S F L : Type 0} (moving : ComponentSteps S F L) where
   -- some calls move the components, whatever is noted of them, and of these only servlets that are gone behind them are destroyed
   pub record IsMoved (before after : ContextState S F L) : Type 0 where
     pub made : List Record
-    pub runs : IsRun servlet_step filter_step listener_step (world_of before unnoted) made (world_of after unnoted)
+    pub runs : IsRun moving (world_of before unnoted) made (world_of after unnoted)
     pub retires : Retires before.standings made after.standings
     pub stays : IsSameDeployment before after
 
@@ -40,11 +40,11 @@ module _ {S F L : Type 0} (servlet_step : S → Call → S → Type 0) (filter_s
     policy_of = λ context. context.policy;
     found = λ context request. found_of context.content context.policy context.users (asked_of context request) context.store;
     caller_sent = λ context request. user_sent context.users (post_in (asked_of context request));
-    Handles = λ handling. handled.HandlesMessage servlet_step filter_step listener_step
+    Handles = λ handling. handled.HandlesMessage moving
         (asked_of handling.context handling.request) handling.context new_journal (Some handling.response) handling.after (effect.whole handling.entries);
     CutsShort = λ context request after. (entries : List Entry)
-        × handled.HandlesMessage servlet_step filter_step listener_step (asked_of context request) context new_journal None after (effect.whole entries);
-    Expires = λ context moment told after. expiry.Expires servlet_step filter_step listener_step moment context new_journal after (effect.whole told);
+        × handled.HandlesMessage moving (asked_of context request) context new_journal None after (effect.whole entries);
+    Expires = λ context moment told after. expiry.Expires moving moment context new_journal after (effect.whole told);
     Edits = λ before edit answer after. editing.Edits before edit answer after;
     Moves = IsMoved;
   }

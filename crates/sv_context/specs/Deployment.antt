@@ -1,7 +1,7 @@
 -- The start and the stop of a context (Jakarta Servlet 6.0, sections 2.3, 7.5, 10.12 and 11.3).
 use Rattle.std.specs.Prelude.{◌≡◌, ◌*◌, length, Result, Ok, Err}
-use Rattle.sv_component.specs.Call.{Call}
 use Rattle.sv_component.specs.Runs.{Runs}
+use Rattle.sv_component.specs.Steps.{ComponentSteps}
 use Rattle.sv_descriptor.specs.Version.{max_sessions}
 use Rattle.sv_descriptor.specs.declared.web_app.WebApp.{WebApp}
 use Rattle.sv_journal.specs.Journal.{JournalState}
@@ -36,16 +36,16 @@ deployed deployment (Ok live) =
     Ok (context_of (content_of deployment) (declared_policy deployment.descriptor) deployment.users live (no_sessions deployment.descriptor))
 deployed deployment (Err fault) = Err record { fault = fault.code; deployment = record deployment { parts = fault.parts } }
 
-module _ {S F L : Type 0} (servlet_step : S → Call → S → Type 0) (filter_step : F → Call → F → Type 0) (listener_step : L → Call → L → Type 0) where
+module _ {S F L : Type 0} (moving : ComponentSteps S F L) where
   -- the components of a deployment are started
   pub record Deploys (deployment : Deployment S F L) (before : JournalState) (result : Result (ContextState S F L) (DeployFault S F L)) (after : JournalState) : Type 0 where
     pub started : Result (LiveState S F L) (StartFault S F L)
-    pub starts : Starts servlet_step filter_step listener_step deployment.path deployment.descriptor deployment.parts before started after
+    pub starts : Starts moving deployment.path deployment.descriptor deployment.parts before started after
     pub is : result ≡ deployed deployment started
 
   -- the context stops, and what it was deployed with is handed back, the components as the calls of the stop left them
   pub record Undeploys (context : ContextState S F L) (before : JournalState) (result : Deployment S F L) (after : JournalState) : Type 0 where
-    pub stops : Runs servlet_step filter_step listener_step
+    pub stops : Runs moving
         (world_of context before) (stop_calls (length context.listeners) (in_service context) context.store.sessions) (world result.path result.parts after)
     pub content : content_of result ≡ context.content
     pub users : result.users ≡ context.users

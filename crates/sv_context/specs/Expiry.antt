@@ -1,8 +1,8 @@
 -- The sessions of a context that have expired end, and the listeners hear of each (Jakarta Servlet 6.0, sections 7.5, 7.7.1 and 11.3.4).
 use Rattle.std.specs.Prelude.{◌≡◌, ℕ, List, length}
 use Rattle.std.specs.List.{flat_map}
-use Rattle.sv_component.specs.Call.{Call}
 use Rattle.sv_component.specs.Runs.{Record, Runs}
+use Rattle.sv_component.specs.Steps.{ComponentSteps}
 use Rattle.sv_journal.specs.Journal.{JournalState}
 use Rattle.sv_lifecycle.specs.SessionEnds.{all_told, end_events}
 use Rattle.sv_session.specs.Runs as sessions
@@ -13,11 +13,11 @@ use Rattle.sv_context.specs.State.{ContextState, IsSameDeployment, world_of}
 abbrev pub ends_told : List EndedSession → ℕ → List Record
 ends_told ended count = flat_map (λ session. all_told (end_events session) count) ended
 
-module _ {S F L : Type 0} (servlet_step : S → Call → S → Type 0) (filter_step : F → Call → F → Type 0) (listener_step : L → Call → L → Type 0) where
+module _ {S F L : Type 0} (moving : ComponentSteps S F L) where
   -- those that have expired at the moment end one after another, each the first by deadline and then number, until none has expired
   pub record Expires (moment : ℕ) (before : ContextState S F L) (noted : JournalState) (after : ContextState S F L) (noted_after : JournalState) : Type 0 where
     pub ended : List EndedSession
     pub ends : sessions.Expires moment before.store ended after.store
-    pub told : Runs servlet_step filter_step listener_step (world_of before noted) (ends_told ended (length before.listeners)) (world_of after noted_after)
+    pub told : Runs moving (world_of before noted) (ends_told ended (length before.listeners)) (world_of after noted_after)
     pub stays : IsSameDeployment before after
     pub standings : after.standings ≡ before.standings

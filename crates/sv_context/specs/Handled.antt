@@ -3,8 +3,8 @@ use Rattle.std.specs.Prelude.{◌≡◌, ◌⊎◌, true, List, Option, None, So
 use Rattle.sv_admission.specs.Admission.{admission, settled_in}
 use Rattle.sv_admission.specs.Asked.{Asked}
 use Rattle.sv_admission.specs.declared.admission.Admission.{Admission}
-use Rattle.sv_component.specs.Call.{Call}
 use Rattle.sv_component.specs.Runs.{IsRun, Record}
+use Rattle.sv_component.specs.Steps.{ComponentSteps}
 use Rattle.sv_context_path.specs.Within.{path_within}
 use Rattle.sv_exchange.specs.Beginning.{begun, finished}
 use Rattle.sv_exchange.specs.State as exchanges
@@ -35,13 +35,13 @@ module _ {S F L : Type 0} (context : ContextState S F L) (asked : Asked) where
       begun asked.message asked.canon context.content.context_path context.content.app.session.cookie asked.moment asked.words admitted.session
       (settled_in context.content context.policy context.users asked context.store).store
 
-module _ {S F L : Type 0} (servlet_step : S → Call → S → Type 0) (filter_step : F → Call → F → Type 0) (listener_step : L → Call → L → Type 0) where
+module _ {S F L : Type 0} (moving : ComponentSteps S F L) where
   -- behind its entry these calls were made, which answer the message; there is no result where memory ended them
   pub record IsAnswered (asked : Asked) (before : ContextState S F L) (noted : JournalState) (exchange : exchanges.State) (result : Option (Unit {0})) (after : ContextState S F L) (noted_after : JournalState) : Type 0 where
     pub made : List Record
     pub answers : Answered (site_of before.content) asked.canon (admitted before asked).event (admitted before asked).answer
         (state_in before (exchange_begun before asked)) made (state_in after exchange) result
-    pub runs : IsRun servlet_step filter_step listener_step (world_of before (with_entry (admitted before asked).entry noted)) made (world_of after noted_after)
+    pub runs : IsRun moving (world_of before (with_entry (admitted before asked).entry noted)) made (world_of after noted_after)
     pub stays : IsSameDeployment before after
 
   -- the message is noted and answered, and the sessions are those that its exchange leaves

@@ -1,21 +1,21 @@
 -- What holds of every expiry of a context's sessions (Jakarta Servlet 6.0, section 7.5).
 use Rattle.std.specs.Prelude.{◌≡◌, ℕ}
-use Rattle.sv_component.specs.Call.{Call}
+use Rattle.sv_component.specs.Steps.{ComponentSteps}
 use Rattle.sv_journal.specs.Journal.{JournalState}
 use Rattle.sv_session.specs.Expiry.{HasNoneExpired}
 use Rattle.sv_context.specs.Expiry.{Expires}
 use Rattle.sv_context.specs.State.{ContextState}
 
 -- behind it no session has expired at the moment
-abbrev pub ExpiryLeavesNone : {S F L : Type 0} → (S → Call → S → Type 0) → (F → Call → F → Type 0) → (L → Call → L → Type 0) → Type 0
-ExpiryLeavesNone {S} {F} {L} servlet_step filter_step listener_step =
+abbrev pub ExpiryLeavesNone : {S F L : Type 0} → ComponentSteps S F L → Type 0
+ExpiryLeavesNone {S} {F} {L} moving =
     (moment : ℕ) (before after : ContextState S F L) (noted noted_after : JournalState)
-    → Expires servlet_step filter_step listener_step moment before noted after noted_after → HasNoneExpired moment after.store
+    → Expires moving moment before noted after noted_after → HasNoneExpired moment after.store
 
 -- where none has expired it can be, and it can only be that nothing changes and nothing is told
-abbrev pub ExpiryOfNoneIsNothing : {S F L : Type 0} → (S → Call → S → Type 0) → (F → Call → F → Type 0) → (L → Call → L → Type 0) → Type 0
-ExpiryOfNoneIsNothing {S} {F} {L} servlet_step filter_step listener_step =
+abbrev pub ExpiryOfNoneIsNothing : {S F L : Type 0} → ComponentSteps S F L → Type 0
+ExpiryOfNoneIsNothing {S} {F} {L} moving =
     (moment : ℕ) (before : ContextState S F L) (noted : JournalState) → HasNoneExpired moment before.store
-    → Expires servlet_step filter_step listener_step moment before noted before noted
+    → Expires moving moment before noted before noted
     × ((after : ContextState S F L) (noted_after : JournalState)
-    → Expires servlet_step filter_step listener_step moment before noted after noted_after → (after ≡ before) × (noted_after ≡ noted))
+    → Expires moving moment before noted after noted_after → (after ≡ before) × (noted_after ≡ noted))

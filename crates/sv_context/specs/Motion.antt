@@ -1,8 +1,8 @@
 -- No calls move nothing, calls behind calls are calls, no call moves a context to another path, and an edit changes the constraints alone.
 use Rattle.std.proofs.Common.{[], ◌++◌, refl, ap, ◌∙◌}
 use Rattle.sv_component.proofs.Running.{runs_join}
-use Rattle.sv_component.specs.Call.{Call}
 use Rattle.sv_component.specs.Runs.{IsRun}
+use Rattle.sv_component.specs.Steps.{ComponentSteps}
 use Rattle.sv_run.specs.Lawful.{EditsAlone, IsMotion, KeepsPath}
 use Rattle.sv_site.specs.Site.{Content}
 use Rattle.sv_context.specs.Conduct.{IsMoved, conduct, unnoted}
@@ -23,27 +23,27 @@ deployment_then before between after one two = record {
   initialised = two.initialised ∙ one.initialised;
 }
 
-module _ {S F L : Type 0} (ss : S → Call → S → Type 0) (fs : F → Call → F → Type 0) (ls : L → Call → L → Type 0) where
+module _ {S F L : Type 0} (moving : ComponentSteps S F L) where
   -- no calls move nothing
-  stands : (context : ContextState S F L) → IsMoved ss fs ls context context
+  stands : (context : ContextState S F L) → IsMoved moving context context
   unfolding IsRun
   stands context = record { made = []; runs = refl; retires = retires_none context.standings context.standings refl; stays = same_deployment context }
 
-  goes_on : (before between after : ContextState S F L) → IsMoved ss fs ls before between → IsMoved ss fs ls between after → IsMoved ss fs ls before after
+  goes_on : (before between after : ContextState S F L) → IsMoved moving before between → IsMoved moving between after → IsMoved moving before after
   goes_on before between after one two = record {
     made = one.made ++ two.made;
-    runs = runs_join ss fs ls (world_of before unnoted) (world_of between unnoted) (world_of after unnoted) one.made two.made one.runs two.runs;
+    runs = runs_join moving (world_of before unnoted) (world_of between unnoted) (world_of after unnoted) one.made two.made one.runs two.runs;
     retires = retires_join before.standings between.standings after.standings one.made two.made one.retires two.retires;
     stays = deployment_then before between after one.stays two.stays;
   }
 
-  pub motion_by : IsMotion (conduct ss fs ls)
+  pub motion_by : IsMotion (conduct moving)
   motion_by = record { stands = stands; goes_on = goes_on }
 
-  pub keeps_path_by : KeepsPath (λ (context : ContextState S F L). context.content.context_path) (conduct ss fs ls)
+  pub keeps_path_by : KeepsPath (λ (context : ContextState S F L). context.content.context_path) (conduct moving)
   keeps_path_by before after moves = ap (λ (content : Content). content.context_path) moves.stays.content
 
-  pub edits_alone_by : EditsAlone (λ (context : ContextState S F L). context.content.context_path) (conduct ss fs ls)
+  pub edits_alone_by : EditsAlone (λ (context : ContextState S F L). context.content.context_path) (conduct moving)
   edits_alone_by = record {
     path = λ before after edit answer edits. ap (λ (context : ContextState S F L). context.content.context_path) edits.stays;
     sessions = λ before after edit answer edits. ap (λ (context : ContextState S F L). context.store) edits.stays;

@@ -1,7 +1,7 @@
 -- How far a message that was admitted came.
 use Rattle.std.specs.Prelude.{◌≡◌, ◌⊎◌, Option, None}
 use Rattle.sv_admission.specs.declared.answer.Answer.{Answer}
-use Rattle.sv_component.specs.Call.{Call}
+use Rattle.sv_component.specs.Steps.{ComponentSteps}
 use Rattle.sv_exchange.specs.State as exchanges
 use Rattle.sv_journal.specs.Journal.{JournalState, Takes, with_entry}
 use Rattle.sv_journal.specs.declared.entry.Entry.{Entry}
@@ -12,9 +12,9 @@ use Rattle.sv_tree.specs.Site.{Site}
 use Rattle.sv_uri.specs.declared.path.Canon.{Canon}
 use Rattle.sv_context.specs.Answered.{Answered}
 
-module _ {S F L : Type 0} (servlet_step : S → Call → S → Type 0) (filter_step : F → Call → F → Type 0) (listener_step : L → Call → L → Type 0) where
+module _ {S F L : Type 0} (moving : ComponentSteps S F L) where
   -- memory ended it at its entry, or it was noted and answered as far as memory went
   abbrev pub RespondsNoted : Site → Canon → Entry → Option Event → Answer → LiveState S F L → exchanges.State → JournalState → Option (Unit {0}) → LiveState S F L → exchanges.State → JournalState → Type 0
   RespondsNoted site canon entry event answer live exchange noted result live_after exchange_after noted_after =
       (result ≡ None) × (live_after ≡ live) × Takes noted entry noted_after
-      ⊎ ServedBy servlet_step filter_step listener_step (Answered site canon event answer) live exchange (with_entry entry noted) result live_after exchange_after noted_after
+      ⊎ ServedBy moving (Answered site canon event answer) live exchange (with_entry entry noted) result live_after exchange_after noted_after

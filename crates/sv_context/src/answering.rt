@@ -1,5 +1,6 @@
 //! How a context answers a message that was admitted.
 
+ghost use Rattle.sv_component.specs.Steps.{steps_of};
 ghost use Rattle.std.specs.Prelude.{◌≡◌, Some, OnOk, length, true};
 ghost use Rattle.std.specs.Option.{option_copied};
 ghost use Rattle.sv_admission.specs.declared.answer.Answer.TheVariants.{Error};
@@ -44,7 +45,7 @@ pub(crate) fn respond<S: Servlet, F: Filter, L: Listener>(
     requires filters { length live.old.parts.filters.items ≡ length site.old.app.filters }
     requires listeners { length live.old.parts.listeners.items ≡ length site.old.app.listeners }
     requires whole { journal.old.whole ≡ true }
-    ensures answered { ServedBy S.servlet_step F.filter_step L.listener_step (Answered (site_of site.old) canon.now (option_copied event.entry) answer.now)
+    ensures answered { ServedBy (steps_of S.servlet_step F.filter_step L.listener_step) (Answered (site_of site.old) canon.now (option_copied event.entry) answer.now)
         live.old exchange.old journal.old (seen result) live.new exchange.new journal.new }
     ensures whole { OnOk result (journal.new.whole ≡ true) }
     ensures site { site.new ≡ site.old }
@@ -69,7 +70,7 @@ fn answer_by<S: Servlet, F: Filter, L: Listener>(
     requires filters { length live.old.parts.filters.items ≡ length site.old.app.filters }
     requires listeners { length live.old.parts.listeners.items ≡ length site.old.app.listeners }
     requires whole { journal.old.whole ≡ true }
-    ensures answered { ServedBy S.servlet_step F.filter_step L.listener_step (Answers (site_of site.old) canon.now answer.now)
+    ensures answered { ServedBy (steps_of S.servlet_step F.filter_step L.listener_step) (Answers (site_of site.old) canon.now answer.now)
         live.old exchange.old journal.old (seen result) live.new exchange.new journal.new }
     ensures whole { OnOk result (journal.new.whole ≡ true) }
     ensures site { site.new ≡ site.old }
@@ -95,7 +96,7 @@ fn request<S: Servlet, F: Filter, L: Listener>(
     requires servlets { length live.old.parts.servlets.items ≡ length site.old.app.servlets }
     requires filters { length live.old.parts.filters.items ≡ length site.old.app.filters }
     requires listeners { length live.old.parts.listeners.items ≡ length site.old.app.listeners }
-    ensures answered { ServedBy S.servlet_step F.filter_step L.listener_step (Requested (site_of site.old) (Served (site_of site.old) kind canon.now))
+    ensures answered { ServedBy (steps_of S.servlet_step F.filter_step L.listener_step) (Requested (site_of site.old) (Served (site_of site.old) kind canon.now))
         live.old exchange.old journal.old (seen result) live.new exchange.new journal.new }
     ensures whole { OnOk result (journal.new.whole ≡ true) }
     ensures site { site.new ≡ site.old }
@@ -123,7 +124,7 @@ fn error<S: Servlet, F: Filter, L: Listener>(
     requires filters { length live.old.parts.filters.items ≡ length site.old.app.filters }
     requires listeners { length live.old.parts.listeners.items ≡ length site.old.app.listeners }
     requires whole { journal.old.whole ≡ true }
-    ensures answered { (canon : CanonData) → ServedBy S.servlet_step F.filter_step L.listener_step (Answers (site_of site.old) canon (Error status page.now))
+    ensures answered { (canon : CanonData) → ServedBy (steps_of S.servlet_step F.filter_step L.listener_step) (Answers (site_of site.old) canon (Error status page.now))
         live.old exchange.old journal.old (seen result) live.new exchange.new journal.new }
     ensures whole { OnOk result (journal.new.whole ≡ true) }
     ensures site { site.new ≡ site.old }
@@ -147,7 +148,7 @@ fn request_page<S: Servlet, F: Filter, L: Listener>(
     requires servlets { length live.old.parts.servlets.items ≡ length site.old.app.servlets }
     requires filters { length live.old.parts.filters.items ≡ length site.old.app.filters }
     requires listeners { length live.old.parts.listeners.items ≡ length site.old.app.listeners }
-    ensures answered { ServedBy S.servlet_step F.filter_step L.listener_step (Requested (site_of site.old) (ShowsError (site_of site.old) status (Some page.now)))
+    ensures answered { ServedBy (steps_of S.servlet_step F.filter_step L.listener_step) (Requested (site_of site.old) (ShowsError (site_of site.old) status (Some page.now)))
         live.old exchange.old journal.old (seen result) live.new exchange.new journal.new }
     ensures whole { OnOk result (journal.new.whole ≡ true) }
     ensures site { site.new ≡ site.old }
@@ -170,7 +171,7 @@ fn tell_first<S: Servlet, F: Filter, L: Listener>(
 ) -> Result<(), NoMemory>
     requires { journal.old.whole ≡ true }
     ensures told { (site : SiteData) (exchange : exchanges.State) → length live.old.parts.listeners.items ≡ site.listeners
-        → ServedBy S.servlet_step F.filter_step L.listener_step (Tells site (option_copied event.entry))
+        → ServedBy (steps_of S.servlet_step F.filter_step L.listener_step) (Tells site (option_copied event.entry))
         live.old exchange journal.old (seen result) live.new exchange journal.new }
     ensures counts { HasSameCounts live.old.parts live.new.parts }
     ensures whole { OnOk result (journal.new.whole ≡ true) }
@@ -188,7 +189,7 @@ fn hear<S: Servlet, F: Filter, L: Listener>(
     event: &Event,
     journal: &mut Journal,
 ) -> Result<(), NoMemory>
-    ensures heard { (exchange : exchanges.State) → ServedBy S.servlet_step F.filter_step L.listener_step (hears (length live.old.parts.listeners.items) event.now)
+    ensures heard { (exchange : exchanges.State) → ServedBy (steps_of S.servlet_step F.filter_step L.listener_step) (hears (length live.old.parts.listeners.items) event.now)
         live.old exchange journal.old (seen result) live.new exchange journal.new }
     ensures counts { HasSameCounts live.old.parts live.new.parts }
     ensures whole { OnOk result (journal.new.whole ≡ true) }

@@ -1,5 +1,6 @@
 //! How a context is deployed and undeployed.
 
+ghost use Rattle.sv_component.specs.Steps.{steps_of};
 ghost use Rattle.std.specs.Prelude.{◌≡◌, Err, IfOk};
 ghost use Rattle.sv_descriptor.specs.WellFormed.{IsWellFormed};
 ghost use Rattle.sv_journal.specs.Journal.{JournalState};
@@ -30,7 +31,7 @@ impl<S: Servlet, F: Filter, L: Listener> Context<S, F, L> {
         deployment: Deployment<S, F, L>,
         journal: &mut Journal,
     ) -> Result<Context<S, F, L>, DeployFault<S, F, L>>
-        ensures { Deploys S.servlet_step F.filter_step L.listener_step deployment journal.old result journal.new }
+        ensures { Deploys (steps_of S.servlet_step F.filter_step L.listener_step) deployment journal.old result journal.new }
     {
         match tables_of(alloc, &deployment.descriptor) {
             Ok((patterns, policy)) => start(alloc, deployment, patterns, policy, journal),
@@ -41,7 +42,7 @@ impl<S: Servlet, F: Filter, L: Listener> Context<S, F, L> {
     /// Undeploys a context: it stops, and all that it was deployed with is handed back, the components as the calls left them (Jakarta Servlet
     /// 6.0, sections 2.3.4, 6.2.1 and 11.3.4). Its sessions end in the order of their numbers. A journal that breaks holds nothing up.
     pub fn undeploy(self, alloc: Global, journal: &mut Journal) -> Deployment<S, F, L>
-        ensures { Undeploys S.servlet_step F.filter_step L.listener_step self journal.old result journal.new }
+        ensures { Undeploys (steps_of S.servlet_step F.filter_step L.listener_step) self journal.old result journal.new }
     {
         let Context {
             site,
@@ -84,7 +85,7 @@ fn start<S: Servlet, F: Filter, L: Listener>(
     requires patterns { patterns ≡ mappings_of deployment.descriptor }
     requires policy { policy ≡ declared_policy deployment.descriptor }
     requires well_formed { IsWellFormed deployment.descriptor }
-    ensures { Deploys S.servlet_step F.filter_step L.listener_step deployment journal.old result journal.new }
+    ensures { Deploys (steps_of S.servlet_step F.filter_step L.listener_step) deployment journal.old result journal.new }
 {
     let Deployment {
         path,
@@ -123,7 +124,7 @@ fn start<S: Servlet, F: Filter, L: Listener>(
 fn without_tables<S: Servlet, F: Filter, L: Listener>(
     deployment: Deployment<S, F, L>,
 ) -> DeployFault<S, F, L>
-    ensures { (journal : JournalState) → Deploys S.servlet_step F.filter_step L.listener_step deployment journal (Err result) journal }
+    ensures { (journal : JournalState) → Deploys (steps_of S.servlet_step F.filter_step L.listener_step) deployment journal (Err result) journal }
 {
     let fault = if fits(deployment.descriptor.web_app(), &deployment.parts) {
         StartCode::NoMemory

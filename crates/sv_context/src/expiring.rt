@@ -1,5 +1,6 @@
 //! How the sessions of a context expire.
 
+ghost use Rattle.sv_component.specs.Steps.{steps_of};
 ghost use Rattle.sv_policy.specs.Compiled.{Standing};
 ghost use Rattle.sv_realm.specs.declared.user.User.{User};
 ghost use Rattle.sv_site.specs.Site.{Content};
@@ -18,7 +19,7 @@ impl<S: Servlet, F: Filter, L: Listener> Context<S, F, L> {
     /// Ends the sessions that have expired at a moment, in seconds since 1970, by deadline and then number, and has the listeners hear of each
     /// (Jakarta Servlet 6.0, sections 7.5 and 11.3.4). A journal that breaks holds nothing up.
     pub fn expire(&mut self, alloc: Global, moment: u64, journal: &mut Journal)
-        ensures { Expires S.servlet_step F.filter_step L.listener_step moment self.old journal.old self.new journal.new }
+        ensures { Expires (steps_of S.servlet_step F.filter_step L.listener_step) moment self.old journal.old self.new journal.new }
     {
         end_expired(alloc, moment, &mut self.live, &mut self.sessions, journal);
     }
@@ -33,7 +34,7 @@ fn end_expired<S: Servlet, F: Filter, L: Listener>(
     journal: &mut Journal,
 )
     ensures expires { (content : Content) (policy : Standing) (users : List User) → AreComponentsOf content live.old
-        → Expires S.servlet_step F.filter_step L.listener_step moment
+        → Expires (steps_of S.servlet_step F.filter_step L.listener_step) moment
         (context_of content policy users live.old sessions.old) journal.old (context_of content policy users live.new sessions.new) journal.new }
     ensures components { (content : Content) → AreComponentsOf content live.old → AreComponentsOf content live.new }
 {

@@ -1,5 +1,6 @@
 //! How a context handles a message.
 
+ghost use Rattle.sv_component.specs.Steps.{steps_of};
 ghost use Rattle.std.specs.Prelude.{◌≡◌, IfOk, IsTrue, List, MatchResult, OnOk, true};
 ghost use Rattle.std.specs.Option.{option_copied};
 ghost use Rattle.http.specs.StatusCode.{IsStatusCode};
@@ -54,7 +55,7 @@ impl<S: Servlet, F: Filter, L: Listener> Context<S, F, L> {
         journal: &mut Journal,
     ) -> Result<Response, NoMemory>
         requires { IsTrue (is_at_or_below self.old.content.context_path canon.now.path) }
-        ensures handles { HandlesMessage S.servlet_step F.filter_step L.listener_step (asked_by message.now (within self.old canon.now) moment words)
+        ensures handles { HandlesMessage (steps_of S.servlet_step F.filter_step L.listener_step) (asked_by message.now (within self.old canon.now) moment words)
             self.old journal.old (seen result) self.new journal.new }
         ensures status { IfOk result (λ response. IsStatusCode response.status) }
     {
@@ -90,7 +91,7 @@ fn handle_in<S: Servlet, F: Filter, L: Listener>(
 ) -> Result<Response, NoMemory>
     requires below { IsTrue (is_at_or_below site.old.context_path canon.now.path) }
     requires components { AreComponentsOf site.old live.old }
-    ensures handles { HandlesMessage S.servlet_step F.filter_step L.listener_step
+    ensures handles { HandlesMessage (steps_of S.servlet_step F.filter_step L.listener_step)
         (asked_by message.now (within (context_of site.old policy.now users.now live.old sessions.old) canon.now) moment words)
         (context_of site.old policy.now users.now live.old sessions.old) journal.old (seen result)
         (context_of site.old policy.now users.now live.new sessions.new) journal.new }
@@ -151,7 +152,7 @@ fn answer<S: Servlet, F: Filter, L: Listener>(
     ensures handles { (policy : Standing) (users : List User) (store : Store)
         → admission ≡ admitted (context_of site.old policy users live.old store) (asked_by message.now canon.now moment words)
         → sessions.old ≡ (settled_in site.old policy users (asked_by message.now canon.now moment words) store).store
-        → HandlesMessage S.servlet_step F.filter_step L.listener_step (asked_by message.now canon.now moment words)
+        → HandlesMessage (steps_of S.servlet_step F.filter_step L.listener_step) (asked_by message.now canon.now moment words)
         (context_of site.old policy users live.old store) journal.old (seen result) (context_of site.old policy users live.new sessions.new) journal.new }
     ensures components { AreComponentsOf site.old live.new }
     ensures status { IfOk result (λ response. IsStatusCode response.status) }
@@ -205,7 +206,7 @@ fn respond_noted<S: Servlet, F: Filter, L: Listener>(
 ) -> Result<(), NoMemory>
     requires components { AreComponentsOf site.old live.old }
     requires whole { journal.old.whole ≡ true }
-    ensures responds { RespondsNoted S.servlet_step F.filter_step L.listener_step (site_of site.old) canon.now entry (option_copied event.entry) answer.now
+    ensures responds { RespondsNoted (steps_of S.servlet_step F.filter_step L.listener_step) (site_of site.old) canon.now entry (option_copied event.entry) answer.now
         live.old exchange.old journal.old (seen result) live.new exchange.new journal.new }
     ensures components { AreComponentsOf site.old live.new }
     ensures whole { OnOk result (journal.new.whole ≡ true) }

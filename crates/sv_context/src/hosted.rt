@@ -19,10 +19,11 @@ impl<S, F, L> HasContextPath for Context<S, F, L> {
 }
 
 impl<S: Servlet, F: Filter, L: Listener> sv_run::Context for Context<S, F, L> {
+    ghost use Rattle.sv_component.specs.Steps.{steps_of};
     ghost use Rattle.sv_context.specs.Conduct.{conduct as conduct_by};
     ghost use Rattle.sv_context.specs.Motion.{edits_alone_by, keeps_path_by, motion_by};
 
-    ghost conduct = { conduct_by S.servlet_step F.filter_step L.listener_step };
+    ghost conduct = { conduct_by (steps_of S.servlet_step F.filter_step L.listener_step) };
 
     fn handle(
         &mut self,
@@ -44,9 +45,9 @@ impl<S: Servlet, F: Filter, L: Listener> sv_run::Context for Context<S, F, L> {
         self.edit(alloc, edit)
     }
 
-    ghost is_motion = { motion_by S.servlet_step F.filter_step L.listener_step };
+    ghost is_motion = { motion_by (steps_of S.servlet_step F.filter_step L.listener_step) };
 
-    ghost keeps_path = { keeps_path_by S.servlet_step F.filter_step L.listener_step };
+    ghost keeps_path = { keeps_path_by (steps_of S.servlet_step F.filter_step L.listener_step) };
 
-    ghost edits_alone = { edits_alone_by S.servlet_step F.filter_step L.listener_step };
+    ghost edits_alone = { edits_alone_by (steps_of S.servlet_step F.filter_step L.listener_step) };
 }

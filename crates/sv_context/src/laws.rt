@@ -1,5 +1,6 @@
 //! The laws of contexts, each the contract of a function that cites the laws of sessions.
 
+ghost use Rattle.sv_component.specs.Steps.{steps_of};
 ghost use Rattle.std.specs.Prelude.{◌≡◌};
 ghost use Rattle.sv_context.specs.Laws.{ExpiryLeavesNone, ExpiryOfNoneIsNothing};
 
@@ -9,14 +10,14 @@ use sv_session::expiry_ends_exactly_the_expired_sessions;
 
 /// Once the sessions of a context that have expired at a moment have ended, none has expired at it.
 pub fn an_expiry_leaves_none_expired<S: Servlet, F: Filter, L: Listener>()
-    ensures { ExpiryLeavesNone S.servlet_step F.filter_step L.listener_step }
+    ensures { ExpiryLeavesNone (steps_of S.servlet_step F.filter_step L.listener_step) }
 {
     expiry_ends_exactly_the_expired_sessions();
 }
 
 /// Where no session of a context has expired at a moment, their expiry can be, and it can only be that nothing changes and nothing is told.
 pub fn an_expiry_of_none_is_nothing<S: Servlet, F: Filter, L: Listener>()
-    ensures { ExpiryOfNoneIsNothing S.servlet_step F.filter_step L.listener_step }
+    ensures { ExpiryOfNoneIsNothing (steps_of S.servlet_step F.filter_step L.listener_step) }
 {
     expiry_ends_exactly_the_expired_sessions();
 }

@@ -5,7 +5,7 @@ use Rattle.std.specs.Prelude.{is_ok, slice_index_or, OnErr, OnOk}
 use Rattle.std.specs.Borrow.{GName}
 use Rattle.sv_component.proofs.Journalling.{run_gains}
 use Rattle.sv_component.proofs.Running.{runs_grown}
-use Rattle.sv_component.specs.Call.{Call, Entered, Left, Serviced}
+use Rattle.sv_component.specs.Call.{Entered, Left, Serviced}
 use Rattle.sv_component.specs.Runs.{IsRun, OfFilter, OfServlet, Record, Runs}
 use Rattle.sv_component.specs.Standing.{is_gone}
 use Rattle.sv_component.specs.World.{World}
@@ -15,6 +15,7 @@ use Rattle.sv_component.specs.declared.answers.Step.{Step}
 use Rattle.sv_component.specs.declared.answers.Step.TheVariants as steps
 use Rattle.sv_component.specs.declared.standing.Standing.{Standing}
 use Rattle.sv_component.specs.declared.standing.Standing.TheVariants.{Gone}
+use Rattle.sv_component.specs.Steps.{ComponentSteps}
 use Rattle.sv_dispatch.specs.Did.{Frame, seen, staying}
 use Rattle.sv_dispatch.specs.Running.{done_seen, gate_seen, made_seen, offer_seen, step_seen}
 use Rattle.sv_dispatch.specs.Seen.{offers}
@@ -195,29 +196,29 @@ whole_ends : {A : Type 0} (whole : Bool) (given : Option A) (value : A) (result 
 whole_ends false given value result e ends = inr e
 whole_ends true given value result e ends = ends_by given result value e ends
 
-module _ {S F L : Type 0} (ss : S → Call → S → Type 0) (fs : F → Call → F → Type 0) (ls : L → Call → L → Type 0) where
+module _ {S F L : Type 0} (moving : ComponentSteps S F L) where
   -- a journal that is whole was whole before
-  pub was_whole : (before after : World S F L) (records : List Record) → Runs ss fs ls before records after → after.journal.whole ≡ true → before.journal.whole ≡ true
-  was_whole before after records grows whole = ((run_gains ss fs ls before after records (runs_grown ss fs ls before after records grows)).all whole).0
+  pub was_whole : (before after : World S F L) (records : List Record) → Runs moving before records after → after.journal.whole ≡ true → before.journal.whole ≡ true
+  was_whole before after records grows whole = ((run_gains moving before after records (runs_grown moving before after records grows)).all whole).0
 
 -- a call, and what is told behind it
-module _ {S F L : Type 0} (ss : S → Call → S → Type 0) (fs : F → Call → F → Type 0) (ls : L → Call → L → Type 0) (live live' live'' : LiveState S F L) (noted noted' noted'' : JournalState) (x x' x'' : exchanges.State) where
+module _ {S F L : Type 0} (moving : ComponentSteps S F L) (live live' live'' : LiveState S F L) (noted noted' noted'' : JournalState) (x x' x'' : exchanges.State) where
   -- the calls that were made
   abbrev pub Noted : Record → Type 0
-  Noted call = Runs ss fs ls (live_world live noted) (call ∷ all_told (length live.parts.listeners.items) x'.events) (live_world live'' noted'')
+  Noted call = Runs moving (live_world live noted) (call ∷ all_told (length live.parts.listeners.items) x'.events) (live_world live'' noted'')
 
-  pub call_noted : (call : Record) → CallsOnce ss fs ls live noted call live' noted'
-      → Runs ss fs ls (live_world live' noted') (all_told (length live'.parts.listeners.items) x'.events) (live_world live'' noted'') → Noted call
+  pub call_noted : (call : Record) → CallsOnce moving live noted call live' noted'
+      → Runs moving (live_world live' noted') (all_told (length live'.parts.listeners.items) x'.events) (live_world live'' noted'') → Noted call
   call_noted call once tellings from done so_far =
-      subst (λ listeners. IsRun ss fs ls from (done ++ call ∷ all_told listeners x'.events) (live_world live'' noted'')) once.stands.counts.listeners
-      (subst (λ calls. IsRun ss fs ls from calls (live_world live'' noted'')) (append_assoc done (call ∷ []) (all_told (length live'.parts.listeners.items) x'.events))
+      subst (λ listeners. IsRun moving from (done ++ call ∷ all_told listeners x'.events) (live_world live'' noted'')) once.stands.counts.listeners
+      (subst (λ calls. IsRun moving from calls (live_world live'' noted'')) (append_assoc done (call ∷ []) (all_told (length live'.parts.listeners.items) x'.events))
       (tellings from (done ++ call ∷ []) (once.made from done so_far)))
 
   module _ (place : ℕ) (changes : Reaches x x') (stands : StandsAsBefore live' live'') (told : x'' ≡ without_events x') where
-    left : (call : Record) (once : CallsOnce ss fs ls live noted call live' noted') → at live''.standings x'' ≡ with_exchange (without_events x') (at live.standings x)
+    left : (call : Record) (once : CallsOnce moving live noted call live' noted') → at live''.standings x'' ≡ with_exchange (without_events x') (at live.standings x)
     left call once = ap₂ at (stands.standings ∙ once.stands.standings) told
 
-    pub asked_before : (given : Gate) (said result : Option Gate) (entered : Enters ss fs ls live noted place x given live' noted' x') → said ≡ gate_seen given
+    pub asked_before : (given : Gate) (said result : Option Gate) (entered : Enters moving live noted place x given live' noted' x') → said ≡ gate_seen given
         → result ≡ (if noted''.whole then said else None)
         → asks (length live.parts.listeners.items) (before_of place) (at live.standings x)
         (OfFilter place (Entered x entered.gate x') ∷ all_told (length live.parts.listeners.items) x'.events) (at live''.standings x'') result
@@ -231,7 +232,7 @@ module _ {S F L : Type 0} (ss : S → Call → S → Type 0) (fs : F → Call �
           (ends_by (gate_seen given) said entered.gate is (gate_ends noted'.whole entered.gate given entered.answers));
     }
 
-    pub asked_after : (given : Result (Unit {0}) NoMemory) (said result : Option Bool) (leaving : Leaves ss fs ls live noted place x given live' noted' x') → said ≡ done_seen given
+    pub asked_after : (given : Result (Unit {0}) NoMemory) (said result : Option Bool) (leaving : Leaves moving live noted place x given live' noted' x') → said ≡ done_seen given
         → result ≡ (if noted''.whole then said else None)
         → asks (length live.parts.listeners.items) (after_of place) (at live.standings x)
         (OfFilter place (Left x leaving.done x') ∷ all_told (length live.parts.listeners.items) x'.events) (at live''.standings x'') result
@@ -245,7 +246,7 @@ module _ {S F L : Type 0} (ss : S → Call → S → Type 0) (fs : F → Call �
           (ends_by (done_seen given) said leaving.done is (done_ends noted'.whole leaving.done given leaving.answers));
     }
 
-    pub asked_service : (turn : ℕ) (given : Step) (said result : Option Step) (served : Serves ss fs ls live noted place turn x given live' noted' x') → said ≡ step_seen given
+    pub asked_service : (turn : ℕ) (given : Step) (said result : Option Step) (served : Serves moving live noted place turn x given live' noted' x') → said ≡ step_seen given
         → result ≡ (if noted''.whole then said else None)
         → asks (length live.parts.listeners.items) (service_of place turn) (at live.standings x)
         (OfServlet place (Serviced x turn served.step x') ∷ all_told (length live.parts.listeners.items) x'.events) (at live''.standings x'') result

@@ -1,7 +1,7 @@
 -- A dispatch over a started context.
 use Rattle.std.specs.Prelude.{◌≡◌, List, Option, None, length}
-use Rattle.sv_component.specs.Call.{Call}
 use Rattle.sv_component.specs.Runs.{IsRun, Record}
+use Rattle.sv_component.specs.Steps.{ComponentSteps}
 use Rattle.sv_dispatch.specs.Running.{state_of}
 use Rattle.sv_exchange.specs.State as exchanges
 use Rattle.sv_journal.specs.Journal.{JournalState}
@@ -20,13 +20,13 @@ pub record Refused {S F L A : Type 0} (live : LiveState S F L) (exchange : excha
   pub exchange_is : exchange_after ≡ exchange
   pub noted_is : noted_after ≡ noted
 
-module _ {S F L : Type 0} (servlet_step : S → Call → S → Type 0) (filter_step : F → Call → F → Type 0) (listener_step : L → Call → L → Type 0) where
+module _ {S F L : Type 0} (moving : ComponentSteps S F L) where
   -- these calls were made and noted, they are those of a dispatch of the kind to the path, no servlet, filter or listener came or went, and
   -- what was initialised was; a dispatch that memory ended has no result
   pub record Dispatched (site : Site) (kind : Kind) (canon : Canon) (live : LiveState S F L) (exchange : exchanges.State) (noted : JournalState) (result : Option Finished) (live_after : LiveState S F L) (exchange_after : exchanges.State) (noted_after : JournalState) : Type 0 where
     pub made : List Record
     pub is_tree : Tree site MAX_NESTING kind canon (state_of live exchange) made (state_of live_after exchange_after) result
-    pub runs : IsRun servlet_step filter_step listener_step (live_world live noted) made (live_world live_after noted_after)
+    pub runs : IsRun moving (live_world live noted) made (live_world live_after noted_after)
     pub servlets : length live_after.parts.servlets.items ≡ length live.parts.servlets.items
     pub filters : length live_after.parts.filters.items ≡ length live.parts.filters.items
     pub listeners : length live_after.parts.listeners.items ≡ length live.parts.listeners.items

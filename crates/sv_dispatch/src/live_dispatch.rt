@@ -1,5 +1,6 @@
 //! A dispatch over a started context.
 
+ghost use Rattle.sv_component.specs.Steps.{steps_of};
 ghost use Rattle.std.specs.Prelude.{◌≡◌, OnOk, false, length, true};
 ghost use Rattle.sv_dispatch.specs.Did.{seen};
 ghost use Rattle.sv_dispatch.specs.Dispatched.{Dispatched, Refused};
@@ -37,7 +38,7 @@ pub fn dispatch<'a, S: Servlet, F: Filter, L: Listener>(
     requires servlets { length live.old.parts.servlets.items ≡ length site.old.app.servlets }
     requires filters { length live.old.parts.filters.items ≡ length site.old.app.filters }
     requires listeners { length live.old.parts.listeners.items ≡ length site.old.app.listeners }
-    ensures does { Dispatched S.servlet_step F.filter_step L.listener_step (site_of site.old) kind canon.now
+    ensures does { Dispatched (steps_of S.servlet_step F.filter_step L.listener_step) (site_of site.old) kind canon.now
         live.old exchange.old journal.old (seen result) live.new exchange.new journal.new }
     ensures broken { journal.old.whole ≡ false → Refused live.old exchange.old journal.old (seen result) live.new exchange.new journal.new }
     ensures whole { OnOk result (journal.new.whole ≡ true) }
@@ -61,7 +62,7 @@ fn run<S: Servlet, F: Filter, L: Listener>(
     requires filters { length machine.old.live.now.parts.filters.items ≡ length site.old.app.filters }
     requires listeners { length machine.old.live.now.parts.listeners.items ≡ length site.old.app.listeners }
     requires whole { machine.old.journal.now.whole ≡ true }
-    ensures made { Dispatched S.servlet_step F.filter_step L.listener_step (site_of site.old) kind canon.now
+    ensures made { Dispatched (steps_of S.servlet_step F.filter_step L.listener_step) (site_of site.old) kind canon.now
         machine.old.live.now machine.old.exchange.now machine.old.journal.now (seen result)
         machine.new.live.now machine.new.exchange.now machine.new.journal.now }
     ensures whole { OnOk result (machine.new.journal.now.whole ≡ true) }

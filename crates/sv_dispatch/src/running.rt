@@ -27,6 +27,7 @@ pub(crate) struct Running<'a, S, F, L> {
 }
 
 impl<S: Servlet, F: Filter, L: Listener> Machine for Running<'_, S, F, L> {
+    ghost use Rattle.sv_component.specs.Steps.{steps_of};
     ghost use Rattle.std.specs.Prelude.{length};
     ghost use Rattle.sv_component.specs.Runs.{IsRun};
     ghost use Rattle.sv_dispatch.specs.Running.{state_of};
@@ -46,7 +47,7 @@ impl<S: Servlet, F: Filter, L: Listener> Machine for Running<'_, S, F, L> {
       whole = m.journal.now.whole;
     } };
 
-    ghost ran = { λ from calls to. IsRun S.servlet_step F.filter_step L.listener_step
+    ghost ran = { λ from calls to. IsRun (steps_of S.servlet_step F.filter_step L.listener_step)
         (live_world from.live.now from.journal.now) calls (live_world to.live.now to.journal.now) };
 
     fn is_committed(&self) -> bool {

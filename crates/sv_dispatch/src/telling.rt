@@ -1,5 +1,6 @@
 //! What happened to the session of a request is told.
 
+ghost use Rattle.sv_component.specs.Steps.{steps_of};
 ghost use Rattle.std.specs.Prelude.{◌≡◌, length};
 ghost use Rattle.sv_component.specs.Runs.{Runs};
 ghost use Rattle.sv_lifecycle.specs.Calling.{StandsAsBefore};
@@ -21,7 +22,7 @@ pub(crate) fn tell_events<S: Servlet, F: Filter, L: Listener>(
     exchange: &mut Exchange,
     journal: &mut Journal,
 )
-    ensures made { Runs S.servlet_step F.filter_step L.listener_step (live_world live.old journal.old)
+    ensures made { Runs (steps_of S.servlet_step F.filter_step L.listener_step) (live_world live.old journal.old)
         (all_told (length live.old.parts.listeners.items) exchange.old.events) (live_world live.new journal.new) }
     ensures stands { StandsAsBefore live.old live.new }
     ensures told { exchange.new ≡ without_events exchange.old }
@@ -38,7 +39,7 @@ fn tell_event<S: Servlet, F: Filter, L: Listener>(
     event: Event,
     journal: &mut Journal,
 )
-    ensures made { Runs S.servlet_step F.filter_step L.listener_step (live_world live.old journal.old)
+    ensures made { Runs (steps_of S.servlet_step F.filter_step L.listener_step) (live_world live.old journal.old)
         (told event (length live.old.parts.listeners.items)) (live_world live.new journal.new) }
     ensures stands { StandsAsBefore live.old live.new }
 {

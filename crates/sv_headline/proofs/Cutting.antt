@@ -1,6 +1,6 @@
 -- What a script prints whose run memory cut, of our contexts.
 use Rattle.std.proofs.Common.{◌≡◌, ◌⊎◌, ℕ, List, Result, Ok, Err, refl, inl, inr, subst}
-use Rattle.sv_component.specs.Call.{Call}
+use Rattle.sv_component.specs.Steps.{ComponentSteps}
 use Rattle.sv_conduct.specs.Until.{EveryRunIsLawfulUntilRefused}
 use Rattle.sv_container.specs.Starting.{Starts}
 use Rattle.sv_container.specs.declared.container.Container.{Container}
@@ -50,21 +50,21 @@ module _ {O : Type 0} (takes : Making O) (context : List ℕ) (started : Journal
   unwritten code.PartsMismatch refused = unprinted code.PartsMismatch refused.0 refused.1 refused.2
   unwritten code.InitFailed refused = unprinted code.InitFailed refused.0 refused.1 refused.2
 
-module _ {S F L I O : Type 0} (servlet_step : S → Call → S → Type 0) (filter_step : F → Call → F → Type 0) (listener_step : L → Call → L → Type 0) (gives : Making I)
+module _ {S F L I O : Type 0} (moving : ComponentSteps S F L) (gives : Making I)
     (takes : Making O) where
-  module _ (every : EveryRunIsLawfulUntilRefused servlet_step filter_step listener_step draws)
-      (callers : CallersOfAStartedContainerHaveLoggedIn servlet_step filter_step listener_step draws)
-      (enters : RequestsEnterExactlyWhereAllowed (theory servlet_step filter_step listener_step draws))
-      (is_cut : runs.ARefusedRunIsCut (StepsOf servlet_step filter_step listener_step draws) (StopsOf servlet_step filter_step listener_step) gives takes)
-      (lawful : runs.AScriptIsALawfulRun (StepsOf servlet_step filter_step listener_step draws) (theory servlet_step filter_step listener_step draws))
+  module _ (every : EveryRunIsLawfulUntilRefused moving draws)
+      (callers : CallersOfAStartedContainerHaveLoggedIn moving draws)
+      (enters : RequestsEnterExactlyWhereAllowed (theory moving draws))
+      (is_cut : runs.ARefusedRunIsCut (StepsOf moving draws) (StopsOf moving) gives takes)
+      (lawful : runs.AScriptIsALawfulRun (StepsOf moving draws) (theory moving draws))
       (deployments : List (Deployment S F L)) (script script_after : I) (output output_after : O) where
     cut_behind : (its_words : CountedWords) → AreFresh its_words → (its_start : JournalState) (its_container : Container S F L CountedWords)
-        → Starts servlet_step filter_step listener_step deployments its_words new_journal (Ok its_container) its_start
-        → runs.IsUnwritten (StepsOf servlet_step filter_step listener_step draws) (StopsOf servlet_step filter_step listener_step) gives takes
+        → Starts moving deployments its_words new_journal (Ok its_container) its_start
+        → runs.IsUnwritten (StepsOf moving draws) (StopsOf moving) gives takes
         (record { container = its_container }) script output script_after output_after
-        ⊎ runs.IsCut (StepsOf servlet_step filter_step listener_step draws) (StopsOf servlet_step filter_step listener_step) gives takes
+        ⊎ runs.IsCut (StepsOf moving draws) (StopsOf moving) gives takes
         its_start (record { container = its_container }) script output script_after output_after
-        → (output_after ≡ output) ⊎ PrintsACutRun servlet_step filter_step listener_step gives takes deployments script output script_after output_after
+        → (output_after ≡ output) ⊎ PrintsACutRun moving gives takes deployments script output script_after output_after
     cut_behind its_words fresh its_start its_container its_starts (inl nothing) = inl nothing.unwritten
     cut_behind its_words fresh its_start its_container its_starts (inr is) =
         inr record {
@@ -74,33 +74,33 @@ module _ {S F L I O : Type 0} (servlet_step : S → Call → S → Type 0) (filt
           started = its_start;
           starts = its_starts;
           cut = is;
-          run = runs_lawfully servlet_step filter_step listener_step every callers deployments its_words new_journal its_start its_container its_starts
-              is.played (lawful run_of (like servlet_step filter_step listener_step gives takes) enters (record { container = its_container }) is.played is.plays);
+          run = runs_lawfully moving every callers deployments its_words new_journal its_start its_container its_starts
+              is.played (lawful run_of (like moving gives takes) enters (record { container = its_container }) is.played is.plays);
         }
 
     followed : (its_words : CountedWords) → AreFresh its_words → (its_start : JournalState) (begun : Result (Container S F L CountedWords) (NewFault S F L))
-        → Starts servlet_step filter_step listener_step deployments its_words new_journal begun its_start
-        → Follows servlet_step filter_step listener_step gives takes begun its_start script output (Err NoMemory) script_after output_after
-        → (output_after ≡ output) ⊎ PrintsACutRun servlet_step filter_step listener_step gives takes deployments script output script_after output_after
+        → Starts moving deployments its_words new_journal begun its_start
+        → Follows moving gives takes begun its_start script output (Err NoMemory) script_after output_after
+        → (output_after ≡ output) ⊎ PrintsACutRun moving gives takes deployments script output script_after output_after
     followed its_words fresh its_start (Ok its_container) its_starts follows =
         cut_behind its_words fresh its_start its_container its_starts
         (is_cut its_start (record { container = its_container }) script output script_after output_after
-        (subst (λ ended. RunsWhole (StepsOf servlet_step filter_step listener_step draws) (StopsOf servlet_step filter_step listener_step) gives takes
+        (subst (λ ended. RunsWhole (StepsOf moving draws) (StopsOf moving) gives takes
         its_start (record { container = its_container }) script output ended script_after output_after) (wants_memory follows.0 follows.2) follows.1))
     followed its_words fresh its_start (Err fault) its_starts follows =
         inl (unwritten takes fault.context its_start output output_after fault.code follows.1)
 
-  pub is_cut_so : EveryRunIsLawfulUntilRefused servlet_step filter_step listener_step draws
-      → CallersOfAStartedContainerHaveLoggedIn servlet_step filter_step listener_step draws
-      → RequestsEnterExactlyWhereAllowed (theory servlet_step filter_step listener_step draws)
-      → runs.ARefusedRunIsCut (StepsOf servlet_step filter_step listener_step draws) (StopsOf servlet_step filter_step listener_step) gives takes
-      → runs.AScriptIsALawfulRun (StepsOf servlet_step filter_step listener_step draws) (theory servlet_step filter_step listener_step draws)
-      → WhatARefusedScriptPrintsIsCut servlet_step filter_step listener_step gives takes
+  pub is_cut_so : EveryRunIsLawfulUntilRefused moving draws
+      → CallersOfAStartedContainerHaveLoggedIn moving draws
+      → RequestsEnterExactlyWhereAllowed (theory moving draws)
+      → runs.ARefusedRunIsCut (StepsOf moving draws) (StopsOf moving) gives takes
+      → runs.AScriptIsALawfulRun (StepsOf moving draws) (theory moving draws)
+      → WhatARefusedScriptPrintsIsCut moving gives takes
   is_cut_so every callers enters is_cut lawful deployments script output script_after output_after ran =
       followed every callers enters is_cut lawful deployments script script_after output output_after ran.words ran.are_fresh ran.started ran.begun ran.starts ran.follows
 
-  pub begins_so : runs.ACutTextBeginsTheWhole (StepsOf servlet_step filter_step listener_step draws) (StopsOf servlet_step filter_step listener_step) gives takes
-      → WhatARefusedScriptPrintsBeginsTheWhole servlet_step filter_step listener_step gives takes
+  pub begins_so : runs.ACutTextBeginsTheWhole (StepsOf moving draws) (StopsOf moving) gives takes
+      → WhatARefusedScriptPrintsBeginsTheWhole moving gives takes
   begins_so begins deployments others script other_script output other_output result script_after other_script_after output_after other_output_after refused
       written same first =
       begins refused.started (record { container = refused.container }) script output script_after output_after refused.cut written.started

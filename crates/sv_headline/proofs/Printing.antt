@@ -1,6 +1,6 @@
 -- What a script prints, of our contexts.
 use Rattle.std.proofs.Common.{ℕ, List, Result, Ok, Err, refl, ap, subst}
-use Rattle.sv_component.specs.Call.{Call}
+use Rattle.sv_component.specs.Steps.{ComponentSteps}
 use Rattle.sv_conduct.specs.Until.{EveryRunIsLawfulUntilRefused}
 use Rattle.sv_container.specs.Starting.{Starts}
 use Rattle.sv_container.specs.declared.container.Container.{Container}
@@ -55,23 +55,23 @@ module _ {O : Type 0} (takes : Making O) (context : List ℕ) (started : Journal
   unwritten code.PartsMismatch result refused written = refused_unwritten code.PartsMismatch result refused written
   unwritten code.InitFailed result refused written = refused_unwritten code.InitFailed result refused written
 
-module _ {S F L I O : Type 0} (servlet_step : S → Call → S → Type 0) (filter_step : F → Call → F → Type 0) (listener_step : L → Call → L → Type 0) (gives : Making I)
+module _ {S F L I O : Type 0} (moving : ComponentSteps S F L) (gives : Making I)
     (takes : Making O) where
   -- a container takes its events as the run of its contexts says
-  pub like : StepsLike (StepsOf servlet_step filter_step listener_step draws) (theory servlet_step filter_step listener_step draws) run_of
+  pub like : StepsLike (StepsOf moving draws) (theory moving draws) run_of
   like before after happening (Ok reaction) steps = (Ok steps.0, steps.1, ap Ok steps.2)
   like before after happening (Err fault) steps = (Err fault, steps, refl)
 
-  module _ (every : EveryRunIsLawfulUntilRefused servlet_step filter_step listener_step draws)
-      (callers : CallersOfAStartedContainerHaveLoggedIn servlet_step filter_step listener_step draws)
-      (enters : RequestsEnterExactlyWhereAllowed (theory servlet_step filter_step listener_step draws))
-      (one_text : runs.ARunWritesOneText (StepsOf servlet_step filter_step listener_step draws) (StopsOf servlet_step filter_step listener_step) gives takes)
-      (lawful : runs.AScriptIsALawfulRun (StepsOf servlet_step filter_step listener_step draws) (theory servlet_step filter_step listener_step draws))
+  module _ (every : EveryRunIsLawfulUntilRefused moving draws)
+      (callers : CallersOfAStartedContainerHaveLoggedIn moving draws)
+      (enters : RequestsEnterExactlyWhereAllowed (theory moving draws))
+      (one_text : runs.ARunWritesOneText (StepsOf moving draws) (StopsOf moving) gives takes)
+      (lawful : runs.AScriptIsALawfulRun (StepsOf moving draws) (theory moving draws))
       (deployments : List (Deployment S F L)) (script script_after : I) (output output_after : O) (result : Result (Unit {0}) RunFault) where
     followed : (words : CountedWords) → AreFresh words → (started : JournalState) (begun : Result (Container S F L CountedWords) (NewFault S F L))
-        → Starts servlet_step filter_step listener_step deployments words new_journal begun started
-        → Follows servlet_step filter_step listener_step gives takes begun started script output result script_after output_after
-        → IsWritten result → PrintsALawfulRun servlet_step filter_step listener_step gives takes deployments script output result script_after output_after
+        → Starts moving deployments words new_journal begun started
+        → Follows moving gives takes begun started script output result script_after output_after
+        → IsWritten result → PrintsALawfulRun moving gives takes deployments script output result script_after output_after
     followed its_words fresh its_start (Ok its_container) starts follows written =
         let one = one_text its_start (record { container = its_container }) script output follows.0 script_after output_after follows.1
         (replay_written follows.0 (subst IsWritten follows.2 written)) in
@@ -84,18 +84,18 @@ module _ {S F L I O : Type 0} (servlet_step : S → Call → S → Type 0) (filt
           ended = follows.0;
           result_is = follows.2;
           text = one;
-          run = runs_lawfully servlet_step filter_step listener_step every callers deployments its_words new_journal its_start its_container starts
+          run = runs_lawfully moving every callers deployments its_words new_journal its_start its_container starts
               one.played (lawful run_of like enters (record { container = its_container }) one.played one.plays);
         }
     followed its_words fresh its_start (Err fault) starts follows written =
         absurd (unwritten takes fault.context its_start output output_after fault.code result follows.1 written)
 
-  pub prints : EveryRunIsLawfulUntilRefused servlet_step filter_step listener_step draws
-      → CallersOfAStartedContainerHaveLoggedIn servlet_step filter_step listener_step draws
-      → RequestsEnterExactlyWhereAllowed (theory servlet_step filter_step listener_step draws)
-      → runs.ARunWritesOneText (StepsOf servlet_step filter_step listener_step draws) (StopsOf servlet_step filter_step listener_step) gives takes
-      → runs.AScriptIsALawfulRun (StepsOf servlet_step filter_step listener_step draws) (theory servlet_step filter_step listener_step draws)
-      → WhatAScriptPrintsIsLawful servlet_step filter_step listener_step gives takes
+  pub prints : EveryRunIsLawfulUntilRefused moving draws
+      → CallersOfAStartedContainerHaveLoggedIn moving draws
+      → RequestsEnterExactlyWhereAllowed (theory moving draws)
+      → runs.ARunWritesOneText (StepsOf moving draws) (StopsOf moving) gives takes
+      → runs.AScriptIsALawfulRun (StepsOf moving draws) (theory moving draws)
+      → WhatAScriptPrintsIsLawful moving gives takes
   prints every callers enters one_text lawful deployments script output result script_after output_after ran written =
       followed every callers enters one_text lawful
       deployments script script_after output output_after result ran.words ran.are_fresh ran.started ran.begun ran.starts ran.follows written

@@ -1,7 +1,7 @@
 -- What a script in memory prints: from the calls of its streams to their bytes.
 use Rattle.std.proofs.Common.{◌≡◌, ℕ, true, List, [], ◌∷◌, ◌++◌, map, Result, Ok, Err, refl, sym, ap, ◌∙◌, subst, append_assoc, append-nil}
 use Rattle.std.specs.List.{concat}
-use Rattle.sv_component.specs.Call.{Call as ComponentCall}
+use Rattle.sv_component.specs.Steps.{ComponentSteps}
 use Rattle.sv_headline.specs.Headline.{WhatAScriptPrintsIsLawful}
 use Rattle.sv_headline.specs.Memory.{AScriptInMemoryPrintsItsRun}
 use Rattle.sv_replay.specs.Asked.{reactions_text}
@@ -63,12 +63,12 @@ ended_well : (ended : Result (Unit {0}) ReplayFault) → ◌≡◌ {A = Result (
 ended_well (Ok done) same = refl
 ended_well (Err fault) same = absurd (cc)
 
-module _ {S F L : Type 0} (ss : S → ComponentCall → S → Type 0) (fs : F → ComponentCall → F → Type 0) (ls : L → ComponentCall → L → Type 0) where
-  pub prints_its_run : WhatAScriptPrintsIsLawful ss fs ls IsMade IsMade → AScriptInMemoryPrintsItsRun ss fs ls
+module _ {S F L : Type 0} (moving : ComponentSteps S F L) where
+  pub prints_its_run : WhatAScriptPrintsIsLawful moving IsMade IsMade → AScriptInMemoryPrintsItsRun moving
   prints_its_run lawful deployments script output script_after output_after ran =
       let one = lawful deployments script output (Ok tt) script_after output_after ran tt in
       let its_played = one.text.played in
-      let ends = subst (λ ended. Ends (StepsOf ss fs ls draws) its_played ended one.text.after) (ended_well one.ended one.result_is) one.text.ends in
+      let ends = subst (λ ended. Ends (StepsOf moving draws) its_played ended one.text.after) (ended_well one.ended one.result_is) one.text.ends in
       let input =
       unread_before script script_after its_played.calls one.text.are_made
       ∙ ap (λ rest. given its_played.calls ++ rest) (all_given script script_after its_played.calls one.text.are_made ends.1)
@@ -87,7 +87,7 @@ module _ {S F L : Type 0} (ss : S → ComponentCall → S → Type 0) (fs : F �
           asks = ap (λ text. map asked (lines_of text)) input ∙ ap (map asked) (sym ends.2) ∙ one.text.plays.are_read;
           run = one.run;
           stopped = one.text.stopped;
-          stops = subst (λ after. StopsOf ss fs ls after one.text.stopped) ends.3 one.text.stops_so;
+          stops = subst (λ after. StopsOf moving after one.text.stopped) ends.3 one.text.stops_so;
           text = refl;
         },
       )

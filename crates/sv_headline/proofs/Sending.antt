@@ -1,6 +1,6 @@
 -- What a connection is sent, of our contexts.
 use Rattle.std.proofs.Common.{ℕ, [], ◌∷◌, ◌++◌, map, Ok, Err, refl, ap}
-use Rattle.sv_component.specs.Call.{Call}
+use Rattle.sv_component.specs.Steps.{ComponentSteps}
 use Rattle.sv_conduct.specs.Until.{EveryRunIsLawfulUntilRefused}
 use Rattle.sv_connection.specs.Running.{AConnectionIsARun, events_of}
 use Rattle.sv_container.specs.Container.{state_of}
@@ -13,19 +13,19 @@ use Rattle.sv_run.specs.Reacting.{StepsLike}
 use Rattle.sv_run.specs.State.{State}
 use Rattle.sv_streams.specs.Calls.{Making}
 
-module _ {S F L W T C : Type 0} (servlet_step : S → Call → S → Type 0) (filter_step : F → Call → F → Type 0) (listener_step : L → Call → L → Type 0)
+module _ {S F L W T C : Type 0} (moving : ComponentSteps S F L)
     (draws : W → ℕ × ℕ → W → Type 0) (makes : Making T) (tells : C → ℕ → C → Type 0) where
   -- a container takes its events as the run of its contexts says
-  like : StepsLike (TakesSo servlet_step filter_step listener_step draws makes tells) (theory servlet_step filter_step listener_step draws) state_of
+  like : StepsLike (TakesSo moving draws makes tells) (theory moving draws) state_of
   like before after happening (Ok reaction) steps = (Ok steps.0, steps.1, ap Ok steps.2)
   like before after happening (Err fault) steps = (Err fault, steps, refl)
 
-  pub is_sent : EveryRunIsLawfulUntilRefused servlet_step filter_step listener_step draws
-      → RequestsEnterExactlyWhereAllowed (theory servlet_step filter_step listener_step draws)
+  pub is_sent : EveryRunIsLawfulUntilRefused moving draws
+      → RequestsEnterExactlyWhereAllowed (theory moving draws)
       → ((seen : Container S F L W → State (ContextState S F L) W)
-      → AConnectionIsARun (TakesSo servlet_step filter_step listener_step draws makes tells) makes tells
-      (theory servlet_step filter_step listener_step draws) seen)
-      → WhatAConnectionIsSentIsLawful servlet_step filter_step listener_step draws makes tells
+      → AConnectionIsARun (TakesSo moving draws makes tells) makes tells
+      (theory moving draws) seen)
+      → WhatAConnectionIsSentIsLawful moving draws makes tells
   is_sent every enters runs connection before stream clock result after stream_after clock_after connects =
       let run = runs state_of like connection before stream clock result after stream_after clock_after connects in
       let holds = enters (state_of before) (state_of after) (events_of connection run.pieces run.over) (map Ok run.accepted ++ run.last ∷ []) run.runs in

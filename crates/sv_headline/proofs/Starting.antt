@@ -2,7 +2,7 @@
 use Rattle.std.proofs.Common.{◌≡◌, ℕ, Bool, true, false, List, [], ◌∷◌, ◌++◌, map, Ok, Err, refl, sym, ap, ◌∙◌, subst}
 use Rattle.std.specs.Bool.{MatchBool}
 use Rattle.std.specs.List.{AllByRecursion}
-use Rattle.sv_component.specs.Call.{Call}
+use Rattle.sv_component.specs.Steps.{ComponentSteps}
 use Rattle.sv_conduct.specs.Order.{SessionsStayInOrder}
 use Rattle.sv_conduct.specs.Record.{IsLawfulRun}
 use Rattle.sv_conduct.specs.Start.{CallersLoggedInSinceTheStart}
@@ -39,9 +39,9 @@ none_wanted [] refused (reaction ∷ reactions) same = absurd (cc)
 none_wanted (answer ∷ answered) refused [] same = absurd (cc)
 none_wanted (answer ∷ answered) refused (reaction ∷ reactions) same = none_wanted answered refused reactions (cc)
 
-module _ {S F L W : Type 0} (ss : S → Call → S → Type 0) (fs : F → Call → F → Type 0) (ls : L → Call → L → Type 0) (draws : W → ℕ × ℕ → W → Type 0) where
-  none_at_first : SessionsStayInOrder ss fs ls → (deployments : List (Deployment S F L)) (before after : JournalState) (contexts : List (ContextState S F L))
-      → DeploysAll ss fs ls deployments before contexts after → AllByRecursion (λ context. context.store.sessions ≡ []) contexts
+module _ {S F L W : Type 0} (moving : ComponentSteps S F L) (draws : W → ℕ × ℕ → W → Type 0) where
+  none_at_first : SessionsStayInOrder moving → (deployments : List (Deployment S F L)) (before after : JournalState) (contexts : List (ContextState S F L))
+      → DeploysAll moving deployments before contexts after → AllByRecursion (λ context. context.store.sessions ≡ []) contexts
   none_at_first order [] before after contexts deploys = subst (AllByRecursion (λ context. context.store.sessions ≡ [])) (sym deploys.0) tt
   none_at_first order (deployment ∷ deployments) before after contexts deploys =
       subst (AllByRecursion (λ context. context.store.sessions ≡ [])) (sym deploys.5) (
@@ -49,7 +49,7 @@ module _ {S F L W : Type 0} (ss : S → Call → S → Type 0) (fs : F → Call 
         none_at_first order deployments deploys.2 after deploys.1 deploys.4,
       )
 
-  pub logged_in : SessionsStayInOrder ss fs ls → CallersLoggedInSinceTheStart (theory ss fs ls draws) → CallersOfAStartedContainerHaveLoggedIn ss fs ls draws
+  pub logged_in : SessionsStayInOrder moving → CallersLoggedInSinceTheStart (theory moving draws) → CallersOfAStartedContainerHaveLoggedIn moving draws
   logged_in order since deployments words noted noted_after container happenings answers after starts run runs place number caller holds =
       since (state_of container) after happenings answers place number caller
       (subst (AllByRecursion (λ context. context.store.sessions ≡ [])) (sym (ap (λ (state : State (ContextState S F L) W). state.world.contexts) starts.3))
@@ -57,26 +57,26 @@ module _ {S F L W : Type 0} (ss : S → Call → S → Type 0) (fs : F → Call 
       run runs holds
 
   -- a run of a container that runs, in which each event was accepted
-  all_accepted : EveryRunIsLawfulUntilRefused ss fs ls draws → (before after : State (ContextState S F L) W) (happenings : List Happening)
+  all_accepted : EveryRunIsLawfulUntilRefused moving draws → (before after : State (ContextState S F L) W) (happenings : List Happening)
       (answers : List (Answer (ContextState S F L))) (reactions : List Reaction) → before.stopped ≡ false
-      → Run (theory ss fs ls draws) before happenings answers after → map Ok reactions ≡ map answer_shown answers
-      → IsLawfulRun ss fs ls draws before answers after × (after.stopped ≡ false)
+      → Run (theory moving draws) before happenings answers after → map Ok reactions ≡ map answer_shown answers
+      → IsLawfulRun moving draws before answers after × (after.stopped ≡ false)
   all_accepted every before after happenings answers reactions runs run shown = by_stop after.stopped refl (every before after happenings answers runs run)
     where
       by_stop : (stopped : Bool) → after.stopped ≡ stopped
-          → MatchBool stopped (IsLawfulUpTo ss fs ls draws before happenings answers after) (IsLawfulRun ss fs ls draws before answers after)
-          → IsLawfulRun ss fs ls draws before answers after × (after.stopped ≡ false)
+          → MatchBool stopped (IsLawfulUpTo moving draws before happenings answers after) (IsLawfulRun moving draws before answers after)
+          → IsLawfulRun moving draws before answers after × (after.stopped ≡ false)
       by_stop true is up_to = absurd (none_wanted up_to.answered up_to.refused reactions (shown ∙ ap (map answer_shown) up_to.are_answered))
       by_stop false is lawful = (lawful, is)
 
-module _ {S F L : Type 0} (ss : S → Call → S → Type 0) (fs : F → Call → F → Type 0) (ls : L → Call → L → Type 0)
-    (every : EveryRunIsLawfulUntilRefused ss fs ls scripts.draws) (callers : CallersOfAStartedContainerHaveLoggedIn ss fs ls scripts.draws) where
+module _ {S F L : Type 0} (moving : ComponentSteps S F L)
+    (every : EveryRunIsLawfulUntilRefused moving scripts.draws) (callers : CallersOfAStartedContainerHaveLoggedIn moving scripts.draws) where
   pub runs_lawfully : (deployments : List (Deployment S F L)) (words : CountedWords) (noted noted_after : JournalState) (container : Container S F L CountedWords)
-      → Starts ss fs ls deployments words noted (Ok container) noted_after → (played : Played (Running S F L CountedWords))
-      → PlaysALawfulRun (StepsOf ss fs ls scripts.draws) (theory ss fs ls scripts.draws) run_of (record { container = container }) played
-      → RunsLawfully ss fs ls container played
+      → Starts moving deployments words noted (Ok container) noted_after → (played : Played (Running S F L CountedWords))
+      → PlaysALawfulRun (StepsOf moving scripts.draws) (theory moving scripts.draws) run_of (record { container = container }) played
+      → RunsLawfully moving container played
   runs_lawfully deployments words noted noted_after container starts its_played its_plays =
-      let both = all_accepted ss fs ls scripts.draws every (state_of container) (run_of its_played.reactor) (events_of 0 its_played.said) its_plays.answers
+      let both = all_accepted moving scripts.draws every (state_of container) (run_of its_played.reactor) (events_of 0 its_played.said) its_plays.answers
       its_played.reactions (ap (λ (state : State (ContextState S F L) CountedWords). state.stopped) starts.3) its_plays.runs its_plays.are_shown in
       record {
         plays = its_plays;

@@ -1,6 +1,6 @@
 -- Who is logged in, in a container that was started (Jakarta Servlet 6.0, section 13.6.3).
 use Rattle.std.specs.Prelude.{◌≡◌, ℕ, false, List, Ok}
-use Rattle.sv_component.specs.Call.{Call}
+use Rattle.sv_component.specs.Steps.{ComponentSteps}
 use Rattle.sv_container.specs.Container.{state_of}
 use Rattle.sv_container.specs.Starting.{Starts}
 use Rattle.sv_container.specs.declared.container.Container.{Container}
@@ -13,19 +13,19 @@ use Rattle.sv_run.specs.Laws.{HoldsAt, LoggedInBefore}
 use Rattle.sv_run.specs.Runs.{Answer, Run, deeds_of}
 use Rattle.sv_run.specs.State.{State}
 
-module _ {S F L W : Type 0} (servlet_step : S → Call → S → Type 0) (filter_step : F → Call → F → Type 0) (listener_step : L → Call → L → Type 0)
+module _ {S F L W : Type 0} (moving : ComponentSteps S F L)
     (draws : W → ℕ × ℕ → W → Type 0) where
   -- behind what became of messages, a session of a context holds a caller only by a login that fits, which nothing has undone
   abbrev pub CallersHaveLoggedIn : List (Answer (ContextState S F L)) → State (ContextState S F L) W → Type 0
   CallersHaveLoggedIn answers after =
-      (place number caller : ℕ) → HoldsAt (theory servlet_step filter_step listener_step draws) place number caller after.world.contexts
-      → LoggedInBefore (theory servlet_step filter_step listener_step draws) place number caller (deeds_of answers)
+      (place number caller : ℕ) → HoldsAt (theory moving draws) place number caller after.world.contexts
+      → LoggedInBefore (theory moving draws) place number caller (deeds_of answers)
 
   -- so it is behind each run of a container that was started, until memory is refused
   abbrev pub CallersOfAStartedContainerHaveLoggedIn : Type 0
   CallersOfAStartedContainerHaveLoggedIn =
       (deployments : List (Deployment S F L)) (words : W) (noted noted_after : JournalState) (container : Container S F L W) (happenings : List Happening)
       (answers : List (Answer (ContextState S F L))) (after : State (ContextState S F L) W)
-      → Starts servlet_step filter_step listener_step deployments words noted (Ok container) noted_after
-      → Run (theory servlet_step filter_step listener_step draws) (state_of container) happenings answers after → after.stopped ≡ false
+      → Starts moving deployments words noted (Ok container) noted_after
+      → Run (theory moving draws) (state_of container) happenings answers after → after.stopped ≡ false
       → CallersHaveLoggedIn answers after

@@ -1,6 +1,6 @@
 -- What a script prints whose run memory cut (Jakarta Servlet 6.0, section 13.8).
 use Rattle.std.specs.Prelude.{◌≡◌, ◌⊎◌, List, ◌++◌, Result, Ok, Err}
-use Rattle.sv_component.specs.Call.{Call}
+use Rattle.sv_component.specs.Steps.{ComponentSteps}
 use Rattle.sv_container.specs.Starting.{Starts}
 use Rattle.sv_container.specs.declared.container.Container.{Container}
 use Rattle.sv_context.specs.declared.deployment.Deployment.{Deployment}
@@ -16,7 +16,7 @@ use Rattle.sv_server.specs.declared.run_fault.RunFault.TheVariants.{NoMemory}
 use Rattle.sv_streams.specs.Calls.{Making}
 use Rattle.sv_words.specs.declared.counted_words.CountedWords.{CountedWords}
 
-module _ {S F L I O : Type 0} (servlet_step : S → Call → S → Type 0) (filter_step : F → Call → F → Type 0) (listener_step : L → Call → L → Type 0) (gives : Making I)
+module _ {S F L I O : Type 0} (moving : ComponentSteps S F L) (gives : Making I)
     (takes : Making O) where
   -- a container started, and memory was refused later: what was written is the text of its start and of the events before, which are a lawful
   -- run; it was shut down, and nothing was written behind
@@ -25,16 +25,16 @@ module _ {S F L I O : Type 0} (servlet_step : S → Call → S → Type 0) (filt
     pub are_fresh : AreFresh words
     pub container : Container S F L CountedWords
     pub started : JournalState
-    pub starts : Starts servlet_step filter_step listener_step deployments words new_journal (Ok container) started
-    pub cut : IsCut (StepsOf servlet_step filter_step listener_step draws) (StopsOf servlet_step filter_step listener_step) gives takes
+    pub starts : Starts moving deployments words new_journal (Ok container) started
+    pub cut : IsCut (StepsOf moving draws) (StopsOf moving) gives takes
         started (record { container = container }) script output script_after output_after
-    pub run : RunsLawfully servlet_step filter_step listener_step container cut.played
+    pub run : RunsLawfully moving container cut.played
 
   -- a run of a script that answers want of memory has written nothing, or that
   abbrev pub WhatARefusedScriptPrintsIsCut : Type 0
   WhatARefusedScriptPrintsIsCut =
       (deployments : List (Deployment S F L)) (script : I) (output : O) (script_after : I) (output_after : O)
-      → RunsScript servlet_step filter_step listener_step gives takes deployments script output (Err NoMemory) script_after output_after
+      → RunsScript moving gives takes deployments script output (Err NoMemory) script_after output_after
       → (output_after ≡ output) ⊎ PrintsACutRun deployments script output script_after output_after
 
   -- it begins what a run prints that ended well, whose start notes the same entries and whose first events bring the same
@@ -43,7 +43,7 @@ module _ {S F L I O : Type 0} (servlet_step : S → Call → S → Type 0) (filt
       (deployments others : List (Deployment S F L)) (script other_script : I) (output other_output : O) (result : Result (Unit {0}) RunFault)
       (script_after other_script_after : I) (output_after other_output_after : O)
       (refused : PrintsACutRun deployments script output script_after output_after)
-      (written : PrintsALawfulRun servlet_step filter_step listener_step gives takes others other_script other_output result other_script_after other_output_after)
+      (written : PrintsALawfulRun moving gives takes others other_script other_output result other_script_after other_output_after)
       → refused.started.entries ≡ written.started.entries → Begins refused.cut.played.reactions written.text.played.reactions
       → Begins (start_text refused.started.entries ++ reactions_text 1 refused.cut.played.reactions)
       (start_text written.started.entries ++ reactions_text 1 written.text.played.reactions ++ shutdown_text written.text.stopped.entries)

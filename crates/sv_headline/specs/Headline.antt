@@ -1,6 +1,6 @@
 -- What a script prints, from its bytes to those of the output (Jakarta Servlet 6.0, section 13.8).
 use Rattle.std.specs.Prelude.{◌≡◌, List, Result, Ok, Err}
-use Rattle.sv_component.specs.Call.{Call}
+use Rattle.sv_component.specs.Steps.{ComponentSteps}
 use Rattle.sv_conduct.specs.Record.{IsLawfulRun}
 use Rattle.sv_container.specs.Container.{state_of}
 use Rattle.sv_container.specs.Starting.{Starts}
@@ -30,16 +30,16 @@ IsWritten (Err Output) = ⊥
 IsWritten (Err NoMemory) = ⊥
 IsWritten (Err Connection) = ⊥
 
-module _ {S F L : Type 0} (servlet_step : S → Call → S → Type 0) (filter_step : F → Call → F → Type 0) (listener_step : L → Call → L → Type 0) where
+module _ {S F L : Type 0} (moving : ComponentSteps S F L) where
   -- the events that a script asks for are a run of the container, of which their texts tell; the run is lawful; and whoever is logged in behind it has
   -- logged in
   pub record RunsLawfully (container : Container S F L CountedWords) (played : Played (Running S F L CountedWords)) : Type 0 where
-    pub plays : PlaysALawfulRun (StepsOf servlet_step filter_step listener_step draws) (theory servlet_step filter_step listener_step draws)
+    pub plays : PlaysALawfulRun (StepsOf moving draws) (theory moving draws)
         run_of (record { container = container }) played
-    pub lawful : IsLawfulRun servlet_step filter_step listener_step draws (state_of container) plays.answers (run_of played.reactor)
-    pub callers : CallersHaveLoggedIn servlet_step filter_step listener_step draws plays.answers (run_of played.reactor)
+    pub lawful : IsLawfulRun moving draws (state_of container) plays.answers (run_of played.reactor)
+    pub callers : CallersHaveLoggedIn moving draws plays.answers (run_of played.reactor)
 
-module _ {S F L I O : Type 0} (servlet_step : S → Call → S → Type 0) (filter_step : F → Call → F → Type 0) (listener_step : L → Call → L → Type 0) (gives : Making I)
+module _ {S F L I O : Type 0} (moving : ComponentSteps S F L) (gives : Making I)
     (takes : Making O) where
   -- a container started with the deployments; what was written is the text of its start, of the events that the script asks for, and of its stop; and
   -- these events are a lawful run
@@ -49,15 +49,15 @@ module _ {S F L I O : Type 0} (servlet_step : S → Call → S → Type 0) (filt
     pub are_fresh : AreFresh words
     pub container : Container S F L CountedWords
     pub started : JournalState
-    pub starts : Starts servlet_step filter_step listener_step deployments words new_journal (Ok container) started
+    pub starts : Starts moving deployments words new_journal (Ok container) started
     pub ended : Result (Unit {0}) ReplayFault
     pub result_is : result ≡ ended_by ended
-    pub text : IsOneText (StepsOf servlet_step filter_step listener_step draws) (StopsOf servlet_step filter_step listener_step) gives takes
+    pub text : IsOneText (StepsOf moving draws) (StopsOf moving) gives takes
         started (record { container = container }) script output ended script_after output_after
-    pub run : RunsLawfully servlet_step filter_step listener_step container text.played
+    pub run : RunsLawfully moving container text.played
 
   abbrev pub WhatAScriptPrintsIsLawful : Type 0
   WhatAScriptPrintsIsLawful =
       (deployments : List (Deployment S F L)) (script : I) (output : O) (result : Result (Unit {0}) RunFault) (script_after : I) (output_after : O)
-      → RunsScript servlet_step filter_step listener_step gives takes deployments script output result script_after output_after
+      → RunsScript moving gives takes deployments script output result script_after output_after
       → IsWritten result → PrintsALawfulRun deployments script output result script_after output_after

@@ -1,6 +1,6 @@
 -- What a script in memory prints: known bytes in, and known bytes out (Jakarta Servlet 6.0, section 13.8).
 use Rattle.std.specs.Prelude.{◌≡◌, ℕ, List, ◌++◌, map, Ok}
-use Rattle.sv_component.specs.Call.{Call}
+use Rattle.sv_component.specs.Steps.{ComponentSteps}
 use Rattle.sv_container.specs.Starting.{Starts}
 use Rattle.sv_container.specs.declared.container.Container.{Container}
 use Rattle.sv_context.specs.declared.deployment.Deployment.{Deployment}
@@ -17,7 +17,7 @@ use Rattle.sv_server.specs.declared.running.Running.{Running}
 use Rattle.sv_streams.specs.Memory.{IsMade, MemoryState}
 use Rattle.sv_words.specs.declared.counted_words.CountedWords.{CountedWords}
 
-module _ {S F L : Type 0} (servlet_step : S → Call → S → Type 0) (filter_step : F → Call → F → Type 0) (listener_step : L → Call → L → Type 0) where
+module _ {S F L : Type 0} (moving : ComponentSteps S F L) where
   -- a container started with the deployments, what the lines of the input ask for is a lawful run of it, and it stopped; what is printed is the text of
   -- the start, of each event, and of the stop
   pub record PrintsItsRun (deployments : List (Deployment S F L)) (input printed : List ℕ) : Type 0 where
@@ -25,17 +25,17 @@ module _ {S F L : Type 0} (servlet_step : S → Call → S → Type 0) (filter_s
     pub are_fresh : AreFresh words
     pub container : Container S F L CountedWords
     pub started : JournalState
-    pub starts : Starts servlet_step filter_step listener_step deployments words new_journal (Ok container) started
+    pub starts : Starts moving deployments words new_journal (Ok container) started
     pub played : Played (Running S F L CountedWords)
     pub asks : map asked (lines_of input) ≡ map Ok played.said
-    pub run : RunsLawfully servlet_step filter_step listener_step container played
+    pub run : RunsLawfully moving container played
     pub stopped : JournalState
-    pub stops : StopsOf servlet_step filter_step listener_step played.reactor stopped
+    pub stops : StopsOf moving played.reactor stopped
     pub text : printed ≡ start_text started.entries ++ reactions_text 1 played.reactions ++ shutdown_text stopped.entries
 
   -- a script in memory that ended well prints its run, behind what was written before
   abbrev pub AScriptInMemoryPrintsItsRun : Type 0
   AScriptInMemoryPrintsItsRun =
       (deployments : List (Deployment S F L)) (script output script_after output_after : MemoryState)
-      → RunsScript servlet_step filter_step listener_step IsMade IsMade deployments script output (Ok tt) script_after output_after
+      → RunsScript moving IsMade IsMade deployments script output (Ok tt) script_after output_after
       → (printed : List ℕ) × (output_after.written ≡ output.written ++ printed) × PrintsItsRun deployments script.unread printed

@@ -1,5 +1,6 @@
 //! The headline over scripts and over connections, each the contract of a function that only calls other laws.
 
+ghost use Rattle.sv_component.specs.Steps.{steps_of};
 ghost use Rattle.sv_headline.specs.Callers.{CallersOfAStartedContainerHaveLoggedIn};
 ghost use Rattle.sv_headline.specs.Connection.{WhatAConnectionIsSentIsLawful};
 ghost use Rattle.sv_headline.specs.Cut.{WhatARefusedScriptPrintsBeginsTheWhole, WhatARefusedScriptPrintsIsCut};
@@ -26,7 +27,7 @@ use sv_words::CountedWords;
 /// In each run of a container that was started, until memory is refused, a session holds a caller only by a login that fits, which nothing has undone:
 /// whoever is logged in has logged in (Jakarta Servlet 6.0, section 13.6.3).
 pub fn callers_of_a_started_container_have_logged_in<S: Servlet, F: Filter, L: Listener, W: Words>()
-    ensures { CallersOfAStartedContainerHaveLoggedIn S.servlet_step F.filter_step L.listener_step W.draws }
+    ensures { CallersOfAStartedContainerHaveLoggedIn (steps_of S.servlet_step F.filter_step L.listener_step) W.draws }
 {
     sessions_of_contexts_stay_in_order::<S, F, L>();
     callers_logged_in_since_the_start::<S, F, L, W>();
@@ -37,7 +38,7 @@ pub fn callers_of_a_started_container_have_logged_in<S: Servlet, F: Filter, L: L
 /// combined constraints allow its method and its path to the caller of its session, every other has a named cause, and components are moved by exactly
 /// the calls that the entries of the text note (Jakarta Servlet 6.0, section 13.8). Whoever is logged in behind it has logged in.
 pub fn what_a_script_prints_is_lawful<S: Servlet, F: Filter, L: Listener, I: Source, O: Sink>()
-    ensures { WhatAScriptPrintsIsLawful S.servlet_step F.filter_step L.listener_step I.makes O.makes }
+    ensures { WhatAScriptPrintsIsLawful (steps_of S.servlet_step F.filter_step L.listener_step) I.makes O.makes }
 {
     every_run_is_lawful_until_memory_is_refused::<S, F, L, CountedWords>();
     callers_of_a_started_container_have_logged_in::<S, F, L, CountedWords>();
@@ -49,7 +50,7 @@ pub fn what_a_script_prints_is_lawful<S: Servlet, F: Filter, L: Listener, I: Sou
 /// A script in memory that ended well has written, behind what was there, the text of the run that its bytes ask for: that of the start of a container,
 /// those of the events of its lines, numbered from 1, and that of the stop, of a run that is lawful.
 pub fn a_script_in_memory_prints_its_run<S: Servlet, F: Filter, L: Listener>()
-    ensures { AScriptInMemoryPrintsItsRun S.servlet_step F.filter_step L.listener_step }
+    ensures { AScriptInMemoryPrintsItsRun (steps_of S.servlet_step F.filter_step L.listener_step) }
 {
     what_a_script_prints_is_lawful::<S, F, L, MemoryStream, MemoryStream>();
 }
@@ -57,7 +58,7 @@ pub fn a_script_in_memory_prints_its_run<S: Servlet, F: Filter, L: Listener>()
 /// A run of a script that answers want of memory has written nothing, or the text of a container's start and of the events before the refusal, and
 /// nothing behind it: those events are a run as above, and the container was shut down.
 pub fn what_a_refused_script_prints_is_cut<S: Servlet, F: Filter, L: Listener, I: Source, O: Sink>()
-    ensures { WhatARefusedScriptPrintsIsCut S.servlet_step F.filter_step L.listener_step I.makes O.makes }
+    ensures { WhatARefusedScriptPrintsIsCut (steps_of S.servlet_step F.filter_step L.listener_step) I.makes O.makes }
 {
     every_run_is_lawful_until_memory_is_refused::<S, F, L, CountedWords>();
     callers_of_a_started_container_have_logged_in::<S, F, L, CountedWords>();
@@ -75,7 +76,7 @@ pub fn what_a_refused_script_prints_begins_the_whole<
     I: Source,
     O: Sink,
 >()
-    ensures { WhatARefusedScriptPrintsBeginsTheWhole S.servlet_step F.filter_step L.listener_step I.makes O.makes }
+    ensures { WhatARefusedScriptPrintsBeginsTheWhole (steps_of S.servlet_step F.filter_step L.listener_step) I.makes O.makes }
 {
     a_cut_text_begins_the_whole::<Running<S, F, L, CountedWords>, I, O>();
 }
@@ -93,7 +94,7 @@ pub fn what_a_connection_is_sent_is_lawful<
     T: Stream,
     C: Clock,
 >()
-    ensures { WhatAConnectionIsSentIsLawful S.servlet_step F.filter_step L.listener_step W.draws T.makes C.tells }
+    ensures { WhatAConnectionIsSentIsLawful (steps_of S.servlet_step F.filter_step L.listener_step) W.draws T.makes C.tells }
 {
     every_run_is_lawful_until_memory_is_refused::<S, F, L, W>();
     requests_enter_exactly_where_allowed::<S, F, L, W>();

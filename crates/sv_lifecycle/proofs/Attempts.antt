@@ -8,7 +8,6 @@ use Rattle.std.proofs.lemmas.List.{append-nil, append_assoc, get_or-map, get_or_
 use Rattle.std.proofs.lemmas.List.Elements.{All-append, All-filter, All-map}
 use Rattle.std.proofs.lemmas.List.FromFn.{get_or-range_with_len, length-range_with_len}
 use Rattle.std.proofs.lemmas.List.Sorted.{All-permutation}
-use Rattle.sv_component.specs.Call.{Call}
 use Rattle.sv_component.specs.Runs.{Record, Runs}
 use Rattle.sv_component.specs.World.{World}
 use Rattle.sv_component.specs.declared.answers.Init.{Init}
@@ -32,6 +31,7 @@ use Rattle.sv_lifecycle.specs.declared.order.Place.TheVariants as places
 use Rattle.sv_lifecycle.specs.declared.parts.Parts.{Parts}
 use Rattle.sv_lifecycle.specs.declared.plan.Plan.{Plan}
 use Rattle.sv_component.specs.declared.standing.Standing.TheVariants.{Serving}
+use Rattle.sv_component.specs.Steps.{ComponentSteps}
 use Rattle.sv_lifecycle.specs.declared.start_fault.StartCode.{StartCode}
 use Rattle.sv_lifecycle.proofs.Beginning.{initialised_push}
 use Rattle.sv_lifecycle.proofs.Fitting.{same_length}
@@ -77,20 +77,20 @@ none_of : {A B : Type 0} (f : A → B) (found : Option A) → option_map f found
 none_of f None none = refl
 none_of f (Some a) none = absurd (cc)
 
-module _ {S F L : Type 0} (ss : S → Call → S → Type 0) (fs : F → Call → F → Type 0) (ls : L → Call → L → Type 0) where
+module _ {S F L : Type 0} (moving : ComponentSteps S F L) where
   -- nothing was done
   pub did_nothing : (its_context : List ℕ) (app : WebApp) (parts : Parts S F L) (noted : JournalState) (why : StartCode)
       → RefusesStart app parts (record { order = []; begun = []; stopper = None; calls = [] }) why noted
-      → Starts ss fs ls its_context app parts noted (Err (record { code = why; parts = parts })) noted
+      → Starts moving its_context app parts noted (Err (record { code = why; parts = parts })) noted
   did_nothing its_context app parts noted why refuses = record {
     attempt = record { order = []; begun = []; stopper = None; calls = [] };
-    made = grows_none ss fs ls (world its_context parts noted);
+    made = grows_none moving (world its_context parts noted);
     means = refuses;
   }
 
   -- the inits of a plan go in order
   abbrev goes_in_order : (app : WebApp) (parts : Parts S F L) (plan : Plan) (noted : JournalState) (how_far : Begun) (after : Parts S F L) (plan_after : Plan) (noted_after : JournalState)
-      → (is_plan : IsPlan plan.context app plan) (begins : Begins ss fs ls app parts plan noted how_far after plan_after noted_after) (its_calls : List Record)
+      → (is_plan : IsPlan plan.context app plan) (begins : Begins moving app parts plan noted how_far after plan_after noted_after) (its_calls : List Record)
       → GoesInOrder app (record { order = is_plan.loaded; begun = begins.begun; stopper = begins.stopper; calls = its_calls })
   goes_in_order app parts plan noted how_far after plan_after noted_after is_plan begins its_calls = record {
     order = is_plan.is_order;
@@ -103,29 +103,29 @@ module _ {S F L : Type 0} (ss : S → Call → S → Type 0) (fs : F → Call �
   -- the telling and the inits are one run
   begin_calls : (app : WebApp) (parts told_parts : Parts S F L) (plan : Plan) (noted told_noted : JournalState) (how_far : Begun) (after : Parts S F L) (plan_after : Plan) (noted_after : JournalState)
       → Fits app parts
-      → Runs ss fs ls (world plan.context parts noted) (told ContextInitialized (length parts.listeners.items)) (world plan.context told_parts told_noted)
-      → (begins : Begins ss fs ls app told_parts plan told_noted how_far after plan_after noted_after)
-      → Runs ss fs ls (world plan.context parts noted) (start_calls app (begins.begun ++ option_to_list begins.stopper)) (world plan.context after noted_after)
+      → Runs moving (world plan.context parts noted) (told ContextInitialized (length parts.listeners.items)) (world plan.context told_parts told_noted)
+      → (begins : Begins moving app told_parts plan told_noted how_far after plan_after noted_after)
+      → Runs moving (world plan.context parts noted) (start_calls app (begins.begun ++ option_to_list begins.stopper)) (world plan.context after noted_after)
   begin_calls app parts told_parts plan noted told_noted how_far after plan_after noted_after fits tells begins =
-      grows_join ss fs ls (world plan.context parts noted) (world plan.context told_parts told_noted) (world plan.context after noted_after)
+      grows_join moving (world plan.context parts noted) (world plan.context told_parts told_noted) (world plan.context after noted_after)
       (told ContextInitialized (length app.listeners)) (map (inited app) (begins.begun ++ option_to_list begins.stopper))
-      (subst (λ count. Runs ss fs ls (world plan.context parts noted) (told ContextInitialized count) (world plan.context told_parts told_noted)) fits.listeners tells)
+      (subst (λ count. Runs moving (world plan.context parts noted) (told ContextInitialized count) (world plan.context told_parts told_noted)) fits.listeners tells)
       begins.made
 
   -- a start that went through
   pub started : (app : WebApp) (parts told_parts : Parts S F L) (plan : Plan) (noted told_noted : JournalState) (how_far : Begun) (after : Parts S F L) (plan_after : Plan) (noted_after : JournalState)
       → (kept : List Place) → Fits app parts → IsPlan plan.context app plan → HasSameCounts parts after
-      → Runs ss fs ls (world plan.context parts noted) (told ContextInitialized (length parts.listeners.items)) (world plan.context told_parts told_noted)
-      → Begins ss fs ls app told_parts plan told_noted how_far after plan_after noted_after
+      → Runs moving (world plan.context parts noted) (told ContextInitialized (length parts.listeners.items)) (world plan.context told_parts told_noted)
+      → Begins moving app told_parts plan told_noted how_far after plan_after noted_after
       → how_far.stopper ≡ None → noted_after.whole ≡ true → kept ≡ take how_far.initialised plan_after.order.items
-      → Starts ss fs ls plan.context app parts noted (Ok (record { context = plan_after.context; parts = after; initialised = kept; standings = plan_after.standings.items })) noted_after
+      → Starts moving plan.context app parts noted (Ok (record { context = plan_after.context; parts = after; initialised = kept; standings = plan_after.standings.items })) noted_after
   started app parts told_parts plan noted told_noted how_far after plan_after noted_after kept fits is_plan counts tells begins none is_whole is_kept =
       let no_stopper : begins.stopper ≡ None = none_of (λ answered. answered.answer) begins.stopper (sym begins.answer ∙ none) in
       let all : begins.begun ++ option_to_list begins.stopper ≡ begins.begun = ap (λ found. begins.begun ++ option_to_list found) no_stopper ∙ append-nil begins.begun in
       let rooms : length plan.standings.items ≡ length app.servlets = ap length is_plan.standings ∙ length-replicate (length app.servlets) Serving in
       record {
         attempt = record { order = is_plan.loaded; begun = begins.begun; stopper = begins.stopper; calls = start_calls app begins.begun };
-        made = subst (λ begun. Runs ss fs ls (world plan.context parts noted) (start_calls app begun) (world plan.context after noted_after)) all
+        made = subst (λ begun. Runs moving (world plan.context parts noted) (start_calls app begun) (world plan.context after noted_after)) all
             (begin_calls app parts told_parts plan noted told_noted how_far after plan_after noted_after fits tells begins);
         means = (
           fits,
@@ -179,26 +179,26 @@ module _ {S F L : Type 0} (app : WebApp) (parts : Parts S F L) (attempt : Attemp
   refused None found false is broken = (fits, inr (undone, inl is))
   refused (Some answered) found whole is broken = lacked whole is answered found answered.answer refl
 
-module _ {S F L : Type 0} (ss : S → Call → S → Type 0) (fs : F → Call → F → Type 0) (ls : L → Call → L → Type 0) where
+module _ {S F L : Type 0} (moving : ComponentSteps S F L) where
   -- a journal that is whole was whole before
-  was_whole : (before after : World S F L) (records : List Record) → Runs ss fs ls before records after → after.journal.whole ≡ true → before.journal.whole ≡ true
-  was_whole before after records grows whole = ((run_gains ss fs ls before after records (runs_grown ss fs ls before after records grows)).all whole).0
+  was_whole : (before after : World S F L) (records : List Record) → Runs moving before records after → after.journal.whole ≡ true → before.journal.whole ≡ true
+  was_whole before after records grows whole = ((run_gains moving before after records (runs_grown moving before after records grows)).all whole).0
 
   -- a start that is undone
   pub undone : (app : WebApp) (parts told_parts : Parts S F L) (plan : Plan) (noted told_noted : JournalState) (how_far : Begun) (after : Parts S F L) (plan_after : Plan) (noted_after : JournalState)
       → (kept : List Place) (ended : Parts S F L) (noted_ended : JournalState) (why : StartCode) → Fits app parts → IsPlan plan.context app plan
-      → Runs ss fs ls (world plan.context parts noted) (told ContextInitialized (length parts.listeners.items)) (world plan.context told_parts told_noted)
-      → Begins ss fs ls app told_parts plan told_noted how_far after plan_after noted_after
-      → Runs ss fs ls (world plan.context after noted_after) (stop_calls (length after.listeners.items) kept []) (world plan.context ended noted_ended)
+      → Runs moving (world plan.context parts noted) (told ContextInitialized (length parts.listeners.items)) (world plan.context told_parts told_noted)
+      → Begins moving app told_parts plan told_noted how_far after plan_after noted_after
+      → Runs moving (world plan.context after noted_after) (stop_calls (length after.listeners.items) kept []) (world plan.context ended noted_ended)
       → length after.listeners.items ≡ length parts.listeners.items → kept ≡ take how_far.initialised plan_after.order.items
       → (how_far.stopper ≡ None → noted_after.whole ≡ false) → why ≡ code_of how_far.stopper noted_ended.whole
-      → Starts ss fs ls plan.context app parts noted (Err (record { code = why; parts = ended })) noted_ended
+      → Starts moving plan.context app parts noted (Err (record { code = why; parts = ended })) noted_ended
   undone app parts told_parts plan noted told_noted how_far after plan_after noted_after kept ended noted_ended why fits is_plan tells begins ends count is_kept broken is_why =
       let all : List Answered = begins.begun ++ option_to_list begins.stopper in
       let its_attempt : Attempt = record { order = is_plan.loaded; begun = begins.begun; stopper = begins.stopper; calls = undone_calls app all } in
       let places : kept ≡ initialised all = is_kept ∙ begins.kept ∙ sym (initialised_called begins.begun begins.stopper begins.stops) in
       let is_undone : IsUndone app its_attempt = record {
-        goes = goes_in_order ss fs ls app told_parts plan told_noted how_far after plan_after noted_after is_plan begins (undone_calls app all);
+        goes = goes_in_order moving app told_parts plan told_noted how_far after plan_after noted_after is_plan begins (undone_calls app all);
         calls = refl;
       } in
       let stays : begins.stopper ≡ None → noted_ended.whole ≡ false = λ none.
@@ -207,11 +207,11 @@ module _ {S F L : Type 0} (ss : S → Call → S → Type 0) (fs : F → Call �
       let code : why ≡ code_of (option_map (λ answered. answered.answer) begins.stopper) noted_ended.whole = is_why ∙ ap (λ stopper. code_of stopper noted_ended.whole) begins.answer in
       record {
         attempt = its_attempt;
-        made = grows_join ss fs ls (world plan.context parts noted) (world plan.context after noted_after) (world plan.context ended noted_ended)
+        made = grows_join moving (world plan.context parts noted) (world plan.context after noted_after) (world plan.context ended noted_ended)
             (start_calls app all) (stop_calls (length app.listeners) (initialised all) [])
-            (begin_calls ss fs ls app parts told_parts plan noted told_noted how_far after plan_after noted_after fits tells begins)
-            (subst (λ n. Runs ss fs ls (world plan.context after noted_after) (stop_calls n (initialised all) []) (world plan.context ended noted_ended)) (count ∙ fits.listeners)
-            (subst (λ xs. Runs ss fs ls (world plan.context after noted_after) (stop_calls (length after.listeners.items) xs []) (world plan.context ended noted_ended)) places ends));
+            (begin_calls moving app parts told_parts plan noted told_noted how_far after plan_after noted_after fits tells begins)
+            (subst (λ n. Runs moving (world plan.context after noted_after) (stop_calls n (initialised all) []) (world plan.context ended noted_ended)) (count ∙ fits.listeners)
+            (subst (λ xs. Runs moving (world plan.context after noted_after) (stop_calls (length after.listeners.items) xs []) (world plan.context ended noted_ended)) places ends));
         means = subst (λ c. RefusesStart app parts its_attempt c noted_ended) (sym code)
             (refused app parts its_attempt noted_ended fits is_undone begins.stopper refl noted_ended.whole refl stays);
       }
@@ -234,11 +234,11 @@ own_plan its_context app plan is_plan = record {
   context = refl;
 }
 
-module _ {S F L : Type 0} (ss : S → Call → S → Type 0) (fs : F → Call → F → Type 0) (ls : L → Call → L → Type 0) where
+module _ {S F L : Type 0} (moving : ComponentSteps S F L) where
   -- what was initialised is there, and each servlet has a standing
   pub kept_there : (app : WebApp) (parts told_parts : Parts S F L) (plan : Plan) (noted : JournalState) (how_far : Begun) (after : Parts S F L) (plan_after : Plan) (noted_after : JournalState)
       → (kept : List Place) → Fits app parts → IsPlan plan.context app plan → HasSameCounts parts after
-      → Begins ss fs ls app told_parts plan noted how_far after plan_after noted_after → kept ≡ take how_far.initialised plan_after.order.items
+      → Begins moving app told_parts plan noted how_far after plan_after noted_after → kept ≡ take how_far.initialised plan_after.order.items
       → All (IsPlaceIn after) kept × (length plan_after.standings.items ≡ length after.servlets.items)
   kept_there app parts told_parts plan noted how_far after plan_after noted_after kept fits is_plan counts begins is_kept =
       let all = plan_places plan.context app parts plan fits is_plan in

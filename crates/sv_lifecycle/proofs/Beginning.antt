@@ -8,7 +8,6 @@ use Rattle.std.proofs.lemmas.List.{get_or-set_other, get_or-set_same, map-append
 use Rattle.std.proofs.lemmas.List.Elements.{All-nil, All-push, filter-append}
 use Rattle.std.proofs.lemmas.List.Folds.{list_any-append}
 use Rattle.std.proofs.lemmas.Option.{unwrap_or-slice_get}
-use Rattle.sv_component.specs.Call.{Call}
 use Rattle.sv_component.specs.Runs.{Moves, Runs}
 use Rattle.sv_component.specs.World.{World}
 use Rattle.sv_component.specs.declared.config.Config.{Config}
@@ -27,6 +26,7 @@ use Rattle.sv_lifecycle.specs.declared.order.Place.{Place}
 use Rattle.sv_lifecycle.specs.declared.order.Place.TheVariants.{Filter, Servlet}
 use Rattle.sv_component.specs.declared.standing.Standing.{Standing}
 use Rattle.sv_component.specs.declared.standing.Standing.TheVariants.{Serving, Gone}
+use Rattle.sv_component.specs.Steps.{ComponentSteps}
 
 abbrev pub Goes : Answered → Type 0
 Goes answered = lets_go_on answered.place answered.answer ≡ true
@@ -87,23 +87,23 @@ front_more order step begun its_place its_answer within is front =
     take_more order step its_place within ∙ ap₂ (λ f p. f ++ p ∷ []) front (sym is)
     ∙ sym (map_push (λ a. a.place) begun (record { place = its_place; answer = its_answer }))
 
-module _ {S F L : Type 0} (ss : S → Call → S → Type 0) (fs : F → Call → F → Type 0) (ls : L → Call → L → Type 0) (app : WebApp) where
+module _ {S F L : Type 0} (moving : ComponentSteps S F L) (app : WebApp) where
   -- one init more
   inits_more : (start before after : World S F L) (begun : List Answered) (its_place : Place) (its_answer : Init) (config : Config) → config ≡ config_at app its_place
-      → Runs ss fs ls start (map (inited app) begun) before → Moves ss fs ls before (init_record its_place config its_answer) after
-      → Runs ss fs ls start (map (inited app) (begun ++ record { place = its_place; answer = its_answer } ∷ [])) after
+      → Runs moving start (map (inited app) begun) before → Moves moving before (init_record its_place config its_answer) after
+      → Runs moving start (map (inited app) (begun ++ record { place = its_place; answer = its_answer } ∷ [])) after
   inits_more start before after begun its_place its_answer config is so_far moves =
       let answered : Answered = record { place = its_place; answer = its_answer } in
-      subst (λ records. Runs ss fs ls start records after) (sym (map_push (inited app) begun answered))
-      (grows_more ss fs ls start before after (map (inited app) begun) (inited app answered) so_far
-      (subst (λ c. Moves ss fs ls before (init_record its_place c its_answer) after) is moves))
+      subst (λ records. Runs moving start records after) (sym (map_push (inited app) begun answered))
+      (grows_more moving start before after (map (inited app) begun) (inited app answered) so_far
+      (subst (λ c. Moves moving before (init_record its_place c its_answer) after) is moves))
 
   -- what is known between two inits
   pub record SoFar (parts : Parts S F L) (plan : Plan) (noted : JournalState) (step count : ℕ) (now_parts : Parts S F L) (now_plan : Plan) (now_noted : JournalState) : Type 0 where
     pub begun : List Answered
     pub front : take step plan.order.items ≡ places_of begun
     pub goes : All Goes begun
-    pub made : Runs ss fs ls (world plan.context parts noted) (map (inited app) begun) (world plan.context now_parts now_noted)
+    pub made : Runs moving (world plan.context parts noted) (map (inited app) begun) (world plan.context now_parts now_noted)
     pub kept : take count now_plan.order.items ≡ initialised begun
     pub standings : (place : ℕ) → place < length plan.standings.items → standing_at now_plan.standings.items place ≡ standing_after begun place
 
@@ -113,7 +113,7 @@ module _ {S F L : Type 0} (ss : S → Call → S → Type 0) (fs : F → Call �
     begun = [];
     front = refl;
     goes = All-nil Goes;
-    made = grows_none ss fs ls (world plan.context parts noted);
+    made = grows_none moving (world plan.context parts noted);
     kept = refl;
     standings = serve;
   }
@@ -122,7 +122,7 @@ module _ {S F L : Type 0} (ss : S → Call → S → Type 0) (fs : F → Call �
       → (at : Place) (config : Config) (answer : Init) (after : Parts S F L) (plan_after : Plan) (noted_after : JournalState)
       → SoFar parts plan noted step count before plan_before noted_before
       → step < length plan.order.items → at ≡ get_or plan.order.items step at → config ≡ config_at app at
-      → Moves ss fs ls (world plan.context before noted_before) (init_record at config answer) (world plan.context after noted_after)
+      → Moves moving (world plan.context before noted_before) (init_record at config answer) (world plan.context after noted_after)
       → lets_go_on at answer ≡ true → count < length plan_before.order.items
       → plan_after.order.items ≡ cond (is_ready answer) (set plan_before.order.items count at) plan_before.order.items
       → plan_after.standings.items ≡ with_answer plan_before.standings.items at answer
@@ -150,7 +150,7 @@ module _ {S F L : Type 0} (ss : S → Call → S → Type 0) (fs : F → Call �
       → SoFar parts plan noted step count after plan_after noted_after
       → (noted_after.whole ≡ true → length plan.order.items ≤ step)
       → length plan_after.standings.items ≡ length plan.standings.items → plan_after.context ≡ plan.context
-      → Begins ss fs ls app parts plan noted (record { initialised = count; stopper = None }) after plan_after noted_after
+      → Begins moving app parts plan noted (record { initialised = count; stopper = None }) after plan_after noted_after
   begins_to_end parts plan noted step count after plan_after noted_after so_far ends its_rooms its_context =
       let all : so_far.begun ++ [] ≡ so_far.begun = append-nil so_far.begun in
       record {
@@ -162,7 +162,7 @@ module _ {S F L : Type 0} (ss : S → Call → S → Type 0) (fs : F → Call �
         stops = tt;
         answer = refl;
         whole = λ _ is_whole. drop_all step plan.order.items (ends is_whole);
-        made = subst (λ begun. Runs ss fs ls (world plan.context parts noted) (map (inited app) begun) (world plan.context after noted_after)) (sym all) so_far.made;
+        made = subst (λ begun. Runs moving (world plan.context parts noted) (map (inited app) begun) (world plan.context after noted_after)) (sym all) so_far.made;
         kept = so_far.kept;
         standings = so_far.standings;
         rooms = its_rooms;
@@ -174,10 +174,10 @@ module _ {S F L : Type 0} (ss : S → Call → S → Type 0) (fs : F → Call �
       → (at : Place) (config : Config) (answer : Init) (after : Parts S F L) (noted_after : JournalState)
       → SoFar parts plan noted step count before plan_before noted_before
       → step < length plan.order.items → at ≡ get_or plan.order.items step at → config ≡ config_at app at
-      → Moves ss fs ls (world plan.context before noted_before) (init_record at config answer) (world plan.context after noted_after)
+      → Moves moving (world plan.context before noted_before) (init_record at config answer) (world plan.context after noted_after)
       → lets_go_on at answer ≡ false
       → length plan_before.standings.items ≡ length plan.standings.items → plan_before.context ≡ plan.context
-      → Begins ss fs ls app parts plan noted (record { initialised = count; stopper = Some answer }) after plan_before noted_after
+      → Begins moving app parts plan noted (record { initialised = count; stopper = Some answer }) after plan_before noted_after
   begins_to_stop parts plan noted step count before plan_before noted_before its_place config its_answer after noted_after so_far within is is_config moves its_stops its_rooms its_context =
       let answered : Answered = record { place = its_place; answer = its_answer } in
       record {

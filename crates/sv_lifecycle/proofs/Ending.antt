@@ -1,7 +1,7 @@
 -- What a stop destroys, and in which order.
 use Rattle.std.proofs.Common.{◌≡◌, ℕ, List, length, subst}
-use Rattle.sv_component.specs.Call.{Call}
 use Rattle.sv_component.specs.Runs.{Runs}
+use Rattle.sv_component.specs.Steps.{ComponentSteps}
 use Rattle.sv_journal.specs.Journal.{JournalState}
 use Rattle.sv_session.specs.Store.{Session}
 use Rattle.sv_lifecycle.specs.Calls.{stop_calls}
@@ -10,12 +10,12 @@ use Rattle.sv_lifecycle.specs.World.{world}
 use Rattle.sv_lifecycle.specs.declared.order.Place.{Place}
 use Rattle.sv_lifecycle.specs.declared.parts.Parts.{Parts}
 
-module _ {S F L : Type 0} (ss : S → Call → S → Type 0) (fs : F → Call → F → Type 0) (ls : L → Call → L → Type 0) where
+module _ {S F L : Type 0} (moving : ComponentSteps S F L) where
   pub stops : (before opened : LiveState S F L) (text : List ℕ) (places : List Place) (sessions : List Session) (noted : JournalState) (after : Parts S F L) (noted_after : JournalState)
       → opened ≡ before → text ≡ opened.context → places ≡ in_service opened
-      → Runs ss fs ls (world text opened.parts noted) (stop_calls (length opened.parts.listeners.items) places sessions) (world text after noted_after)
-      → Runs ss fs ls (live_world before noted) (stop_calls (length before.parts.listeners.items) (in_service before) sessions) (world before.context after noted_after)
+      → Runs moving (world text opened.parts noted) (stop_calls (length opened.parts.listeners.items) places sessions) (world text after noted_after)
+      → Runs moving (live_world before noted) (stop_calls (length before.parts.listeners.items) (in_service before) sessions) (world before.context after noted_after)
   stops before opened text places sessions noted after noted_after is named are grows =
-      subst (λ live. Runs ss fs ls (live_world live noted) (stop_calls (length live.parts.listeners.items) (in_service live) sessions) (world live.context after noted_after)) is
-      (subst (λ context. Runs ss fs ls (world context opened.parts noted) (stop_calls (length opened.parts.listeners.items) (in_service opened) sessions) (world context after noted_after)) named
-      (subst (λ all. Runs ss fs ls (world text opened.parts noted) (stop_calls (length opened.parts.listeners.items) all sessions) (world text after noted_after)) are grows))
+      subst (λ live. Runs moving (live_world live noted) (stop_calls (length live.parts.listeners.items) (in_service live) sessions) (world live.context after noted_after)) is
+      (subst (λ context. Runs moving (world context opened.parts noted) (stop_calls (length opened.parts.listeners.items) (in_service opened) sessions) (world context after noted_after)) named
+      (subst (λ all. Runs moving (world text opened.parts noted) (stop_calls (length opened.parts.listeners.items) all sessions) (world text after noted_after)) are grows))

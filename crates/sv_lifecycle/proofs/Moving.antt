@@ -8,6 +8,7 @@ use Rattle.sv_component.specs.Noted.{filter_entry, servlet_entry}
 use Rattle.sv_component.specs.Runs.{Moves, MovesAt, NamedStep, OfFilter, OfServlet, Record}
 use Rattle.sv_component.specs.World.{World, name_at}
 use Rattle.sv_component.specs.declared.named.Named.{Named}
+use Rattle.sv_component.specs.Steps.{ComponentSteps}
 use Rattle.sv_journal.specs.Journal.{JournalState, Takes}
 
 -- a component of the same name
@@ -35,27 +36,27 @@ unfolding name_of
 named_at before place old text there is_old named =
     named ∙ ap (λ n. n.name) is_old ∙ sym (ap name_of (slice_get-get_or before place old there))
 
-module _ {S F L : Type 0} (ss : S → Call → S → Type 0) (fs : F → Call → F → Type 0) (ls : L → Call → L → Type 0) where
+module _ {S F L : Type 0} (moving : ComponentSteps S F L) where
   pub moves_servlet : (before : World S F L) (place : ℕ) (call : Call) (old : Named S) (moved : S) (text : List ℕ) (noted : JournalState)
-      → place < length before.servlets → old ≡ get_or before.servlets place old → ss old.component call moved → text ≡ old.name
+      → place < length before.servlets → old ≡ get_or before.servlets place old → moving.servlet old.component call moved → text ≡ old.name
       → Takes before.journal (servlet_entry before.context text call) noted
-      → Moves ss fs ls before (OfServlet place call) (record before { servlets = set before.servlets place (renewed old moved); journal = noted })
+      → Moves moving before (OfServlet place call) (record before { servlets = set before.servlets place (renewed old moved); journal = noted })
   moves_servlet before place call old moved text noted there is_old steps named takes = record {
-    component = (moves_named ss before.servlets place call old moved there is_old steps, refl, refl);
+    component = (moves_named moving.servlet before.servlets place call old moved there is_old steps, refl, refl);
     journal = subst (λ name. Takes before.journal (servlet_entry before.context name call) noted) (named_at before.servlets place old text there is_old named) takes;
     context = refl;
   }
 
   pub moves_filter : (before : World S F L) (place : ℕ) (call : Call) (old : Named F) (moved : F) (text : List ℕ) (noted : JournalState)
-      → place < length before.filters → old ≡ get_or before.filters place old → fs old.component call moved → text ≡ old.name
+      → place < length before.filters → old ≡ get_or before.filters place old → moving.filter old.component call moved → text ≡ old.name
       → Takes before.journal (filter_entry before.context text call) noted
-      → Moves ss fs ls before (OfFilter place call) (record before { filters = set before.filters place (renewed old moved); journal = noted })
+      → Moves moving before (OfFilter place call) (record before { filters = set before.filters place (renewed old moved); journal = noted })
   moves_filter before place call old moved text noted there is_old steps named takes = record {
-    component = (moves_named fs before.filters place call old moved there is_old steps, refl, refl);
+    component = (moves_named moving.filter before.filters place call old moved there is_old steps, refl, refl);
     journal = subst (λ name. Takes before.journal (filter_entry before.context name call) noted) (named_at before.filters place old text there is_old named) takes;
     context = refl;
   }
 
   -- the same record by another name
-  pub moves_same : (before after : World S F L) (made other : Record) → made ≡ other → Moves ss fs ls before other after → Moves ss fs ls before made after
-  moves_same before after made other same moves = subst (λ record_made. Moves ss fs ls before record_made after) (sym same) moves
+  pub moves_same : (before after : World S F L) (made other : Record) → made ≡ other → Moves moving before other after → Moves moving before made after
+  moves_same before after made other same moves = subst (λ record_made. Moves moving before record_made after) (sym same) moves

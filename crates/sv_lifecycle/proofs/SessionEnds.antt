@@ -7,9 +7,9 @@ use Rattle.std.proofs.lemmas.Bool.{cases_Bool}
 use Rattle.std.proofs.lemmas.Bool.Decides.{nat_tests}
 use Rattle.std.proofs.lemmas.List.{append-nil, append_assoc}
 use Rattle.std.proofs.lemmas.Option.{none-some, same_Some}
-use Rattle.sv_component.specs.Call.{Call}
 use Rattle.sv_component.specs.Runs.{Record, Runs}
 use Rattle.sv_component.specs.World.{World}
+use Rattle.sv_component.specs.Steps.{ComponentSteps}
 use Rattle.sv_listeners.proofs.Growing.{grows_join, grows_none}
 use Rattle.sv_journal.specs.declared.event.Event.TheVariants.{AttributeRemoved}
 use Rattle.sv_session.specs.declared.attribute.Attribute.{Attribute}
@@ -130,23 +130,23 @@ abbrev pub removals : ℕ → ℕ → List Attribute → List Record
 removals number count attributes = all_told (map (λ attribute. AttributeRemoved number attribute.name) attributes) count
 
 -- ---- a front of some records is done, and these are left
-pub record Doing {S F L : Type 0} (ss : S → Call → S → Type 0) (fs : F → Call → F → Type 0) (ls : L → Call → L → Type 0) (start : World S F L) (all left : List Record) (now : World S F L) : Type 0 where
+pub record Doing {S F L : Type 0} (moving : ComponentSteps S F L) (start : World S F L) (all left : List Record) (now : World S F L) : Type 0 where
   pub done : List Record
-  pub grows : Runs ss fs ls start done now
+  pub grows : Runs moving start done now
   pub whole : done ++ left ≡ all
 
-module _ {S F L : Type 0} (ss : S → Call → S → Type 0) (fs : F → Call → F → Type 0) (ls : L → Call → L → Type 0) where
-  pub doing_none : (start : World S F L) (all : List Record) → Doing ss fs ls start all all start
-  doing_none start all = record { done = []; grows = grows_none ss fs ls start; whole = refl }
+module _ {S F L : Type 0} (moving : ComponentSteps S F L) where
+  pub doing_none : (start : World S F L) (all : List Record) → Doing moving start all all start
+  doing_none start all = record { done = []; grows = grows_none moving start; whole = refl }
 
   pub doing_more : (start before after : World S F L) (all left front rest : List Record) → left ≡ front ++ rest
-      → Doing ss fs ls start all left before → Runs ss fs ls before front after → Doing ss fs ls start all rest after
+      → Doing moving start all left before → Runs moving before front after → Doing moving start all rest after
   doing_more start before after all left front rest is doing grows = record {
     done = doing.done ++ front;
-    grows = grows_join ss fs ls start before after doing.done front doing.grows grows;
+    grows = grows_join moving start before after doing.done front doing.grows grows;
     whole = append_assoc doing.done front rest ∙ ap (λ xs. doing.done ++ xs) (sym is) ∙ doing.whole;
   }
 
-  pub doing_all : (start now : World S F L) (all left : List Record) → left ≡ [] → Doing ss fs ls start all left now → Runs ss fs ls start all now
+  pub doing_all : (start now : World S F L) (all left : List Record) → left ≡ [] → Doing moving start all left now → Runs moving start all now
   doing_all start now all left none doing =
-      subst (λ records. Runs ss fs ls start records now) (sym (append-nil doing.done) ∙ ap (λ xs. doing.done ++ xs) (sym none) ∙ doing.whole) doing.grows
+      subst (λ records. Runs moving start records now) (sym (append-nil doing.done) ∙ ap (λ xs. doing.done ++ xs) (sym none) ∙ doing.whole) doing.grows

@@ -2,7 +2,6 @@
 use Rattle.std.specs.Prelude.{◌≡◌, ℕ, ◌<◌, true, false, List, [], ◌++◌, length, map, slice_set, take, Option, None, IfSome}
 use Rattle.std.specs.List.{All}
 use Rattle.std.specs.Option.{option_map, option_to_list}
-use Rattle.sv_component.specs.Call.{Call}
 use Rattle.sv_component.specs.Runs.{Runs}
 use Rattle.sv_component.specs.declared.answers.Init.{Init}
 use Rattle.sv_component.specs.declared.answers.Init.TheVariants.{Ready, Unavailable, Failed, NoMemory}
@@ -18,6 +17,7 @@ use Rattle.sv_lifecycle.specs.declared.parts.Parts.{Parts}
 use Rattle.sv_lifecycle.specs.declared.plan.Plan.{Plan}
 use Rattle.sv_component.specs.declared.standing.Standing.{Standing}
 use Rattle.sv_component.specs.declared.standing.Standing.TheVariants.{Gone}
+use Rattle.sv_component.specs.Steps.{ComponentSteps}
 
 -- a servlet has a standing among so many
 abbrev pub HasStanding : ℕ → Place → Type 0
@@ -33,7 +33,7 @@ with_answer standings (Servlet place) NoMemory = standings
 with_answer standings (Filter place) answer = standings
 
 -- the components of the plan are begun up to the first that does not let the start go on, or to where the journal breaks
-pub record Begins {S F L : Type 0} (servlet_step : S → Call → S → Type 0) (filter_step : F → Call → F → Type 0) (listener_step : L → Call → L → Type 0) (app : WebApp) (parts : Parts S F L) (plan : Plan) (noted : JournalState) (result : Begun) (parts_after : Parts S F L) (plan_after : Plan) (noted_after : JournalState) : Type 0 where
+pub record Begins {S F L : Type 0} (moving : ComponentSteps S F L) (app : WebApp) (parts : Parts S F L) (plan : Plan) (noted : JournalState) (result : Begun) (parts_after : Parts S F L) (plan_after : Plan) (noted_after : JournalState) : Type 0 where
   pub begun : List Answered
   pub stopper : Option Answered
   pub left : List Place
@@ -42,7 +42,7 @@ pub record Begins {S F L : Type 0} (servlet_step : S → Call → S → Type 0) 
   pub stops : IfSome stopper (λ answered. lets_go_on answered.place answered.answer ≡ false)
   pub answer : result.stopper ≡ option_map (λ answered. answered.answer) stopper
   pub whole : stopper ≡ None → noted_after.whole ≡ true → left ≡ []
-  pub made : Runs servlet_step filter_step listener_step
+  pub made : Runs moving
       (world plan.context parts noted) (map (inited app) (begun ++ option_to_list stopper)) (world plan.context parts_after noted_after)
   pub kept : take result.initialised plan_after.order.items ≡ initialised begun
   pub standings : (place : ℕ) → place < length plan.standings.items → standing_at plan_after.standings.items place ≡ standing_after begun place

@@ -1,6 +1,6 @@
 -- Calls of one component of a live context by its place (Jakarta Servlet 6.0, sections 2.3.3 and 6.2.1).
 use Rattle.std.specs.Prelude.{◌≡◌, ℕ, Bool, false, Result, is_ok, slice_set, if◌then◌else◌}
-use Rattle.sv_component.specs.Call.{Call, Destroyed, Entered, Left, Serviced}
+use Rattle.sv_component.specs.Call.{Destroyed, Entered, Left, Serviced}
 use Rattle.sv_component.specs.Runs.{OfFilter, OfServlet, Record, Runs}
 use Rattle.sv_component.specs.declared.answers.Gate.{Gate}
 use Rattle.sv_component.specs.declared.answers.Gate.TheVariants as gates
@@ -12,6 +12,7 @@ use Rattle.sv_lifecycle.specs.Standing.{LiveState, live_world}
 use Rattle.sv_lifecycle.specs.World.{HasSameCounts}
 use Rattle.sv_component.specs.declared.standing.Standing.{Standing}
 use Rattle.sv_component.specs.declared.standing.Standing.TheVariants.{Gone}
+use Rattle.sv_component.specs.Steps.{ComponentSteps}
 use Rattle.sv_text.specs.declared.no_memory.NoMemory.{NoMemory}
 
 -- the context, what was initialised and the standings stay, and no component comes or goes
@@ -32,10 +33,10 @@ pub record StandsBut {S F L : Type 0} (place : ℕ) (standing : Standing) (befor
 abbrev pub unless_broken : {A : Type 0} → JournalState → A → A → A
 unless_broken journal no_memory answer = if journal.whole then answer else no_memory
 
-module _ {S F L : Type 0} (servlet_step : S → Call → S → Type 0) (filter_step : F → Call → F → Type 0) (listener_step : L → Call → L → Type 0) where
+module _ {S F L : Type 0} (moving : ComponentSteps S F L) where
   -- this one call is made and noted, and what stands stays
   pub record CallsOnce (before : LiveState S F L) (noted : JournalState) (call : Record) (after : LiveState S F L) (noted_after : JournalState) : Type 0 where
-    pub made : Runs servlet_step filter_step listener_step (live_world before noted) (call ∷ []) (live_world after noted_after)
+    pub made : Runs moving (live_world before noted) (call ∷ []) (live_world after noted_after)
     pub stands : StandsAsBefore before after
 
   -- the servlet at the place answers the exchange for a turn
@@ -58,5 +59,5 @@ module _ {S F L : Type 0} (servlet_step : S → Call → S → Type 0) (filter_s
 
   -- the servlet at the place is destroyed, and gone from then on
   pub record Retires (before : LiveState S F L) (noted : JournalState) (place : ℕ) (after : LiveState S F L) (noted_after : JournalState) : Type 0 where
-    pub made : Runs servlet_step filter_step listener_step (live_world before noted) ((OfServlet place Destroyed) ∷ []) (live_world after noted_after)
+    pub made : Runs moving (live_world before noted) ((OfServlet place Destroyed) ∷ []) (live_world after noted_after)
     pub stands : StandsBut place Gone before after

@@ -2,10 +2,10 @@
 use Rattle.std.specs.Prelude.{◌≡◌, ℕ, ◌<◌, ◌⊎◌, Bool, true, false, List, [], ◌++◌, length, Option, None, Some, IfSome, Result, Ok, Err}
 use Rattle.std.specs.List.{All}
 use Rattle.std.specs.Option.{option_to_list}
-use Rattle.sv_component.specs.Call.{Call}
 use Rattle.sv_component.specs.Runs.{Record, Runs}
 use Rattle.sv_component.specs.declared.answers.Init.{Init}
 use Rattle.sv_component.specs.declared.answers.Init.TheVariants as inits
+use Rattle.sv_component.specs.Steps.{ComponentSteps}
 use Rattle.sv_descriptor.specs.declared.web_app.WebApp.{WebApp}
 use Rattle.sv_journal.specs.Journal.{JournalState}
 use Rattle.sv_lifecycle.specs.Calls.{Answered, initialised, lets_go_on, places_of, start_calls, undone_calls}
@@ -97,9 +97,9 @@ parts_in (Ok live) = live.parts
 parts_in (Err fault) = fault.parts
 
 -- a start: exactly those calls were made of the components, and they are handed on
-pub record Starts {S F L : Type 0} (servlet_step : S → Call → S → Type 0) (filter_step : F → Call → F → Type 0) (listener_step : L → Call → L → Type 0) (context : List ℕ) (app : WebApp) (parts : Parts S F L) (before : JournalState) (result : Result (LiveState S F L) (StartFault S F L)) (after : JournalState) : Type 0 where
+pub record Starts {S F L : Type 0} (moving : ComponentSteps S F L) (context : List ℕ) (app : WebApp) (parts : Parts S F L) (before : JournalState) (result : Result (LiveState S F L) (StartFault S F L)) (after : JournalState) : Type 0 where
   pub attempt : Attempt
-  pub made : Runs servlet_step filter_step listener_step (world context parts before) attempt.calls (world context (parts_in result) after)
+  pub made : Runs moving (world context parts before) attempt.calls (world context (parts_in result) after)
   pub means : Means context app parts attempt result after
 
 -- why a start is refused that was undone, by the answer of the component that stopped it and by whether the journal is whole

@@ -1,5 +1,6 @@
 //! The inits of a start.
 
+ghost use Rattle.sv_component.specs.Steps.{steps_of};
 ghost use Rattle.std.specs.Prelude.{◌≡◌, ◌+◌, ◌<◌, length, map, replicate, slice_set, if◌then◌else◌};
 ghost use Rattle.std.specs.List.{All};
 ghost use Rattle.sv_descriptor.specs.declared.web_app.WebApp.{WebApp};
@@ -35,7 +36,7 @@ pub(crate) fn begin_all<S: Servlet, F: Filter, L: Listener>(
     requires configs { length plan.old.configs.items ≡ length plan.old.order.items }
     requires standings { plan.old.standings.items ≡ replicate (length parts.old.servlets.items) standings.Serving }
     ensures begins { (app : WebApp) → plan.old.configs.items ≡ map (config_at app) plan.old.order.items
-        → Begins S.servlet_step F.filter_step L.listener_step app parts.old plan.old journal.old result parts.new plan.new journal.new }
+        → Begins (steps_of S.servlet_step F.filter_step L.listener_step) app parts.old plan.old journal.old result parts.new plan.new journal.new }
     ensures counts { HasSameCounts parts.old parts.new }
 {
     let mut initialised = 0;

@@ -1,5 +1,6 @@
 //! Calls of a started context's components by place.
 
+ghost use Rattle.sv_component.specs.Steps.{steps_of};
 ghost use Rattle.std.specs.Prelude.{◌≡◌, ◌<◌, false, is_ok, length, Some};
 ghost use Rattle.sv_text.specs.Gives.{GivesAnswer};
 ghost use Rattle.sv_component.specs.Runs.{Runs};
@@ -64,7 +65,7 @@ impl<S: Servlet, F: Filter, L: Listener> Live<S, F, L> {
     ) -> Step
         requires there { place < length self.old.parts.servlets.items }
         requires not_gone { is_gone (standing_at self.old.standings place) ≡ false }
-        ensures serves { Serves S.servlet_step F.filter_step L.listener_step
+        ensures serves { Serves (steps_of S.servlet_step F.filter_step L.listener_step)
             self.old journal.old place turn exchange.old result self.new journal.new exchange.new }
         ensures reached { Reaches exchange.old exchange.new }
     {
@@ -87,7 +88,7 @@ impl<S: Servlet, F: Filter, L: Listener> Live<S, F, L> {
         journal: &mut Journal,
     ) -> Gate
         requires { place < length self.old.parts.filters.items }
-        ensures enters { Enters S.servlet_step F.filter_step L.listener_step
+        ensures enters { Enters (steps_of S.servlet_step F.filter_step L.listener_step)
             self.old journal.old place exchange.old result self.new journal.new exchange.new }
         ensures reached { Reaches exchange.old exchange.new }
     {
@@ -110,7 +111,7 @@ impl<S: Servlet, F: Filter, L: Listener> Live<S, F, L> {
         journal: &mut Journal,
     ) -> Result<(), NoMemory>
         requires { place < length self.old.parts.filters.items }
-        ensures leaves { Leaves S.servlet_step F.filter_step L.listener_step
+        ensures leaves { Leaves (steps_of S.servlet_step F.filter_step L.listener_step)
             self.old journal.old place exchange.old result self.new journal.new exchange.new }
         ensures reached { Reaches exchange.old exchange.new }
     {
@@ -126,7 +127,7 @@ impl<S: Servlet, F: Filter, L: Listener> Live<S, F, L> {
     pub fn retire(&mut self, alloc: Global, place: usize, journal: &mut Journal)
         requires there { place < length self.old.parts.servlets.items }
         requires not_gone { is_gone (standing_at self.old.standings place) ≡ false }
-        ensures { Retires S.servlet_step F.filter_step L.listener_step self.old journal.old place self.new journal.new }
+        ensures { Retires (steps_of S.servlet_step F.filter_step L.listener_step) self.old journal.old place self.new journal.new }
     {
         self.parts.destroy(alloc, self.context.as_str(), Place::Servlet(place), journal);
         self.standings[place] = Standing::Gone;
@@ -144,7 +145,7 @@ impl<S: Servlet, F: Filter, L: Listener> Live<S, F, L> {
 
     /// Has each listener hear the event, in the telling order (Jakarta Servlet 6.0, section 11.3.3).
     pub fn tell_all(&mut self, alloc: Global, event: &Event, journal: &mut Journal)
-        ensures made { Runs S.servlet_step F.filter_step L.listener_step
+        ensures made { Runs (steps_of S.servlet_step F.filter_step L.listener_step)
             (live_world self.old journal.old) (told event.now (length self.old.parts.listeners.items)) (live_world self.new journal.new) }
         ensures stands { StandsAsBefore self.old self.new }
     {

@@ -1,5 +1,6 @@
 //! Calls of components by their place, each followed by its entry.
 
+ghost use Rattle.sv_component.specs.Steps.{steps_of};
 ghost use Rattle.std.specs.Prelude.{length};
 ghost use Rattle.sv_component.specs.Runs.{Moves, Runs};
 ghost use Rattle.sv_listeners.specs.Telling.{told};
@@ -21,7 +22,7 @@ impl<S: Servlet, F: Filter, L: Listener> Parts<S, F, L> {
         event: &Event,
         journal: &mut Journal,
     )
-        ensures made { Runs S.servlet_step F.filter_step L.listener_step
+        ensures made { Runs (steps_of S.servlet_step F.filter_step L.listener_step)
             (world context.now self.old journal.old) (told event.now (length self.old.listeners.items)) (world context.now self.new journal.new) }
         ensures counts { HasSameCounts self.old self.new }
     {
@@ -44,7 +45,7 @@ impl<S: Servlet, F: Filter, L: Listener> Parts<S, F, L> {
         journal: &mut Journal,
     ) -> Init
         requires { IsPlaceIn self.old place }
-        ensures moves { Moves S.servlet_step F.filter_step L.listener_step
+        ensures moves { Moves (steps_of S.servlet_step F.filter_step L.listener_step)
             (world context.now self.old journal.old) (init_record place config.now result) (world context.now self.new journal.new) }
         ensures counts { HasSameCounts self.old self.new }
     {
@@ -77,7 +78,7 @@ impl<S: Servlet, F: Filter, L: Listener> Parts<S, F, L> {
         journal: &mut Journal,
     )
         requires { IsPlaceIn self.old place }
-        ensures moves { Moves S.servlet_step F.filter_step L.listener_step
+        ensures moves { Moves (steps_of S.servlet_step F.filter_step L.listener_step)
             (world context.now self.old journal.old) (destroyed place) (world context.now self.new journal.new) }
         ensures counts { HasSameCounts self.old self.new }
     {

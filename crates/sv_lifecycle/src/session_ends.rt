@@ -1,5 +1,6 @@
 //! The ends of the sessions of a context.
 
+ghost use Rattle.sv_component.specs.Steps.{steps_of};
 ghost use Rattle.std.specs.Prelude.{◌≡◌, [], drop, length, slice_get};
 ghost use Rattle.std.specs.Option.{option_map};
 ghost use Rattle.sv_component.specs.Runs.{Runs};
@@ -20,7 +21,7 @@ impl<S: Servlet, F: Filter, L: Listener> Live<S, F, L> {
     /// Has the listeners hear that a session has ended, and then that each of its attributes has gone, in the order in which they were first
     /// set (Jakarta Servlet 6.0, sections 7.5 and 11.3.4).
     pub fn tell_end(&mut self, alloc: Global, session: EndedSession, journal: &mut Journal)
-        ensures made { Runs S.servlet_step F.filter_step L.listener_step
+        ensures made { Runs (steps_of S.servlet_step F.filter_step L.listener_step)
             (live_world self.old journal.old) (all_told (end_events session) (length self.old.parts.listeners.items)) (live_world self.new journal.new) }
         ensures stands { StandsAsBefore self.old self.new }
     {
@@ -42,7 +43,7 @@ pub(crate) fn end_sessions<S: Servlet, F: Filter, L: Listener>(
     sessions: &mut Sessions,
     journal: &mut Journal,
 )
-    ensures made { Runs S.servlet_step F.filter_step L.listener_step
+    ensures made { Runs (steps_of S.servlet_step F.filter_step L.listener_step)
         (world context.now parts.old journal.old) (ends_told sessions.old.sessions (length parts.old.listeners.items)) (world context.now parts.new journal.new) }
     ensures left { sessions.new ≡ record sessions.old { sessions = [] } }
     ensures counts { HasSameCounts parts.old parts.new }
@@ -72,7 +73,7 @@ fn tell_end<S: Servlet, F: Filter, L: Listener>(
     session: EndedSession,
     journal: &mut Journal,
 )
-    ensures made { Runs S.servlet_step F.filter_step L.listener_step
+    ensures made { Runs (steps_of S.servlet_step F.filter_step L.listener_step)
         (world context.now parts.old journal.old) (all_told (end_events session) (length parts.old.listeners.items)) (world context.now parts.new journal.new) }
     ensures counts { HasSameCounts parts.old parts.new }
 {

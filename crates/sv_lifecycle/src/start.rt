@@ -1,5 +1,6 @@
 //! Start and stop of a context.
 
+ghost use Rattle.sv_component.specs.Steps.{steps_of};
 ghost use Rattle.std.specs.Prelude.{◌≡◌, [], length, map, reverse};
 ghost use Rattle.std.specs.List.{All};
 ghost use Rattle.sv_component.specs.Runs.{Runs};
@@ -38,7 +39,7 @@ impl<S: Servlet, F: Filter, L: Listener> Live<S, F, L> {
         descriptor: &Descriptor,
         journal: &mut Journal,
     ) -> Result<Live<S, F, L>, StartFault<S, F, L>>
-        ensures { Starts S.servlet_step F.filter_step L.listener_step context.now descriptor.now parts journal.old result journal.new }
+        ensures { Starts (steps_of S.servlet_step F.filter_step L.listener_step) context.now descriptor.now parts journal.old result journal.new }
     {
         let app = descriptor.web_app();
         if !fits(app, &parts) {
@@ -71,7 +72,7 @@ impl<S: Servlet, F: Filter, L: Listener> Live<S, F, L> {
         sessions: &mut Sessions,
         journal: &mut Journal,
     ) -> Parts<S, F, L>
-        ensures made { Runs S.servlet_step F.filter_step L.listener_step
+        ensures made { Runs (steps_of S.servlet_step F.filter_step L.listener_step)
             (live_world self journal.old) (stop_calls (length self.parts.listeners.items) (in_service self) sessions.old.sessions) (world self.context result journal.new) }
         ensures left { sessions.new ≡ record sessions.old { sessions = [] } }
     {
@@ -103,7 +104,7 @@ fn run<S: Servlet, F: Filter, L: Listener>(
 ) -> Result<Live<S, F, L>, StartFault<S, F, L>>
     requires { (app : AppData) × Fits app parts × IsPlan plan.context app plan }
     ensures { (app : AppData) → Fits app parts → IsPlan plan.context app plan
-        → Starts S.servlet_step F.filter_step L.listener_step plan.context app parts journal.old result journal.new }
+        → Starts (steps_of S.servlet_step F.filter_step L.listener_step) plan.context app parts journal.old result journal.new }
 {
     let mut parts = parts;
     let mut plan = plan;
@@ -152,7 +153,7 @@ fn end_all<S: Servlet, F: Filter, L: Listener>(
     journal: &mut Journal,
 )
     requires { All (IsPlaceIn parts.old) places.now }
-    ensures made { Runs S.servlet_step F.filter_step L.listener_step
+    ensures made { Runs (steps_of S.servlet_step F.filter_step L.listener_step)
         (world context.now parts.old journal.old) (stop_calls (length parts.old.listeners.items) places.now sessions.old.sessions) (world context.now parts.new journal.new) }
     ensures left { sessions.new ≡ record sessions.old { sessions = [] } }
     ensures counts { HasSameCounts parts.old parts.new }
@@ -171,7 +172,7 @@ fn destroy_back<S: Servlet, F: Filter, L: Listener>(
     journal: &mut Journal,
 )
     requires { All (IsPlaceIn parts.old) places.now }
-    ensures made { Runs S.servlet_step F.filter_step L.listener_step
+    ensures made { Runs (steps_of S.servlet_step F.filter_step L.listener_step)
         (world context.now parts.old journal.old) (map destroyed (reverse places.now)) (world context.now parts.new journal.new) }
     ensures counts { HasSameCounts parts.old parts.new }
 {

@@ -4,10 +4,11 @@ use Rattle.std.specs.Prelude.{cond}
 use Rattle.std.specs.List.{range_with_len}
 use Rattle.std.proofs.lemmas.List.{get_or-map, get_or-reverse, length-map, length-reverse, take_all, take_more}
 use Rattle.std.proofs.lemmas.List.FromFn.{get_or-range_with_len, length-range_with_len}
-use Rattle.sv_component.specs.Call.{Call, Heard}
+use Rattle.sv_component.specs.Call.{Heard}
 use Rattle.sv_component.specs.Runs.{IsRun, Moves, MovesAt, OfListener, Runs}
 use Rattle.sv_component.specs.World.{World}
 use Rattle.sv_component.proofs.Running as running
+use Rattle.sv_component.specs.Steps.{ComponentSteps, listening}
 use Rattle.sv_journal.specs.Entry.{heard}
 use Rattle.sv_journal.specs.Journal.{JournalState, Takes}
 use Rattle.sv_journal.specs.declared.event.Event.{Event}
@@ -58,24 +59,24 @@ told_more event count done place within is =
     ∙ ap (λ p. OfListener p event) (order_at (is_end event) count done within ∙ sym is))
 
 -- what listeners alone hear, in a world with servlets and filters
-module _ {S F L : Type 0} (ss : S → Call → S → Type 0) (fs : F → Call → F → Type 0) (ls : L → Call → L → Type 0) where
+module _ {S F L : Type 0} (moving : ComponentSteps S F L) where
   -- the world with other listeners and another journal
   abbrev pub heard_world : World S F L → List L → JournalState → World S F L
   heard_world world its_listeners its_journal = record world { listeners = its_listeners; journal = its_journal }
 
   hearing_runs : (event : Event) (places : List ℕ) (world : World S F L) (from to : World (Unit {0}) (Unit {0}) L)
       → from.context ≡ world.context → from.listeners ≡ world.listeners → from.journal ≡ world.journal
-      → IsRun (λ _ _ _. Unit {0}) (λ _ _ _. Unit {0}) ls from (map (λ place. OfListener place event) places) to
-      → IsRun ss fs ls world (map (λ place. OfListener place event) places) (heard_world world to.listeners to.journal)
+      → IsRun (listening moving.listener) from (map (λ place. OfListener place event) places) to
+      → IsRun moving world (map (λ place. OfListener place event) places) (heard_world world to.listeners to.journal)
   unfolding IsRun
   hearing_runs event [] world from to same_context same_listeners same_journal ran =
       ap₂ (heard_world world) (ap (λ w. w.listeners) ran ∙ same_listeners) (ap (λ w. w.journal) ran ∙ same_journal)
   hearing_runs event (place ∷ places) world from to same_context same_listeners same_journal ran =
-      let moves : Moves (λ _ _ _. Unit {0}) (λ _ _ _. Unit {0}) ls from (OfListener place event) ran.0 = ran.1 in
+      let moves : Moves (listening moving.listener) from (OfListener place event) ran.0 = ran.1 in
       let middle : World S F L = heard_world world ran.0.listeners ran.0.journal in (
         middle,
         record {
-          component = (subst (λ all. MovesAt ls all place (Heard event) ran.0.listeners) same_listeners moves.component.0, refl, refl);
+          component = (subst (λ all. MovesAt moving.listener all place (Heard event) ran.0.listeners) same_listeners moves.component.0, refl, refl);
           journal = subst (λ j. Takes j (heard world.context place event) ran.0.journal) same_journal
               (subst (λ c. Takes from.journal (heard c place event) ran.0.journal) same_context moves.journal);
           context = refl;
@@ -84,13 +85,13 @@ module _ {S F L : Type 0} (ss : S → Call → S → Type 0) (fs : F → Call �
       )
 
   pub told_in_world : (world : World S F L) (event : Event) (listeners : List L) (journal : JournalState)
-      → Tells ls world.context event world.listeners world.journal listeners journal
-      → Runs ss fs ls world (told event (length world.listeners)) (heard_world world listeners journal)
+      → Tells moving.listener world.context event world.listeners world.journal listeners journal
+      → Runs moving world (told event (length world.listeners)) (heard_world world listeners journal)
   unfolding told
   told_in_world world event listeners journal tells from done ran =
       let hearing = hearing_order event (length world.listeners) in
       let alone = listeners_alone world.context world.listeners world.journal in
       let after = listeners_alone world.context listeners journal in
-      running.runs_join ss fs ls from world (heard_world world listeners journal) done (map (λ place. OfListener place event) hearing) ran
+      running.runs_join moving from world (heard_world world listeners journal) done (map (λ place. OfListener place event) hearing) ran
       (hearing_runs event hearing world alone after refl refl refl
-      (running.runs_grown (λ _ _ _. Unit {0}) (λ _ _ _. Unit {0}) ls alone after (map (λ place. OfListener place event) hearing) tells))
+      (running.runs_grown (listening moving.listener) alone after (map (λ place. OfListener place event) hearing) tells))

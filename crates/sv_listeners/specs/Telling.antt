@@ -8,6 +8,7 @@ use Rattle.sv_component.specs.World.{World}
 use Rattle.sv_journal.specs.Journal.{JournalState}
 use Rattle.sv_journal.specs.declared.event.Event.{Event}
 use Rattle.sv_journal.specs.declared.event.Event.TheVariants.{ContextInitialized, ContextDestroyed, RequestInitialized, RequestDestroyed, SessionCreated, SessionDestroyed, SessionIdChanged, AttributeAdded, AttributeReplaced, AttributeRemoved}
+use Rattle.sv_component.specs.Steps.{listening}
 
 -- whether a context, a request or a session ends
 abbrev pub is_end : Event → Bool
@@ -43,5 +44,5 @@ listeners_alone its_context its_listeners its_journal = record {
 -- the listeners hear the event in the telling order, each hearing followed by its entry
 abbrev pub Tells : {L : Type 0} → (L → Call → L → Type 0) → List ℕ → Event → List L → JournalState → List L → JournalState → Type 0
 Tells listener_step context event listeners journal listeners_after journal_after =
-    Runs (λ _ _ _. Unit {0}) (λ _ _ _. Unit {0}) listener_step
+    Runs (listening listener_step)
     (listeners_alone context listeners journal) (told event (length listeners)) (listeners_alone context listeners_after journal_after)

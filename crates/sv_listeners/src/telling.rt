@@ -1,5 +1,6 @@
 //! Each listener hears an event, in the telling order.
 
+ghost use Rattle.sv_component.specs.Steps.{listening};
 ghost use Rattle.std.specs.Prelude.{◌≡◌, ◌-◌, ◌<◌, length, if◌then◌else◌};
 ghost use Rattle.sv_component.specs.Runs.{Moves, OfListener};
 ghost use Rattle.sv_listeners.specs.Telling.{Tells, is_end, listeners_alone};
@@ -36,7 +37,7 @@ fn hear<L: Listener>(
     journal: &mut Journal,
 )
     requires { place < length listeners.old }
-    ensures moves { Moves (λ _ _ _. Unit {0}) (λ _ _ _. Unit {0}) L.listener_step
+    ensures moves { Moves (listening L.listener_step)
         (listeners_alone context.now listeners.old journal.old) (OfListener place event.now) (listeners_alone context.now listeners.new journal.new) }
     ensures count { length listeners.new ≡ length listeners.old }
 {

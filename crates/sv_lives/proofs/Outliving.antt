@@ -2,8 +2,8 @@
 use Rattle.std.proofs.Common.{◌≡◌, Bool, true, false, List, [], ◌∷◌, ◌++◌, length, map, Result, Ok, Err, sym, ap, subst}
 use Rattle.std.specs.List.{AllByRecursion, filter}
 use Rattle.sv_component.proofs.Running.{runs_grown}
-use Rattle.sv_component.specs.Call.{Call}
 use Rattle.sv_component.specs.Runs.{IsRun, Runs}
+use Rattle.sv_component.specs.Steps.{ComponentSteps}
 use Rattle.sv_container.specs.Container.{state_of}
 use Rattle.sv_container.specs.Deploying.{DeploysAll, UndeploysAll}
 use Rattle.sv_container.specs.Stopping.{contexts_to_stop, journal_to_stop}
@@ -40,7 +40,7 @@ abbrev IsStartedIn : {S F L : Type 0} → Result (ContextState S F L) (DeployFau
 IsStartedIn (Ok context) = IsStarted context
 IsStartedIn (Err fault) = Unit {0}
 
-module _ {S F L : Type 0} (ss : S → Call → S → Type 0) (fs : F → Call → F → Type 0) (ls : L → Call → L → Type 0) where
+module _ {S F L : Type 0} (moving : ComponentSteps S F L) where
   -- ---- each context of a container that was started
   deployed_started : (deployment : Deployment S F L) (started : Result (LiveState S F L) (StartFault S F L)) (attempt : Attempt) (after : JournalState)
       → Means deployment.path deployment.descriptor deployment.parts attempt started after → IsStartedIn (deployed deployment started)
@@ -48,7 +48,7 @@ module _ {S F L : Type 0} (ss : S → Call → S → Type 0) (fs : F → Call �
   deployed_started deployment (Err fault) attempt after means = tt
 
   all_started : (deployments : List (Deployment S F L)) (before after : JournalState) (contexts : List (ContextState S F L))
-      → DeploysAll ss fs ls deployments before contexts after → AllByRecursion IsStarted contexts
+      → DeploysAll moving deployments before contexts after → AllByRecursion IsStarted contexts
   all_started [] before after contexts deploys = subst (AllByRecursion IsStarted) (sym deploys.0) tt
   all_started (deployment ∷ deployments) before after contexts deploys =
       let its = deploys.3 in
@@ -62,17 +62,17 @@ module _ {S F L : Type 0} (ss : S → Call → S → Type 0) (fs : F → Call �
   abbrev Stops : ContextState S F L → Parts S F L → Type 0
   Stops context parts =
       (sessions : List Session)
-      × IsRun ss fs ls (world_of context unnoted) (calls_of_stop context sessions) (world context.content.context_path parts unnoted)
+      × IsRun moving (world_of context unnoted) (calls_of_stop context sessions) (world context.content.context_path parts unnoted)
 
   one_stops : (context : ContextState S F L) (sessions : List Session) (before after : JournalState) (back : Deployment S F L)
-      → Runs ss fs ls (world_of context before) (calls_of_stop context sessions) (world back.path back.parts after)
+      → Runs moving (world_of context before) (calls_of_stop context sessions) (world back.path back.parts after)
       → content_of back ≡ context.content → Stops context back.parts
   one_stops context sessions before after back grows content = (
     sessions,
-    subst (λ path. IsRun ss fs ls (world_of context unnoted) (calls_of_stop context sessions) (world path back.parts unnoted))
+    subst (λ path. IsRun moving (world_of context unnoted) (calls_of_stop context sessions) (world path back.parts unnoted))
         (ap (λ (its : Content). its.context_path) content)
-        (runs_unnoted ss fs ls (world_of context before) (calls_of_stop context sessions) (world back.path back.parts after)
-        (runs_grown ss fs ls (world_of context before) (world back.path back.parts after) (λ done. done ++ calls_of_stop context sessions) grows)),
+        (runs_unnoted moving (world_of context before) (calls_of_stop context sessions) (world back.path back.parts after)
+        (runs_grown moving (world_of context before) (world back.path back.parts after) (λ done. done ++ calls_of_stop context sessions) grows)),
   )
 
   abbrev AllStop : List (ContextState S F L) → List (Parts S F L) → Type 0
@@ -81,7 +81,7 @@ module _ {S F L : Type 0} (ss : S → Call → S → Type 0) (fs : F → Call �
       (its : Parts S F L) × (others : List (Parts S F L)) × Stops context its × AllStop contexts others × (parts ≡ its ∷ others)
 
   all_stop : (stopped : Bool) (contexts : List (ContextState S F L)) (before after : JournalState) (back : List (Deployment S F L))
-      → UndeploysAll ss fs ls (contexts_to_stop stopped contexts) before back after → AllStop contexts (map (λ deployment. deployment.parts) back)
+      → UndeploysAll moving (contexts_to_stop stopped contexts) before back after → AllStop contexts (map (λ deployment. deployment.parts) back)
   all_stop true [] before after back undeploys = ap (map (λ deployment. deployment.parts)) undeploys.0
   all_stop false [] before after back undeploys = ap (map (λ deployment. deployment.parts)) undeploys.0
   all_stop true (context ∷ contexts) before after back undeploys = (
@@ -100,7 +100,7 @@ module _ {S F L : Type 0} (ss : S → Call → S → Type 0) (fs : F → Call �
   )
 
   -- ---- so each lives to its stop
-  one_ends : (first last : ContextState S F L) (sessions : List Session) → IsStarted first → (lives : Lives ss fs ls first last) → (place : Place)
+  one_ends : (first last : ContextState S F L) (sessions : List Session) → IsStarted first → (lives : Lives moving first last) → (place : Place)
       → HasComponent first place → EndsOnce (was_initialised first place) (component_calls place (lives.made ++ calls_of_stop last sessions))
   one_ends first last sessions started lives (Servlet place) there =
       subst (λ places. EndsOnce (was_initialised first (Servlet place))
@@ -115,8 +115,8 @@ module _ {S F L : Type 0} (ss : S → Call → S → Type 0) (fs : F → Call �
       (filter_ends place first.standings last.standings first.initialised lives.made (length last.listeners) sessions (started.once (Filter place))
       (started.filters place there) lives.retires)
 
-  one_lives : (first last : ContextState S F L) (parts : Parts S F L) → IsStarted first → Lives ss fs ls first last → Stops last parts
-      → LivesToItsStop ss fs ls first last parts
+  one_lives : (first last : ContextState S F L) (parts : Parts S F L) → IsStarted first → Lives moving first last → Stops last parts
+      → LivesToItsStop moving first last parts
   one_lives first last parts started its_life stops = record {
     lives = its_life;
     sessions = stops.0;
@@ -124,8 +124,8 @@ module _ {S F L : Type 0} (ss : S → Call → S → Type 0) (fs : F → Call �
     ends = one_ends first last stops.0 started its_life;
   }
 
-  all_live : (first last : List (ContextState S F L)) (parts : List (Parts S F L)) → AllByRecursion IsStarted first → AllLive ss fs ls first last
-      → AllStop last parts → AllLiveToTheirStops ss fs ls first last parts
+  all_live : (first last : List (ContextState S F L)) (parts : List (Parts S F L)) → AllByRecursion IsStarted first → AllLive moving first last
+      → AllStop last parts → AllLiveToTheirStops moving first last parts
   all_live [] last parts started lives stops = (lives, subst (λ contexts. AllStop contexts parts) lives stops)
   all_live (context ∷ contexts) last parts started lives stops =
       let its = subst (λ those. AllStop those parts) lives.4 stops in (
@@ -139,12 +139,12 @@ module _ {S F L : Type 0} (ss : S → Call → S → Type 0) (fs : F → Call �
         its.4,
       )
 
-  pub each_is_destroyed_once : (Words : Type 0) → EachIsDestroyedOnce ss fs ls Words
+  pub each_is_destroyed_once : (Words : Type 0) → EachIsDestroyedOnce moving Words
   each_is_destroyed_once Words deployments words noted noted_after started stopping events parts journal starts alters shuts =
       let contexts = (state_of started).world.contexts in
       all_live contexts (state_of stopping).world.contexts parts
       (subst (AllByRecursion IsStarted) (sym (ap (λ (state : State (ContextState S F L) Words). state.world.contexts) starts.3))
       (all_started deployments noted noted_after starts.0 starts.1))
-      (components_are_destroyed_once ss fs ls events contexts (state_of stopping).world.contexts alters)
+      (components_are_destroyed_once moving events contexts (state_of stopping).world.contexts alters)
       (subst (AllStop (state_of stopping).world.contexts) (sym shuts.are)
       (all_stop (state_of stopping).stopped (state_of stopping).world.contexts (journal_to_stop (state_of stopping).stopped) journal shuts.back shuts.undeploys))

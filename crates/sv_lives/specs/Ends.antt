@@ -4,6 +4,7 @@ use Rattle.std.specs.List.{list_any}
 use Rattle.sv_component.specs.Call.{Call, Destroyed}
 use Rattle.sv_component.specs.Motion.{calls_at, filter_calls, servlet_calls}
 use Rattle.sv_component.specs.Runs.{IsRun, Record}
+use Rattle.sv_component.specs.Steps.{ComponentSteps}
 use Rattle.sv_container.specs.Container.{state_of}
 use Rattle.sv_container.specs.Starting.{Starts}
 use Rattle.sv_container.specs.Stopping.{ShutsDown}
@@ -58,13 +59,13 @@ module _ {S F L : Type 0} (context : ContextState S F L) where
   abbrev pub calls_of_stop : List Session → List Record
   calls_of_stop sessions = stop_calls (length context.listeners) (in_service context) sessions
 
-module _ {S F L : Type 0} (servlet_step : S → Call → S → Type 0) (filter_step : F → Call → F → Type 0) (listener_step : L → Call → L → Type 0) where
+module _ {S F L : Type 0} (moving : ComponentSteps S F L) where
   -- a context goes from one state to its last, and stops: its components are moved by some calls, then by those of the stop, and by nothing else; in
   -- all, each that was initialised is destroyed, once and last, and no other is called
   pub record LivesToItsStop (first last : ContextState S F L) (parts : Parts S F L) : Type 0 where
-    pub lives : Lives servlet_step filter_step listener_step first last
+    pub lives : Lives moving first last
     pub sessions : List Session
-    pub stops : IsRun servlet_step filter_step listener_step (world_of last unnoted) (calls_of_stop last sessions)
+    pub stops : IsRun moving (world_of last unnoted) (calls_of_stop last sessions)
         (world last.content.context_path parts unnoted)
     pub ends : (place : Place) → HasComponent first place
         → EndsOnce (was_initialised first place) (component_calls place (lives.made ++ calls_of_stop last sessions))
@@ -81,7 +82,7 @@ module _ {S F L : Type 0} (servlet_step : S → Call → S → Type 0) (filter_s
   EachIsDestroyedOnce Words =
       (deployments : List (Deployment S F L)) (words : Words) (noted noted_after : JournalState) (started stopping : Container S F L Words) (events : ℕ)
       (parts : List (Parts S F L)) (journal : JournalState)
-      → Starts servlet_step filter_step listener_step deployments words noted (Ok started) noted_after
-      → AltersInTurn (conduct servlet_step filter_step listener_step) events (state_of started).world.contexts (state_of stopping).world.contexts
-      → ShutsDown servlet_step filter_step listener_step (state_of stopping) parts journal
+      → Starts moving deployments words noted (Ok started) noted_after
+      → AltersInTurn (conduct moving) events (state_of started).world.contexts (state_of stopping).world.contexts
+      → ShutsDown moving (state_of stopping) parts journal
       → AllLiveToTheirStops (state_of started).world.contexts (state_of stopping).world.contexts parts

@@ -1,7 +1,7 @@
 -- The lives of components over every list of events (Jakarta Servlet 6.0, sections 2.3.3.2 and 2.3.4).
 use Rattle.std.specs.Prelude.{◌≡◌, ℕ, zero, suc, List, [], ◌∷◌, length}
-use Rattle.sv_component.specs.Call.{Call}
 use Rattle.sv_component.specs.Runs.{IsRun, Record}
+use Rattle.sv_component.specs.Steps.{ComponentSteps}
 use Rattle.sv_context.specs.Conduct.{conduct, unnoted}
 use Rattle.sv_context.specs.Retiring.{Retires}
 use Rattle.sv_context.specs.State.{ContextState, world_of}
@@ -14,12 +14,12 @@ AltersInTurn moved_so zero before after = after ≡ before
 AltersInTurn {Context} moved_so (suc events) before after =
     (between : List Context) × AltersAll moved_so before between × AltersInTurn moved_so events between after
 
-module _ {S F L : Type 0} (servlet_step : S → Call → S → Type 0) (filter_step : F → Call → F → Type 0) (listener_step : L → Call → L → Type 0) where
+module _ {S F L : Type 0} (moving : ComponentSteps S F L) where
   -- some calls move the components of a context, and none besides: of its servlets one that was gone before is not called, one that is gone behind them
   -- is destroyed, once and last, and no other is destroyed, nor is a filter. None comes or goes
   pub record Lives (before after : ContextState S F L) : Type 0 where
     pub made : List Record
-    pub runs : IsRun servlet_step filter_step listener_step (world_of before unnoted) made (world_of after unnoted)
+    pub runs : IsRun moving (world_of before unnoted) made (world_of after unnoted)
     pub retires : Retires before.standings made after.standings
     pub initialised : after.initialised ≡ before.initialised
     pub servlets : length after.servlets ≡ length before.servlets
@@ -34,5 +34,5 @@ module _ {S F L : Type 0} (servlet_step : S → Call → S → Type 0) (filter_s
   -- however many events come, the components of each context live so
   abbrev pub ComponentsAreDestroyedOnce : Type 0
   ComponentsAreDestroyedOnce =
-      (events : ℕ) (before after : List (ContextState S F L)) → AltersInTurn (conduct servlet_step filter_step listener_step) events before after
+      (events : ℕ) (before after : List (ContextState S F L)) → AltersInTurn (conduct moving) events before after
       → AllLive before after

@@ -1,6 +1,6 @@
 -- The start of a server's container with random words of its own.
 use Rattle.std.specs.Prelude.{◌≡◌, ℕ, List, Result, Ok, Err}
-use Rattle.sv_component.specs.Call.{Call}
+use Rattle.sv_component.specs.Steps.{ComponentSteps}
 use Rattle.sv_application.specs.declared.program_filter.ProgramFilter.{ProgramFilter}
 use Rattle.sv_application.specs.declared.program_listener.ProgramListener.{ProgramListener}
 use Rattle.sv_application.specs.declared.program_servlet.ProgramServlet.{ProgramServlet}
@@ -14,13 +14,12 @@ use Rattle.sv_serve.specs.Starting.{StartsWith, UnlessStarted}
 use Rattle.sv_serve.specs.declared.seeding.Seeding.{Seeding}
 use Rattle.sv_serve.specs.declared.starting.StartedServer.{StartedServer}
 
-module _ (servlet_step : ProgramServlet → Call → ProgramServlet → Type 0) (filter_step : ProgramFilter → Call → ProgramFilter → Type 0)
-    (listener_step : ProgramListener → Call → ProgramListener → Type 0) where
+module _ (moving : ComponentSteps ProgramServlet ProgramFilter ProgramListener) where
   -- what is configured starts with this seed, or its fault is told
   abbrev pub BeginsFrom : List ℕ → Configuration → Result StartedServer CommandFault → Type 0
   BeginsFrom seed configuration (Ok started) =
-      StartsWith servlet_step filter_step listener_step configuration.deployments.items seed (Ok started.container) × (started.port ≡ configuration.port)
-  BeginsFrom seed configuration (Err fault) = StartsWith servlet_step filter_step listener_step configuration.deployments.items seed (Err fault)
+      StartsWith moving configuration.deployments.items seed (Ok started.container) × (started.port ≡ configuration.port)
+  BeginsFrom seed configuration (Err fault) = StartsWith moving configuration.deployments.items seed (Err fault)
 
   -- a fault of the seed is told; without one, what is configured starts with it
   abbrev pub BeginsBySeed : Result (List ℕ) CommandFault → Configuration → Result StartedServer CommandFault → Type 0
@@ -42,4 +41,4 @@ module _ (servlet_step : ProgramServlet → Call → ProgramServlet → Type 0) 
   abbrev pub BeginsRun : {S W : Type 0} → Giving S → FolderGiving S → Seeding → List ℕ → S → W → Result (Unit {0}) CommandFault → S → W → Type 0
   BeginsRun gives_text gives_files seeding config before writer result after writer_after =
       (begun : Result StartedServer CommandFault) × StartsSeeded gives_text gives_files seeding config before begun after
-      × UnlessStarted servlet_step filter_step listener_step begun result writer writer_after
+      × UnlessStarted moving begun result writer writer_after

@@ -1,7 +1,7 @@
 -- The start of a server's container.
 use Rattle.std.specs.Prelude.{◌≡◌, ℕ, List, Result, Ok, Err}
 use Rattle.rand_chacha.specs.ChaCha.{of_seed}
-use Rattle.sv_component.specs.Call.{Call}
+use Rattle.sv_component.specs.Steps.{ComponentSteps}
 use Rattle.sv_application.specs.declared.program_filter.ProgramFilter.{ProgramFilter}
 use Rattle.sv_application.specs.declared.program_listener.ProgramListener.{ProgramListener}
 use Rattle.sv_application.specs.declared.program_servlet.ProgramServlet.{ProgramServlet}
@@ -34,25 +34,24 @@ start_fault code.InitFailed context = fault.Start (code_number code.InitFailed) 
 abbrev pub AreWordsOf : List ℕ → SeededWords → Type 0
 AreWordsOf seed words = words.generator ≡ of_seed seed
 
-module _ {S F L : Type 0} (servlet_step : S → Call → S → Type 0) (filter_step : F → Call → F → Type 0) (listener_step : L → Call → L → Type 0) where
+module _ {S F L : Type 0} (moving : ComponentSteps S F L) where
   -- a container starts with the deployments and the words of the seed, or its fault is told
   abbrev pub StartsWith : List (Deployment S F L) → List ℕ → Result (Container S F L SeededWords) CommandFault → Type 0
   StartsWith deployments seed (Ok container) =
       (words : SeededWords) × AreWordsOf seed words
-      × ((journal : JournalState) × Starts servlet_step filter_step listener_step deployments words new_journal (Ok container) journal)
+      × ((journal : JournalState) × Starts moving deployments words new_journal (Ok container) journal)
   StartsWith deployments seed (Err fault) =
       (words : SeededWords) × AreWordsOf seed words
       × ((journal : JournalState) × (refusal : NewFault S F L)
-      × Starts servlet_step filter_step listener_step deployments words new_journal (Err refusal) journal
+      × Starts moving deployments words new_journal (Err refusal) journal
       × (fault ≡ start_fault refusal.code refusal.context))
 
-module _ (servlet_step : ProgramServlet → Call → ProgramServlet → Type 0) (filter_step : ProgramFilter → Call → ProgramFilter → Type 0)
-    (listener_step : ProgramListener → Call → ProgramListener → Type 0) where
+module _ (moving : ComponentSteps ProgramServlet ProgramFilter ProgramListener) where
   -- what is configured starts, or its fault is told
   abbrev pub Begins : Configuration → Result StartedServer CommandFault → Type 0
   Begins configuration (Ok started) =
-      StartsWith servlet_step filter_step listener_step configuration.deployments.items configuration.seed (Ok started.container) × (started.port ≡ configuration.port)
-  Begins configuration (Err fault) = StartsWith servlet_step filter_step listener_step configuration.deployments.items configuration.seed (Err fault)
+      StartsWith moving configuration.deployments.items configuration.seed (Ok started.container) × (started.port ≡ configuration.port)
+  Begins configuration (Err fault) = StartsWith moving configuration.deployments.items configuration.seed (Err fault)
 
   -- a fault of the files is told; without one, what they configure starts
   abbrev pub GoesOn : Result Configuration CommandFault → Result StartedServer CommandFault → Type 0

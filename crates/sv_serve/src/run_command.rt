@@ -1,5 +1,6 @@
 //! The command `run`: a server's container over many connections at once.
 
+ghost use Rattle.sv_component.specs.Steps.{steps_of};
 ghost use Rattle.sv_serve.specs.Running.{BeginsRun};
 
 use crate::recorded_run::{run_plainly, run_recorded};
@@ -35,7 +36,7 @@ pub fn run<S: FileStore + FolderStore, H: Net + Clock + RandomSource + Files + E
     seeding: Seeding,
     journal: Option<&str>,
 ) -> Result<(), CommandFault>
-    ensures { BeginsRun ⟦<ProgramServlet as Servlet>⟧.servlet_step ⟦<ProgramFilter as Filter>⟧.filter_step ⟦<ProgramListener as Listener>⟧.listener_step
+    ensures { BeginsRun (steps_of ⟦<ProgramServlet as Servlet>⟧.servlet_step ⟦<ProgramFilter as Filter>⟧.filter_step ⟦<ProgramListener as Listener>⟧.listener_step)
         S.gives_text S.gives_files seeding config.now store.old writer.old result store.new writer.new }
 {
     let StartedServer { port, container } = match start_seeded(

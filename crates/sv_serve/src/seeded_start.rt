@@ -1,5 +1,6 @@
 //! The start of a server's container with random words of its own.
 
+ghost use Rattle.sv_component.specs.Steps.{steps_of};
 ghost use Rattle.sv_serve.specs.Running.{StartsSeeded};
 
 use crate::seeding::{Seeding, seed_for};
@@ -23,7 +24,7 @@ pub fn start_seeded<S: FileStore + FolderStore, H: RandomSource>(
     config: &str,
     seeding: Seeding,
 ) -> Result<StartedServer, CommandFault>
-    ensures { StartsSeeded ⟦<ProgramServlet as Servlet>⟧.servlet_step ⟦<ProgramFilter as Filter>⟧.filter_step ⟦<ProgramListener as Listener>⟧.listener_step
+    ensures { StartsSeeded (steps_of ⟦<ProgramServlet as Servlet>⟧.servlet_step ⟦<ProgramFilter as Filter>⟧.filter_step ⟦<ProgramListener as Listener>⟧.listener_step)
         S.gives_text S.gives_files seeding config.now store.old result store.new }
 {
     let Configuration {

@@ -1,5 +1,6 @@
 //! The command `selftest`: a server's container asked by the program itself.
 
+ghost use Rattle.sv_component.specs.Steps.{steps_of};
 ghost use Rattle.sv_serve.specs.Starting.{BeginsWith};
 
 use crate::sockets::{fault_of, listen};
@@ -32,7 +33,7 @@ pub fn self_test<S: FileStore + FolderStore, H: Net + Clock, W: Write>(
     writer: &mut W,
     config: &str,
 ) -> Result<(), CommandFault>
-    ensures { BeginsWith ⟦<ProgramServlet as Servlet>⟧.servlet_step ⟦<ProgramFilter as Filter>⟧.filter_step ⟦<ProgramListener as Listener>⟧.listener_step
+    ensures { BeginsWith (steps_of ⟦<ProgramServlet as Servlet>⟧.servlet_step ⟦<ProgramFilter as Filter>⟧.filter_step ⟦<ProgramListener as Listener>⟧.listener_step)
         S.gives_text S.gives_files config.now store.old writer.old result store.new writer.new }
 {
     let StartedServer {

@@ -1,5 +1,6 @@
 //! The command `serve`: a server's container over connections that come one after another.
 
+ghost use Rattle.sv_component.specs.Steps.{steps_of};
 ghost use Rattle.sv_serve.specs.Starting.{BeginsWith};
 
 use crate::listening::listen_and_serve;
@@ -27,7 +28,7 @@ pub fn serve<S: FileStore + FolderStore, H: Net + Clock, W: Write>(
     config: &str,
     count: u64,
 ) -> Result<(), CommandFault>
-    ensures { BeginsWith ⟦<ProgramServlet as Servlet>⟧.servlet_step ⟦<ProgramFilter as Filter>⟧.filter_step ⟦<ProgramListener as Listener>⟧.listener_step
+    ensures { BeginsWith (steps_of ⟦<ProgramServlet as Servlet>⟧.servlet_step ⟦<ProgramFilter as Filter>⟧.filter_step ⟦<ProgramListener as Listener>⟧.listener_step)
         S.gives_text S.gives_files config.now store.old writer.old result store.new writer.new }
 {
     let StartedServer {

@@ -1,5 +1,6 @@
 //! The start of a server's container.
 
+ghost use Rattle.sv_component.specs.Steps.{steps_of};
 ghost use Rattle.std.specs.Prelude.{◌≡◌, length};
 ghost use Rattle.sv_serve.specs.Starting as spec;
 
@@ -36,7 +37,7 @@ pub fn start_server<S: FileStore + FolderStore>(
     store: &mut S,
     config: &str,
 ) -> Result<StartedServer, CommandFault>
-    ensures { spec.StartsServer ⟦<ProgramServlet as Servlet>⟧.servlet_step ⟦<ProgramFilter as Filter>⟧.filter_step ⟦<ProgramListener as Listener>⟧.listener_step
+    ensures { spec.StartsServer (steps_of ⟦<ProgramServlet as Servlet>⟧.servlet_step ⟦<ProgramFilter as Filter>⟧.filter_step ⟦<ProgramListener as Listener>⟧.listener_step)
         S.gives_text S.gives_files config.now store.old result store.new }
 {
     let Configuration {
@@ -63,7 +64,7 @@ pub fn start<S: Servlet, F: Filter, L: Listener>(
     seed: &[u8],
 ) -> Result<Container<S, F, L, SeededWords>, CommandFault>
     requires { length seed.now ≡ 32 }
-    ensures { spec.StartsWith S.servlet_step F.filter_step L.listener_step deployments.items seed.now result }
+    ensures { spec.StartsWith (steps_of S.servlet_step F.filter_step L.listener_step) deployments.items seed.now result }
 {
     let mut journal = Journal::new(alloc);
     match Container::new(

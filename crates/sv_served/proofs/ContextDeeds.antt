@@ -2,8 +2,8 @@
 use Rattle.std.proofs.Common.{◌≡◌, inl, inr, ℕ, Bool, true, false, List, [], ◌++◌, Option, None, Some, Result, Ok, Err, refl, sym, ◌∙◌, subst}
 use Rattle.std.specs.Prelude.{OnOk}
 use Rattle.sv_component.proofs.Running.{runs_join}
-use Rattle.sv_component.specs.Call.{Call}
 use Rattle.sv_component.specs.Runs.{IsRun, Record}
+use Rattle.sv_component.specs.Steps.{ComponentSteps}
 use Rattle.sv_dispatch.specs.Dispatched.{Dispatched, Refused}
 use Rattle.sv_dispatch.specs.Running.{state_of}
 use Rattle.sv_exchange.specs.State as exchanges
@@ -42,12 +42,12 @@ module _ {S F L A : Type 0} (live live' : LiveState S F L) (x x' : exchanges.Sta
       none : {P : Type 0} → Some value ≡ None → P
       none e = cc
 
-module _ {S F L : Type 0} (ss : S → Call → S → Type 0) (fs : F → Call → F → Type 0) (ls : L → Call → L → Type 0) where
+module _ {S F L : Type 0} (moving : ComponentSteps S F L) where
   -- the dispatch is what it says
   pub by_dispatch : (site : Site) (kind : Kind) (canon : Canon) (live : LiveState S F L) (x : exchanges.State) (noted : JournalState) (result : Option Finished)
       (live' : LiveState S F L) (x' : exchanges.State) (noted' : JournalState)
-      → Dispatched ss fs ls site kind canon live x noted result live' x' noted'
-      → ServedBy ss fs ls (Tree site MAX_NESTING kind canon) live x noted result live' x' noted'
+      → Dispatched moving site kind canon live x noted result live' x' noted'
+      → ServedBy moving (Tree site MAX_NESTING kind canon) live x noted result live' x' noted'
   by_dispatch site kind canon live x noted result live' x' noted' did = record {
     made = did.made;
     does_so = did.is_tree;
@@ -58,7 +58,7 @@ module _ {S F L : Type 0} (ss : S → Call → S → Type 0) (fs : F → Call �
   }
 
   pub by_alone : {A : Type 0} (does : Does A) (live : LiveState S F L) (x y : exchanges.State) (noted : JournalState) (result : Option A)
-      → Alone does x y result → ServedBy ss fs ls does live x noted result live y noted
+      → Alone does x y result → ServedBy moving does live x noted result live y noted
   unfolding IsRun
   by_alone does live x y noted result did = record {
     made = [];
@@ -71,9 +71,9 @@ module _ {S F L : Type 0} (ss : S → Call → S → Type 0) (fs : F → Call �
 
   module _ {A B : Type 0} (first : Does A) (next : A → Does B) (live live' : LiveState S F L) (x x' : exchanges.State) (noted noted' : JournalState) where
     pub by_then : (live'' : LiveState S F L) (x'' : exchanges.State) (noted'' : JournalState) (value : A) (result : Option B)
-        → ServedBy ss fs ls first live x noted (Some value) live' x' noted'
-        → ServedBy ss fs ls (next value) live' x' noted' result live'' x'' noted''
-        → ServedBy ss fs ls (first >>= next) live x noted result live'' x'' noted''
+        → ServedBy moving first live x noted (Some value) live' x' noted'
+        → ServedBy moving (next value) live' x' noted' result live'' x'' noted''
+        → ServedBy moving (first >>= next) live x noted result live'' x'' noted''
     by_then live'' x'' noted'' value result one two = record {
       made = one.made ++ two.made;
       does_so = inl record {
@@ -85,7 +85,7 @@ module _ {S F L : Type 0} (ss : S → Call → S → Type 0) (fs : F → Call �
         goes_on = two.does_so;
         is_joined = refl;
       };
-      runs = runs_join ss fs ls (live_world live noted) (live_world live' noted') (live_world live'' noted'') one.made two.made one.runs two.runs;
+      runs = runs_join moving (live_world live noted) (live_world live' noted') (live_world live'' noted'') one.made two.made one.runs two.runs;
       counts = record {
         servlets = two.counts.servlets ∙ one.counts.servlets;
         filters = two.counts.filters ∙ one.counts.filters;
@@ -95,7 +95,7 @@ module _ {S F L : Type 0} (ss : S → Call → S → Type 0) (fs : F → Call �
       initialised = two.initialised ∙ one.initialised;
     }
 
-    pub by_not : ServedBy ss fs ls first live x noted None live' x' noted' → ServedBy ss fs ls (first >>= next) live x noted None live' x' noted'
+    pub by_not : ServedBy moving first live x noted None live' x' noted' → ServedBy moving (first >>= next) live x noted None live' x' noted'
     by_not one = record {
       made = one.made;
       does_so = inr (one.does_so, refl);
@@ -108,7 +108,7 @@ module _ {S F L : Type 0} (ss : S → Call → S → Type 0) (fs : F → Call �
   -- by what was done, this was done too
   pub by_so : {A B : Type 0} (one : Does A) (other : Does B) (live live' : LiveState S F L) (x x' : exchanges.State) (noted noted' : JournalState) (result : Option A) (value : Option B)
       → ((made : List Record) → one (state_of live x) made (state_of live' x') result → other (state_of live x) made (state_of live' x') value)
-      → ServedBy ss fs ls one live x noted result live' x' noted' → ServedBy ss fs ls other live x noted value live' x' noted'
+      → ServedBy moving one live x noted result live' x' noted' → ServedBy moving other live x noted value live' x' noted'
   by_so one other live live' x x' noted noted' result value h did = record {
     made = did.made;
     does_so = h did.made did.does_so;
@@ -124,25 +124,25 @@ module _ {S F L : Type 0} (ss : S → Call → S → Type 0) (fs : F → Call �
       abbrev Paged : Does (Unit {0})
       Paged = Tree site MAX_NESTING kinds.Error page >>= Shown status field
 
-      pub page_not : Alone (Resets status field) x y None → ServedBy ss fs ls (Pages site status field (Some page)) live x noted None live y noted
+      pub page_not : Alone (Resets status field) x y None → ServedBy moving (Pages site status field (Some page)) live x noted None live y noted
       page_not resets = by_not (Resets status field) (λ _. Paged) live live x y noted noted (by_alone (Resets status field) live x y noted None resets)
 
       module _ (resets : Alone (Resets status field) x y (Some tt)) (z : exchanges.State) where
-        page_on : (w : exchanges.State) (result : Option (Unit {0})) → ServedBy ss fs ls Paged live y noted result live' w noted'
-            → ServedBy ss fs ls (Pages site status field (Some page)) live x noted result live' w noted'
+        page_on : (w : exchanges.State) (result : Option (Unit {0})) → ServedBy moving Paged live y noted result live' w noted'
+            → ServedBy moving (Pages site status field (Some page)) live x noted result live' w noted'
         page_on w result did =
             by_then (Resets status field) (λ _. Paged) live live x y noted noted live' w noted' tt result
             (by_alone (Resets status field) live x y noted (Some tt) resets) did
 
-        pub page_ends : Dispatched ss fs ls site kinds.Error page live y noted None live' z noted'
-            → ServedBy ss fs ls (Pages site status field (Some page)) live x noted None live' z noted'
+        pub page_ends : Dispatched moving site kinds.Error page live y noted None live' z noted'
+            → ServedBy moving (Pages site status field (Some page)) live x noted None live' z noted'
         page_ends did =
             page_on z None (by_not (Tree site MAX_NESTING kinds.Error page) (Shown status field) live live' y z noted noted'
             (by_dispatch site kinds.Error page live y noted None live' z noted' did))
 
         pub page_so : (finished : Finished) (w : exchanges.State) (result : Option (Unit {0}))
-            → Dispatched ss fs ls site kinds.Error page live y noted (Some finished) live' z noted' → Alone (Shown status field finished) z w result
-            → ServedBy ss fs ls (Pages site status field (Some page)) live x noted result live' w noted'
+            → Dispatched moving site kinds.Error page live y noted (Some finished) live' z noted' → Alone (Shown status field finished) z w result
+            → ServedBy moving (Pages site status field (Some page)) live x noted result live' w noted'
         page_so finished w result did shown =
             page_on w result (by_then (Tree site MAX_NESTING kinds.Error page) (Shown status field) live live' y z noted noted' live' w noted' finished result
             (by_dispatch site kinds.Error page live y noted (Some finished) live' z noted' did)
@@ -150,19 +150,19 @@ module _ {S F L : Type 0} (ss : S → Call → S → Type 0) (fs : F → Call �
 
     -- what is answered to an error that was kept
     module _ (status : ℕ) (kind : Option (List ℕ)) (x y : exchanges.State) (test : Bool) (is : test ≡ x.committed) where
-      pub kept_broken : test ≡ true → y ≡ broken_off x → ServedBy ss fs ls (Shows site status kind) live x noted (Some tt) live y noted
+      pub kept_broken : test ≡ true → y ≡ broken_off x → ServedBy moving (Shows site status kind) live x noted (Some tt) live y noted
       kept_broken committed broke = by_alone (Shows site status kind) live x y noted (Some tt)
           (unless_broken (wants_memory >> (λ state. Pages site status (kept_field state.exchange.kept) (site.page status kind) state)) x y test is committed broke)
 
-      pub kept_lacks : test ≡ false → ServedBy ss fs ls (Shows site status kind) live x noted None live x noted
+      pub kept_lacks : test ≡ false → ServedBy moving (Shows site status kind) live x noted None live x noted
       kept_lacks free = by_alone (Shows site status kind) live x x noted None
           (unless_so (wants_memory >> (λ state. Pages site status (kept_field state.exchange.kept) (site.page status kind) state)) x x test None is free
           (λ standings. inr ((refl, refl), refl)))
 
       pub kept_so : (field : Option KeptField) (page : Option Canon) (result : Option (Unit {0})) → test ≡ false
           → field ≡ kept_field x.kept → page ≡ site.page status kind
-          → ServedBy ss fs ls (Pages site status field page) live x noted result live' y noted'
-          → ServedBy ss fs ls (Shows site status kind) live x noted result live' y noted'
+          → ServedBy moving (Pages site status field page) live x noted result live' y noted'
+          → ServedBy moving (Shows site status kind) live x noted result live' y noted'
       kept_so field page result free of_kept of_site did =
           by_so (Pages site status field page) (Shows site status kind) live live' x y noted noted' result result
           (λ made h. subst (λ test. choose test breaks (wants_memory >> (λ state. Pages site status (kept_field state.exchange.kept) (site.page status kind) state))
@@ -182,7 +182,7 @@ module _ {S F L : Type 0} (ss : S → Call → S → Type 0) (fs : F → Call �
     -- an error that no dispatch brought up
     module _ (status : ℕ) (page : Option Canon) (kept : KeptError) (x y : exchanges.State)
         (is : kept ≡ record { status = status; text = phrase_of status; servlet = None; field = None }) where
-      pub error_not : Alone (keeps kept) x y None → ServedBy ss fs ls (ShowsError site status page) live x noted None live y noted
+      pub error_not : Alone (keeps kept) x y None → ServedBy moving (ShowsError site status page) live x noted None live y noted
       error_not did =
           by_alone (ShowsError site status page) live x y noted None
           (subst (λ kept. Alone (keeps kept >> unless_committed (Pages site status None page)) x y None) is
@@ -190,16 +190,16 @@ module _ {S F L : Type 0} (ss : S → Call → S → Type 0) (fs : F → Call �
 
       -- what follows once it is kept
       error_on : (z : exchanges.State) (result : Option (Unit {0})) → Alone (keeps kept) x y (Some tt)
-          → ServedBy ss fs ls (unless_committed (Pages site status None page)) live y noted result live' z noted'
-          → ServedBy ss fs ls (ShowsError site status page) live x noted result live' z noted'
+          → ServedBy moving (unless_committed (Pages site status None page)) live y noted result live' z noted'
+          → ServedBy moving (ShowsError site status page) live x noted result live' z noted'
       error_on z result keeping did =
-          subst (λ kept. ServedBy ss fs ls (keeps kept >> unless_committed (Pages site status None page)) live x noted result live' z noted') is
+          subst (λ kept. ServedBy moving (keeps kept >> unless_committed (Pages site status None page)) live x noted result live' z noted') is
           (by_then (keeps kept) (λ _. unless_committed (Pages site status None page)) live live x y noted noted live' z noted' tt result
           (by_alone (keeps kept) live x y noted (Some tt) keeping) did)
 
       pub error_so : (z : exchanges.State) (result : Option (Unit {0})) (test : Bool) → test ≡ y.committed → test ≡ false → Alone (keeps kept) x y (Some tt)
-          → ServedBy ss fs ls (Pages site status None page) live y noted result live' z noted'
-          → ServedBy ss fs ls (ShowsError site status page) live x noted result live' z noted'
+          → ServedBy moving (Pages site status None page) live y noted result live' z noted'
+          → ServedBy moving (ShowsError site status page) live x noted result live' z noted'
       error_so z result test same free keeping did =
           error_on z result keeping
           (by_so (Pages site status None page) (unless_committed (Pages site status None page)) live live' y z noted noted' result result
@@ -208,9 +208,9 @@ module _ {S F L : Type 0} (ss : S → Call → S → Type 0) (fs : F → Call �
     -- such an error of a committed answer
     pub error_broken : (status : ℕ) (page : Option Canon) (kept : KeptError) (x y z : exchanges.State)
         → kept ≡ record { status = status; text = phrase_of status; servlet = None; field = None } → (test : Bool) → test ≡ y.committed → test ≡ true
-        → Alone (keeps kept) x y (Some tt) → z ≡ broken_off y → ServedBy ss fs ls (ShowsError site status page) live x noted (Some tt) live z noted
+        → Alone (keeps kept) x y (Some tt) → z ≡ broken_off y → ServedBy moving (ShowsError site status page) live x noted (Some tt) live z noted
     error_broken status page kept x y z is test same committed keeping broke =
-        subst (λ kept. ServedBy ss fs ls (keeps kept >> unless_committed (Pages site status None page)) live x noted (Some tt) live z noted) is
+        subst (λ kept. ServedBy moving (keeps kept >> unless_committed (Pages site status None page)) live x noted (Some tt) live z noted) is
         (by_then (keeps kept) (λ _. unless_committed (Pages site status None page)) live live x y noted noted live z noted tt (Some tt)
         (by_alone (keeps kept) live x y noted (Some tt) keeping)
         (by_alone (unless_committed (Pages site status None page)) live y z noted (Some tt)
@@ -218,13 +218,13 @@ module _ {S F L : Type 0} (ss : S → Call → S → Type 0) (fs : F → Call �
 
     -- a request
     module _ (kind : Kind) (canon : Canon) (x y : exchanges.State) where
-      pub serve_not : Dispatched ss fs ls site kind canon live x noted None live' y noted' → ServedBy ss fs ls (Served site kind canon) live x noted None live' y noted'
+      pub serve_not : Dispatched moving site kind canon live x noted None live' y noted' → ServedBy moving (Served site kind canon) live x noted None live' y noted'
       serve_not did = by_not (Tree site MAX_NESTING kind canon) (Settled site) live live' x y noted noted' (by_dispatch site kind canon live x noted None live' y noted' did)
 
       pub serve_so : (finished : Finished) (live'' : LiveState S F L) (z : exchanges.State) (noted'' : JournalState) (result : Option (Unit {0}))
-          → Dispatched ss fs ls site kind canon live x noted (Some finished) live' y noted'
-          → ServedBy ss fs ls (Settled site finished) live' y noted' result live'' z noted''
-          → ServedBy ss fs ls (Served site kind canon) live x noted result live'' z noted''
+          → Dispatched moving site kind canon live x noted (Some finished) live' y noted'
+          → ServedBy moving (Settled site finished) live' y noted' result live'' z noted''
+          → ServedBy moving (Served site kind canon) live x noted result live'' z noted''
       serve_so finished live'' z noted'' result did settled =
           by_then (Tree site MAX_NESTING kind canon) (Settled site) live live' x y noted noted' live'' z noted'' finished result
           (by_dispatch site kind canon live x noted (Some finished) live' y noted' did) settled

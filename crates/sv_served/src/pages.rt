@@ -1,5 +1,6 @@
 //! The pages of errors.
 
+ghost use Rattle.sv_component.specs.Steps.{steps_of};
 ghost use Rattle.std.specs.Prelude.{◌≡◌, OnOk, Some, false, length, true};
 ghost use Rattle.std.specs.Option.{option_copied};
 ghost use Rattle.sv_dispatch.specs.Did.{seen};
@@ -48,7 +49,7 @@ pub fn show_error<S: Servlet, F: Filter, L: Listener>(
     requires servlets { length live.old.parts.servlets.items ≡ length site.old.app.servlets }
     requires filters { length live.old.parts.filters.items ≡ length site.old.app.filters }
     requires listeners { length live.old.parts.listeners.items ≡ length site.old.app.listeners }
-    ensures does { ServedBy S.servlet_step F.filter_step L.listener_step (ShowsError (site_of site.old) status (option_copied page.entry))
+    ensures does { ServedBy (steps_of S.servlet_step F.filter_step L.listener_step) (ShowsError (site_of site.old) status (option_copied page.entry))
         live.old exchange.old journal.old (seen result) live.new exchange.new journal.new }
     ensures broken { journal.old.whole ≡ false → Refused live.old exchange.old journal.old (seen result) live.new exchange.new journal.new }
     ensures whole { OnOk result (journal.new.whole ≡ true) }
@@ -85,7 +86,7 @@ pub(crate) fn show_kept<S: Servlet, F: Filter, L: Listener>(
     requires filters { length live.old.parts.filters.items ≡ length site.old.app.filters }
     requires listeners { length live.old.parts.listeners.items ≡ length site.old.app.listeners }
     requires whole { journal.old.whole ≡ true }
-    ensures does { ServedBy S.servlet_step F.filter_step L.listener_step (Shows (site_of site.old) status (option_copied kind.entry))
+    ensures does { ServedBy (steps_of S.servlet_step F.filter_step L.listener_step) (Shows (site_of site.old) status (option_copied kind.entry))
         live.old exchange.old journal.old (seen result) live.new exchange.new journal.new }
     ensures whole { OnOk result (journal.new.whole ≡ true) }
     ensures site { site.new ≡ site.old }
@@ -118,7 +119,7 @@ fn show<S: Servlet, F: Filter, L: Listener>(
     requires filters { length live.old.parts.filters.items ≡ length site.old.app.filters }
     requires listeners { length live.old.parts.listeners.items ≡ length site.old.app.listeners }
     requires whole { journal.old.whole ≡ true }
-    ensures does { ServedBy S.servlet_step F.filter_step L.listener_step (Pages (site_of site.old) sought.now.status sought.now.field (option_copied page.entry))
+    ensures does { ServedBy (steps_of S.servlet_step F.filter_step L.listener_step) (Pages (site_of site.old) sought.now.status sought.now.field (option_copied page.entry))
         live.old exchange.old journal.old (seen result) live.new exchange.new journal.new }
     ensures whole { OnOk result (journal.new.whole ≡ true) }
     ensures site { site.new ≡ site.old }
@@ -143,7 +144,7 @@ fn show_page<S: Servlet, F: Filter, L: Listener>(
     requires filters { length live.old.parts.filters.items ≡ length site.old.app.filters }
     requires listeners { length live.old.parts.listeners.items ≡ length site.old.app.listeners }
     requires whole { journal.old.whole ≡ true }
-    ensures does { ServedBy S.servlet_step F.filter_step L.listener_step (Pages (site_of site.old) sought.now.status sought.now.field (Some page.now))
+    ensures does { ServedBy (steps_of S.servlet_step F.filter_step L.listener_step) (Pages (site_of site.old) sought.now.status sought.now.field (Some page.now))
         live.old exchange.old journal.old (seen result) live.new exchange.new journal.new }
     ensures whole { OnOk result (journal.new.whole ≡ true) }
     ensures site { site.new ≡ site.old }

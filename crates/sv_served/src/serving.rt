@@ -1,5 +1,6 @@
 //! The answer to a request.
 
+ghost use Rattle.sv_component.specs.Steps.{steps_of};
 ghost use Rattle.std.specs.Prelude.{◌≡◌, OnOk, false, length, true};
 ghost use Rattle.sv_dispatch.specs.Did.{seen};
 ghost use Rattle.sv_dispatch.specs.Dispatched.{Refused};
@@ -39,7 +40,7 @@ pub fn serve<S: Servlet, F: Filter, L: Listener>(
     requires servlets { length live.old.parts.servlets.items ≡ length site.old.app.servlets }
     requires filters { length live.old.parts.filters.items ≡ length site.old.app.filters }
     requires listeners { length live.old.parts.listeners.items ≡ length site.old.app.listeners }
-    ensures does { ServedBy S.servlet_step F.filter_step L.listener_step (Served (site_of site.old) kind canon.now)
+    ensures does { ServedBy (steps_of S.servlet_step F.filter_step L.listener_step) (Served (site_of site.old) kind canon.now)
         live.old exchange.old journal.old (seen result) live.new exchange.new journal.new }
     ensures broken { journal.old.whole ≡ false → Refused live.old exchange.old journal.old (seen result) live.new exchange.new journal.new }
     ensures whole { OnOk result (journal.new.whole ≡ true) }
@@ -64,7 +65,7 @@ fn settle<S: Servlet, F: Filter, L: Listener>(
     requires filters { length live.old.parts.filters.items ≡ length site.old.app.filters }
     requires listeners { length live.old.parts.listeners.items ≡ length site.old.app.listeners }
     requires whole { journal.old.whole ≡ true }
-    ensures does { ServedBy S.servlet_step F.filter_step L.listener_step (Settled (site_of site.old) finished.now)
+    ensures does { ServedBy (steps_of S.servlet_step F.filter_step L.listener_step) (Settled (site_of site.old) finished.now)
         live.old exchange.old journal.old (seen result) live.new exchange.new journal.new }
     ensures whole { OnOk result (journal.new.whole ≡ true) }
     ensures site { site.new ≡ site.old }

@@ -1,6 +1,6 @@
 -- A container that runs, and then stops.
 use Rattle.std.specs.Prelude.{ℕ, List}
-use Rattle.sv_component.specs.Call.{Call}
+use Rattle.sv_component.specs.Steps.{ComponentSteps}
 use Rattle.sv_container.specs.Container.{state_of}
 use Rattle.sv_container.specs.Stopping.{ShutsDown}
 use Rattle.sv_context.specs.State.{ContextState}
@@ -16,12 +16,12 @@ use Rattle.sv_server.specs.declared.running.Running.{Running}
 abbrev pub run_of : {S F L W : Type 0} → Running S F L W → State (ContextState S F L) W
 run_of running = state_of running.container
 
-module _ {S F L W : Type 0} (servlet_step : S → Call → S → Type 0) (filter_step : F → Call → F → Type 0) (listener_step : L → Call → L → Type 0) where
+module _ {S F L W : Type 0} (moving : ComponentSteps S F L) where
   -- it takes an event as the run of a container says
   abbrev pub StepsOf : (W → ℕ × ℕ → W → Type 0) → Reacting (Running S F L W)
   StepsOf draws before happening result after =
-      StepsSo (theory servlet_step filter_step listener_step draws) (run_of before) happening result (run_of after)
+      StepsSo (theory moving draws) (run_of before) happening result (run_of after)
 
   -- it stops as a container shuts down
   abbrev pub StopsOf : Running S F L W → JournalState → Type 0
-  StopsOf running journal = (parts : List (Parts S F L)) × ShutsDown servlet_step filter_step listener_step (run_of running) parts journal
+  StopsOf running journal = (parts : List (Parts S F L)) × ShutsDown moving (run_of running) parts journal

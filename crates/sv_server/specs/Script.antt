@@ -1,6 +1,6 @@
 -- The run of a script by a container: from the bytes of the script to those of the output.
 use Rattle.std.specs.Prelude.{◌≡◌, ℕ, List, Result, Ok, Err}
-use Rattle.sv_component.specs.Call.{Call}
+use Rattle.sv_component.specs.Steps.{ComponentSteps}
 use Rattle.sv_container.specs.Starting.{Starts}
 use Rattle.sv_container.specs.declared.container.Container.{Container}
 use Rattle.sv_container.specs.declared.new_fault.NewCode.{NewCode}
@@ -48,13 +48,13 @@ EndsUnstarted takes codes_of_start.PartsMismatch context started output result a
 EndsUnstarted takes codes_of_start.InitFailed context started output result after =
     PrintsRefused takes codes_of_start.InitFailed context started output result after
 
-module _ {S F L I O : Type 0} (servlet_step : S → Call → S → Type 0) (filter_step : F → Call → F → Type 0) (listener_step : L → Call → L → Type 0) (gives : Making I)
+module _ {S F L I O : Type 0} (moving : ComponentSteps S F L) (gives : Making I)
     (takes : Making O) where
   -- what follows a start
   abbrev pub Follows : Result (Container S F L CountedWords) (NewFault S F L) → JournalState → I → O → Result (Unit {0}) RunFault → I → O → Type 0
   Follows (Ok container) started script output result script_after output_after =
       (ended : Result (Unit {0}) ReplayFault)
-      × RunsWhole (StepsOf servlet_step filter_step listener_step draws) (StopsOf servlet_step filter_step listener_step) gives takes
+      × RunsWhole (StepsOf moving draws) (StopsOf moving) gives takes
       started (record { container = container }) script output ended script_after output_after
       × (result ≡ ended_by ended)
   Follows (Err fault) started script output result script_after output_after =
@@ -67,5 +67,5 @@ module _ {S F L I O : Type 0} (servlet_step : S → Call → S → Type 0) (filt
     pub are_fresh : AreFresh words
     pub begun : Result (Container S F L CountedWords) (NewFault S F L)
     pub started : JournalState
-    pub starts : Starts servlet_step filter_step listener_step deployments words new_journal begun started
+    pub starts : Starts moving deployments words new_journal begun started
     pub follows : Follows begun started script output result script_after output_after

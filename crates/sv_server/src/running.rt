@@ -1,5 +1,6 @@
 //! A container that runs.
 
+ghost use Rattle.sv_component.specs.Steps.{steps_of};
 ghost use Rattle.sv_container.specs.Container.{state_of};
 ghost use Rattle.sv_run.specs.Seen.{happening_of};
 ghost use Rattle.sv_server.specs.Running.{StepsOf, StopsOf};
@@ -18,7 +19,7 @@ pub struct Running<S, F, L, W> {
 }
 
 impl<S: Servlet, F: Filter, L: Listener, W: Words> Reactor for Running<S, F, L, W> {
-    ghost steps = { StepsOf S.servlet_step F.filter_step L.listener_step W.draws };
+    ghost steps = { StepsOf (steps_of S.servlet_step F.filter_step L.listener_step) W.draws };
 
     fn step(&mut self, happening: Happening) -> Result<Reaction, StepFault> {
         self.container.step(happening)
@@ -26,7 +27,7 @@ impl<S: Servlet, F: Filter, L: Listener, W: Words> Reactor for Running<S, F, L, 
 }
 
 impl<S: Servlet, F: Filter, L: Listener, W: Words + Drop> Stops for Running<S, F, L, W> {
-    ghost stops = { StopsOf S.servlet_step F.filter_step L.listener_step };
+    ghost stops = { StopsOf (steps_of S.servlet_step F.filter_step L.listener_step) };
 
     fn stop(self) -> Journal {
         self.container.shutdown().journal

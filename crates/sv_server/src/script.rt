@@ -1,5 +1,6 @@
 //! The run of a script.
 
+ghost use Rattle.sv_component.specs.Steps.{steps_of};
 ghost use Rattle.sv_server.specs.Script.{PrintsRefused, EndsUnstarted, RunsScript};
 
 use crate::run_fault::{RunFault, ended_by, fault_of};
@@ -26,7 +27,7 @@ pub fn run_script<S: Servlet, F: Filter, L: Listener, I: Source, O: Sink>(
     output: &mut O,
     deployments: Vec<Deployment<S, F, L>>,
 ) -> Result<(), RunFault>
-    ensures { RunsScript S.servlet_step F.filter_step L.listener_step I.makes O.makes deployments.items script.old output.old result script.new output.new }
+    ensures { RunsScript (steps_of S.servlet_step F.filter_step L.listener_step) I.makes O.makes deployments.items script.old output.old result script.new output.new }
 {
     let mut started = Journal::new(alloc);
     match Container::new(alloc, deployments, CountedWords::new(), &mut started) {

@@ -3,6 +3,7 @@ use Rattle.sv_container.proofs.Deploying.{contexts_count, deploys_next, failed_p
 use Rattle.sv_container.specs.Deploying.{DeploysAll, UndeploysAll}
 use Rattle.sv_container.specs.NewCode.{named_path}
 use Rattle.sv_container.proofs.starting.deploy_all.Goals as goal
+use Rattle.sv_component.specs.Steps.{steps_of}
 
 pub deploy_next-requires : goal.deploy_next-requires
 deploy_next-requires g c =
@@ -10,14 +11,14 @@ deploy_next-requires g c =
     let contexts = c.loop-deployment.room.contexts in
     fits_next so_far.0 c.args.deployments.items c.loop-deployment.waiting.items c.pop_front.new.self.items c.in-Some.deployment
     (length contexts.items) (vec_capacity contexts) so_far.1 c.in-Some.ensures.items
-    (contexts_count g.S.Servlet.servlet_step g.F.Filter.filter_step g.L.Listener.listener_step so_far.0 c.args.journal.now c.loop-deployment.journal
+    (contexts_count (steps_of g.S.Servlet.servlet_step g.F.Filter.filter_step g.L.Listener.listener_step) so_far.0 c.args.journal.now c.loop-deployment.journal
     contexts.items so_far.2) c.loop-deployment.invariant.room
 
 pub undo-requires-clause-there : goal.undo-requires-clause-there
 undo-requires-clause-there g c =
     let so_far = c.loop-deployment.invariant.deploys in
     let contexts = c.loop-deployment.room.contexts.items in
-    let counts = contexts_count g.S.Servlet.servlet_step g.F.Filter.filter_step g.L.Listener.listener_step so_far.0 c.args.journal.now
+    let counts = contexts_count (steps_of g.S.Servlet.servlet_step g.F.Filter.filter_step g.L.Listener.listener_step) so_far.0 c.args.journal.now
     c.loop-deployment.journal contexts so_far.2 in
     path_there so_far.0 c.args.deployments.items c.loop-deployment.waiting.items c.pop_front.new.self.items c.in-Some.deployment
     c.loop-deployment.room.paths.items (length c.deploy_next.new.contexts.items) so_far.1 c.in-Some.ensures.items
@@ -27,7 +28,7 @@ pub undo-requires-clause-fits : goal.undo-requires-clause-fits
 undo-requires-clause-fits g c =
     let so_far = c.loop-deployment.invariant.deploys in
     let contexts = c.loop-deployment.room.contexts.items in
-    let counts = contexts_count g.S.Servlet.servlet_step g.F.Filter.filter_step g.L.Listener.listener_step so_far.0 c.args.journal.now
+    let counts = contexts_count (steps_of g.S.Servlet.servlet_step g.F.Filter.filter_step g.L.Listener.listener_step) so_far.0 c.args.journal.now
     c.loop-deployment.journal contexts so_far.2 in
     let fits : length c.deploy_next.new.contexts.items + 1 + length c.into_vec.result.items ≤ vec_capacity c.loop-deployment.room.back =
     omega (
@@ -44,16 +45,14 @@ undo-requires-clause-fits g c =
 
 pub returns-in-Err : goal.returns-in-Err
 returns-in-Err g c =
-    let servlet_step = g.S.Servlet.servlet_step in
-    let filter_step = g.F.Filter.filter_step in
-    let listener_step = g.L.Listener.listener_step in
+    let moving = steps_of g.S.Servlet.servlet_step g.F.Filter.filter_step g.L.Listener.listener_step in
     let so_far = c.loop-deployment.invariant.deploys in
     let refusal = c.in-Err.fault in
     let contexts = c.loop-deployment.room.contexts.items in
     let rest = c.pop_front.new.self.items in
     let stopped = c.undo.ensures.undone in
     let are = so_far.1 ∙ ap (λ waiting. so_far.0 ++ waiting) c.in-Some.ensures.items in
-    let counts = contexts_count servlet_step filter_step listener_step so_far.0 c.args.journal.now c.loop-deployment.journal contexts so_far.2 in record {
+    let counts = contexts_count moving so_far.0 c.args.journal.now c.loop-deployment.journal contexts so_far.2 in record {
       front = so_far.0;
       failed = c.in-Some.deployment;
       rest = rest;
@@ -65,7 +64,7 @@ returns-in-Err g c =
       undone = c.deploy_next.new.journal;
       fails = c.in-Err.ensures.deploys.0;
       stopped = stopped.0;
-      stops = subst (λ cs. UndeploysAll servlet_step filter_step listener_step cs c.deploy_next.new.journal stopped.0 c.undo.new.journal)
+      stops = subst (λ cs. UndeploysAll moving cs c.deploy_next.new.journal stopped.0 c.undo.new.journal)
           c.in-Err.ensures.deploys.1 stopped.1;
       code = c.undo.ensures.code;
       context = c.undo.ensures.context ∙ ap (named_path refusal.fault)
@@ -76,9 +75,7 @@ returns-in-Err g c =
 
 pub loop-deployment-preserved : goal.loop-deployment-preserved
 loop-deployment-preserved g c =
-    let servlet_step = g.S.Servlet.servlet_step in
-    let filter_step = g.F.Filter.filter_step in
-    let listener_step = g.L.Listener.listener_step in
+    let moving = steps_of g.S.Servlet.servlet_step g.F.Filter.filter_step g.L.Listener.listener_step in
     let so_far = c.loop-deployment.invariant.deploys in
     let deployment = c.in-Some.deployment in
     let contexts = c.loop-deployment.room.contexts.items in
@@ -88,9 +85,9 @@ loop-deployment-preserved g c =
         so_far.0 ++ deployment ∷ [],
         so_far.1 ∙ ap (λ waiting. so_far.0 ++ waiting) c.in-Some.ensures.items
             ∙ sym (append_assoc so_far.0 (deployment ∷ []) c.pop_front.new.self.items),
-        subst (λ cs. DeploysAll servlet_step filter_step listener_step (so_far.0 ++ deployment ∷ []) c.args.journal.now cs c.deploy_next.new.journal)
+        subst (λ cs. DeploysAll moving (so_far.0 ++ deployment ∷ []) c.args.journal.now cs c.deploy_next.new.journal)
             (sym made.2)
-            (deploys_next servlet_step filter_step listener_step so_far.0 c.args.journal.now c.loop-deployment.journal c.deploy_next.new.journal contexts
+            (deploys_next moving so_far.0 c.args.journal.now c.loop-deployment.journal c.deploy_next.new.journal contexts
             deployment made.0 so_far.2 made.1),
       );
       paths = c.loop-deployment.invariant.paths;

@@ -4,6 +4,7 @@ use Rattle.sv_container.specs.Paths.{paths_of}
 use Rattle.sv_container.specs.Room.{HasRoomToStop}
 use Rattle.sv_context.specs.declared.deployment.Deployment.{Deployment}
 use Rattle.sv_container.proofs.starting.deploy_all.Given as goal
+use Rattle.sv_component.specs.Steps.{steps_of}
 
 abbrev pub decreases-loop-deployment : goal.decreases-loop-deployment
 decreases-loop-deployment g l = length l.waiting.items
@@ -12,7 +13,7 @@ abbrev pub invariant-loop-deployment : goal.invariant-loop-deployment
 invariant-loop-deployment g l = record {
   deploys : (front : List (Deployment g.row.S.Denot g.row.F.Denot g.row.L.Denot))
       × (l.fn.deployments.items ≡ front ++ l.waiting.items)
-      × DeploysAll g.S.Servlet.servlet_step g.F.Filter.filter_step g.L.Listener.listener_step front l.fn.journal l.room.contexts.items l.journal;
+      × DeploysAll (steps_of g.S.Servlet.servlet_step g.F.Filter.filter_step g.L.Listener.listener_step) front l.fn.journal l.room.contexts.items l.journal;
   paths : l.room.paths.items ≡ paths_of l.fn.deployments.items;
   room : length l.fn.deployments.items ≤ vec_capacity l.room.contexts;
   stop : HasRoomToStop (length l.fn.deployments.items) l.room;

@@ -3,6 +3,7 @@ use Rattle.sv_container.proofs.Deploying.{back_counts, undeploys_next}
 use Rattle.sv_container.proofs.Mapping.{none_left, room_stays}
 use Rattle.sv_container.specs.Deploying.{UndeploysAll}
 use Rattle.sv_container.proofs.stopping.undeploy_all.Goals as goal
+use Rattle.sv_component.specs.Steps.{steps_of}
 
 pub loop-context-preserved : goal.loop-context-preserved
 loop-context-preserved g c =
@@ -14,7 +15,7 @@ loop-context-preserved g c =
         so_far.0 ++ context ∷ [],
         so_far.1 ++ deployment ∷ [],
         so_far.2 ∙ ap (λ waiting. so_far.0 ++ waiting) c.in-Some.ensures.items ∙ sym (append_assoc so_far.0 (context ∷ []) rest),
-        undeploys_next g.S.Servlet.servlet_step g.F.Filter.filter_step g.L.Listener.listener_step so_far.0 c.args.journal.now c.loop-context.journal
+        undeploys_next (steps_of g.S.Servlet.servlet_step g.F.Filter.filter_step g.L.Listener.listener_step) so_far.0 c.args.journal.now c.loop-context.journal
             c.undeploy.new.journal so_far.1 context deployment so_far.3 c.undeploy.ensures,
         c.push.ensures.items ∙ ap (λ back. back ++ deployment ∷ []) so_far.4 ∙ append_assoc c.args.back.now.items so_far.1 (deployment ∷ []),
       );
@@ -26,16 +27,14 @@ loop-context-preserved g c =
 
 pub returns-clause-undeploys : goal.returns-clause-undeploys
 returns-clause-undeploys g c =
-    let servlet_step = g.S.Servlet.servlet_step in
-    let filter_step = g.F.Filter.filter_step in
-    let listener_step = g.L.Listener.listener_step in
+    let moving = steps_of g.S.Servlet.servlet_step g.F.Filter.filter_step g.L.Listener.listener_step in
     let so_far = c.loop-context.invariant.undeploys in
     let none = none_left c.loop-context.waiting.items c.pop_front.new.self.items c.in_default.ensures.items c.in_default.ensures.rest in
     let all = so_far.2 ∙ ap (λ waiting. so_far.0 ++ waiting) none ∙ append-nil so_far.0 in
-    let stops = subst (λ contexts. UndeploysAll servlet_step filter_step listener_step contexts c.args.journal.now so_far.1 c.loop-context.journal)
+    let stops = subst (λ contexts. UndeploysAll moving contexts c.args.journal.now so_far.1 c.loop-context.journal)
     (sym all) so_far.3 in (
       so_far.1,
       stops,
       so_far.4,
-      back_counts servlet_step filter_step listener_step c.args.contexts.items c.args.journal.now c.loop-context.journal so_far.1 stops,
+      back_counts moving c.args.contexts.items c.args.journal.now c.loop-context.journal so_far.1 stops,
     )

@@ -3,6 +3,7 @@ use Rattle.sv_container.specs.Deploying.{UndeploysAll}
 use Rattle.sv_context.specs.State.{ContextState}
 use Rattle.sv_context.specs.declared.deployment.Deployment.{Deployment}
 use Rattle.sv_container.proofs.stopping.undeploy_all.Given as goal
+use Rattle.sv_component.specs.Steps.{steps_of}
 
 abbrev pub decreases-loop-context : goal.decreases-loop-context
 decreases-loop-context g l = length l.waiting.items
@@ -12,7 +13,7 @@ invariant-loop-context g l = record {
   undeploys : (done : List (ContextState g.row.S.Denot g.row.F.Denot g.row.L.Denot))
       × (stopped : List (Deployment g.row.S.Denot g.row.F.Denot g.row.L.Denot))
       × (l.fn.contexts.items ≡ done ++ l.waiting.items)
-      × UndeploysAll g.S.Servlet.servlet_step g.F.Filter.filter_step g.L.Listener.listener_step done l.fn.journal stopped l.journal
+      × UndeploysAll (steps_of g.S.Servlet.servlet_step g.F.Filter.filter_step g.L.Listener.listener_step) done l.fn.journal stopped l.journal
       × (l.back.items ≡ l.fn.back.items ++ stopped);
   room : length l.back.items + length l.waiting.items ≤ vec_capacity l.back;
   grows : vec_capacity l.fn.back ≤ vec_capacity l.back;

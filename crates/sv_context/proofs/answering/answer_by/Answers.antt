@@ -5,18 +5,19 @@ use Rattle.sv_served.specs.ServedBy.{Alone, ServedBy}
 use Rattle.sv_site.specs.Site.{site_of}
 use Rattle.sv_context.specs.Answered.{Answers, SendsTo}
 use Rattle.sv_context.proofs.answering.answer_by.Goals as goal
+use Rattle.sv_component.specs.Steps.{steps_of}
 
 pub returns-in-Error-clause-answered : goal.returns-in-Error-clause-answered
 returns-in-Error-clause-answered g c =
-    subst (λ answer. ServedBy g.S.Servlet.servlet_step g.F.Filter.filter_step g.L.Listener.listener_step (Answers (site_of c.args.site.now) c.args.canon.now answer)
+    subst (λ answer. ServedBy (steps_of g.S.Servlet.servlet_step g.F.Filter.filter_step g.L.Listener.listener_step) (Answers (site_of c.args.site.now) c.args.canon.now answer)
     c.args.live.now c.args.exchange.now c.args.journal.now (seen c.error.result) c.error.new.live c.error.new.exchange c.error.new.journal)
     (sym c.in-Error.is) (c.error.ensures.answered c.args.canon.now)
 
 pub returns-in-SeeOther-clause-answered : goal.returns-in-SeeOther-clause-answered
 returns-in-SeeOther-clause-answered g c =
-    subst (λ answer. ServedBy g.S.Servlet.servlet_step g.F.Filter.filter_step g.L.Listener.listener_step (Answers (site_of c.args.site.now) c.args.canon.now answer)
+    subst (λ answer. ServedBy (steps_of g.S.Servlet.servlet_step g.F.Filter.filter_step g.L.Listener.listener_step) (Answers (site_of c.args.site.now) c.args.canon.now answer)
     c.args.live.now c.args.exchange.now c.args.journal.now (seen c.send_to.result) c.args.live.now c.send_to.new.exchange c.args.journal.now)
     (sym c.in-SeeOther.is)
-    (by_alone g.S.Servlet.servlet_step g.F.Filter.filter_step g.L.Listener.listener_step (SendsTo c.in-SeeOther.location)
+    (by_alone (steps_of g.S.Servlet.servlet_step g.F.Filter.filter_step g.L.Listener.listener_step) (SendsTo c.in-SeeOther.location)
     c.args.live.now c.args.exchange.now c.send_to.new.exchange c.args.journal.now (seen c.send_to.result)
     (subst (λ location. Alone (SendsTo location) c.args.exchange.now c.send_to.new.exchange (seen c.send_to.result)) c.as_str.ensures c.send_to.ensures))

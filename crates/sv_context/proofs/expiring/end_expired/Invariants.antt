@@ -5,11 +5,12 @@ use Rattle.sv_site.specs.Site.{Content}
 use Rattle.sv_context.proofs.Expiries.{SoFar}
 use Rattle.sv_context.specs.State.{AreComponentsOf, context_of}
 use Rattle.sv_context.proofs.expiring.end_expired.Given as goal
+use Rattle.sv_component.specs.Steps.{steps_of}
 
 abbrev pub invariant-loop-session : goal.invariant-loop-session
 invariant-loop-session g l = record {
   so_far : (content : Content) (policy : Standing) (users : List User) → AreComponentsOf content l.initial.live
-      → SoFar g.S.Servlet.servlet_step g.F.Filter.filter_step g.L.Listener.listener_step l.moment (context_of content policy users l.initial.live l.initial.sessions) l.initial.journal
+      → SoFar (steps_of g.S.Servlet.servlet_step g.F.Filter.filter_step g.L.Listener.listener_step) l.moment (context_of content policy users l.initial.live l.initial.sessions) l.initial.journal
       (context_of content policy users l.live l.sessions) l.journal;
   components : (content : Content) → AreComponentsOf content l.initial.live → AreComponentsOf content l.live;
 }

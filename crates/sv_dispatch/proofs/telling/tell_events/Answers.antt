@@ -1,5 +1,6 @@
 use Rattle.std.proofs.Common.{length, subst}
 use Rattle.sv_component.specs.Runs.{Runs}
+use Rattle.sv_component.specs.Steps.{steps_of}
 use Rattle.sv_lifecycle.proofs.SessionEnds.{doing_all, doing_more}
 use Rattle.sv_lifecycle.specs.Standing.{live_world}
 use Rattle.sv_listeners.specs.Telling.{told}
@@ -17,17 +18,17 @@ loop-event-preserved g c =
     record {
       stands = stands_then c.args.live.now c.loop-event.live c.tell_event.new.live c.loop-event.invariant.stands c.tell_event.ensures.stands;
       told = still_without c.loop-event.exchange c.take_event.new.self c.in-Some.ensures.left c.args.exchange.now c.loop-event.invariant.told;
-      made = doing_more g.S.Servlet.servlet_step g.F.Filter.filter_step g.L.Listener.listener_step start before after (all_told count c.args.exchange.now.events)
+      made = doing_more (steps_of g.S.Servlet.servlet_step g.F.Filter.filter_step g.L.Listener.listener_step) start before after (all_told count c.args.exchange.now.events)
           (all_told count c.loop-event.exchange.events) (told c.in-Some.event count) (all_told count c.take_event.new.self.events)
           (taken c.loop-event.exchange c.take_event.new.self c.in-Some.ensures.left count c.in-Some.event c.in-Some.ensures.oldest) c.loop-event.invariant.made
-          (subst (λ n. Runs g.S.Servlet.servlet_step g.F.Filter.filter_step g.L.Listener.listener_step before (told c.in-Some.event n) after)
+          (subst (λ n. Runs (steps_of g.S.Servlet.servlet_step g.F.Filter.filter_step g.L.Listener.listener_step) before (told c.in-Some.event n) after)
           c.loop-event.invariant.stands.counts.listeners c.tell_event.ensures.made);
     }
 
 pub returns-clause-made : goal.returns-clause-made
 returns-clause-made g c =
     let count = length c.args.live.now.parts.listeners.items in
-    doing_all g.S.Servlet.servlet_step g.F.Filter.filter_step g.L.Listener.listener_step (live_world c.args.live.now c.args.journal.now)
+    doing_all (steps_of g.S.Servlet.servlet_step g.F.Filter.filter_step g.L.Listener.listener_step) (live_world c.args.live.now c.args.journal.now)
     (live_world c.loop-event.live c.loop-event.journal) (all_told count c.args.exchange.now.events) (all_told count c.loop-event.exchange.events)
     (none_told c.loop-event.exchange c.take_event.new.self c.in_default.ensures.left count c.in_default.ensures.oldest) c.loop-event.invariant.made
 

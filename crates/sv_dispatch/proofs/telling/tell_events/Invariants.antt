@@ -5,6 +5,7 @@ use Rattle.sv_lifecycle.specs.Standing.{live_world}
 use Rattle.sv_tree.specs.Asking.{without_events}
 use Rattle.sv_tree.specs.Telling.{all_told}
 use Rattle.sv_dispatch.proofs.telling.tell_events.Given as goal
+use Rattle.sv_component.specs.Steps.{steps_of}
 
 abbrev pub invariant-loop-event : goal.invariant-loop-event
 invariant-loop-event g l =
@@ -12,7 +13,7 @@ invariant-loop-event g l =
     record {
       stands : StandsAsBefore l.initial.live l.live;
       told : without_events l.exchange ≡ without_events l.initial.exchange;
-      made : Doing g.S.Servlet.servlet_step g.F.Filter.filter_step g.L.Listener.listener_step (live_world l.initial.live l.initial.journal)
+      made : Doing (steps_of g.S.Servlet.servlet_step g.F.Filter.filter_step g.L.Listener.listener_step) (live_world l.initial.live l.initial.journal)
           (all_told count l.initial.exchange.events) (all_told count l.exchange.events) (live_world l.live l.journal);
     }
 

@@ -6,6 +6,7 @@ use Rattle.sv_lifecycle.specs.World.{IsPlaceIn, world}
 use Rattle.sv_lifecycle.proofs.Beginning.{SoFar, begins_to_end, begins_to_stop, so_far_more, so_far_none}
 use Rattle.sv_lifecycle.proofs.Places.{all_serve, few_kept, length_answered, length_kept, not_both, place_kept, rest_kept, same_in_rest, standing_there}
 use Rattle.sv_component.specs.declared.standing.Standing.TheVariants as standings
+use Rattle.sv_component.specs.Steps.{steps_of}
 use Rattle.sv_lifecycle.proofs.begin.begin_all.Goals as goal
 
 pub loop-step-init : goal.loop-step-init
@@ -17,13 +18,13 @@ loop-step-init g c = record {
   rooms = refl;
   configs = refl;
   context = refl;
-  so_far = λ app same. so_far_none g.S.Servlet.servlet_step g.F.Filter.filter_step g.L.Listener.listener_step app c.args.parts.now c.args.plan.now c.args.journal.now
+  so_far = λ app same. so_far_none (steps_of g.S.Servlet.servlet_step g.F.Filter.filter_step g.L.Listener.listener_step) app c.args.parts.now c.args.plan.now c.args.journal.now
       (all_serve (length c.args.parts.now.servlets.items) c.args.plan.now.standings.items c.requires.standings);
 }
 
 pub returns-then-not-whole-clause-begins : goal.returns-then-not-whole-clause-begins
 returns-then-not-whole-clause-begins g c = λ app same.
-    begins_to_end g.S.Servlet.servlet_step g.F.Filter.filter_step g.L.Listener.listener_step app c.args.parts.now c.args.plan.now c.args.journal.now
+    begins_to_end (steps_of g.S.Servlet.servlet_step g.F.Filter.filter_step g.L.Listener.listener_step) app c.args.parts.now c.args.plan.now c.args.journal.now
     c.loop-step.step c.loop-step.initialised c.loop-step.parts c.loop-step.plan c.loop-step.journal (c.loop-step.invariant.so_far app same)
     (λ is_whole. not_both c.loop-step.journal.whole is_whole (sym c.whole.ensures ∙ c.if-not-whole.true)) c.loop-step.invariant.rooms c.loop-step.invariant.context
 
@@ -45,9 +46,9 @@ returns-then-not-lets_go_on-clause-begins g c = λ app same.
     let is_config : config ≡ config_at app place =
     c.index.ensures ∙ ap (λ configs. get_or configs.items c.loop-step.step config) c.loop-step.invariant.configs ∙ ap (λ all. get_or all c.loop-step.step config) same
     ∙ get_or-map (config_at app) order c.loop-step.step place config within ∙ ap (config_at app) (sym is) in
-    let moves = subst (λ context. Moves g.S.Servlet.servlet_step g.F.Filter.filter_step g.L.Listener.listener_step (world context c.loop-step.parts c.loop-step.journal)
+    let moves = subst (λ context. Moves (steps_of g.S.Servlet.servlet_step g.F.Filter.filter_step g.L.Listener.listener_step) (world context c.loop-step.parts c.loop-step.journal)
     (init_record place config c.init-answer.result) (world context c.init-answer.new.self c.init-answer.new.journal)) (c.as_str.ensures ∙ c.loop-step.invariant.context) c.init-answer.ensures.moves in
-    begins_to_stop g.S.Servlet.servlet_step g.F.Filter.filter_step g.L.Listener.listener_step app c.args.parts.now c.args.plan.now c.args.journal.now
+    begins_to_stop (steps_of g.S.Servlet.servlet_step g.F.Filter.filter_step g.L.Listener.listener_step) app c.args.parts.now c.args.plan.now c.args.journal.now
     c.loop-step.step c.loop-step.initialised c.loop-step.parts c.loop-step.plan c.loop-step.journal place config c.init-answer.result c.init-answer.new.self c.init-answer.new.journal
     (c.loop-step.invariant.so_far app same) within is is_config moves (sym c.lets_go_on.ensures ∙ c.if-not-lets_go_on.true) c.loop-step.invariant.rooms c.loop-step.invariant.context
 
@@ -81,12 +82,12 @@ loop-step-preserved g c =
           let is_config : config ≡ config_at app place =
           c.index.ensures ∙ ap (λ configs. get_or configs.items c.loop-step.step config) invariant.configs ∙ ap (λ all. get_or all c.loop-step.step config) same
           ∙ get_or-map (config_at app) order c.loop-step.step place config within ∙ ap (config_at app) (sym is) in
-          let moves = subst (λ context. Moves g.S.Servlet.servlet_step g.F.Filter.filter_step g.L.Listener.listener_step (world context c.loop-step.parts c.loop-step.journal)
+          let moves = subst (λ context. Moves (steps_of g.S.Servlet.servlet_step g.F.Filter.filter_step g.L.Listener.listener_step) (world context c.loop-step.parts c.loop-step.journal)
           (init_record place config answer) (world context c.init-answer.new.self c.init-answer.new.journal)) (c.as_str.ensures ∙ invariant.context) c.init-answer.ensures.moves in
           let room : c.loop-step.initialised < length c.loop-step.plan.order.items = omega (arith, invariant.few, within, invariant.long) in
-          subst (λ count. SoFar g.S.Servlet.servlet_step g.F.Filter.filter_step g.L.Listener.listener_step app c.args.parts.now c.args.plan.now c.args.journal.now
+          subst (λ count. SoFar (steps_of g.S.Servlet.servlet_step g.F.Filter.filter_step g.L.Listener.listener_step) app c.args.parts.now c.args.plan.now c.args.journal.now
           (c.loop-step.step + 1) count c.init-answer.new.self c.keep-initialised.new.self c.init-answer.new.journal) (sym c.keep-initialised.ensures.count)
-          (so_far_more g.S.Servlet.servlet_step g.F.Filter.filter_step g.L.Listener.listener_step app c.args.parts.now c.args.plan.now c.args.journal.now
+          (so_far_more (steps_of g.S.Servlet.servlet_step g.F.Filter.filter_step g.L.Listener.listener_step) app c.args.parts.now c.args.plan.now c.args.journal.now
           c.loop-step.step c.loop-step.initialised c.loop-step.parts c.loop-step.plan c.loop-step.journal place config answer c.init-answer.new.self c.keep-initialised.new.self c.init-answer.new.journal
           (invariant.so_far app same) within is is_config moves goes room c.keep-initialised.ensures.order c.keep-initialised.ensures.standings
           (standing_there c.args.parts.now (length c.loop-step.plan.standings.items) rooms place there));
@@ -94,6 +95,6 @@ loop-step-preserved g c =
 
 pub returns-clause-begins : goal.returns-clause-begins
 returns-clause-begins g c = λ app same.
-    begins_to_end g.S.Servlet.servlet_step g.F.Filter.filter_step g.L.Listener.listener_step app c.args.parts.now c.args.plan.now c.args.journal.now
+    begins_to_end (steps_of g.S.Servlet.servlet_step g.F.Filter.filter_step g.L.Listener.listener_step) app c.args.parts.now c.args.plan.now c.args.journal.now
     c.loop-step.step c.loop-step.initialised c.loop-step.parts c.loop-step.plan c.loop-step.journal (c.loop-step.invariant.so_far app same)
     (λ _. omega (arith, c.loop-step-test.false, c.len-step-end.ensures, c.args.plan.now.order.ok.0)) c.loop-step.invariant.rooms c.loop-step.invariant.context

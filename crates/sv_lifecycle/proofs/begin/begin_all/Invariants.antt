@@ -4,6 +4,7 @@ use Rattle.sv_lifecycle.specs.Calls.{config_at}
 use Rattle.sv_lifecycle.specs.World.{HasSameCounts}
 use Rattle.sv_lifecycle.proofs.Beginning.{SoFar}
 use Rattle.sv_lifecycle.proofs.begin.begin_all.Given as goal
+use Rattle.sv_component.specs.Steps.{steps_of}
 
 abbrev pub invariant-loop-step : goal.invariant-loop-step
 invariant-loop-step g l = record {
@@ -15,5 +16,5 @@ invariant-loop-step g l = record {
   configs : l.plan.configs ≡ l.initial.plan.configs;
   context : l.plan.context ≡ l.initial.plan.context;
   so_far : (app : WebApp) → l.initial.plan.configs.items ≡ map (config_at app) l.initial.plan.order.items
-      → SoFar g.S.Servlet.servlet_step g.F.Filter.filter_step g.L.Listener.listener_step app l.initial.parts l.initial.plan l.initial.journal l.step l.initialised l.parts l.plan l.journal;
+      → SoFar (steps_of g.S.Servlet.servlet_step g.F.Filter.filter_step g.L.Listener.listener_step) app l.initial.parts l.initial.plan l.initial.journal l.step l.initialised l.parts l.plan l.journal;
 }

@@ -3,6 +3,7 @@ use Rattle.sv_lifecycle.specs.SessionEnds.{by_number, ends_told}
 use Rattle.sv_lifecycle.specs.World.{HasSameCounts, world}
 use Rattle.sv_lifecycle.proofs.SessionEnds.{Doing}
 use Rattle.sv_lifecycle.proofs.session_ends.end_sessions.Given as goal
+use Rattle.sv_component.specs.Steps.{steps_of}
 
 abbrev pub invariant-loop-session : goal.invariant-loop-session
 invariant-loop-session g l =
@@ -10,7 +11,7 @@ invariant-loop-session g l =
     record {
       counts : HasSameCounts l.initial.parts l.parts;
       store : l.sessions ≡ record l.initial.sessions { sessions = l.sessions.sessions };
-      made : Doing g.S.Servlet.servlet_step g.F.Filter.filter_step g.L.Listener.listener_step (world l.context l.initial.parts l.initial.journal)
+      made : Doing (steps_of g.S.Servlet.servlet_step g.F.Filter.filter_step g.L.Listener.listener_step) (world l.context l.initial.parts l.initial.journal)
           (ends_told l.initial.sessions.sessions count) (ends_told l.sessions.sessions count) (world l.context l.parts l.journal);
     }
 

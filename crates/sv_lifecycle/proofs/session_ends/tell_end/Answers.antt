@@ -1,5 +1,6 @@
 use Rattle.std.proofs.Common.{length, ap, subst}
 use Rattle.sv_component.specs.Runs.{Runs}
+use Rattle.sv_component.specs.Steps.{steps_of}
 use Rattle.sv_journal.specs.declared.event.Event.TheVariants.{AttributeRemoved}
 use Rattle.sv_listeners.specs.Telling.{told}
 use Rattle.sv_lifecycle.specs.SessionEnds.{all_told, end_events}
@@ -18,9 +19,9 @@ loop-attribute-preserved g c =
     let after = world c.args.context.now c.tell-in-loop-attribute.new.self c.tell-in-loop-attribute.new.journal in
     record {
       counts = counts_join c.args.parts.now c.loop-attribute.parts c.tell-in-loop-attribute.new.self c.loop-attribute.invariant.counts c.tell-in-loop-attribute.ensures.counts;
-      made = doing_more g.S.Servlet.servlet_step g.F.Filter.filter_step g.L.Listener.listener_step start before after (all_told (end_events c.args.session) count)
+      made = doing_more (steps_of g.S.Servlet.servlet_step g.F.Filter.filter_step g.L.Listener.listener_step) start before after (all_told (end_events c.args.session) count)
           (removals number count c.loop-attribute.attribute-iterator.rest.items) (told event count) (removals number count c.next.new.self.rest.items)
           (ap (removals number count) c.in-Some.ensures.steps.0) c.loop-attribute.invariant.made
-          (subst (λ n. Runs g.S.Servlet.servlet_step g.F.Filter.filter_step g.L.Listener.listener_step before (told event n) after)
+          (subst (λ n. Runs (steps_of g.S.Servlet.servlet_step g.F.Filter.filter_step g.L.Listener.listener_step) before (told event n) after)
           c.loop-attribute.invariant.counts.listeners c.tell-in-loop-attribute.ensures.made);
     }

@@ -1,5 +1,6 @@
 use Rattle.std.proofs.Common.{map, reverse, take, sym, ◌∙◌, subst}
 use Rattle.sv_component.specs.Runs.{Runs}
+use Rattle.sv_component.specs.Steps.{steps_of}
 use Rattle.sv_listeners.proofs.Growing.{grows_more}
 use Rattle.sv_lifecycle.specs.Calls.{destroyed}
 use Rattle.sv_lifecycle.specs.World.{world}
@@ -17,8 +18,8 @@ loop-done-preserved g c =
         filters = c.destroy.ensures.counts.filters ∙ c.loop-done.invariant.counts.filters;
         listeners = c.destroy.ensures.counts.listeners ∙ c.loop-done.invariant.counts.listeners;
       };
-      made = subst (λ records. Runs g.S.Servlet.servlet_step g.F.Filter.filter_step g.L.Listener.listener_step start records after)
+      made = subst (λ records. Runs (steps_of g.S.Servlet.servlet_step g.F.Filter.filter_step g.L.Listener.listener_step) start records after)
           (sym (back_more c.args.places.now c.loop-done.done _ c.loop-done-test.true))
-          (grows_more g.S.Servlet.servlet_step g.F.Filter.filter_step g.L.Listener.listener_step start before after
+          (grows_more (steps_of g.S.Servlet.servlet_step g.F.Filter.filter_step g.L.Listener.listener_step) start before after
           (take c.loop-done.done (map destroyed (reverse c.args.places.now))) _ c.loop-done.invariant.made c.destroy.ensures.moves);
     }

@@ -7,6 +7,7 @@ use Rattle.sv_lifecycle.specs.Calls.{stop_calls}
 use Rattle.sv_lifecycle.specs.Starting.{code_of}
 use Rattle.sv_lifecycle.specs.World.{world}
 use Rattle.sv_component.specs.declared.standing.Standing.TheVariants as standings
+use Rattle.sv_component.specs.Steps.{steps_of}
 use Rattle.sv_lifecycle.proofs.Attempts.{kept_there, none_from, not_none_from, plan_places, plan_standings, started, undone}
 use Rattle.sv_lifecycle.proofs.Places.{all_kept, counts_join}
 use Rattle.sv_lifecycle.proofs.start.run.Goals.{else-is_none-via-then-is_none+else-whole, else-is_none-via-else-is_none}
@@ -24,16 +25,16 @@ begin_all-begun-requires-clause-standings g c =
 pub invariant_of-result : goal.invariant_of-result
 invariant_of-result g c =
     let counts = counts_join c.args.parts c.tell.new.self c.begin_all-begun.new.parts c.tell.ensures.counts c.begin_all-begun.ensures.counts in
-    let there = kept_there g.S.Servlet.servlet_step g.F.Filter.filter_step g.L.Listener.listener_step c.requires.0 c.args.parts c.tell.new.self c.args.plan c.tell.new.journal c.begin_all-begun.result
+    let there = kept_there (steps_of g.S.Servlet.servlet_step g.F.Filter.filter_step g.L.Listener.listener_step) c.requires.0 c.args.parts c.tell.new.self c.args.plan c.tell.new.journal c.begin_all-begun.result
     c.begin_all-begun.new.parts c.begin_all-begun.new.plan c.begin_all-begun.new.journal c.truncate.new.self.items c.requires.1 c.requires.2 counts
     (c.begin_all-begun.ensures.begins c.requires.0 c.requires.2.configs) c.truncate.ensures.items in
     record { standings = there.1; initialised = there.0 }
 
 pub returns-then-whole : goal.returns-then-whole
 returns-then-whole g c = λ app fits is_plan.
-    let tells = subst (λ context. Runs g.S.Servlet.servlet_step g.F.Filter.filter_step g.L.Listener.listener_step (world context c.args.parts c.args.journal.now)
+    let tells = subst (λ context. Runs (steps_of g.S.Servlet.servlet_step g.F.Filter.filter_step g.L.Listener.listener_step) (world context c.args.parts c.args.journal.now)
     (told ContextInitialized (length c.args.parts.listeners.items)) (world context c.tell.new.self c.tell.new.journal)) c.as_str.ensures c.tell.ensures.made in
-    started g.S.Servlet.servlet_step g.F.Filter.filter_step g.L.Listener.listener_step app c.args.parts c.tell.new.self c.args.plan c.args.journal.now c.tell.new.journal c.begin_all-begun.result
+    started (steps_of g.S.Servlet.servlet_step g.F.Filter.filter_step g.L.Listener.listener_step) app c.args.parts c.tell.new.self c.args.plan c.args.journal.now c.tell.new.journal c.begin_all-begun.result
     c.begin_all-begun.new.parts c.begin_all-begun.new.plan c.begin_all-begun.new.journal c.truncate.new.self.items fits is_plan
     (counts_join c.args.parts c.tell.new.self c.begin_all-begun.new.parts c.tell.ensures.counts c.begin_all-begun.ensures.counts) tells (c.begin_all-begun.ensures.begins app is_plan.configs)
     (none_from c.begin_all-begun.result.stopper c.is_none.result c.is_none.ensures c.if-is_none.true) (sym c.whole.ensures ∙ c.if-whole.true) c.truncate.ensures.items
@@ -41,22 +42,22 @@ returns-then-whole g c = λ app fits is_plan.
 pub end_all-requires : goal.end_all-requires
 end_all-requires g c =
     let counts = counts_join c.args.parts c.tell.new.self c.begin_all-begun.new.parts c.tell.ensures.counts c.begin_all-begun.ensures.counts in
-    (kept_there g.S.Servlet.servlet_step g.F.Filter.filter_step g.L.Listener.listener_step c.requires.0 c.args.parts c.tell.new.self c.args.plan c.tell.new.journal c.begin_all-begun.result
+    (kept_there (steps_of g.S.Servlet.servlet_step g.F.Filter.filter_step g.L.Listener.listener_step) c.requires.0 c.args.parts c.tell.new.self c.args.plan c.tell.new.journal c.begin_all-begun.result
     c.begin_all-begun.new.parts c.begin_all-begun.new.plan c.begin_all-begun.new.journal c.as_slice.result.now c.requires.1 c.requires.2 counts
     (c.begin_all-begun.ensures.begins c.requires.0 c.requires.2.configs) (c.as_slice.ensures.value ∙ c.truncate.ensures.items)).0
 
 pub returns : goal.returns
 returns g c = λ app fits is_plan.
-    let tells = subst (λ context. Runs g.S.Servlet.servlet_step g.F.Filter.filter_step g.L.Listener.listener_step (world context c.args.parts c.args.journal.now)
+    let tells = subst (λ context. Runs (steps_of g.S.Servlet.servlet_step g.F.Filter.filter_step g.L.Listener.listener_step) (world context c.args.parts c.args.journal.now)
     (told ContextInitialized (length c.args.parts.listeners.items)) (world context c.tell.new.self c.tell.new.journal)) c.as_str.ensures c.tell.ensures.made in
     let begins = c.begin_all-begun.ensures.begins app is_plan.configs in
-    let ends = subst (λ context. Runs g.S.Servlet.servlet_step g.F.Filter.filter_step g.L.Listener.listener_step (world context c.begin_all-begun.new.parts c.begin_all-begun.new.journal)
+    let ends = subst (λ context. Runs (steps_of g.S.Servlet.servlet_step g.F.Filter.filter_step g.L.Listener.listener_step) (world context c.begin_all-begun.new.parts c.begin_all-begun.new.journal)
     (stop_calls (length c.begin_all-begun.new.parts.listeners.items) c.as_slice.result.now []) (world context c.end_all.new.parts c.end_all.new.journal))
     (c.as_str-2.ensures ∙ begins.context)
-    (subst (λ (store : Store). Runs g.S.Servlet.servlet_step g.F.Filter.filter_step g.L.Listener.listener_step (world c.as_str-2.result.now c.begin_all-begun.new.parts c.begin_all-begun.new.journal)
+    (subst (λ (store : Store). Runs (steps_of g.S.Servlet.servlet_step g.F.Filter.filter_step g.L.Listener.listener_step) (world c.as_str-2.result.now c.begin_all-begun.new.parts c.begin_all-begun.new.journal)
     (stop_calls (length c.begin_all-begun.new.parts.listeners.items) c.as_slice.result.now store.sessions) (world c.as_str-2.result.now c.end_all.new.parts c.end_all.new.journal))
     c.new-no_sessions.ensures c.end_all.ensures.made) in
-    undone g.S.Servlet.servlet_step g.F.Filter.filter_step g.L.Listener.listener_step app c.args.parts c.tell.new.self c.args.plan c.args.journal.now c.tell.new.journal c.begin_all-begun.result
+    undone (steps_of g.S.Servlet.servlet_step g.F.Filter.filter_step g.L.Listener.listener_step) app c.args.parts c.tell.new.self c.args.plan c.args.journal.now c.tell.new.journal c.begin_all-begun.result
     c.begin_all-begun.new.parts c.begin_all-begun.new.plan c.begin_all-begun.new.journal c.as_slice.result.now c.end_all.new.parts c.end_all.new.journal c.code_of-code.result fits is_plan tells begins ends
     (c.begin_all-begun.ensures.counts.listeners ∙ c.tell.ensures.counts.listeners) (c.as_slice.ensures.value ∙ c.truncate.ensures.items)
     (λ none. elim c.else-is_none.branch [

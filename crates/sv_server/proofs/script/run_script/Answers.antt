@@ -2,11 +2,12 @@ use Rattle.std.proofs.Common.{Ok, Err, refl, subst}
 use Rattle.sv_container.specs.Starting.{Starts}
 use Rattle.sv_journal.specs.Journal.{JournalState}
 use Rattle.sv_server.proofs.script.run_script.Goals as goal
+use Rattle.sv_component.specs.Steps.{steps_of}
 
 pub returns-in-Ok : goal.returns-in-Ok
 returns-in-Ok g c =
     let P : JournalState → Type 0 =
-    λ before. Starts g.S.Servlet.servlet_step g.F.Filter.filter_step g.L.Listener.listener_step c.args.deployments.items c.new.result before
+    λ before. Starts (steps_of g.S.Servlet.servlet_step g.F.Filter.filter_step g.L.Listener.listener_step) c.args.deployments.items c.new.result before
     (Ok c.in-Ok.container) c.new-2.new.journal in
     record {
       words = c.new.result;
@@ -20,7 +21,7 @@ returns-in-Ok g c =
 pub returns : goal.returns
 returns g c =
     let P : JournalState → Type 0 =
-    λ before. Starts g.S.Servlet.servlet_step g.F.Filter.filter_step g.L.Listener.listener_step c.args.deployments.items c.new.result before
+    λ before. Starts (steps_of g.S.Servlet.servlet_step g.F.Filter.filter_step g.L.Listener.listener_step) c.args.deployments.items c.new.result before
     (Err c.in-Err.fault) c.new-2.new.journal in
     record {
       words = c.new.result;

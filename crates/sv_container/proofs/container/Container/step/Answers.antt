@@ -2,15 +2,16 @@ use Rattle.std.proofs.Common.{◌≡◌, length, sym, subst, arith}
 use Rattle.sv_container.proofs.Moving.{count_kept, paths_kept}
 use Rattle.sv_container.specs.Paths.{ArePermitted}
 use Rattle.sv_container.proofs.container.Container.step.Goals as goal
+use Rattle.sv_component.specs.Steps.{steps_of}
 
 pub invariant_of-self : goal.invariant_of-self
 invariant_of-self g c =
     let container = c.args.self.now in
     let before = container.host.contexts in
     let after = c.step.new.self.contexts in
-    let paths = paths_kept g.S.Servlet.servlet_step g.F.Filter.filter_step g.L.Listener.listener_step before after c.step.ensures.alters in
+    let paths = paths_kept (steps_of g.S.Servlet.servlet_step g.F.Filter.filter_step g.L.Listener.listener_step) before after c.step.ensures.alters in
     let count : length after ≡ length before =
-    count_kept g.S.Servlet.servlet_step g.F.Filter.filter_step g.L.Listener.listener_step before after c.step.ensures.alters in record {
+    count_kept (steps_of g.S.Servlet.servlet_step g.F.Filter.filter_step g.L.Listener.listener_step) before after c.step.ensures.alters in record {
       permitted = subst ArePermitted (sym paths) container.permitted;
       room_for_back = (container.room_for_back.0, omega (arith, count, container.room_for_back.1));
       room_for_parts = (container.room_for_parts.0, omega (arith, count, container.room_for_parts.1));

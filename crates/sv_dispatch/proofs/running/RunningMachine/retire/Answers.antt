@@ -1,6 +1,7 @@
 use Rattle.std.proofs.Common.{[], ◌∷◌, Some, refl, ap, ◌∙◌}
 use Rattle.sv_component.specs.Call.{Destroyed}
 use Rattle.sv_component.specs.Runs.{OfServlet}
+use Rattle.sv_component.specs.Steps.{steps_of}
 use Rattle.sv_dispatch.specs.Did.{seen}
 use Rattle.sv_lifecycle.specs.Standing.{live_world}
 use Rattle.sv_dispatch.proofs.RunningDeeds.{at, framed, here_by_place, there_if, there_or_not, was_whole}
@@ -21,7 +22,7 @@ returns g c =
       runs = λ from done so_far. c.retire.ensures.made (live_world from.live.now from.journal.now) done so_far;
       stays = framed m.live.ghost_name m.exchange.ghost_name m.journal.ghost_name live c.retire.new.self stands.context stands.counts stands.initialised
           m.journal.now.whole c.retire.new.journal.whole (Some tt) (seen c.retired.result)
-          (was_whole g.S.Servlet.servlet_step g.F.Filter.filter_step g.L.Listener.listener_step (live_world live m.journal.now)
+          (was_whole (steps_of g.S.Servlet.servlet_step g.F.Filter.filter_step g.L.Listener.listener_step) (live_world live m.journal.now)
           (live_world c.retire.new.self c.retire.new.journal) made c.retire.ensures.made)
           (there_if c.retired.result c.retire.new.journal.whole (c.retired.ensures ∙ c.whole.ensures));
     }
