@@ -1,5 +1,5 @@
 -- Runs of components: a list of records, each of which moves one component by one call and has its entry noted.
-use Rattle.std.specs.Prelude.{◌≡◌, ℕ, ◌<◌, zero, suc, List, [], ◌∷◌, ◌++◌, length, slice_index_or, slice_set}
+use Rattle.std.specs.Prelude.{◌≡◌, ℕ, ◌<◌, List, [], ◌∷◌, ◌++◌, length, slice_index_or, slice_set}
 use Rattle.sv_component.specs.Call.{Call, Heard}
 use Rattle.sv_component.specs.Noted.{filter_entry, servlet_entry}
 use Rattle.sv_component.specs.World.{World, name_at}

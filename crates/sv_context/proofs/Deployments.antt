@@ -1,5 +1,5 @@
 -- A deployment and its end.
-use Rattle.std.proofs.Common.{◌≡◌, ℕ, Bool, true, false, List, [], length, refl, sym, ap, subst, inl, None, Result, Ok, Err}
+use Rattle.std.proofs.Common.{◌≡◌, ℕ, Bool, true, false, List, [], length, refl, sym, ap, subst, Result, Ok, Err}
 use Rattle.std.specs.Prelude.{MatchBool}
 use Rattle.sv_component.specs.Runs.{Runs}
 use Rattle.sv_component.specs.Steps.{ComponentSteps}
@@ -8,7 +8,7 @@ use Rattle.sv_files.specs.declared.file.File.{File}
 use Rattle.sv_journal.specs.Journal.{JournalState}
 use Rattle.sv_lifecycle.specs.Calls.{stop_calls}
 use Rattle.sv_lifecycle.specs.Fit.{Fits}
-use Rattle.sv_lifecycle.specs.Starting.{RefusesStart}
+use Rattle.sv_lifecycle.specs.Starting.{RefusesUntouched, Untouched}
 use Rattle.sv_lifecycle.specs.Standing as standing
 use Rattle.sv_lifecycle.specs.Standing.{LiveState, live_world}
 use Rattle.sv_lifecycle.specs.World.{world}
@@ -52,14 +52,14 @@ module _ {S F L : Type 0} (moving : ComponentSteps S F L) where
 
   -- a deployment whose start began nothing
   undone : (deployment : Deployment S F L) (code : StartCode) (journal : JournalState)
-      → RefusesStart deployment.descriptor deployment.parts (record { order = []; begun = []; stopper = None; calls = [] }) code journal
+      → RefusesUntouched deployment.descriptor deployment.parts code
       → Deploys moving deployment journal (Err (record { fault = code; deployment = deployment })) journal
-  undone deployment code journal means = record {
+  undone deployment code journal refuses = record {
     started = Err (record { code = code; parts = deployment.parts });
     starts = record {
-      attempt = record { order = []; begun = []; stopper = None; calls = [] };
+      outcome = Untouched;
       made = grows_nothing moving (world deployment.path deployment.parts journal);
-      means = means;
+      is = refuses;
     };
     is = refl;
   }
@@ -71,7 +71,7 @@ module _ {S F L : Type 0} (moving : ComponentSteps S F L) where
   no_memory_so deployment app false code journal same fits is its_code = cc
   no_memory_so deployment app true code journal same fits is its_code =
       subst (λ code. Deploys moving deployment journal (Err (record { fault = code; deployment = deployment })) journal) (sym its_code)
-      (undone deployment NoMemory journal (subst (λ app. Fits app deployment.parts) same fits, inl refl))
+      (undone deployment NoMemory journal (subst (λ app. Fits app deployment.parts) same fits))
 
   -- components that are not
   pub mismatch_so : (deployment : Deployment S F L) (app : WebApp) (tested : Bool) (code : StartCode) (journal : JournalState)
@@ -80,7 +80,7 @@ module _ {S F L : Type 0} (moving : ComponentSteps S F L) where
   mismatch_so deployment app true code journal same fits is its_code = cc
   mismatch_so deployment app false code journal same fits is its_code =
       subst (λ code. Deploys moving deployment journal (Err (record { fault = code; deployment = deployment })) journal) (sym its_code)
-      (undone deployment PartsMismatch journal (subst (λ app. Fits app deployment.parts → ⊥) same fits, refl))
+      (undone deployment PartsMismatch journal (subst (λ app. Fits app deployment.parts → ⊥) same fits))
 
   -- what is handed back
   pub undeployed_so : (content : Content) (policy : Standing) (users : List User) (live : LiveState S F L) (store : Store) (parts : Parts S F L) (noted noted_after : JournalState)

@@ -11,7 +11,7 @@ use Rattle.std.proofs.lemmas.List.Sorted.{All-permutation}
 use Rattle.sv_component.specs.Runs.{Record, Runs}
 use Rattle.sv_component.specs.World.{World}
 use Rattle.sv_component.specs.declared.answers.Init.{Init}
-use Rattle.sv_component.specs.declared.answers.Init.TheVariants as inits
+use Rattle.sv_component.specs.declared.answers.Init.TheVariants as init_answers
 use Rattle.sv_descriptor.specs.declared.web_app.WebApp.{WebApp}
 use Rattle.sv_journal.specs.Journal.{JournalState}
 use Rattle.sv_journal.specs.declared.event.Event.TheVariants.{ContextInitialized}
@@ -20,10 +20,10 @@ use Rattle.sv_component.proofs.Journalling.{run_gains}
 use Rattle.sv_component.proofs.Running.{runs_grown}
 use Rattle.sv_listeners.proofs.Growing.{grows_join, grows_none}
 use Rattle.sv_lifecycle.specs.Begins.{Begins}
-use Rattle.sv_lifecycle.specs.Calls.{Answered, inited, initialised, is_ready, lets_go_on, places_of, start_calls, stop_calls, undone_calls}
+use Rattle.sv_lifecycle.specs.Calls.{Answered, inited, initialised, is_ready, lets_go_on, places_of, start_calls, stop_calls}
 use Rattle.sv_lifecycle.specs.Fit.{Fits}
 use Rattle.sv_lifecycle.specs.Plan.{IsPlan}
-use Rattle.sv_lifecycle.specs.Starting.{Attempt, GoesInOrder, IsUndone, RefusesStart, Starts, code_of, is_no_memory}
+use Rattle.sv_lifecycle.specs.Starting.{GoesInOrder, Inits, RefusesUndone, RefusesUntouched, Started, Starts, Undone, Untouched, code_of, is_no_memory}
 use Rattle.sv_lifecycle.specs.World.{HasSameCounts, IsPlaceIn, world}
 use Rattle.sv_lifecycle.specs.declared.begin.Begun.{Begun}
 use Rattle.sv_lifecycle.specs.declared.order.Place.{Place}
@@ -80,19 +80,19 @@ none_of f (Some a) none = absurd (cc)
 module _ {S F L : Type 0} (moving : ComponentSteps S F L) where
   -- nothing was done
   pub did_nothing : (its_context : List ℕ) (app : WebApp) (parts : Parts S F L) (noted : JournalState) (why : StartCode)
-      → RefusesStart app parts (record { order = []; begun = []; stopper = None; calls = [] }) why noted
+      → RefusesUntouched app parts why
       → Starts moving its_context app parts noted (Err (record { code = why; parts = parts })) noted
   did_nothing its_context app parts noted why refuses = record {
-    attempt = record { order = []; begun = []; stopper = None; calls = [] };
+    outcome = Untouched;
     made = grows_none moving (world its_context parts noted);
-    means = refuses;
+    is = refuses;
   }
 
   -- the inits of a plan go in order
   abbrev goes_in_order : (app : WebApp) (parts : Parts S F L) (plan : Plan) (noted : JournalState) (how_far : Begun) (after : Parts S F L) (plan_after : Plan) (noted_after : JournalState)
-      → (is_plan : IsPlan plan.context app plan) (begins : Begins moving app parts plan noted how_far after plan_after noted_after) (its_calls : List Record)
-      → GoesInOrder app (record { order = is_plan.loaded; begun = begins.begun; stopper = begins.stopper; calls = its_calls })
-  goes_in_order app parts plan noted how_far after plan_after noted_after is_plan begins its_calls = record {
+      → (is_plan : IsPlan plan.context app plan) (begins : Begins moving app parts plan noted how_far after plan_after noted_after)
+      → GoesInOrder app (record { order = is_plan.loaded; begun = begins.begun; stopper = begins.stopper })
+  goes_in_order app parts plan noted how_far after plan_after noted_after is_plan begins = record {
     order = is_plan.is_order;
     left = begins.left;
     front = sym is_plan.order ∙ begins.front;
@@ -124,16 +124,15 @@ module _ {S F L : Type 0} (moving : ComponentSteps S F L) where
       let all : begins.begun ++ option_to_list begins.stopper ≡ begins.begun = ap (λ found. begins.begun ++ option_to_list found) no_stopper ∙ append-nil begins.begun in
       let rooms : length plan.standings.items ≡ length app.servlets = ap length is_plan.standings ∙ length-replicate (length app.servlets) Serving in
       record {
-        attempt = record { order = is_plan.loaded; begun = begins.begun; stopper = begins.stopper; calls = start_calls app begins.begun };
+        outcome = Started (record { order = is_plan.loaded; begun = begins.begun; stopper = begins.stopper });
         made = subst (λ begun. Runs moving (world plan.context parts noted) (start_calls app begun) (world plan.context after noted_after)) all
             (begin_calls app parts told_parts plan noted told_noted how_far after plan_after noted_after fits tells begins);
-        means = (
+        is = (
           fits,
           record {
-            goes = goes_in_order app told_parts plan told_noted how_far after plan_after noted_after is_plan begins (start_calls app begins.begun);
+            goes = goes_in_order app told_parts plan told_noted how_far after plan_after noted_after is_plan begins;
             none_left = begins.whole no_stopper is_whole;
             none_failed = no_stopper;
-            calls = refl;
             journal = is_whole;
             context = begins.context;
             servlets = counts.servlets ∙ same_length (λ named. named.name) (λ servlet. servlet.servlet_name) parts.servlets.items app.servlets fits.servlets;
@@ -146,10 +145,10 @@ module _ {S F L : Type 0} (moving : ComponentSteps S F L) where
       }
 
 not_ready : (place : Place) (answer : Init) → lets_go_on place answer ≡ false → is_ready answer ≡ false
-not_ready place inits.Ready stops = absurd (cc)
-not_ready place inits.Unavailable stops = refl
-not_ready place inits.Failed stops = refl
-not_ready place inits.NoMemory stops = refl
+not_ready place init_answers.Ready stops = absurd (cc)
+not_ready place init_answers.Unavailable stops = refl
+not_ready place init_answers.Failed stops = refl
+not_ready place init_answers.NoMemory stops = refl
 
 -- what did not let the start go on is not initialised
 initialised_called : (begun : List Answered) (stopper : Option Answered) → IfSome stopper (λ answered. lets_go_on answered.place answered.answer ≡ false)
@@ -163,20 +162,20 @@ stays_broken before true broken was = absurd (cc (was refl))
 stays_broken before false broken was = refl
 
 -- why an undone start is refused
-module _ {S F L : Type 0} (app : WebApp) (parts : Parts S F L) (attempt : Attempt) (after : JournalState) (fits : Fits app parts) (undone : IsUndone app attempt) where
-  lacked : (whole : Bool) → after.whole ≡ whole → (answered : Answered) → attempt.stopper ≡ Some answered → (answer : Init) → answered.answer ≡ answer → RefusesStart app parts attempt (code_of (Some answer) whole) after
-  lacked whole is answered stopper inits.NoMemory answers = (fits, inr (undone, inr (answered, stopper, ap is_no_memory answers)))
-  lacked true is answered stopper inits.Ready answers = (fits, undone, (answered, stopper, ap is_no_memory answers), is)
-  lacked true is answered stopper inits.Unavailable answers = (fits, undone, (answered, stopper, ap is_no_memory answers), is)
-  lacked true is answered stopper inits.Failed answers = (fits, undone, (answered, stopper, ap is_no_memory answers), is)
-  lacked false is answered stopper inits.Ready answers = (fits, inr (undone, inl is))
-  lacked false is answered stopper inits.Unavailable answers = (fits, inr (undone, inl is))
-  lacked false is answered stopper inits.Failed answers = (fits, inr (undone, inl is))
+module _ (inits : Inits) (after : JournalState) where
+  lacked : (whole : Bool) → after.whole ≡ whole → (answered : Answered) → inits.stopper ≡ Some answered → (answer : Init) → answered.answer ≡ answer → RefusesUndone inits (code_of (Some answer) whole) after
+  lacked whole is answered stopper init_answers.NoMemory answers = inr (answered, stopper, ap is_no_memory answers)
+  lacked true is answered stopper init_answers.Ready answers = ((answered, stopper, ap is_no_memory answers), is)
+  lacked true is answered stopper init_answers.Unavailable answers = ((answered, stopper, ap is_no_memory answers), is)
+  lacked true is answered stopper init_answers.Failed answers = ((answered, stopper, ap is_no_memory answers), is)
+  lacked false is answered stopper init_answers.Ready answers = inl is
+  lacked false is answered stopper init_answers.Unavailable answers = inl is
+  lacked false is answered stopper init_answers.Failed answers = inl is
 
-  refused : (stopper : Option Answered) → attempt.stopper ≡ stopper → (whole : Bool) → after.whole ≡ whole → (stopper ≡ None → whole ≡ false)
-      → RefusesStart app parts attempt (code_of (option_map (λ answered. answered.answer) stopper) whole) after
+  refused : (stopper : Option Answered) → inits.stopper ≡ stopper → (whole : Bool) → after.whole ≡ whole → (stopper ≡ None → whole ≡ false)
+      → RefusesUndone inits (code_of (option_map (λ answered. answered.answer) stopper) whole) after
   refused None found true is broken = absurd (cc (broken refl))
-  refused None found false is broken = (fits, inr (undone, inl is))
+  refused None found false is broken = inl is
   refused (Some answered) found whole is broken = lacked whole is answered found answered.answer refl
 
 module _ {S F L : Type 0} (moving : ComponentSteps S F L) where
@@ -195,25 +194,24 @@ module _ {S F L : Type 0} (moving : ComponentSteps S F L) where
       → Starts moving plan.context app parts noted (Err (record { code = why; parts = ended })) noted_ended
   undone app parts told_parts plan noted told_noted how_far after plan_after noted_after kept ended noted_ended why fits is_plan tells begins ends count is_kept broken is_why =
       let all : List Answered = begins.begun ++ option_to_list begins.stopper in
-      let its_attempt : Attempt = record { order = is_plan.loaded; begun = begins.begun; stopper = begins.stopper; calls = undone_calls app all } in
+      let its_inits : Inits = record { order = is_plan.loaded; begun = begins.begun; stopper = begins.stopper } in
       let places : kept ≡ initialised all = is_kept ∙ begins.kept ∙ sym (initialised_called begins.begun begins.stopper begins.stops) in
-      let is_undone : IsUndone app its_attempt = record {
-        goes = goes_in_order moving app told_parts plan told_noted how_far after plan_after noted_after is_plan begins (undone_calls app all);
-        calls = refl;
-      } in
       let stays : begins.stopper ≡ None → noted_ended.whole ≡ false = λ none.
       stays_broken noted_after.whole noted_ended.whole (broken (begins.answer ∙ ap (option_map (λ answered. answered.answer)) none))
       (was_whole (world plan.context after noted_after) (world plan.context ended noted_ended) (stop_calls (length after.listeners.items) kept []) ends) in
       let code : why ≡ code_of (option_map (λ answered. answered.answer) begins.stopper) noted_ended.whole = is_why ∙ ap (λ stopper. code_of stopper noted_ended.whole) begins.answer in
       record {
-        attempt = its_attempt;
+        outcome = Undone its_inits;
         made = grows_join moving (world plan.context parts noted) (world plan.context after noted_after) (world plan.context ended noted_ended)
             (start_calls app all) (stop_calls (length app.listeners) (initialised all) [])
             (begin_calls moving app parts told_parts plan noted told_noted how_far after plan_after noted_after fits tells begins)
             (subst (λ n. Runs moving (world plan.context after noted_after) (stop_calls n (initialised all) []) (world plan.context ended noted_ended)) (count ∙ fits.listeners)
             (subst (λ xs. Runs moving (world plan.context after noted_after) (stop_calls (length after.listeners.items) xs []) (world plan.context ended noted_ended)) places ends));
-        means = subst (λ c. RefusesStart app parts its_attempt c noted_ended) (sym code)
-            (refused app parts its_attempt noted_ended fits is_undone begins.stopper refl noted_ended.whole refl stays);
+        is = (
+          fits,
+          goes_in_order moving app told_parts plan told_noted how_far after plan_after noted_after is_plan begins,
+          subst (λ c. RefusesUndone its_inits c noted_ended) (sym code) (refused its_inits noted_ended begins.stopper refl noted_ended.whole refl stays),
+        );
       }
 
 pub none_from : {A : Type 0} (found : Option A) (none : Bool) → is_some found ≡ not none → none ≡ true → found ≡ None

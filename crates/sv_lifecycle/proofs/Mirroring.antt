@@ -25,7 +25,7 @@ use Rattle.sv_lifecycle.specs.Calls.{Answered, destroyed, inited, initialised, p
 use Rattle.sv_lifecycle.specs.Laws.{answered_by, mirrored}
 use Rattle.sv_lifecycle.specs.Order.{init_order}
 use Rattle.sv_lifecycle.specs.Standing.{LiveState, in_service, is_in_service, is_out}
-use Rattle.sv_lifecycle.specs.Starting.{Attempt, IsUndone, Stands, called}
+use Rattle.sv_lifecycle.specs.Starting.{Inits, Stands, Started, Undone, called, calls_of}
 use Rattle.sv_lifecycle.specs.declared.order.Place.{Place}
 use Rattle.sv_lifecycle.specs.declared.order.Place.TheVariants.{Filter, Servlet}
 use Rattle.sv_lifecycle.proofs.Attempts.{all_below}
@@ -169,11 +169,11 @@ all_pass test [] passes = refl
 all_pass test (answered ∷ begun) passes =
     all_pass_more test answered.place answered.answer begun passes (all_pass test begun (passes_behind test answered begun passes))
 
-all_in_service : {S F L : Type 0} (context : List ℕ) (app : WebApp) (attempt : Attempt) (live : LiveState S F L) (journal : JournalState)
-    → Stands context app attempt live journal → in_service live ≡ initialised attempt.begun
-all_in_service context app attempt live journal stands =
-    let begun = attempt.begun in
-    let order = attempt.order in
+all_in_service : {S F L : Type 0} (context : List ℕ) (app : WebApp) (inits : Inits) (live : LiveState S F L) (journal : JournalState)
+    → Stands context app inits live journal → in_service live ≡ initialised inits.begun
+all_in_service context app inits live journal stands =
+    let begun = inits.begun in
+    let order = inits.order in
     let each = stands.goes.order.each_once in
     let front : init_order app order ≡ places_of begun =
     stands.goes.front ∙ ap₂ (λ stopper left. places_of (begun ++ option_to_list stopper) ++ left) stands.none_failed stands.none_left
@@ -233,13 +233,12 @@ start_mirrored app begun =
     ∙ ap reverse (sym (flat_map-append answered_by (told ContextInitialized (length app.listeners)) (map (inited app) begun)
     ∙ ap₂ (λ tellings ends. tellings ++ ends) (tellings_answered (length app.listeners)) (inits_answered app begun)))
 
-pub stops_mirror_starts : {S F L : Type 0} (context : List ℕ) (app : WebApp) (attempt : Attempt) (live : LiveState S F L) (journal : JournalState)
-    → Stands context app attempt live journal
-    → stop_calls (length live.parts.listeners.items) (in_service live) [] ≡ mirrored attempt.calls
-stops_mirror_starts context app attempt live journal stands =
-    ap₂ (λ count places. stop_calls count places []) stands.listeners (all_in_service context app attempt live journal stands)
-    ∙ start_mirrored app attempt.begun ∙ ap mirrored (sym stands.calls)
+pub stops_mirror_starts : {S F L : Type 0} (context : List ℕ) (app : WebApp) (inits : Inits) (live : LiveState S F L) (journal : JournalState)
+    → Stands context app inits live journal
+    → stop_calls (length live.parts.listeners.items) (in_service live) [] ≡ mirrored (calls_of app (Started inits))
+stops_mirror_starts context app inits live journal stands =
+    ap₂ (λ count places. stop_calls count places []) stands.listeners (all_in_service context app inits live journal stands)
+    ∙ start_mirrored app inits.begun
 
-pub undone_starts_mirror : (app : WebApp) (attempt : Attempt) → IsUndone app attempt
-    → attempt.calls ≡ start_calls app (called attempt) ++ mirrored (start_calls app (called attempt))
-undone_starts_mirror app attempt undone = undone.calls ∙ ap (λ calls. start_calls app (called attempt) ++ calls) (start_mirrored app (called attempt))
+pub undone_starts_mirror : (app : WebApp) (inits : Inits) → calls_of app (Undone inits) ≡ start_calls app (called inits) ++ mirrored (start_calls app (called inits))
+undone_starts_mirror app inits = ap (λ calls. start_calls app (called inits) ++ calls) (start_mirrored app (called inits))

@@ -9,7 +9,7 @@ use Rattle.sv_journal.specs.Journal.{JournalState}
 use Rattle.sv_journal.specs.declared.event.Event.TheVariants.{ContextDestroyed, ContextInitialized}
 use Rattle.sv_lifecycle.specs.Calls.{start_calls, stop_calls}
 use Rattle.sv_lifecycle.specs.Standing.{LiveState, in_service}
-use Rattle.sv_lifecycle.specs.Starting.{Attempt, IsUndone, Stands, called}
+use Rattle.sv_lifecycle.specs.Starting.{Inits, Stands, Started, Undone, called, calls_of}
 
 -- what a stop answers a call of a start with: a component whose init answered that it is ready is destroyed, and a listener that heard
 -- that the context starts hears that it stops
@@ -26,12 +26,11 @@ mirrored calls = reverse (flat_map answered_by calls)
 -- a stop right behind a start, without sessions, mirrors the start
 abbrev pub StopsMirrorStarts : Type 0 → Type 0 → Type 0 → Type 0
 StopsMirrorStarts S F L =
-    (context : List ℕ) (app : WebApp) (attempt : Attempt) (live : LiveState S F L) (journal : JournalState)
-    → Stands context app attempt live journal
-    → stop_calls (length live.parts.listeners.items) (in_service live) [] ≡ mirrored attempt.calls
+    (context : List ℕ) (app : WebApp) (inits : Inits) (live : LiveState S F L) (journal : JournalState)
+    → Stands context app inits live journal
+    → stop_calls (length live.parts.listeners.items) (in_service live) [] ≡ mirrored (calls_of app (Started inits))
 
 -- a start that is undone goes as far as it goes, and mirrors that
 abbrev pub UndoneStartsMirror : Type 0
 UndoneStartsMirror =
-    (app : WebApp) (attempt : Attempt) → IsUndone app attempt
-    → attempt.calls ≡ start_calls app (called attempt) ++ mirrored (start_calls app (called attempt))
+    (app : WebApp) (inits : Inits) → calls_of app (Undone inits) ≡ start_calls app (called inits) ++ mirrored (start_calls app (called inits))

@@ -20,7 +20,7 @@ use Rattle.sv_journal.specs.Journal.{JournalState}
 use Rattle.sv_lifecycle.specs.Calls.{Answered, initialised, is_ready, lets_go_on, places_of}
 use Rattle.sv_lifecycle.specs.Order.{init_order}
 use Rattle.sv_lifecycle.specs.Standing.{LiveState, is_out}
-use Rattle.sv_lifecycle.specs.Starting.{Attempt, Stands}
+use Rattle.sv_lifecycle.specs.Starting.{Inits, Stands}
 use Rattle.sv_lifecycle.specs.declared.order.Place.{Place}
 use Rattle.sv_lifecycle.specs.declared.order.Place.TheVariants.{Filter, Servlet}
 use Rattle.sv_lives.specs.Ends.{is_at}
@@ -187,10 +187,10 @@ gone_if : (out ready : Bool) → out ≡ not ready → is_gone (if out then Gone
 gone_if true ready is = is
 gone_if false ready is = is
 
-module _ {S F L : Type 0} (its_context : List ℕ) (app : WebApp) (attempt : Attempt) (live : LiveState S F L) (journal : JournalState)
-    (stands : Stands its_context app attempt live journal) where
+module _ {S F L : Type 0} (its_context : List ℕ) (app : WebApp) (inits : Inits) (live : LiveState S F L) (journal : JournalState)
+    (stands : Stands its_context app inits live journal) where
   abbrev begun : List Answered
-  begun = attempt.begun
+  begun = inits.begun
 
   abbrev count : ℕ
   count = length app.servlets
@@ -198,20 +198,20 @@ module _ {S F L : Type 0} (its_context : List ℕ) (app : WebApp) (attempt : Att
   abbrev all_filters : List ℕ
   all_filters = range_with_len 0 (length app.filters)
 
-  in_order : init_order app attempt.order ≡ places_of begun
+  in_order : init_order app inits.order ≡ places_of begun
   in_order =
       stands.goes.front ∙ ap₂ (λ stopper left. places_of (begun ++ option_to_list stopper) ++ left) stands.none_failed stands.none_left
       ∙ append-nil (places_of (begun ++ [])) ∙ ap places_of (append-nil begun)
 
-  distinct : IsDistinct eqb attempt.order
-  distinct = IsDistinct-IsPermutation eqb flips (range_with_len 0 count) attempt.order stands.goes.order.each_once (range_distinct 0 count)
+  distinct : IsDistinct eqb inits.order
+  distinct = IsDistinct-IsPermutation eqb flips (range_with_len 0 count) inits.order stands.goes.order.each_once (range_distinct 0 count)
 
-  once_in_order : (place : Place) → IsOnce (is_at place) (init_order app attempt.order)
+  once_in_order : (place : Place) → IsOnce (is_at place) (init_order app inits.order)
   once_in_order (Servlet place) =
-      once_behind (is_at (Servlet place)) Filter (λ other. refl) all_filters (map Servlet attempt.order)
-      (once_of (is_at (Servlet place)) place Servlet (λ other. refl) attempt.order distinct)
+      once_behind (is_at (Servlet place)) Filter (λ other. refl) all_filters (map Servlet inits.order)
+      (once_of (is_at (Servlet place)) place Servlet (λ other. refl) inits.order distinct)
   once_in_order (Filter place) =
-      once_before (is_at (Filter place)) Servlet (λ other. refl) (map Filter all_filters) attempt.order
+      once_before (is_at (Filter place)) Servlet (λ other. refl) (map Filter all_filters) inits.order
       (once_of (is_at (Filter place)) place Filter (λ other. refl) all_filters (range_distinct 0 (length app.filters)))
 
   once_begun : (place : Place) → IsOnce (is_at place) (places_of begun)
@@ -222,18 +222,18 @@ module _ {S F L : Type 0} (its_context : List ℕ) (app : WebApp) (attempt : Att
 
   servlet_begun : (place : ℕ) → place < count → list_any (is_at (Servlet place)) (places_of begun) ≡ true
   servlet_begun place there =
-      ap (list_any (is_at (Servlet place))) (sym in_order) ∙ list_any-append (is_at (Servlet place)) (map Filter all_filters) (map Servlet attempt.order)
+      ap (list_any (is_at (Servlet place))) (sym in_order) ∙ list_any-append (is_at (Servlet place)) (map Filter all_filters) (map Servlet inits.order)
       ∙ ap₂ (λ front back. front || back) (none_of (is_at (Servlet place)) Filter (λ other. refl) all_filters)
-      (any_of (is_at (Servlet place)) place Servlet (λ other. refl) attempt.order
-      ∙ sym (list_any-IsPermutation (λ other. eqb other place) (range_with_len 0 count) attempt.order stands.goes.order.each_once)
+      (any_of (is_at (Servlet place)) place Servlet (λ other. refl) inits.order
+      ∙ sym (list_any-IsPermutation (λ other. eqb other place) (range_with_len 0 count) inits.order stands.goes.order.each_once)
       ∙ in_range place 0 count (omega arith) (omega (arith, there)))
 
   filter_begun : (place : ℕ) → place < length app.filters → list_any (is_at (Filter place)) (places_of begun) ≡ true
   filter_begun place there =
-      ap (list_any (is_at (Filter place))) (sym in_order) ∙ list_any-append (is_at (Filter place)) (map Filter all_filters) (map Servlet attempt.order)
+      ap (list_any (is_at (Filter place))) (sym in_order) ∙ list_any-append (is_at (Filter place)) (map Filter all_filters) (map Servlet inits.order)
       ∙ ap₂ (λ front back. front || back)
       (any_of (is_at (Filter place)) place Filter (λ other. refl) all_filters ∙ in_range place 0 (length app.filters) (omega arith) (omega (arith, there)))
-      (none_of (is_at (Filter place)) Servlet (λ other. refl) attempt.order)
+      (none_of (is_at (Filter place)) Servlet (λ other. refl) inits.order)
 
   servlet_stands : (place : ℕ) → place < count → gone_at place live.standings ≡ not (list_any (is_at (Servlet place)) live.initialised)
   servlet_stands place there =

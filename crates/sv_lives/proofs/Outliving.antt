@@ -17,7 +17,7 @@ use Rattle.sv_context.specs.declared.deployment.Deployment.{Deployment}
 use Rattle.sv_journal.specs.Journal.{JournalState}
 use Rattle.sv_lifecycle.specs.Calls.{stop_calls}
 use Rattle.sv_lifecycle.specs.Standing.{LiveState, is_in_service}
-use Rattle.sv_lifecycle.specs.Starting.{Attempt, Means}
+use Rattle.sv_lifecycle.specs.Starting.{IsResultOf, Outcome, Started, Undone, Untouched}
 use Rattle.sv_lifecycle.specs.World.{world}
 use Rattle.sv_lifecycle.specs.declared.order.Place.{Place}
 use Rattle.sv_lifecycle.specs.declared.order.Place.TheVariants.{Filter, Servlet}
@@ -42,10 +42,12 @@ IsStartedIn (Err fault) = Unit {0}
 
 module _ {S F L : Type 0} (moving : ComponentSteps S F L) where
   -- ---- each context of a container that was started
-  deployed_started : (deployment : Deployment S F L) (started : Result (LiveState S F L) (StartFault S F L)) (attempt : Attempt) (after : JournalState)
-      → Means deployment.path deployment.descriptor deployment.parts attempt started after → IsStartedIn (deployed deployment started)
-  deployed_started deployment (Ok live) attempt after means = are_started deployment.path deployment.descriptor attempt live after means.1
-  deployed_started deployment (Err fault) attempt after means = tt
+  deployed_started : (deployment : Deployment S F L) (started : Result (LiveState S F L) (StartFault S F L)) (outcome : Outcome) (after : JournalState)
+      → IsResultOf deployment.path deployment.descriptor deployment.parts outcome started after → IsStartedIn (deployed deployment started)
+  deployed_started deployment (Ok live) (Started inits) after is = are_started deployment.path deployment.descriptor inits live after is.1
+  deployed_started deployment (Ok live) (Undone inits) after is = absurd is
+  deployed_started deployment (Ok live) Untouched after is = absurd is
+  deployed_started deployment (Err fault) outcome after is = tt
 
   all_started : (deployments : List (Deployment S F L)) (before after : JournalState) (contexts : List (ContextState S F L))
       → DeploysAll moving deployments before contexts after → AllByRecursion IsStarted contexts
@@ -53,7 +55,7 @@ module _ {S F L : Type 0} (moving : ComponentSteps S F L) where
   all_started (deployment ∷ deployments) before after contexts deploys =
       let its = deploys.3 in
       subst (AllByRecursion IsStarted) (sym deploys.5) (
-        subst IsStartedIn (sym its.is) (deployed_started deployment its.started its.starts.attempt deploys.2 its.starts.means),
+        subst IsStartedIn (sym its.is) (deployed_started deployment its.started its.starts.outcome deploys.2 its.starts.is),
         all_started deployments deploys.2 after deploys.1 deploys.4,
       )
 

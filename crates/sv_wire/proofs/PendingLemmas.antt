@@ -1,15 +1,17 @@
 -- A body that is being read, and what its stream begins with.
-use Rattle.std.proofs.Common.{◌≡◌, ℕ, ◌+◌, ◌-◌, ◌≤◌, Bool, true, false, ◌⊎◌, List, [], ◌∷◌, ◌++◌, length, take, drop, None, Some, refl, sym, ap, ◌∙◌, subst, inl, inr, cond, arith, Result, Ok, Err}
+use Rattle.std.proofs.Common.{◌≡◌, ℕ, zero, suc, ◌+◌, ◌-◌, ◌≤◌, Bool, true, false, ◌⊎◌, List, [], ◌∷◌, ◌++◌, length, take, drop, None, Some, refl, sym, ap, ◌∙◌, subst, inl, inr, cond, arith, Result, Ok, Err}
 use Rattle.std.specs.Bool.{MatchBool}
 use Rattle.std.specs.Result.{IfOk}
+use Rattle.std.proofs.lemmas.Bool.{le-ltb, ltb-false}
 use Rattle.std.proofs.lemmas.List.{append_assoc, append-nil, take-append-le, drop-append-le, length-take, length-drop, take_all, drop_all, drop-drop, take-append-drop, take-take}
 use Rattle.sv_body.specs.declared.framing.Framing.{Framing}
+use Rattle.sv_body.specs.declared.framing.Framing.TheVariants.{Length, Chunked}
 use Rattle.sv_body.specs.declared.body_reader.BodyEnd.{BodyEnd}
 use Rattle.sv_body.specs.declared.body_reader.BodyEnd.TheVariants.{Complete, Broken}
 use Rattle.sv_body.specs.declared.body_reader.Progress.TheVariants.{Awaits, Ended}
 use Rattle.sv_text.specs.declared.front.Cut.TheVariants.{Whole, Endless, Unended}
 use Rattle.sv_body.specs.Body.{Awaited, ReadsBody}
-use Rattle.sv_body.specs.Chunks.{Body, unfinished}
+use Rattle.sv_body.specs.Chunks.{Body, unfinished, complete}
 use Rattle.sv_text.specs.Front.{cut_at}
 use Rattle.sv_body.specs.Progress.{ended, ReadsOn}
 use Rattle.sv_text.proofs.FrontLemmas.{cut-whole, shortest_front_some}
@@ -27,7 +29,7 @@ use Rattle.sv_wire.specs.declared.wire_fault.WireFault.TheVariants.{HeadTooLarge
 use Rattle.sv_wire.specs.EmptyLines.{drop_empty_lines}
 use Rattle.sv_wire.specs.Inbox.{end_within}
 use Rattle.sv_wire.specs.declared.inbox.Ended.TheVariants.{Truncated}
-use Rattle.sv_wire.specs.Head.{ends_head}
+use Rattle.sv_wire.specs.Head.{ends_head, has_body}
 use Rattle.sv_wire.specs.Next.{HoldsText, StartsNext, ComesNext, IsHeadAt}
 use Rattle.sv_wire.specs.Pending.{IsHeadOf, owed_by, rest_of, IsSound, Begins, ReadsPiece}
 use Rattle.sv_wire.specs.Reads.{Start, gives, awaits, ReadsHead, cut_head, item_of, after_body, StartsBody, StartsBehind, StartsAt, text_of, Starts}
@@ -129,6 +131,13 @@ cut_front text n is =
       first = λ k below. ap ends_head (front k (omega (arith, below))) ∙ found.first k below;
     }))
 
+-- a body without bytes is there at once
+no_body : (framing : Framing) (text : List ℕ) → has_body framing ≡ false → ReadsBody framing text (complete [] text)
+no_body (Length zero) text none =
+    sym (ap (λ t. cond t unfinished (complete (take 0 text) (drop 0 text))) (le-ltb _ _ (omega arith)))
+no_body (Length (suc count)) text none = absurd (omega (arith, ltb-false 0 (suc count) none))
+no_body Chunked text none = absurd (cc)
+
 module _ (stream : List ℕ) (start end : ℕ) (judgement : Judgement) (order : start ≤ end) (within : end ≤ length stream)
     (head : IsHeadAt stream start end judgement) where
   rest_at : drop (end - start) (drop start stream) ≡ drop end stream
@@ -170,6 +179,18 @@ module _ (stream : List ℕ) (start end : ℕ) (judgement : Judgement) (order : 
 
       rest : rest_of (Some pending) ≡ []
       rest = ap (λ b. b ++ pending.reader.came) begins.bytes ∙ ap (λ (a : Awaited). a.came) begins.reader
+
+  pub head_alone : (owed : OwedHead) → judgement ≡ Accepted owed → has_body owed.framing ≡ false
+      → ComesNext None stream start (Found (item_of owed (Complete [])) None end)
+  head_alone owed is none = (
+    order,
+    within,
+    tt,
+    omega (arith, order, within, head.some),
+    starts_at (gives (item_of owed (Complete [])) None (drop end stream))
+        (subst (λ v. StartsBehind v (drop end stream) (gives (item_of owed (Complete [])) None (drop end stream))) (sym is)
+        (complete [] (drop end stream), no_body owed.framing (drop end stream) none, refl)),
+  )
 
   module _ (owed : OwedHead) (pending : Pending) (is : judgement ≡ Accepted owed) (begins : Begins false (take (end - start) (drop start stream)) owed pending) where
     long : length (take (end - start) (drop start stream)) ≡ end - start

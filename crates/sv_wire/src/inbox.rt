@@ -129,6 +129,9 @@ fn read_on(alloc: Global, held: Vec<u8>, piece: &[u8]) -> Result<(Vec<Item>, Sta
     requires { cut_head held.items ≡ Unended }
     ensures { IfOk result (λ read. ReadsTo None (held.items ++ piece.now) read.0.items read.1) }
 {
+    if held.is_empty() {
+        return read_alone(alloc, piece);
+    }
     let mut stream = held;
     let from = stream.len() + 1;
     stream.extend_from_slice(piece)?;
@@ -140,6 +143,18 @@ fn read_on(alloc: Global, held: Vec<u8>, piece: &[u8]) -> Result<(Vec<Item>, Sta
             let held = Vec::from_slice(alloc, &stream[at..])?;
             Ok((items, State::Head(held)))
         }
+        Rest::Body(pending) => Ok((items, State::Body(pending))),
+    }
+}
+
+/// Reads a piece before which no byte of a head has come. It is copied where it holds the front of a head alone.
+fn read_alone(alloc: Global, piece: &[u8]) -> Result<(Vec<Item>, State), NoMemory>
+    ensures { IfOk result (λ read. ReadsTo None piece.now read.0.items read.1) }
+{
+    let Reading { items, rest } = read_items(alloc, piece, 0)?;
+    match rest {
+        Rest::Ended => Ok((items, State::Spent)),
+        Rest::Head(at) => Ok((items, State::Head(Vec::from_slice(alloc, &piece[at..])?))),
         Rest::Body(pending) => Ok((items, State::Body(pending))),
     }
 }

@@ -1,17 +1,33 @@
 //! A head whose body is awaited, and the judgement on a head.
 
-ghost use Rattle.std.specs.Prelude.{◌≡◌};
+ghost use Rattle.std.specs.Prelude.{◌≡◌, []};
 ghost use Rattle.sv_wire.specs.Head.{has_body};
 
+use crate::item::Item;
 use crate::message::Message;
 use crate::wire_fault::WireFault;
+use std::alloc::Global;
 use sv_body::Framing;
+use sv_text::Bytes;
 
 /// A head whose body is awaited: the message without its body, and how its end is found (RFC 9112, section 6).
 #[derive(Drop)]
 pub struct OwedHead {
     pub message: Message,
     pub framing: Framing,
+}
+
+impl OwedHead {
+    ghost use Rattle.sv_wire.specs.Reads.{item_of};
+    ghost use Rattle.sv_body.specs.declared.body_reader.BodyEnd.TheVariants.{Complete};
+
+    /// What the stream says with the head alone: its body is empty.
+    pub(crate) fn alone(self, alloc: Global) -> Item
+        ensures { result ≡ item_of self (Complete []) }
+    {
+        let body = Bytes::from_vec(Vec::new(alloc));
+        Item::Message(self.message.with_body(body))
+    }
 }
 
 /// The judgement on a head.

@@ -6,13 +6,14 @@ ghost use Rattle.sv_wire.specs.Items.{are_ended};
 ghost use Rattle.sv_wire.specs.Next.{ComesNext, IsHeadAt, IsSoundRest, bytes_behind, is_ended, owed_behind};
 ghost use Rattle.sv_wire.specs.Pending.{AreSound, IsSound};
 ghost use Rattle.sv_wire.specs.Reads.{Reads};
+ghost use Rattle.sv_wire.specs.declared.owed_head.Judgement.TheVariants.{Accepted};
 
 use crate::cut::cut_head;
 use crate::empty_lines::behind_empty_lines;
 use crate::head::read_head;
 use crate::item::Item;
 use crate::limits::MAX_HEAD_LEN;
-use crate::owed_head::Judgement;
+use crate::owed_head::{Judgement, OwedHead, has_body};
 use crate::pending::PendingBox;
 use crate::wire_fault::WireFault;
 use std::alloc::Global;
@@ -150,11 +151,28 @@ fn next_behind(
             let pending = PendingBox::asked(alloc, owed)?;
             Ok(Next::Found(Item::Continue, Some(pending), end))
         }
-        Judgement::Accepted(owed) => {
-            let pending = PendingBox::behind(alloc, owed, &stream[start..end])?;
-            next_in_body(pending, stream, end)
-        }
+        Judgement::Accepted(owed) => next_behind_accepted(alloc, owed, stream, start, end),
     }
+}
+
+/// Reads what stands behind a head that is accepted and asks for nothing. Where it has no body it is an item at once.
+fn next_behind_accepted(
+    alloc: Global,
+    owed: OwedHead,
+    stream: &[u8],
+    start: usize,
+    end: usize,
+) -> Result<Next, NoMemory>
+    requires order { start ≤ end }
+    requires within { end ≤ length stream.now }
+    requires head { IsHeadAt stream.now start end (Accepted owed) }
+    ensures { IfOk result (ComesNext None stream.now start) }
+{
+    if !has_body(owed.framing) {
+        return Ok(Next::Found(owed.alone(alloc), None, end));
+    }
+    let pending = PendingBox::behind(alloc, owed, &stream[start..end])?;
+    next_in_body(pending, stream, end)
 }
 
 /// Reads the body that goes on at a place.

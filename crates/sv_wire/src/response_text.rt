@@ -1,6 +1,6 @@
 //! The text of a response.
 
-ghost use Rattle.std.specs.Prelude.{◌≡◌, ◌++◌, ◌&&◌, vec_capacity, IfOk, OnOk, OnErr, Some, codes, decimal};
+ghost use Rattle.std.specs.Prelude.{◌≡◌, [], ◌++◌, ◌&&◌, vec_capacity, IfOk, OnOk, OnErr, Some, codes, decimal};
 ghost use Rattle.http.specs.StatusCode.{IsStatusCode};
 ghost use Rattle.httpdate.specs.declared.date.HttpDate.{HttpDate as Date};
 ghost use Rattle.sv_wire.specs.Content.{content, has_own_end};
@@ -23,6 +23,9 @@ const LAST_SECOND: u64 = 253_402_300_799;
 const NO_CONTENT: u16 = 204;
 
 const CRLF: &[u8] = b"\r\n";
+
+/// How many bytes the text of a response has room for from the start: most heads have fewer, and a short body finds room behind them.
+const TEXT_ROOM: usize = 512;
 
 /// Appends the text of a response to the output (RFC 9112, sections 4 and 5). Its status is from 100 to 999, which
 /// [`Response::has_status_code`] tests.
@@ -49,7 +52,7 @@ pub fn write_response(
     ensures room { OnErr result (vec_capacity output.new ≡ vec_capacity output.old) }
 {
     let head = head_of(*output.allocator(), response, keep, date_at(moment))?;
-    append_text(output, &head, response, head_only)?;
+    append_text(output, head, response, head_only)?;
     Ok(())
 }
 
@@ -68,7 +71,7 @@ fn head_of(
     requires { IsStatusCode response.now.status }
     ensures { IfOk result (λ head. head.items ≡ response_head response.now keep date) }
 {
-    let mut head = Vec::new(alloc);
+    let mut head = Vec::with_capacity(alloc, TEXT_ROOM)?;
     push_status_line(&mut head, response.status)?;
     push_field_line(&mut head, b"date", &date.to_bytes())?;
     push_field_lines(&mut head, response.fields.as_slice())?;
@@ -82,11 +85,11 @@ fn head_of(
 // Appends the head and what is sent of the body, or neither.
 fn append_text(
     output: &mut Vec<u8>,
-    head: &[u8],
+    head: Vec<u8>,
     response: &Response,
     head_only: bool,
 ) -> Result<(), AllocError>
-    ensures ok { OnOk result (output.new.items ≡ output.old.items ++ head.now ++ sent_body head_only response.now) }
+    ensures ok { OnOk result (output.new.items ≡ output.old.items ++ head.items ++ sent_body head_only response.now) }
     ensures err { OnErr result (output.new.items ≡ output.old.items) }
     ensures room { OnErr result (vec_capacity output.new ≡ vec_capacity output.old) }
 {
@@ -97,8 +100,8 @@ fn append_text(
 }
 
 // Appends the head and the body, or neither.
-fn append_content(output: &mut Vec<u8>, head: &[u8], body: &Body) -> Result<(), AllocError>
-    ensures ok { OnOk result (output.new.items ≡ output.old.items ++ head.now ++ content body.now) }
+fn append_content(output: &mut Vec<u8>, head: Vec<u8>, body: &Body) -> Result<(), AllocError>
+    ensures ok { OnOk result (output.new.items ≡ output.old.items ++ head.items ++ content body.now) }
     ensures err { OnErr result (output.new.items ≡ output.old.items) }
     ensures room { OnErr result (vec_capacity output.new ≡ vec_capacity output.old) }
 {
@@ -116,14 +119,29 @@ fn append_content(output: &mut Vec<u8>, head: &[u8], body: &Body) -> Result<(), 
 }
 
 // Appends both texts, or neither.
-fn append_both(output: &mut Vec<u8>, first: &[u8], second: &[u8]) -> Result<(), AllocError>
-    ensures ok { OnOk result (output.new.items ≡ output.old.items ++ first.now ++ second.now) }
+fn append_both(output: &mut Vec<u8>, first: Vec<u8>, second: &[u8]) -> Result<(), AllocError>
+    ensures ok { OnOk result (output.new.items ≡ output.old.items ++ first.items ++ second.now) }
     ensures err { OnErr result (output.new.items ≡ output.old.items) }
     ensures room { OnErr result (vec_capacity output.new ≡ vec_capacity output.old) }
 {
+    if output.is_empty() {
+        return set_both(output, first, second);
+    }
     output.reserve(first.len() + second.len())?;
-    output.extend_from_slice(first).unwrap();
+    output.extend_from_slice(&first).unwrap();
     output.extend_from_slice(second).unwrap();
+    Ok(())
+}
+
+// Makes both texts the output, which is empty, or leaves it as it is.
+fn set_both(output: &mut Vec<u8>, first: Vec<u8>, second: &[u8]) -> Result<(), AllocError>
+    requires { output.old.items ≡ [] }
+    ensures ok { OnOk result (output.new.items ≡ first.items ++ second.now) }
+    ensures err { OnErr result (output.new ≡ output.old) }
+{
+    let mut text = first;
+    text.extend_from_slice(second)?;
+    *output = text;
     Ok(())
 }
 

@@ -5,4 +5,4 @@ pub returns-clause-text : goal.returns-clause-text
 returns-clause-text c =
     let appended = c.in_ok-append_text.ensures.ok in
     let head = c.in_ok-head.ensures in
-    (c.date_at.result, c.date_at.ensures, rw (appended, c.deref.ensures.value, head) (simp append_assoc))
+    (c.date_at.result, c.date_at.ensures, rw (appended, head) (simp append_assoc))

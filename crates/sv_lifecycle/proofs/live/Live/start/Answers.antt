@@ -1,4 +1,4 @@
-use Rattle.std.proofs.Common.{inl, refl, subst}
+use Rattle.std.proofs.Common.{subst}
 use Rattle.sv_lifecycle.specs.Fit.{Fits}
 use Rattle.sv_lifecycle.specs.Starting.{Starts}
 use Rattle.sv_lifecycle.specs.declared.start_fault.StartCode.TheVariants as codes
@@ -9,12 +9,12 @@ use Rattle.sv_component.specs.Steps.{steps_of}
 pub returns-then-not-fits : goal.returns-then-not-fits
 returns-then-not-fits g c =
     did_nothing (steps_of g.S.Servlet.servlet_step g.F.Filter.filter_step g.L.Listener.listener_step) c.args.context.now c.args.descriptor.now c.args.parts c.args.journal.now codes.PartsMismatch
-    (subst (λ app. Fits app c.args.parts → ⊥) c.web_app-app.ensures.value c.if-not-fits.ensures, refl)
+    (subst (λ app. Fits app c.args.parts → ⊥) c.web_app-app.ensures.value c.if-not-fits.ensures)
 
 pub returns-then-not-whole : goal.returns-then-not-whole
 returns-then-not-whole g c =
     did_nothing (steps_of g.S.Servlet.servlet_step g.F.Filter.filter_step g.L.Listener.listener_step) c.args.context.now c.args.descriptor.now c.args.parts c.args.journal.now codes.NoMemory
-    (subst (λ app. Fits app c.args.parts) c.web_app-app.ensures.value c.if-not-fits.ensures, inl refl)
+    (subst (λ app. Fits app c.args.parts) c.web_app-app.ensures.value c.if-not-fits.ensures)
 
 pub returns-in-Ok : goal.returns-in-Ok
 returns-in-Ok g c =
@@ -27,4 +27,4 @@ returns-in-Ok g c =
 pub returns-in-Err : goal.returns-in-Err
 returns-in-Err g c =
     did_nothing (steps_of g.S.Servlet.servlet_step g.F.Filter.filter_step g.L.Listener.listener_step) c.args.context.now c.args.descriptor.now c.args.parts c.args.journal.now codes.NoMemory
-    (subst (λ app. Fits app c.args.parts) c.web_app-app.ensures.value c.if-not-fits.ensures, inl refl)
+    (subst (λ app. Fits app c.args.parts) c.web_app-app.ensures.value c.if-not-fits.ensures)
