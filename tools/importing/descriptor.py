@@ -145,17 +145,17 @@ def _check_length(key: str, length: int, told: Told) -> None:
         raise told.fault(1, f"{length} of {key} are more than {MAX_LIST_ITEMS}, which a descriptor may have")
 
 
-def fragments(web_xml: Path) -> list[str]:
-    """The libraries beside a web.xml that have a fragment."""
-    return [path.name for path in sorted(web_xml.parent.glob("lib/*.jar")) if _has_fragment(path)]
-
-
-def _has_fragment(path: Path) -> bool:
-    try:
-        with zipfile.ZipFile(path) as library:
-            return _FRAGMENT in library.namelist()
-    except (OSError, zipfile.BadZipFile):
-        return False
+def tell_fragments(web_xml: Path, told: Told) -> None:
+    """Tells of the libraries beside a web.xml those that have a fragment, and those that cannot be read."""
+    for path in sorted(web_xml.parent.glob("lib/*.jar")):
+        try:
+            with zipfile.ZipFile(path) as library:
+                has_fragment = _FRAGMENT in library.namelist()
+        except (OSError, zipfile.BadZipFile):
+            told.tell(1, f"lib/{path.name} cannot be read: whether it has a web-fragment.xml is not known")
+        else:
+            if has_fragment:
+                told.tell(1, f"lib/{path.name} has a web-fragment.xml, which is not read")
 
 
 def server_text(seed: str, context: str, users: str) -> str:

@@ -29,19 +29,23 @@ abbrev pub destroys : ℕ → Does (Unit {0})
 destroys place before calls after result =
     (calls ≡ OfServlet place Destroyed ∷ []) × (after ≡ with_standing place Gone before) × ((result ≡ Some tt) ⊎ (result ≡ None))
 
+-- how a turn of a servlet ends: with the dispatch, or with nothing where the servlet goes on
+abbrev pub Turned : Type 0
+Turned = Option Finished
+
 -- how the dispatch ends, for good
-abbrev pub last : Does Finished → Does (Option Finished)
+abbrev pub last : Does Finished → Does Turned
 last ending = do
   result ← ending
   gives (Some result)
 
 -- a servlet goes on behind an include, unless a failure came out of it
-abbrev pub behind_include : Finished → Option Finished
+abbrev pub behind_include : Finished → Turned
 behind_include Done = None
 behind_include (Error status text) = None
 behind_include (Failed kind text) = Some (Failed kind text)
 
-abbrev pub GoesOn : Finished → Does (Option Finished)
+abbrev pub GoesOn : Finished → Does Turned
 GoesOn finished = gives (behind_include finished)
 
 -- a forward comes too late once the answer is committed
@@ -75,7 +79,7 @@ module _ (site : Site) (room : ℕ) (inner : Kind → Canon → Does Finished) w
     sees λ state. Admitted place kind (asked_for room kind text state.exchange)
 
   -- what a servlet's answer leads to, and how the dispatch ends with it: none where the servlet goes on
-  abbrev pub Stepped : ℕ → Step → Does (Option Finished)
+  abbrev pub Stepped : ℕ → Step → Does Turned
   Stepped place steps.Done = last (gives Done)
   Stepped place (steps.Forward text) = last (Dispatches place kinds.Forward text)
   Stepped place (steps.Include text) = Dispatches place kinds.Include text >>= GoesOn
@@ -86,20 +90,20 @@ module _ (site : Site) (room : ℕ) (inner : Kind → Canon → Does Finished) w
   Stepped place steps.NoMemory = refuses
 
   -- a servlet that is out of service is not called (section 2.3.3.2)
-  abbrev pub Stands : ℕ → ℕ → Standing → Does (Option Finished) → Does (Option Finished)
+  abbrev pub Stands : ℕ → ℕ → Standing → Does Turned → Does Turned
   Stands place moment Serving next = next
   Stands place moment Gone next = last (is_missing site (Servlet place))
   Stands place moment (Away until) next = last (is_away_for site (Servlet place) (until - moment))
 
   -- a turn of a servlet
-  abbrev pub Turn : ℕ → ℕ → Does (Option Finished)
+  abbrev pub Turn : ℕ → ℕ → Does Turned
   Turn place turn = sees λ state.
       Stands place state.exchange.moment (standing_at state.exchange.moment place state.standings)
       (within_limit (last (faults site (Servlet place) DispatchLimit)) do
         step ← asks site.listeners (service_of place turn)
         Stepped place step)
 
-  abbrev pub Continues : Option Finished → Does Finished → Does Finished
+  abbrev pub Continues : Turned → Does Finished → Does Finished
   Continues (Some result) next = gives result
   Continues None next = next
 
