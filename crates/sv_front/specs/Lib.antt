@@ -1,6 +1,7 @@
 pub mod Alone
 pub mod Course
 pub mod Ending
+pub mod Figures
 pub mod Finishing
 pub mod Holding
 pub mod Fronts

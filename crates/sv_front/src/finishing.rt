@@ -1,6 +1,8 @@
 //! The end: what waits to be written is written, and nothing else is done.
 
+ghost use Rattle.std.specs.Prelude.{◌≡◌};
 ghost use Rattle.sv_front.specs.Finishing.{OnlyWrites};
+ghost use Rattle.sv_front.specs.declared.network.Told.TheVariants.{Asked};
 
 use crate::front::Front;
 use crate::limits::{FINISH_SECONDS, MAX_CONNECTIONS};
@@ -25,12 +27,14 @@ pub(crate) fn finish<N: Network>(front: &mut Front<N::Peer>, network: &mut N)
     }
 }
 
-// Writes on to the connection that the network tells to be ready.
+// Does what the network tells, as far as it is to write or to tell how things stand.
 fn take<N: Network>(front: &mut Front<N::Peer>, told: Told, network: &mut N)
-    ensures { OnlyWrites N.Peer.ways front.old front.new }
+    ensures writes { OnlyWrites N.Peer.ways front.old front.new }
+    ensures asked { told ≡ Asked → front.new ≡ front.old }
 {
     match told {
         Told::Ready(number) => front.send_out(number, network),
+        Told::Asked => network.tell(front.figures()),
         Told::Incoming | Told::Second | Told::Stop => {}
     }
 }

@@ -3,6 +3,7 @@
 ghost use Rattle.std.specs.Prelude.{◌≡◌};
 ghost use Rattle.sv_front.specs.Fronts.{Moves};
 ghost use Rattle.sv_connection.specs.Turns.{over_event};
+ghost use Rattle.sv_front.specs.Figures.{figures_of, writing};
 ghost use Rattle.sv_front.specs.Finishing.{ForgetsOne, OnlyWrites, WritesOutOne};
 ghost use Rattle.sv_front.specs.Holding.{HoldsWithin, held, weight_in};
 ghost use Rattle.sv_front.specs.Known.{DrivesOne, EndsOne, OpensNext};
@@ -11,6 +12,7 @@ ghost use Rattle.sv_run.specs.Seen.{happening_of};
 
 use crate::cause::Cause;
 use crate::connection::Connection;
+use crate::figures::Figures;
 use crate::limits::{MAX_CONNECTIONS, MAX_HELD_BYTES, MAX_IDLE_SECONDS};
 use crate::network::Network;
 use crate::peer::Peer;
@@ -66,6 +68,28 @@ impl<P: Peer + Drop> Front<P> {
     /// Whether none is known.
     pub fn is_empty(&self) -> bool {
         self.connections.is_empty()
+    }
+
+    /// How things stand.
+    pub fn figures(&self) -> Figures
+        ensures { result ≡ figures_of self.now }
+    {
+        Figures {
+            connections: self.connections.len(),
+            writing: self.writing(),
+            held: self.held(),
+            opened: self.next,
+        }
+    }
+
+    // To how many connections something waits to be written.
+    fn writing(&self) -> usize
+        ensures { result ≡ writing self.now }
+    {
+        self.connections
+            .values()
+            .filter(|it| it.is_writing())
+            .count()
     }
 
     /// The number of the next.

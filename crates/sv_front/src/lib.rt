@@ -5,6 +5,7 @@ mod allowance;
 mod cause;
 mod connection;
 mod ending;
+mod figures;
 mod finishing;
 mod front;
 mod laws;
@@ -18,6 +19,7 @@ mod sent;
 mod step;
 
 pub use cause::Cause;
+pub use figures::Figures;
 pub use laws::{
     bytes_are_kept, each_is_served_as_if_alone, ends_have_a_cause, limits_are_as_stated,
     numbers_are_not_used_again, rest_is_for_something, rounds_are_one,

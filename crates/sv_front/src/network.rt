@@ -1,5 +1,6 @@
 //! What reports readiness and accepts connections.
 
+use crate::figures::Figures;
 use crate::peer::Peer;
 
 /// What a network tells.
@@ -11,6 +12,8 @@ pub enum Told {
     Incoming,
     /// A second has passed, or more.
     Second,
+    /// It is asked how things stand.
+    Asked,
     /// No more is to be served. What waits to be written is written first; where this is told once more, not even that.
     Stop,
 }
@@ -28,6 +31,9 @@ pub trait Network {
 
     /// Takes back the stream of a connection that is over.
     fn part(&mut self, number: u64, peer: Self::Peer);
+
+    /// Takes how things stand, where it told that this is asked.
+    fn tell(&mut self, figures: Figures);
 
     /// The time in seconds, since any moment. It is meant never to go back.
     fn seconds(&mut self) -> u64;

@@ -1,7 +1,9 @@
 //! One loop over all connections.
 
+ghost use Rattle.std.specs.Prelude.{◌≡◌};
 ghost use Rattle.sv_front.specs.Fronts.{Moves, Serves};
 ghost use Rattle.sv_front.specs.Known.{Ticked};
+ghost use Rattle.sv_front.specs.declared.network.Told.TheVariants.{Asked};
 
 use crate::finishing::finish;
 use crate::front::Front;
@@ -13,8 +15,8 @@ use sv_run::{Happening, Reactor, StepFault};
 use sv_streams::Clock;
 
 /// Serves all connections of a network at once, until it tells to stop: what is ready is read, handed on in pieces and answered, as far as that
-/// goes without waiting. No connection waits for another. Behind the last event what waits to be written is written, for
-/// [`FINISH_SECONDS`](crate::FINISH_SECONDS) at most.
+/// goes without waiting. No connection waits for another. Where it is asked how things stand, it tells the network so, and does nothing else. Behind
+/// the last event what waits to be written is written, for [`FINISH_SECONDS`](crate::FINISH_SECONDS) at most.
 ///
 /// # Errors
 /// Why an event was refused, or want of memory. No event follows it.
@@ -44,7 +46,7 @@ pub fn run_front<R: Reactor, N: Network, C: Clock>(
     Ok(())
 }
 
-// Does what the network tells.
+// Does what the network tells. To be asked how things stand is no event, and nothing is done of any connection.
 fn take<R: Reactor, N: Network, C: Clock>(
     front: &mut Front<N::Peer>,
     told: Told,
@@ -52,12 +54,17 @@ fn take<R: Reactor, N: Network, C: Clock>(
     clock: &mut C,
     network: &mut N,
 ) -> Result<(), StepFault>
-    ensures { Moves N.Peer.ways R.steps C.tells reactor.old clock.old front.old result reactor.new clock.new front.new }
+    ensures moves { Moves N.Peer.ways R.steps C.tells reactor.old clock.old front.old result reactor.new clock.new front.new }
+    ensures asked { told ≡ Asked → (reactor.new ≡ reactor.old) × (clock.new ≡ clock.old) × (front.new ≡ front.old) }
 {
     match told {
         Told::Ready(number) => front.serve(number, reactor, clock, network),
         Told::Incoming => accept_some(front, reactor, clock, network),
         Told::Second => pass_second(front, reactor, clock, network),
+        Told::Asked => {
+            network.tell(front.figures());
+            Ok(())
+        }
         Told::Stop => Ok(()),
     }
 }

@@ -1,5 +1,5 @@
 -- Calls of one component of a live context by its place (Jakarta Servlet 6.0, sections 2.3.3 and 6.2.1).
-use Rattle.std.specs.Prelude.{◌≡◌, ℕ, Bool, false, Result, is_ok, slice_set, if◌then◌else◌}
+use Rattle.std.specs.Prelude.{◌≡◌, ◌∷◌, ℕ, Bool, false, [], Result, is_ok, slice_set, if◌then◌else◌}
 use Rattle.sv_component.specs.Call.{Destroyed, Entered, Left, Serviced}
 use Rattle.sv_component.specs.Runs.{OfFilter, OfServlet, Record, Runs}
 use Rattle.sv_component.specs.declared.answers.Gate.{Gate}

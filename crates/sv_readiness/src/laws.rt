@@ -3,8 +3,8 @@
 ghost use Rattle.std.specs.Prelude.{◌≡◌};
 
 use crate::limits::{
-    DROPPED_READ_BYTES, EVENTS_AT_ONCE, LINGER_SECONDS, MAX_DROPPED_BYTES, MAX_DROPPED_READS,
-    MAX_LINGERING, MAX_READY_BEFORE_ACCEPT,
+    DROPPED_READ_BYTES, EVENTS_AT_ONCE, LINGER_SECONDS, MAX_ASKING_SECONDS, MAX_DROPPED_BYTES,
+    MAX_DROPPED_READS, MAX_LINE_BYTES, MAX_LINGERING, MAX_READY_BEFORE_ACCEPT,
 };
 
 /// The limits of this crate as numbers. What is dropped of a connection that is over is 1 MiB at a time, and 16 MiB in all, at most.
@@ -15,5 +15,7 @@ pub fn limits_are_as_stated()
     ensures seconds { LINGER_SECONDS ≡ 2 }
     ensures bytes { MAX_DROPPED_BYTES ≡ 16777216 }
     ensures reads { MAX_DROPPED_READS ≡ 64 }
+    ensures line { MAX_LINE_BYTES ≡ 64 }
+    ensures asking { MAX_ASKING_SECONDS ≡ 2 }
     ensures read { DROPPED_READ_BYTES ≡ 16384 }
 {}

@@ -2,7 +2,9 @@
 //! and what the system reports, is known to no contract.
 #![tactic(auto)]
 
+mod asking;
 mod calls;
+mod control;
 mod dropping;
 mod laws;
 mod limits;
@@ -14,8 +16,8 @@ mod stream_peer;
 
 pub use laws::limits_are_as_stated;
 pub use limits::{
-    EVENTS_AT_ONCE, LINGER_SECONDS, MAX_DROPPED_BYTES, MAX_DROPPED_READS, MAX_LINGERING,
-    MAX_READY_BEFORE_ACCEPT,
+    EVENTS_AT_ONCE, LINGER_SECONDS, MAX_ASKING_SECONDS, MAX_DROPPED_BYTES, MAX_DROPPED_READS,
+    MAX_LINE_BYTES, MAX_LINGERING, MAX_READY_BEFORE_ACCEPT,
 };
 pub use listening::Listening;
 pub use sockets::Sockets;

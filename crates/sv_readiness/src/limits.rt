@@ -20,3 +20,9 @@ pub const MAX_DROPPED_READS: u32 = 64;
 
 /// How many bytes such a read takes at most.
 pub(crate) const DROPPED_READ_BYTES: usize = 16_384;
+
+/// As many bytes a line at the socket file has at most, its end with it.
+pub const MAX_LINE_BYTES: usize = 64;
+
+/// Within so many seconds a line at the socket file is to be whole.
+pub const MAX_ASKING_SECONDS: u64 = 2;

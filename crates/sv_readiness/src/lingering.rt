@@ -60,7 +60,7 @@ impl<T> Model for Lingering<T> {
 }
 
 impl<T: Read + Source + Drop> Lingering<T> {
-    ghost use Rattle.std.specs.Prelude.{◌≡◌, ◌≤◌, ◌<◌, ◌+◌, false, IfSome};
+    ghost use Rattle.std.specs.Prelude.{◌≡◌, ◌==◌, ◌≤◌, ◌<◌, ◌+◌, false, IfSome};
     ghost use Rattle.sv_readiness.specs.declared.limits.TheConstants.{MAX_LINGERING};
 
     /// None.
@@ -70,6 +70,13 @@ impl<T: Read + Source + Drop> Lingering<T> {
         Lingering {
             streams: Vec::new(alloc),
         }
+    }
+
+    /// Whether none is kept.
+    pub fn is_empty(&self) -> bool
+        ensures { result ≡ (self.now == 0) }
+    {
+        self.streams.is_empty()
     }
 
     /// Drops what has come on a stream, and keeps it where more may come; where as many are kept as there may be, the oldest is let go. Where there is

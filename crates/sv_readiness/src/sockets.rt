@@ -1,18 +1,20 @@
 //! A listener and its connections as a network.
 
+use crate::asking::Ask;
+use crate::control::{ASKER, CONTROL, Control};
 use crate::limits::{EVENTS_AT_ONCE, MAX_READY_BEFORE_ACCEPT};
 use crate::lingering::Lingering;
 use crate::listening::Listening;
 use crate::ready::Ready;
 use crate::stream_peer::StreamPeer;
-use mio::net::{TcpListener, TcpStream};
+use mio::net::{TcpListener, TcpStream, UnixListener};
 use mio::{Events, Interest, Poll, Registry, Token};
 use std::alloc::{AllocError, Global};
 use std::io;
 use std::io::ErrorKind;
 use std::net::Shutdown;
 use std::time::{Clock, Duration};
-use sv_front::{Network, Told};
+use sv_front::{Figures, Network, Told};
 
 /// A listener and its connections. What the system fails to do for one of them ends that one alone, or is tried again within a second.
 #[derive(Drop)]
@@ -24,6 +26,7 @@ pub struct Sockets<'a, C> {
     events: Events,
     ready: Ready,
     lingering: Lingering<TcpStream>,
+    control: Option<Control<'a>>,
     second: u64,
     told: u32,
     may_come: bool,
@@ -42,7 +45,11 @@ impl<'a, C: Clock> Sockets<'a, C> {
         registry: &'a Registry,
         listening: Listening,
     ) -> Result<Sockets<'a, C>, AllocError> {
-        let Listening { poll, listener } = listening;
+        let Listening {
+            poll,
+            listener,
+            control,
+        } = listening;
         let events = Events::with_capacity(alloc, EVENTS_AT_ONCE)?;
         Ok(Sockets {
             clock,
@@ -52,6 +59,7 @@ impl<'a, C: Clock> Sockets<'a, C> {
             events,
             ready: Ready::new(),
             lingering: Lingering::new(alloc),
+            control: control_of(alloc, registry, control),
             second: 0,
             told: 0,
             may_come: false,
@@ -63,6 +71,64 @@ impl<'a, C: Clock> Sockets<'a, C> {
     /// Whether no more could be reported.
     pub fn has_failed(&self) -> bool {
         self.has_failed
+    }
+
+    /// Reads on, and drops, what comes of connections that are over, until no more may come or the time of each is over. So their answers are not cut
+    /// by the end of the process.
+    pub fn read_out(&mut self) {
+        for _ in 0..u64::MAX {
+            if self.lingering.is_empty() || self.wait() == Told::Stop {
+                return;
+            }
+        }
+    }
+
+    // What is told of a token. Nothing is, where it is that of a stream which is read on, or of the socket file before a line is whole there.
+    fn told_of(&mut self, token: usize) -> Option<Told> {
+        if token == CONTROL || token == ASKER {
+            return self.heard_at(token);
+        }
+        if self.lingers(token) {
+            return None;
+        }
+        self.told = self.told.saturating_add(1);
+        Some(told_by(token))
+    }
+
+    // What is told of the socket file.
+    fn heard_at(&mut self, token: usize) -> Option<Told> {
+        let now = self.seconds();
+        let Some(control) = &mut self.control else {
+            return None;
+        };
+        if token == CONTROL {
+            control.welcome(now);
+        }
+        match control.hear(now) {
+            Some(Ask::Status) => Some(Told::Asked),
+            Some(Ask::Stop) => {
+                control.tell_stop(now);
+                Some(Told::Stop)
+            }
+            Some(Ask::Unknown) => {
+                control.tell_unknown(now);
+                None
+            }
+            None => None,
+        }
+    }
+
+    // Lets go the streams whose time is over, and who asks at the socket file, where that is not heard by now: else it is told.
+    fn expire(&mut self) -> Option<Told> {
+        self.lingering.expire(self.second);
+        let told = self.heard_at(ASKER);
+        if told.is_some() {
+            return told;
+        }
+        if let Some(control) = &mut self.control {
+            control.expire(self.second);
+        }
+        None
     }
 
     // Whether it is to be told that a connection may have come: behind so many that were ready, or where another was accepted and behind that all that
@@ -95,11 +161,11 @@ impl<'a, C: Clock> Sockets<'a, C> {
         }
     }
 
-    // What is told where nothing reported is left to be: that a second is over, that no more can be reported, or nothing yet.
+    // What is told where nothing reported is left to be: that a second is over, unless it is what is heard at the socket file, and with the next then; that
+    // no more can be reported; or nothing yet.
     fn report_next(&mut self) -> Option<Told> {
         if self.has_second_passed() {
-            self.lingering.expire(self.second);
-            return Some(Told::Second);
+            return self.expire().or(Some(Told::Second));
         }
         if self.report().is_err() {
             self.has_failed = true;
@@ -121,12 +187,12 @@ impl<'a, C: Clock> Sockets<'a, C> {
         has_passed
     }
 
-    // The peer of a connection that was accepted, where its readiness can be reported.
+    // The peer of a connection that was accepted, where its readiness can be reported. The last numbers are tokens of what is no connection.
     fn peer_of(&self, stream: TcpStream, number: u64) -> Option<StreamPeer<'a, TcpStream>> {
         let mut stream = stream;
         let token = Token(number as usize);
         let both = Interest::READABLE | Interest::WRITABLE;
-        if self.registry.register(&mut stream, token, both).is_err() {
+        if token.0 >= ASKER || self.registry.register(&mut stream, token, both).is_err() {
             return None;
         }
         // An answer is written in one piece; where the system holds it back nevertheless, it is later and the same.
@@ -148,9 +214,8 @@ impl<'a, C: Clock> Network for Sockets<'a, C> {
             }
             match self.ready.next() {
                 Some(token) => {
-                    if !self.lingers(token) {
-                        self.told = self.told.saturating_add(1);
-                        return told_of(token);
+                    if let Some(told) = self.told_of(token) {
+                        return told;
                     }
                 }
                 None => {
@@ -187,6 +252,13 @@ impl<'a, C: Clock> Network for Sockets<'a, C> {
         }
     }
 
+    fn tell(&mut self, figures: Figures) {
+        let now = self.seconds();
+        if let Some(control) = &mut self.control {
+            control.tell(figures, now);
+        }
+    }
+
     fn seconds(&mut self) -> u64 {
         match self.clock.monotonic() {
             Ok(time) => time.as_secs(),
@@ -195,8 +267,20 @@ impl<'a, C: Clock> Network for Sockets<'a, C> {
     }
 }
 
+// The socket file, where there is one.
+fn control_of(
+    alloc: Global,
+    registry: &Registry,
+    listener: Option<UnixListener>,
+) -> Option<Control<'_>> {
+    match listener {
+        Some(listener) => Some(Control::new(alloc, registry, listener)),
+        None => None,
+    }
+}
+
 // What a token tells: the connection of that number may be ready, or one may have come.
-fn told_of(token: usize) -> Told {
+fn told_by(token: usize) -> Told {
     if token == usize::MAX {
         return Told::Incoming;
     }

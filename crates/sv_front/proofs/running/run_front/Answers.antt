@@ -10,4 +10,4 @@ loop-init g c =
 pub loop-preserved : goal.loop-preserved
 loop-preserved g c =
     one_round g.N.Peer.Peer.ways g.R.Reactor.steps g.C.Clock.tells c.args.reactor.now c.loop.reactor c.take.new.reactor c.args.clock.now c.loop.clock c.take.new.clock
-    c.loop.front c.take.new.front c.loop.invariant c.in-Ok.ensures
+    c.loop.front c.take.new.front c.loop.invariant c.in-Ok.ensures.moves
