@@ -1,3 +1,4 @@
+pub mod Book
 pub mod Paragraph
 pub mod Shielding
 pub mod Token

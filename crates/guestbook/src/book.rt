@@ -1,5 +1,11 @@
 //! The entries, in a SQLite file.
 
+ghost use Rattle.std.specs.Prelude.{◌≡◌, [], ◌∷◌, IfOk, OnOk, pos};
+ghost use Rattle.sqlite.specs.Held.{state};
+ghost use Rattle.sqlite.specs.State.{Executes, HasCleanDisk};
+ghost use Rattle.sqlite.specs.declared.types.Value.TheVariants.{Int, Text};
+ghost use Rattle.guestbook.specs.Book.{HasRun, IsEntryOf, entry_values};
+
 use sqlite::{Alter, Connection, Error, Row, params};
 use std::alloc::Global;
 
@@ -13,6 +19,16 @@ const TABLE: &str = "CREATE TABLE IF NOT EXISTS entry (
     moment INTEGER NOT NULL,
     words TEXT NOT NULL
 ) STRICT";
+
+/// Writes an entry down.
+const INSERT: &str = "INSERT INTO entry (author, moment, words) VALUES (?1, ?2, ?3)";
+
+/// Takes the entry of a number out.
+const DELETE: &str = "DELETE FROM entry WHERE number = ?1";
+
+/// The entries below a number, the newest first, and no more than another number.
+const SELECT: &str =
+    "SELECT number, author, moment, words FROM entry WHERE number < ?1 ORDER BY number DESC LIMIT ?2";
 
 /// An entry, as its author wrote it.
 #[derive(Drop)]
@@ -58,12 +74,11 @@ impl<S: Alter + Drop> Book<S> {
     ///
     /// # Errors
     /// [`BookFault`]: it was not written.
-    pub fn write(&mut self, author: &str, moment: u64, words: &str) -> Result<(), BookFault> {
-        let moment = i64::try_from(moment).unwrap_or(i64::MAX);
-        self.connection.execute(
-            "INSERT INTO entry (author, moment, words) VALUES (?1, ?2, ?3)",
-            params![author, moment, words],
-        )?;
+    pub fn write(&mut self, author: &str, moment: u64, words: &str) -> Result<(), BookFault>
+        ensures { OnOk result (HasRun S.Store INSERT.now (entry_values author.now moment words.now) self.old.connection self.new.connection) }
+    {
+        let seconds = seconds_of(moment)?;
+        insert(&mut self.connection, author, seconds, words)?;
         Ok(())
     }
 
@@ -71,9 +86,10 @@ impl<S: Alter + Drop> Book<S> {
     ///
     /// # Errors
     /// [`BookFault`]: it was not taken out.
-    pub fn remove(&mut self, number: i64) -> Result<(), BookFault> {
-        self.connection
-            .execute("DELETE FROM entry WHERE number = ?1", params![number])?;
+    pub fn remove(&mut self, number: i64) -> Result<(), BookFault>
+        ensures { OnOk result (HasRun S.Store DELETE.now (Int number ∷ []) self.old.connection self.new.connection) }
+    {
+        delete(&mut self.connection, number)?;
         Ok(())
     }
 
@@ -82,10 +98,9 @@ impl<S: Alter + Drop> Book<S> {
     /// # Errors
     /// [`BookFault`]: they could not be read.
     pub fn newest_below(&mut self, alloc: Global, number: i64) -> Result<Vec<Entry>, BookFault> {
-        let found = self.connection.query_all(
-            "SELECT number, author, moment, words FROM entry WHERE number < ?1 ORDER BY number DESC LIMIT ?2",
-            params![number, PAGE_LEN as i64],
-        )?;
+        let found = self
+            .connection
+            .query_all(SELECT, params![number, PAGE_LEN as i64])?;
         let mut entries = Vec::new(alloc);
         for row in found {
             if entries.push(entry_of(&row)?).is_err() {
@@ -96,8 +111,41 @@ impl<S: Alter + Drop> Book<S> {
     }
 }
 
+// The seconds as the table has them.
+fn seconds_of(moment: u64) -> Result<i64, BookFault>
+    ensures { IfOk result (λ seconds. seconds ≡ pos moment) }
+{
+    match i64::try_from(moment) {
+        Ok(seconds) => Ok(seconds),
+        Err(_) => Err(BookFault),
+    }
+}
+
+// An entry more in the table.
+fn insert<S: Alter>(
+    connection: &mut Connection<S>,
+    author: &str,
+    seconds: i64,
+    words: &str,
+) -> Result<usize, Error>
+    ensures { HasCleanDisk (state S.Store connection.new) → Executes INSERT.now (Text author.now ∷ Int seconds ∷ Text words.now ∷ [])
+        (state S.Store connection.old) (state S.Store connection.new) result }
+{
+    connection.execute(INSERT, params![author, seconds, words])
+}
+
+// The entry of that number less in the table.
+fn delete<S: Alter>(connection: &mut Connection<S>, number: i64) -> Result<usize, Error>
+    ensures { HasCleanDisk (state S.Store connection.new) → Executes DELETE.now (Int number ∷ [])
+        (state S.Store connection.old) (state S.Store connection.new) result }
+{
+    connection.execute(DELETE, params![number])
+}
+
 // The entry of a row.
-fn entry_of(row: &Row) -> Result<Entry, BookFault> {
+fn entry_of(row: &Row) -> Result<Entry, BookFault>
+    ensures { IfOk result (IsEntryOf row.now) }
+{
     Ok(Entry {
         number: row.get(0)?,
         author: row.get(1)?,

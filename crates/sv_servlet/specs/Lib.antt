@@ -1,3 +1,4 @@
 pub use Rattle.sv_component.specs.Call
 pub use Rattle.sv_exchange.specs.Changing
 pub mod Contexts
+pub mod Options
