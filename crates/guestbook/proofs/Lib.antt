@@ -1,1 +1,2 @@
 mod Pushes
+mod Stored

@@ -1,4 +1,5 @@
 pub mod Book
+pub mod Forms
 pub mod Paragraph
 pub mod Shielding
 pub mod Token

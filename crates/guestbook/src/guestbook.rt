@@ -1,7 +1,9 @@
 //! The servlet of the book.
 
-ghost use Rattle.std.specs.Prelude.{◌≡◌, OnOk, false, true};
+ghost use Rattle.std.specs.Prelude.{◌≡◌, IfOk, IfSome, Ok, OnOk, false, true};
+ghost use Rattle.sv_exchange.specs.Sessions.{is_in_role};
 ghost use Rattle.sv_servlet.specs.Changing.{Reaches};
+ghost use Rattle.guestbook.specs.Forms.{IsOfMember, IsSent, Removes, Writes, caller_name, value_of};
 ghost use Rattle.guestbook.specs.Token.{is_own_form};
 
 use crate::book::{Book, BookFault};
@@ -106,7 +108,9 @@ fn page_of<S: Alter + Drop>(
 }
 
 // The user of the session, where one is logged in.
-fn member_of<'a>(exchange: &'a Exchange, token: Option<&'a Text>) -> Option<Member<'a>> {
+fn member_of<'a>(exchange: &'a Exchange, token: Option<&'a Text>) -> Option<Member<'a>>
+    ensures { IfSome result (IsOfMember exchange.now) }
+{
     let caller = exchange.caller()?;
     let token = token?;
     Some(Member {
@@ -130,7 +134,9 @@ fn take_form<S: Alter + Drop>(
     exchange: &mut Exchange,
     form: Form,
 ) -> Result<(), Fault>
-    ensures { Reaches exchange.old exchange.new }
+    ensures sent { ¬ IsSent exchange.old → book.new ≡ book.old }
+    ensures kept { is_own_form exchange.old ≡ false → book.new ≡ book.old }
+    ensures reached { Reaches exchange.old exchange.new }
 {
     match asked_verb(alloc, exchange, &[Verb::Get, Verb::Post])? {
         None => return Ok(()),
@@ -173,35 +179,63 @@ fn write<S: Alter + Drop>(
     alloc: Global,
     book: &mut Book<S>,
     exchange: &Exchange,
-) -> Result<(), Fault> {
-    let words = exchange.parameter("words")?;
-    let words = words.as_ref().map_or("", Text::as_str);
-    if words.trim().is_empty() || words.len() > MAX_WORDS {
+) -> Result<(), Fault>
+    ensures { OnOk result (Writes S.Store exchange.now book.old.connection book.new.connection) }
+{
+    let words = value_of(alloc, exchange, "words")?;
+    if words.as_str().trim().is_empty() || words.as_str().len() > MAX_WORDS {
         return Err(Fault::Error(
             400,
             Text::copy_of(alloc, "An entry has 1 to 4000 bytes, and not blanks alone.")?,
         ));
     }
-    let author = exchange.caller().map_or("", |caller| caller.name.as_str());
-    answer_of(alloc, book.write(author, exchange.moment(), words))
+    let written = book.write(caller_name(exchange), exchange.moment(), words.as_str());
+    answer_of(alloc, written)
 }
 
-// An entry less.
+// An entry less, which an administrator takes out: the descriptor lets no one else come here, and neither does this.
 fn remove<S: Alter + Drop>(
     alloc: Global,
     book: &mut Book<S>,
     exchange: &Exchange,
-) -> Result<(), Fault> {
-    let number = exchange.parameter("number")?;
-    let number = number.as_ref().map_or("", Text::as_str);
-    match number.parse::<i64>() {
-        Ok(number) => answer_of(alloc, book.remove(number)),
-        Err(_) => Err(Fault::Error(400, Text::copy_of(alloc, "This is no number of an entry.")?)),
+) -> Result<(), Fault>
+    ensures done { OnOk result (Removes S.Store exchange.now book.old.connection book.new.connection) }
+    ensures kept { is_in_role ADMINISTRATOR.now exchange.now.caller ≡ false → book.new ≡ book.old }
+{
+    if !exchange.is_user_in_role(ADMINISTRATOR) {
+        return Err(Fault::Error(403, Text::copy_of(alloc, "You take no entries out.")?));
+    }
+    let number = value_of(alloc, exchange, "number")?;
+    let Ok(number) = number.as_str().parse::<i64>() else {
+        return Err(Fault::Error(400, Text::copy_of(alloc, "This is no number of an entry.")?));
+    };
+    answer_of(alloc, book.remove(number))
+}
+
+// The first value of that name, empty where none was sent.
+fn value_of(alloc: Global, exchange: &Exchange, name: &str) -> Result<Text, NoMemory>
+    ensures { IfOk result (λ value. value ≡ value_of name.now exchange.now) }
+{
+    match exchange.parameter(name)? {
+        Some(value) => Ok(value),
+        None => Text::copy_of(alloc, ""),
+    }
+}
+
+// The name of the caller, empty where there is none.
+fn caller_name(exchange: &Exchange) -> &str
+    ensures { result.now ≡ caller_name exchange.now }
+{
+    match exchange.caller() {
+        Some(caller) => caller.name.as_str(),
+        None => "",
     }
 }
 
 // What the book answered; its fault fails this request alone.
-fn answer_of<T>(alloc: Global, answer: Result<T, BookFault>) -> Result<T, Fault> {
+fn answer_of<T>(alloc: Global, answer: Result<T, BookFault>) -> Result<T, Fault>
+    ensures { IfOk result (λ value. answer ≡ Ok value) }
+{
     match answer {
         Ok(value) => Ok(value),
         Err(BookFault) => Err(Fault::Failed(
