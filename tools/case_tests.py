@@ -1,13 +1,13 @@
 """What `tools/cases --selftest` runs: a program that shows what it is given, and cases for it."""
 # Shows its arguments, its standard input and its files, each on a line, and on standard error the number of the arguments, its status. With the argument
 # `serve` it answers two connections by what comes on them; with `run` each that comes, until `stop` does, with an id in the place of `id`, each time
-# another, or with `run same` the same. With `limits` it shows its limits,
+# another, or with `run same` the same; with `run file` it answers at a socket file `asked`, too. With `limits` it shows its limits,
 # with `tells` its file `told` on standard error.
 SHOWS = """#!/bin/sh
 [ "$1" != tells ] || exec cat told >&2
 [ "$1" != limits ] || { ulimit -v; exec sh -c "ulimit -n"; }
 [ "$1" != run ] || exec python3 -c '
-import os, secrets, socketserver, sys
+import os, secrets, socketserver, sys, threading
 class Answers(socketserver.BaseRequestHandler):
     def handle(self):
         while came := self.request.recv(99):
@@ -21,6 +21,8 @@ class Answers(socketserver.BaseRequestHandler):
 server = socketserver.ThreadingTCPServer(("127.0.0.1", 0), Answers)
 print("listening 127.0.0.1:%d" % server.server_address[1], flush=True)
 server.handle_error = lambda *_: None
+if sys.argv[2:] == ["file"]:
+    threading.Thread(target=socketserver.ThreadingUnixStreamServer("asked", Answers).serve_forever).start()
 server.serve_forever()' "$@"
 [ "$1" != serve ] || exec python3 -c '
 import socket
@@ -103,6 +105,8 @@ SELF_TESTS = [
     ({**RUNS, "steps": "open a\nsend a stop\nover\n", "status": "3\n"}, 1, 0),
     ({**RUNS, "steps": "open a\nsend a stop\nover\n"}, 1, 1),
     ({**RUNS, "steps": "open a\n", "status": "3\n"}, 1, 1),
+    ({**RUNS, "args": "run\nfile\n", "steps": "open b\nsend b y\nexpect b date: DATE\\r\\ny\nconnect a asked\nsend a x\nexpect a date: DATE\\r\\nx\nsend a stop\nover\n", "status": "3\n"}, 1, 0),
+    ({**RUNS, "steps": "open b\nsend b y\nexpect b date: DATE\\r\\ny\nconnect a asked\n"}, 1, 1),
     ({"steps": "open a\n", "stderr": "0", "status": "0\n"}, 1, 1),
     ({"steps": "over\n", "stderr": "0", "status": "0\n"}, 1, 0),
     ({"stdin": "%1", "bytes": "\\x41\\r\\n\\t\\\\ ; <2*@> | w\n", "w/stdout": "A\r\n\t\\ ; <2*@>", "w/stderr": "0"}, 1, 0),

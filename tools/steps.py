@@ -23,9 +23,8 @@ class Fault(Exception):
 class Peer:
     """A connection, and what came on it that no step has taken yet."""
 
-    def __init__(self, address, seconds):
-        self.stream = socket.create_connection(address, seconds)
-        self.came = b""
+    def __init__(self, stream):
+        self.stream, self.came = stream, b""
 
     def read(self):
         """Reads once; says whether anything came."""
@@ -80,7 +79,13 @@ class Steps:
     def open(self, name):
         if not self.program.address:
             raise Fault("nothing listens")
-        self.peers[name] = Peer(self.program.address, self.program.seconds)
+        self.peers[name] = Peer(socket.create_connection(self.program.address, self.program.seconds))
+
+    def connect(self, name, file):
+        stream = socket.socket(socket.AF_UNIX)
+        stream.settimeout(self.program.seconds)
+        self.peers[name] = Peer(stream)
+        stream.connect(f"{self.program.room}/{file.decode()}")
 
     def send(self, name, text):
         with contextlib.suppress(ConnectionError):

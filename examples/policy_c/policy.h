@@ -26,7 +26,7 @@ typedef struct sv_policy {
 
 #define SV_POLICY_NONE { NULL }
 
-/* What a function returns. */
+/* What a function returns. Where there is no answer and none has too little room, what `answer` and `length` lead to is as before. */
 enum {
     SV_POLICY_WRITTEN = 0,   /* it was done, and the answer, if there is one, is written */
     SV_POLICY_FAULT = 1,     /* the text is no descriptor: the answer is the fault's name, a blank and the key */

@@ -5,6 +5,9 @@ use Rattle.std.specs.declared.net.socket_addr.SocketAddr.{SocketAddr}
 use Rattle.sv_serve.specs.declared.seeding.Seeding.{Seeding}
 use Rattle.sv_serve.specs.declared.seeding.Seeding.TheVariants.{Configured, Fresh}
 use Rattle.sv_commands.specs.declared.address.Address.{Address}
+use Rattle.sv_commands.specs.declared.running.Asked.{Asked}
+use Rattle.sv_commands.specs.declared.running.Asked.TheVariants.{Alone, Control}
+use Rattle.sv_commands.specs.declared.running.ControlFirst.{ControlFirst}
 use Rattle.sv_commands.specs.declared.running.JournalFirst.{JournalFirst}
 use Rattle.sv_commands.specs.declared.running.ListenFirst.{ListenFirst}
 use Rattle.sv_commands.specs.declared.running.OtherOptions.{OtherOptions}
@@ -44,8 +47,25 @@ options_words (Listen listen) = codes "--listen" ∷ behind_listen listen
 options_words (SameSeed address) = codes "--same-seed" ∷ behind_same_seed address
 options_words (Journal journal) = codes "--journal" ∷ behind_journal journal
 
+abbrev pub behind_control : ControlFirst → List (List ℕ)
+behind_control control = control.name.now ∷ options_words control.options
+
+abbrev pub asked_words : Asked → List (List ℕ)
+asked_words (Alone options) = options_words options
+asked_words (Control control) = codes "--control" ∷ behind_control control
+
 abbrev pub running_words : Running → List (List ℕ)
-running_words running = running.config.now ∷ options_words running.options
+running_words running = running.config.now ∷ asked_words running.asked
+
+-- the options beside the socket file
+abbrev pub options_of : Asked → RunOptions
+options_of (Alone options) = options
+options_of (Control control) = control.options
+
+-- the name of the socket file, where there is one
+abbrev pub IsControl : Asked → Option (Bor (List ℕ)) → Type 0
+IsControl (Control control) name = name ≡ Some control.name
+IsControl other name = name ≡ None
 
 -- where it listens, none where that is the port of the server file
 abbrev pub value_of : Option Address → Option SocketAddr

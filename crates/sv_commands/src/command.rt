@@ -46,7 +46,7 @@ pub enum Command<'a> {
     },
     /// `serve CONFIG N`: serves so many connections, one after another.
     Serve(Service<'a>),
-    /// `run CONFIG [--journal FILE] [--listen ADDRESS:PORT] [--same-seed]`: serves all connections that come, many at once.
+    /// `run CONFIG [--control SOCKET] [--journal FILE] [--listen ADDRESS:PORT] [--same-seed]`: serves all connections that come, many at once.
     Run(Running<'a>),
     /// `selftest CONFIG`: asks a server's container once over a connection of its own, and prints the first line of the answer.
     SelfTest {
@@ -186,6 +186,7 @@ fn run_asked<S: FileStore + FolderStore, H: Net + Clock + RandomSource + Files +
 {
     let address = running.address();
     let seeding = running.seeding();
+    let control = running.control();
     let journal = running.journal();
     run(
         alloc,
@@ -195,6 +196,7 @@ fn run_asked<S: FileStore + FolderStore, H: Net + Clock + RandomSource + Files +
         running.config,
         address,
         seeding,
+        control,
         journal,
     )
 }

@@ -17,6 +17,6 @@ pub use count::Count;
 pub use policy_command::policy;
 pub use question::Question;
 pub use replay_command::replay;
-pub use running::{ListenFirst, RunOptions, Running};
+pub use running::{Asked, ControlFirst, ListenFirst, RunOptions, Running};
 pub use service::Service;
 pub use texts::{HELP, VERSION};

@@ -2,7 +2,7 @@
 
 ghost use Rattle.std.specs.Prelude.{◌≡◌, [], true, IfSome, IsSome, map, string_bytes};
 ghost use Rattle.sv_program.specs.Arguments.{Names};
-ghost use Rattle.sv_commands.specs.Running.{address_words, behind_journal, behind_listen, behind_same_seed, options_words, other_words, running_words, same_seed_words};
+ghost use Rattle.sv_commands.specs.Running.{address_words, asked_words, behind_control, behind_journal, behind_listen, behind_same_seed, options_words, other_words, running_words, same_seed_words};
 ghost use Rattle.sv_commands.specs.Running as spec;
 
 use crate::address::Address;
@@ -15,10 +15,28 @@ pub struct Running<'a> {
     /// The name of the server file.
     pub config: &'a str,
     /// What was asked for beside it.
+    pub asked: Asked<'a>,
+}
+
+/// What is asked for beside the server file, with a socket file or without one.
+#[derive(Clone, Copy)]
+pub enum Asked<'a> {
+    /// No socket file.
+    Alone(RunOptions<'a>),
+    /// `--control SOCKET`, and the others behind it.
+    Control(ControlFirst<'a>),
+}
+
+/// What stands behind `--control`.
+#[derive(Clone, Copy)]
+pub struct ControlFirst<'a> {
+    /// The name of the socket file.
+    pub name: &'a str,
+    /// What stands behind it.
     pub options: RunOptions<'a>,
 }
 
-/// What is asked for beside the server file, as the arguments have it.
+/// What is asked for beside the server file and the socket file, as the arguments have it.
 #[derive(Clone, Copy)]
 pub enum RunOptions<'a> {
     /// Nothing.
@@ -64,23 +82,44 @@ impl<'a> Running<'a> {
     ghost use Rattle.std.specs.Prelude.{◌≡◌, map, string_bytes};
     ghost use Rattle.sv_commands.specs.Running as spec;
 
-    /// The run that these arguments ask for, `CONFIG [--journal FILE] [--listen ADDRESS:PORT] [--same-seed]` with the last two options in either order, or none.
+    /// The run that these arguments ask for, `CONFIG [--control SOCKET] [--journal FILE] [--listen ADDRESS:PORT] [--same-seed]` with the last two options in
+    /// either order, or none.
     pub fn parse(arguments: &'a [String]) -> Option<Running<'a>>
         ensures { Names running_words (map string_bytes arguments.now) result }
     {
         let (config, rest) = arguments.split_first()?;
-        let options = options_in(rest)?;
+        let asked = asked_in(rest)?;
         Some(Running {
             config: config.as_str(),
-            options,
+            asked,
         })
+    }
+
+    /// The name of the socket file, none where there is to be none.
+    pub fn control(&self) -> Option<&'a str>
+        ensures { spec.IsControl self.now.asked result }
+    {
+        match self.asked {
+            Asked::Alone(_) => None,
+            Asked::Control(control) => Some(control.name),
+        }
+    }
+
+    // The options beside the socket file.
+    fn options(&self) -> RunOptions<'a>
+        ensures { result ≡ spec.options_of self.now.asked }
+    {
+        match self.asked {
+            Asked::Alone(options) => options,
+            Asked::Control(control) => control.options,
+        }
     }
 
     /// Where it listens, none where that is the server file's port on this machine.
     pub fn address(&self) -> Option<SocketAddr>
-        ensures { result ≡ spec.address_of self.now.options }
+        ensures { result ≡ spec.address_of (spec.options_of self.now.asked) }
     {
-        match self.options {
+        match self.options() {
             RunOptions::Plain => None,
             RunOptions::Listen(listen) => Some(listen.address.value()),
             RunOptions::SameSeed(address) => value_of(&address),
@@ -90,9 +129,9 @@ impl<'a> Running<'a> {
 
     /// The name of the journal's file, none where there is to be none.
     pub fn journal(&self) -> Option<&'a str>
-        ensures { spec.IsJournal self.now.options result }
+        ensures { spec.IsJournal (spec.options_of self.now.asked) result }
     {
-        match self.options {
+        match self.options() {
             RunOptions::Plain | RunOptions::Listen(_) | RunOptions::SameSeed(_) => None,
             RunOptions::Journal(journal) => Some(journal.name),
         }
@@ -100,9 +139,9 @@ impl<'a> Running<'a> {
 
     /// What its random words come of.
     pub fn seeding(&self) -> Seeding
-        ensures { result ≡ spec.seeding_of self.now.options }
+        ensures { result ≡ spec.seeding_of (spec.options_of self.now.asked) }
     {
-        match self.options {
+        match self.options() {
             RunOptions::Plain => Seeding::Fresh,
             RunOptions::Listen(listen) => seeding_by(listen.same_seed),
             RunOptions::SameSeed(_) => Seeding::Configured,
@@ -152,7 +191,32 @@ fn seeding_by(same_seed: bool) -> Seeding
     }
 }
 
-// The options behind the server file.
+// What stands behind the server file.
+fn asked_in(arguments: &[String]) -> Option<Asked<'_>>
+    ensures { Names asked_words (map string_bytes arguments.now) result }
+{
+    let Some((option, rest)) = arguments.split_first() else {
+        return Some(Asked::Alone(RunOptions::Plain));
+    };
+    if option.as_str() == "--control" {
+        return Some(Asked::Control(control_in(rest)?));
+    }
+    Some(Asked::Alone(options_in(arguments)?))
+}
+
+// What stands behind `--control`.
+fn control_in(arguments: &[String]) -> Option<ControlFirst<'_>>
+    ensures { Names behind_control (map string_bytes arguments.now) result }
+{
+    let (name, rest) = arguments.split_first()?;
+    let options = options_in(rest)?;
+    Some(ControlFirst {
+        name: name.as_str(),
+        options,
+    })
+}
+
+// The options behind the server file and the socket file.
 fn options_in(arguments: &[String]) -> Option<RunOptions<'_>>
     ensures { Names options_words (map string_bytes arguments.now) result }
 {

@@ -12,9 +12,9 @@ sv replay CONFIG
     runs the script on standard input over the server, and prints what comes of it
 sv serve CONFIG N
     serves N connections, one after another, at the port of the server file
-sv run CONFIG [--journal FILE] [--listen ADDRESS:PORT] [--same-seed]
+sv run CONFIG [--control SOCKET] [--journal FILE] [--listen ADDRESS:PORT] [--same-seed]
     serves many connections at once, at that address or at the port of the server file,
-    and appends to FILE what became of each request
+    appends to FILE what became of each request, and answers `status` and `stop` at SOCKET
 sv selftest CONFIG
     asks the server once over a connection of its own, and prints the answer's first line
 sv help

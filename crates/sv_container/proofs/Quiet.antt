@@ -20,7 +20,7 @@ module _ {S F L : Type 0} (moving : ComponentSteps S F L) where
   one_quiet context before after back undeploys =
       let made = stop_calls (length context.listeners) (in_service context) [] in
       subst (λ path. IsRun moving (world_of context before) made (world path back.parts after)) (ap (λ (content : Content). content.context_path) undeploys.content)
-      (runs_grown moving (world_of (without_sessions context) before) (world back.path back.parts after) (λ done. done ++ made) undeploys.stops)
+      (runs_grown moving (world_of (without_sessions context) before) (world back.path back.parts after) made undeploys.stops)
 
   all_quiet : (contexts : List (ContextState S F L)) (before after : JournalState) (back : List (Deployment S F L))
       → UndeploysAll moving (map without_sessions contexts) before back after

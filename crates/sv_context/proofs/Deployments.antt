@@ -8,7 +8,7 @@ use Rattle.sv_files.specs.declared.file.File.{File}
 use Rattle.sv_journal.specs.Journal.{JournalState}
 use Rattle.sv_lifecycle.specs.Calls.{stop_calls}
 use Rattle.sv_lifecycle.specs.Fit.{Fits}
-use Rattle.sv_lifecycle.specs.Starting.{RefusesUntouched, Untouched}
+use Rattle.sv_lifecycle.specs.Starting.{IsResultOf, Outcome, RefusesUntouched, Started, Starts, Undone, Untouched}
 use Rattle.sv_lifecycle.specs.Standing as standing
 use Rattle.sv_lifecycle.specs.Standing.{LiveState, live_world}
 use Rattle.sv_lifecycle.specs.World.{world}
@@ -36,6 +36,27 @@ deployed_so deployment started live content policy users store is its_content it
 pub refused_so : {S F L : Type 0} (deployment : Deployment S F L) (started : Result (LiveState S F L) (StartFault S F L)) (fault : StartFault S F L)
     → started ≡ Err fault → Err (record { fault = fault.code; deployment = record deployment { parts = fault.parts } }) ≡ deployed deployment started
 refused_so deployment started fault is = rw is refl
+
+-- the components of a start that stands are those that its context declares
+components_of : {S F L : Type 0} (path : List ℕ) (app : WebApp) (files : List File) (parts : Parts S F L) (live : LiveState S F L) (after : JournalState) (outcome : Outcome)
+    → IsResultOf path app parts outcome (Ok live) after → AreComponentsOf (record { context_path = path; app = app; files = files }) live
+components_of path app files parts live after (Started inits) is = record {
+  context = is.1.context;
+  servlets = is.1.servlets;
+  filters = is.1.filters;
+  listeners = is.1.listeners;
+}
+components_of path app files parts live after (Undone inits) is = absurd is
+components_of path app files parts live after Untouched is = absurd is
+
+pub components_so : {S F L : Type 0} (moving : ComponentSteps S F L) (deployment : Deployment S F L) (started : Result (LiveState S F L) (StartFault S F L)) (live : LiveState S F L)
+    (content : Content) (before after : JournalState)
+    → started ≡ Ok live → content ≡ content_of deployment → Starts moving deployment.path deployment.descriptor deployment.parts before started after
+    → AreComponentsOf content live
+components_so moving deployment started live content before after is its_content starts =
+    subst (λ content. AreComponentsOf content live) (sym its_content)
+    (components_of deployment.path deployment.descriptor deployment.files deployment.parts live after starts.outcome
+    (subst (λ result. IsResultOf deployment.path deployment.descriptor deployment.parts starts.outcome result after) is starts.is))
 
 module _ {S F L : Type 0} (moving : ComponentSteps S F L) where
   -- the stop of the started components is that of the context

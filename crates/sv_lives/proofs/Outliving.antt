@@ -74,7 +74,7 @@ module _ {S F L : Type 0} (moving : ComponentSteps S F L) where
     subst (λ path. IsRun moving (world_of context unnoted) (calls_of_stop context sessions) (world path back.parts unnoted))
         (ap (λ (its : Content). its.context_path) content)
         (runs_unnoted moving (world_of context before) (calls_of_stop context sessions) (world back.path back.parts after)
-        (runs_grown moving (world_of context before) (world back.path back.parts after) (λ done. done ++ calls_of_stop context sessions) grows)),
+        (runs_grown moving (world_of context before) (world back.path back.parts after) (calls_of_stop context sessions) grows)),
   )
 
   abbrev AllStop : List (ContextState S F L) → List (Parts S F L) → Type 0

@@ -12,3 +12,7 @@ IsShort text old new size = (new ≡ old) × (length old < length text) × (size
 abbrev pub IsPut : List ℕ → List ℕ → List ℕ → ℕ → Bool → Type 0
 IsPut text old new size true = IsWritten text old new size
 IsPut text old new size false = IsShort text old new size
+
+-- nothing is written: the buffer and the length are as before
+abbrev pub IsUntouched : List ℕ → List ℕ → ℕ → ℕ → Type 0
+IsUntouched old new before size = (new ≡ old) × (size ≡ before)

@@ -7,7 +7,7 @@ use Rattle.sv_explain.specs.Explanation.{Answer}
 use Rattle.sv_explain.specs.Text.{explanation_text}
 use Rattle.sv_explain.specs.declared.explanation.Explanation.{Explanation}
 use Rattle.sv_explain.specs.declared.fault.ExplainFault.TheVariants.{BadMethod, NoSuchUser}
-use Rattle.sv_policy_c.specs.Answer.{IsShort, IsWritten}
+use Rattle.sv_policy_c.specs.Answer.{IsShort, IsUntouched, IsWritten}
 use Rattle.sv_policy_c.specs.Engine.{engine_of, explained}
 use Rattle.sv_policy_c.specs.Status.{number}
 use Rattle.sv_policy_c.specs.declared.engine.Engine.{Engine}
@@ -65,6 +65,19 @@ AddsRole role before after status.Short = ⊥
 abbrev pub IfHeld : (Engine → Status → Type 0) → Option Engine → Status → Type 0
 IfHeld does None told = told ≡ status.Nothing
 IfHeld does (Some engine) told = does engine told
+
+-- a status that has no answer comes with nothing written
+abbrev pub WritesForAnswer : List ℕ → List ℕ → ℕ → ℕ → Status → Type 0
+WritesForAnswer old new before size status.Written = Unit {0}
+WritesForAnswer old new before size status.Fault = Unit {0}
+WritesForAnswer old new before size status.Short = Unit {0}
+WritesForAnswer old new before size other = IsUntouched old new before size
+
+-- of a descriptor that is read nothing is written, either
+abbrev pub WritesForFault : List ℕ → List ℕ → ℕ → ℕ → Status → Type 0
+WritesForFault old new before size status.Fault = Unit {0}
+WritesForFault old new before size status.Short = Unit {0}
+WritesForFault old new before size other = IsUntouched old new before size
 
 -- only what is not UTF-8 is called no text
 abbrev pub CallsNoText : List ℕ → Status → Type 0

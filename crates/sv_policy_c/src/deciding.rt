@@ -1,6 +1,7 @@
 //! What the exported functions do with an engine.
 
 ghost use Rattle.std.specs.Prelude.{◌≡◌, ◌≢◌, Ok, Err, IfOk, IfErr};
+ghost use Rattle.sv_policy_c.specs.Answer.{IsUntouched};
 ghost use Rattle.sv_policy_c.specs.Deciding as spec;
 ghost use Rattle.sv_policy_c.specs.Engine.{engine_of, explained};
 ghost use Rattle.sv_policy_c.specs.Uncovered.{uncovered_in, Lists};
@@ -28,6 +29,7 @@ pub(crate) fn decide(
 ) -> Status
     ensures said { spec.WritesAnswer (explained engine.now method.now target.now) answer.old answer.new length.new result }
     ensures text { spec.CallsNoText method.now result }
+    ensures room { spec.WritesForAnswer answer.old answer.new length.old length.new result }
 {
     let Ok(method) = str::from_utf8(method) else {
         return Status::NotText;
@@ -48,6 +50,7 @@ fn write_explanation(
 ) -> Status
     ensures said { spec.WritesAnswer (Ok explanation.now) answer.old answer.new length.new result }
     ensures text { result ≢ Status.NotText }
+    ensures room { spec.WritesForAnswer answer.old answer.new length.old length.new result }
 {
     match format!(in alloc; "{explanation}") {
         Ok(text) => written(put(answer, length, text.as_str())),
@@ -77,6 +80,8 @@ pub(crate) fn open(
     ensures opened { IfOk result (λ engine. engine_of path.now descriptor.now ≡ Ok engine.value) }
     ensures refused { IfErr result (spec.RefusesDescriptor (engine_of path.now descriptor.now) answer.old answer.new length.new) }
     ensures text { IfErr result (spec.CallsNoTexts path.now descriptor.now) }
+    ensures room { IfErr result (spec.WritesForFault answer.old answer.new length.old length.new) }
+    ensures room_kept { IfOk result (λ _. IsUntouched answer.old answer.new length.old length.new) }
 {
     let Ok(path) = str::from_utf8(path) else {
         return Err(Status::NotText);
@@ -109,6 +114,7 @@ fn write_fault(
 ) -> Status
     ensures said { spec.RefusesDescriptor (Err fault.now) answer.old answer.new length.new result }
     ensures text { result ≢ Status.NotText }
+    ensures room { spec.WritesForFault answer.old answer.new length.old length.new result }
 {
     match format!(in alloc; "{fault}") {
         Ok(text) => refused(put(answer, length, text.as_str())),
@@ -171,6 +177,7 @@ pub(crate) fn list_uncovered(
 ) -> Status
     ensures said { Lists (uncovered_in path.now descriptor.now) answer.old answer.new length.new result }
     ensures text { spec.CallsNoTexts path.now descriptor.now result }
+    ensures room { spec.WritesForAnswer answer.old answer.new length.old length.new result }
 {
     let Ok(path) = str::from_utf8(path) else {
         return Status::NotText;
@@ -190,6 +197,7 @@ pub(crate) fn list_uncovered(
 fn list_lines(lines: &str, answer: &mut [u8], length: &mut usize) -> Status
     ensures said { Lists (Ok lines.now) answer.old answer.new length.new result }
     ensures text { result ≢ Status.NotText }
+    ensures room { spec.WritesForAnswer answer.old answer.new length.old length.new result }
 {
     written(put(answer, length, lines))
 }
@@ -204,6 +212,7 @@ fn list_fault(
 ) -> Status
     ensures said { Lists (Err (Descriptor _context.now fault.now)) answer.old answer.new length.new result }
     ensures text { result ≢ Status.NotText }
+    ensures room { spec.WritesForAnswer answer.old answer.new length.old length.new result }
 {
     match format!(in alloc; "{fault}") {
         Ok(text) => refused(put(answer, length, text.as_str())),

@@ -25,6 +25,7 @@ pub extern "C" fn sv_policy_open(
 ) -> u32
     ensures opened { spec.Returns result (spec.Opens (engine_of path.now descriptor.now) policy.old.value policy.new.value answer.old answer.new length.new) }
     ensures text { spec.Returns result (spec.CallsNoTexts path.now descriptor.now) }
+    ensures room { spec.Returns result (spec.WritesForFault answer.old answer.new length.old length.new) }
 {
     match open(alloc, path, descriptor, answer, length) {
         Ok(engine) => {
@@ -86,6 +87,7 @@ pub extern "C" fn sv_policy_decide(
     ensures decided { spec.Returns result (spec.IfHeld
         (λ engine. spec.WritesAnswer (explained engine method.now target.now) answer.old answer.new length.new) policy.old.value) }
     ensures text { spec.Returns result (spec.CallsNoText method.now) }
+    ensures room { spec.Returns result (spec.WritesForAnswer answer.old answer.new length.old length.new) }
 {
     let Some(engine) = policy.take(alloc) else {
         return Status::Nothing.number();
@@ -107,6 +109,7 @@ pub extern "C" fn sv_policy_uncovered(
 ) -> u32
     ensures said { spec.Returns result (Lists (uncovered_in path.now descriptor.now) answer.old answer.new length.new) }
     ensures text { spec.Returns result (spec.CallsNoTexts path.now descriptor.now) }
+    ensures room { spec.Returns result (spec.WritesForAnswer answer.old answer.new length.old length.new) }
 {
     list_uncovered(alloc, path, descriptor, answer, length).number()
 }

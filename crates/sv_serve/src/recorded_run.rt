@@ -1,6 +1,7 @@
 //! A container over all connections of an address at once, with a journal.
 
-use crate::running::listen_and_run;
+use crate::running::run_controlled;
+use crate::sockets::file_fault;
 use std::alloc::Global;
 use std::fs::OpenOptions;
 use std::io;
@@ -12,17 +13,17 @@ use sv_program::CommandFault;
 use sv_recording::{Alarm, Record, Recorder};
 use sv_run::Reactor;
 use sv_streams::WriteSink;
-use sv_text::{NoMemory, Text};
 
-/// Serves as [`listen_and_run`] does, appends what the events bring to the file of that name, and gives the container back.
+/// Serves as [`run_controlled`] does, appends what the events bring to the file of that name, and gives the container back.
 ///
 /// # Errors
-/// [`CommandFault::File`] where that file cannot be opened; then those of [`listen_and_run`].
+/// [`CommandFault::File`] where that file cannot be opened; then those of [`run_controlled`].
 pub(crate) fn run_recorded<H: Net + Clock + Files + Eprint, W: Write, R: Reactor + Drop>(
     alloc: Global,
     host: &H,
     writer: &mut W,
     address: SocketAddr,
+    control: Option<&str>,
     name: &str,
     container: R,
 ) -> (Result<(), CommandFault>, R) {
@@ -31,23 +32,24 @@ pub(crate) fn run_recorded<H: Net + Clock + Files + Eprint, W: Write, R: Reactor
     };
     let record = Record::new(alloc, WriteSink::new(file), StandardError { host });
     let mut recorder = Recorder::new(container, record);
-    let served = listen_and_run(alloc, host, writer, address, &mut recorder);
+    let served = run_controlled(alloc, host, writer, address, control, &mut recorder);
     (served, recorder.into_within())
 }
 
-/// Serves as [`listen_and_run`] does, and gives the container back.
+/// Serves as [`run_controlled`] does, and gives the container back.
 ///
 /// # Errors
-/// Those of [`listen_and_run`].
-pub(crate) fn run_plainly<H: Net + Clock, W: Write, R: Reactor + Drop>(
+/// Those of [`run_controlled`].
+pub(crate) fn run_plainly<H: Net + Clock + Files, W: Write, R: Reactor + Drop>(
     alloc: Global,
     host: &H,
     writer: &mut W,
     address: SocketAddr,
+    control: Option<&str>,
     container: R,
 ) -> (Result<(), CommandFault>, R) {
     let mut container = container;
-    let served = listen_and_run(alloc, host, writer, address, &mut container);
+    let served = run_controlled(alloc, host, writer, address, control, &mut container);
     (served, container)
 }
 
@@ -57,14 +59,6 @@ fn open_to_append<H: Files>(host: &H, name: &str) -> io::Result<H::File> {
         .append(true)
         .create(true)
         .open(host, name)
-}
-
-// The fault of a file that cannot be opened.
-fn file_fault(alloc: Global, name: &str) -> CommandFault {
-    match Text::copy_of(alloc, name) {
-        Ok(name) => CommandFault::File(name),
-        Err(NoMemory) => CommandFault::NoMemory,
-    }
 }
 
 // Tells on standard error that entries are lost.

@@ -20,11 +20,11 @@ use sv_program::{CommandFault, FileStore};
 
 /// Starts the container of the server file with the random words of that seeding, listens at the address, or at the server file's port on this
 /// machine where none is given, writes the line `listening ADDRESS:PORT`, serves all connections that come, none waiting for another, until the process
-/// is ended from outside, and shuts the container down, also where something failed before. Where a journal is named, what the events bring is
-/// appended to that file.
+/// is ended from outside, or is told to stop at the socket file, where one is named, and shuts the container down, also where something failed before.
+/// Where a journal is named, what the events bring is appended to that file.
 ///
 /// # Errors
-/// The first fault: those of [`start_seeded`], when nothing was written; then [`CommandFault::File`] for a journal that cannot be opened; then
+/// The first fault: those of [`start_seeded`], when nothing was written; then [`CommandFault::File`] for a journal or a socket file that cannot be had; then
 /// [`CommandFault::Socket`], [`CommandFault::Output`] or [`CommandFault::NoMemory`] as the run meets them.
 pub fn run<S: FileStore + FolderStore, H: Net + Clock + RandomSource + Files + Eprint, W: Write>(
     alloc: Global,
@@ -34,6 +34,7 @@ pub fn run<S: FileStore + FolderStore, H: Net + Clock + RandomSource + Files + E
     config: &str,
     address: Option<SocketAddr>,
     seeding: Seeding,
+    control: Option<&str>,
     journal: Option<&str>,
 ) -> Result<(), CommandFault>
     ensures { BeginsRun (steps_of ⟦<ProgramServlet as Servlet>⟧.servlet_step ⟦<ProgramFilter as Filter>⟧.filter_step ⟦<ProgramListener as Listener>⟧.listener_step)
@@ -47,8 +48,8 @@ pub fn run<S: FileStore + FolderStore, H: Net + Clock + RandomSource + Files + E
     };
     let address = address_or(address, port);
     let (served, container) = match journal {
-        Some(name) => run_recorded(alloc, host, writer, address, name, container),
-        None => run_plainly(alloc, host, writer, address, container),
+        Some(name) => run_recorded(alloc, host, writer, address, control, name, container),
+        None => run_plainly(alloc, host, writer, address, control, container),
     };
     let mut container = container;
     let _stopped = container.shutdown();

@@ -1,9 +1,10 @@
 //! A container over all connections of an address at once.
 
-use crate::sockets::front_fault_of;
+use crate::sockets::{file_fault, front_fault_of};
 use std::alloc::Global;
 use std::io::Write;
 use std::net::{Net, SocketAddr};
+use std::rt::Files;
 use std::time::Clock;
 use sv_front::run_front;
 use sv_program::{CommandFault, print_line};
@@ -24,12 +25,61 @@ pub fn listen_and_run<H: Net + Clock, W: Write, R: Reactor>(
     address: SocketAddr,
     container: &mut R,
 ) -> Result<(), CommandFault> {
-    let Ok(listening) = Listening::at(host, address) else {
+    match Listening::at(host, address) {
+        Ok(listening) => tell_and_run(alloc, host, writer, listening, container),
+        Err(_) => Err(CommandFault::Socket),
+    }
+}
+
+/// Serves as [`listen_and_run`] does, and where a socket file is named, until the line `stop` is sent there, too: then what waits to be written is
+/// written, for 5 seconds at most, and for 2 more what peers still send is read on and dropped.
+///
+/// # Errors
+/// [`CommandFault::Socket`]; then [`CommandFault::File`] for a socket file that cannot be had; then those of [`listen_and_run`].
+pub(crate) fn run_controlled<H: Net + Clock + Files, W: Write, R: Reactor>(
+    alloc: Global,
+    host: &H,
+    writer: &mut W,
+    address: SocketAddr,
+    control: Option<&str>,
+    container: &mut R,
+) -> Result<(), CommandFault> {
+    let Ok(mut listening) = Listening::at(host, address) else {
         return Err(CommandFault::Socket);
     };
+    match take_lines(alloc, host, &mut listening, control) {
+        Ok(()) => tell_and_run(alloc, host, writer, listening, container),
+        Err(fault) => Err(fault),
+    }
+}
+
+// Tells where it listens, and serves.
+fn tell_and_run<H: Net + Clock, W: Write, R: Reactor>(
+    alloc: Global,
+    host: &H,
+    writer: &mut W,
+    listening: Listening,
+    container: &mut R,
+) -> Result<(), CommandFault> {
     match tell_address(alloc, writer, &listening) {
         Ok(()) => run_listening(alloc, host, listening, container),
         Err(fault) => Err(fault),
+    }
+}
+
+// Takes lines at the socket file, where one is named.
+fn take_lines<H: Net + Files>(
+    alloc: Global,
+    host: &H,
+    listening: &mut Listening,
+    control: Option<&str>,
+) -> Result<(), CommandFault> {
+    let Some(name) = control else {
+        return Ok(());
+    };
+    match listening.take_lines_at(host, name) {
+        Ok(()) => Ok(()),
+        Err(_) => Err(file_fault(alloc, name)),
     }
 }
 
@@ -69,7 +119,9 @@ fn run_sockets<H: Clock, R: Reactor>(
     container: &mut R,
 ) -> Result<(), CommandFault> {
     let mut clock = SystemClock::new(host);
-    match run_front(alloc, container, sockets, &mut clock) {
+    let ran = run_front(alloc, container, sockets, &mut clock);
+    sockets.read_out();
+    match ran {
         Ok(()) if sockets.has_failed() => Err(CommandFault::Socket),
         Ok(()) => Ok(()),
         Err(fault) => Err(front_fault_of(fault)),

@@ -1,10 +1,12 @@
-//! A port of this machine, and the faults of what listens there.
+//! A port of this machine, and the faults of what listens there or is opened for it.
 
+use std::alloc::Global;
 use std::io;
 use std::net::{Ipv4Addr, Net, TcpListener};
 use sv_program::CommandFault;
 use sv_run::StepFault;
 use sv_runs::ServeFault;
+use sv_text::{NoMemory, Text};
 
 /// Listens at the port for connections of this machine alone.
 pub(crate) fn listen<H: Net>(host: &H, port: u16) -> io::Result<H::Listener> {
@@ -17,6 +19,14 @@ pub(crate) fn fault_of(fault: ServeFault) -> CommandFault {
         ServeFault::Connection => CommandFault::Socket,
         ServeFault::NoMemory => CommandFault::NoMemory,
         ServeFault::Output => CommandFault::Output,
+    }
+}
+
+/// The fault of a file that cannot be had.
+pub(crate) fn file_fault(alloc: Global, name: &str) -> CommandFault {
+    match Text::copy_of(alloc, name) {
+        Ok(name) => CommandFault::File(name),
+        Err(NoMemory) => CommandFault::NoMemory,
     }
 }
 
