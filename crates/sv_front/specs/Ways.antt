@@ -1,5 +1,5 @@
 -- What the calls of a peer are.
-use Rattle.std.specs.Prelude.{◌≡◌, ℕ, ◌<◌, ◌≤◌, List, [], length, take, Result, Ok, Err}
+use Rattle.std.specs.Prelude.{◌≡◌, ℕ, ◌<◌, ◌≤◌, Bool, true, false, List, [], length, take, Result, Ok, Err}
 use Rattle.sv_front.specs.declared.peer.Tried.{Tried}
 use Rattle.sv_front.specs.declared.peer.Tried.TheVariants.{Done, Failed, Paused}
 use Rattle.sv_text.specs.declared.no_memory.NoMemory.{NoMemory}
@@ -17,6 +17,11 @@ module _ {S : Type 0} (ways : Ways S) where
   TriesRead before (Done count) buffer after = (count ≤ length buffer) × ways.makes before (Gave (take count buffer)) after
   TriesRead before Paused buffer after = ways.pauses before after
   TriesRead before Failed buffer after = ways.makes before ReadFailed after
+
+  -- a read is known to have to wait, or nothing is known of it
+  abbrev pub TellsWait : S → Bool → S → Type 0
+  TellsWait before true after = ways.pauses before after
+  TellsWait before false after = after ≡ before
 
   -- a write of bytes, by its answer
   abbrev pub TriesWrite : S → Tried → List ℕ → S → Type 0

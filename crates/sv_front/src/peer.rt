@@ -1,7 +1,7 @@
 //! What is read and written without waiting.
 
 ghost use Rattle.std.specs.Prelude.{◌<◌, length, IsTrue};
-ghost use Rattle.sv_front.specs.Ways.{TriesRead, TriesWrite, Ways};
+ghost use Rattle.sv_front.specs.Ways.{TellsWait, TriesRead, TriesWrite, Ways};
 
 /// What came of a call that does not wait.
 #[derive(Clone, Copy, Debug, PartialEq, Eq)]
@@ -23,6 +23,10 @@ pub trait Peer {
     fn read(&mut self, buffer: &mut [u8]) -> Tried
         requires { 0 < length buffer.old }
         ensures { TriesRead ways self.old result buffer.new self.new };
+
+    /// Whether a read is known to have to wait, without trying it. What was known is known no more then.
+    fn would_wait(&mut self) -> bool
+        ensures { TellsWait ways self.old result self.new };
 
     /// Writes bytes, at least one. Those that were taken are the first of them.
     fn write(&mut self, bytes: &[u8]) -> Tried

@@ -97,7 +97,7 @@ impl Pending {
         }
     }
 
-    /// Reads once, so many bytes at most, where no bytes wait.
+    /// Reads once, so many bytes at most, where no bytes wait. Where the read is known to have to wait, no memory is taken for it.
     ///
     /// # Errors
     /// Memory ran out, and nothing was read.
@@ -113,6 +113,9 @@ impl Pending {
     {
         self.bytes = Vec::new(alloc);
         self.at = 0;
+        if peer.would_wait() {
+            return Ok(Tried::Paused);
+        }
         self.bytes.resize(most, 0)?;
         Ok(read_piece(peer, &mut self.bytes))
     }

@@ -64,6 +64,14 @@ impl<T: Read + Write + Source> Peer for StreamPeer<'_, T> {
         tried
     }
 
+    fn would_wait(&mut self) -> bool {
+        if !self.is_drained {
+            return false;
+        }
+        self.is_drained = false;
+        true
+    }
+
     fn write(&mut self, bytes: &[u8]) -> Tried {
         let tried = try_write(&mut self.stream, bytes);
         if tried == Tried::Paused {

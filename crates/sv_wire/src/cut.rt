@@ -19,6 +19,10 @@ impl Delimited for HeadText {
     ghost limit = { λ _. MAX_HEAD_LEN };
 
     fn is_ended(&self, bytes: &[u8]) -> bool {
+        // Most bytes end no line.
+        if !bytes.ends_with(b"\n") {
+            return false;
+        }
         bytes.ends_with(b"\n\n") || bytes.ends_with(b"\n\r\n")
     }
 
