@@ -4,16 +4,17 @@ use Rattle.std.proofs.lemmas.Bool.{cond-true, cond-false, lt-ltb, ltb-false, ltb
 use Rattle.std.specs.Cmp.{nat_eq_equiv}
 use Rattle.std.specs.Map.{lookup, set_value}
 use Rattle.std.proofs.lemmas.Map.{lookup-set_value}
+use Rattle.sv_front.specs.Asking.{EditsOnce}
 use Rattle.sv_front.specs.Course.{Along}
 use Rattle.sv_front.specs.Fronts.{Moves}
 use Rattle.sv_front.specs.Known.{AreAtRest, DrivesOne, EndsOne, Known, OpensNext, OthersStay, found, held_or_over, knows, place_in, Ticked, tick_result}
-use Rattle.sv_front.specs.Notes.{Goes, Of, Talks, Ticks, deeds_of}
+use Rattle.sv_front.specs.Notes.{Edits, Goes, Of, Talks, Ticks, deeds_of}
 use Rattle.sv_front.specs.Places.{Deed, Ends, Open, Opens, Over, Place, Standing, Unused, fresh}
 use Rattle.sv_front.specs.Steps.{Drives}
 use Rattle.sv_front.specs.Ways.{Ways}
 use Rattle.sv_front.specs.declared.cause.Cause.{Cause}
 use Rattle.sv_front.specs.declared.cause.Cause.TheVariants.{GivenUp}
-use Rattle.sv_run.specs.Events.{Opened, Tick}
+use Rattle.sv_run.specs.Events.{Edited, Opened, Tick}
 use Rattle.sv_run.specs.Reacting.{Reacting}
 use Rattle.sv_run.specs.declared.reaction.Reaction.{Reaction}
 use Rattle.sv_run.specs.declared.step_fault.StepFault.{StepFault}
@@ -150,6 +151,19 @@ module _ {R C S : Type 0} (ways : Ways S) (steps : Reacting R) (tells : C → �
   tick_told before after clock clock_after known moment result told (last, step, is) =
       let P : Result (Unit {0}) StepFault → Type 0 = λ r. Moves ways steps tells before clock known r after clock_after known in
       subst P (sym is) (ticked before after clock clock_after known moment last told step)
+
+  -- to be asked: an edit at most
+  pub edited_once : (before after : R) (clock : C) (known : Known S) (result : Result (Unit {0}) StepFault) → EditsOnce steps before result after
+      → Moves ways steps tells before clock known result after clock known
+  edited_once before after clock known (Ok done) (inl same) =
+      ([], record { went = record { reacts = same; told = refl }; courses = λ number. refl }, λ rest. rest)
+  edited_once before after clock known (Ok done) (inr (path, edit, reaction, step)) = (
+    Edits path edit reaction ∷ [],
+    record { went = record { reacts = (after, step, refl); told = refl }; courses = λ number. refl },
+    λ rest. rest,
+  )
+  edited_once before after clock known (Err fault) (path, edit, step) =
+      ([], before, clock, place_in known, record { went = record { reacts = refl; told = refl }; courses = λ number. refl }, inr (Edited path edit, step))
 
   -- one place is another
   abbrev pub placed : ℕ → Place S → (ℕ → Place S) → ℕ → Place S

@@ -3,10 +3,10 @@ use Rattle.std.proofs.Common.{◌≡◌, ℕ, Bool, true, false, cond, List, [],
 use Rattle.std.proofs.lemmas.List.{map-append}
 use Rattle.sv_connection.specs.Connection.{AreTold}
 use Rattle.sv_front.specs.Course.{Along}
-use Rattle.sv_front.specs.Notes.{Goes, Note, Of, Talks, Ticks, Went, answer_of, answers, deeds_of, event_of, events, moment_of, moments}
+use Rattle.sv_front.specs.Notes.{Edits, Goes, Note, Of, Talks, Ticks, Went, answer_of, answers, deeds_of, event_of, events, moment_of, moments}
 use Rattle.sv_front.specs.Places.{Deed, Place}
 use Rattle.sv_front.specs.Ways.{Ways}
-use Rattle.sv_run.specs.Events.{Happening, Tick}
+use Rattle.sv_run.specs.Events.{Edited, Happening, Tick}
 use Rattle.sv_run.specs.Reacting.{Reacting, Reacts}
 use Rattle.sv_run.specs.declared.reaction.Reaction.{Reaction}
 use Rattle.sv_run.specs.declared.step_fault.StepFault.{StepFault}
@@ -17,6 +17,7 @@ events_join [] more = refl
 events_join (Of number deed ∷ notes) more =
     ap (λ later. event_of number deed ++ later) (events_join notes more) ∙ sym (append_assoc (event_of number deed) (events notes) (events more))
 events_join (Ticks moment reaction ∷ notes) more = ap (λ later. Tick moment ∷ later) (events_join notes more)
+events_join (Edits path edit reaction ∷ notes) more = ap (λ later. Edited path edit ∷ later) (events_join notes more)
 
 pub answers_join : (notes more : List Note) → answers (notes ++ more) ≡ answers notes ++ answers more
 answers_join [] more = refl
@@ -24,12 +25,15 @@ answers_join (Of number deed ∷ notes) more =
     ap (λ later. answer_of deed ++ later) (answers_join notes more) ∙ sym (append_assoc (answer_of deed) (answers notes) (answers more))
 answers_join (Ticks moment reaction ∷ notes) more =
     let first : Result Reaction StepFault = Ok reaction in ap (λ later. first ∷ later) (answers_join notes more)
+answers_join (Edits path edit reaction ∷ notes) more =
+    let first : Result Reaction StepFault = Ok reaction in ap (λ later. first ∷ later) (answers_join notes more)
 
 pub moments_join : (notes more : List Note) → moments (notes ++ more) ≡ moments notes ++ moments more
 moments_join [] more = refl
 moments_join (Of number deed ∷ notes) more =
     ap (λ later. moment_of deed ++ later) (moments_join notes more) ∙ sym (append_assoc (moment_of deed) (moments notes) (moments more))
 moments_join (Ticks moment reaction ∷ notes) more = ap (λ later. moment ∷ later) (moments_join notes more)
+moments_join (Edits path edit reaction ∷ notes) more = moments_join notes more
 
 cond_join : (b : Bool) (deed : Deed) (deeds more later : List Deed) → later ≡ deeds ++ more
     → cond b (deed ∷ later) later ≡ cond b (deed ∷ deeds) deeds ++ more
@@ -41,6 +45,7 @@ deeds_join number [] more = refl
 deeds_join number (Of other deed ∷ notes) more =
     cond_join (nat_eq number other) deed (deeds_of number notes) (deeds_of number more) (deeds_of number (notes ++ more)) (deeds_join number notes more)
 deeds_join number (Ticks moment reaction ∷ notes) more = deeds_join number notes more
+deeds_join number (Edits path edit reaction ∷ notes) more = deeds_join number notes more
 
 told_join : {C : Type 0} (tells : C → ℕ → C → Type 0) (before between after : C) (told more : List ℕ)
     → AreTold tells before told between → AreTold tells between more after → AreTold tells before (told ++ more) after

@@ -1,4 +1,5 @@
 pub mod Alone
+pub mod Asking
 pub mod Course
 pub mod Ending
 pub mod Figures

@@ -9,15 +9,17 @@ use Rattle.sv_front.specs.declared.cause.Cause.{Cause}
 use Rattle.sv_front.specs.declared.cause.Cause.TheVariants.{AnswerCloses, GivenUp, PeerEnded, ReadFails, WriteFails}
 use Rattle.sv_connection.specs.declared.over.Over.{Over}
 use Rattle.sv_connection.specs.declared.over.Over.TheVariants.{Closed, Lost}
-use Rattle.sv_run.specs.Events.{Happening, Opened, Piece, Tick}
+use Rattle.sv_policy.specs.declared.edit.Edit.{Edit}
+use Rattle.sv_run.specs.Events.{Edited, Happening, Opened, Piece, Tick}
 use Rattle.sv_run.specs.Reacting.{Reacting, Reacts}
 use Rattle.sv_run.specs.declared.reaction.Reaction.{Reaction}
 use Rattle.sv_run.specs.declared.step_fault.StepFault.{StepFault}
 
--- a deed of the connection of that number, or a tick at that moment
+-- a deed of the connection of that number, a tick at that moment, or an edit of the context of that path
 pub data Note : Type 0 where
   Of : ℕ → Deed → Note
   Ticks : ℕ → Reaction → Note
+  Edits : List ℕ → Edit → Reaction → Note
 
 -- how a connection is over by its cause
 abbrev pub over_by : Cause → Over
@@ -48,22 +50,26 @@ abbrev pub events : List Note → List Happening
 events [] = []
 events (Of number deed ∷ notes) = event_of number deed ++ events notes
 events (Ticks moment reaction ∷ notes) = Tick moment ∷ events notes
+events (Edits path edit reaction ∷ notes) = Edited path edit ∷ events notes
 
 abbrev pub answers : List Note → List (Result Reaction StepFault)
 answers [] = []
 answers (Of number deed ∷ notes) = answer_of deed ++ answers notes
 answers (Ticks moment reaction ∷ notes) = Ok reaction ∷ answers notes
+answers (Edits path edit reaction ∷ notes) = Ok reaction ∷ answers notes
 
 abbrev pub moments : List Note → List ℕ
 moments [] = []
 moments (Of number deed ∷ notes) = moment_of deed ++ moments notes
 moments (Ticks moment reaction ∷ notes) = moment ∷ moments notes
+moments (Edits path edit reaction ∷ notes) = moments notes
 
 -- what was done of one number
 abbrev pub deeds_of : ℕ → List Note → List Deed
 deeds_of number [] = []
 deeds_of number (Of other deed ∷ notes) = cond (nat_eq number other) (deed ∷ deeds_of number notes) (deeds_of number notes)
 deeds_of number (Ticks moment reaction ∷ notes) = deeds_of number notes
+deeds_of number (Edits path edit reaction ∷ notes) = deeds_of number notes
 
 module _ {R C : Type 0} (steps : Reacting R) (tells : C → ℕ → C → Type 0) where
   -- the events were taken one after another, at the moments that the clock told

@@ -4,6 +4,7 @@
 mod allowance;
 mod cause;
 mod connection;
+mod consulted;
 mod ending;
 mod figures;
 mod finishing;
@@ -17,8 +18,10 @@ mod pieces;
 mod running;
 mod sent;
 mod step;
+mod unasked;
 
 pub use cause::Cause;
+pub use consulted::Consulted;
 pub use figures::Figures;
 pub use laws::{
     bytes_are_kept, each_is_served_as_if_alone, ends_have_a_cause, limits_are_as_stated,
@@ -32,3 +35,4 @@ pub use limits::{
 pub use network::{Network, Told};
 pub use peer::{Peer, Tried};
 pub use running::run_front;
+pub use unasked::Unasked;

@@ -1,7 +1,11 @@
 //! What reports readiness and accepts connections.
 
+ghost use Rattle.sv_front.specs.Asking.{EditsOnce};
+
+use crate::consulted::Consulted;
 use crate::figures::Figures;
 use crate::peer::Peer;
+use sv_run::{Reactor, StepFault};
 
 /// What a network tells.
 #[derive(Clone, Copy, Debug, PartialEq, Eq)]
@@ -12,7 +16,7 @@ pub enum Told {
     Incoming,
     /// A second has passed, or more.
     Second,
-    /// It is asked how things stand.
+    /// Something is asked: how things stand, what the reactor answers, or that it takes an edit.
     Asked,
     /// No more is to be served. What waits to be written is written first; where this is told once more, not even that.
     Stop,
@@ -32,7 +36,19 @@ pub trait Network {
     /// Takes back the stream of a connection that is over.
     fn part(&mut self, number: u64, peer: Self::Peer);
 
-    /// Takes how things stand, where it told that this is asked.
+    /// Answers what is asked, where it told so, by how things stand and by the reactor. Where an edit of the constraints of a context is asked for,
+    /// the reactor takes it, once. It takes no other event.
+    ///
+    /// # Errors
+    /// Why the edit was refused.
+    fn consult<R: Reactor + Consulted>(
+        &mut self,
+        figures: Figures,
+        reactor: &mut R,
+    ) -> Result<(), StepFault>
+        ensures { EditsOnce R.steps reactor.old result reactor.new };
+
+    /// Answers what is asked, where it told so and no event is taken any more, by how things stand alone.
     fn tell(&mut self, figures: Figures);
 
     /// The time in seconds, since any moment. It is meant never to go back.

@@ -1,10 +1,12 @@
 //! One loop over all connections.
 
 ghost use Rattle.std.specs.Prelude.{◌≡◌};
+ghost use Rattle.sv_front.specs.Asking.{EditsOnce};
 ghost use Rattle.sv_front.specs.Fronts.{Moves, Serves};
 ghost use Rattle.sv_front.specs.Known.{Ticked};
 ghost use Rattle.sv_front.specs.declared.network.Told.TheVariants.{Asked};
 
+use crate::consulted::Consulted;
 use crate::finishing::finish;
 use crate::front::Front;
 use crate::limits::{ACCEPTED_AT_ONCE, MAX_CONNECTIONS};
@@ -15,12 +17,13 @@ use sv_run::{Happening, Reactor, StepFault};
 use sv_streams::Clock;
 
 /// Serves all connections of a network at once, until it tells to stop: what is ready is read, handed on in pieces and answered, as far as that
-/// goes without waiting. No connection waits for another. Where it is asked how things stand, it tells the network so, and does nothing else. Behind
-/// the last event what waits to be written is written, for [`FINISH_SECONDS`](crate::FINISH_SECONDS) at most.
+/// goes without waiting. No connection waits for another. Where something is asked, the network answers it, by how things stand and by the reactor, which
+/// may take an edit for it, and nothing is done of any connection. Behind the last event what waits to be written is written, for
+/// [`FINISH_SECONDS`](crate::FINISH_SECONDS) at most.
 ///
 /// # Errors
 /// Why an event was refused, or want of memory. No event follows it.
-pub fn run_front<R: Reactor, N: Network, C: Clock>(
+pub fn run_front<R: Reactor + Consulted, N: Network, C: Clock>(
     alloc: Global,
     reactor: &mut R,
     network: &mut N,
@@ -46,8 +49,8 @@ pub fn run_front<R: Reactor, N: Network, C: Clock>(
     Ok(())
 }
 
-// Does what the network tells. To be asked how things stand is no event, and nothing is done of any connection.
-fn take<R: Reactor, N: Network, C: Clock>(
+// Does what the network tells. To be asked is an edit at most, which no moment is told for, and nothing is done of any connection.
+fn take<R: Reactor + Consulted, N: Network, C: Clock>(
     front: &mut Front<N::Peer>,
     told: Told,
     reactor: &mut R,
@@ -55,16 +58,13 @@ fn take<R: Reactor, N: Network, C: Clock>(
     network: &mut N,
 ) -> Result<(), StepFault>
     ensures moves { Moves N.Peer.ways R.steps C.tells reactor.old clock.old front.old result reactor.new clock.new front.new }
-    ensures asked { told ≡ Asked → (reactor.new ≡ reactor.old) × (clock.new ≡ clock.old) × (front.new ≡ front.old) }
+    ensures asked { told ≡ Asked → EditsOnce R.steps reactor.old result reactor.new × (clock.new ≡ clock.old) × (front.new ≡ front.old) }
 {
     match told {
         Told::Ready(number) => front.serve(number, reactor, clock, network),
         Told::Incoming => accept_some(front, reactor, clock, network),
         Told::Second => pass_second(front, reactor, clock, network),
-        Told::Asked => {
-            network.tell(front.figures());
-            Ok(())
-        }
+        Told::Asked => network.consult(front.figures(), reactor),
         Told::Stop => Ok(()),
     }
 }

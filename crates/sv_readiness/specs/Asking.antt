@@ -1,16 +1,59 @@
 -- The lines at the socket file.
-use Rattle.std.specs.Prelude.{ℕ, ◌++◌, List, bytes_eq, codes, if◌then◌else◌}
+use Rattle.std.specs.Prelude.{◌≡◌, ◌==◌, ℕ, ◌++◌, Bool, List, bytes_eq, codes, position, take, Option, None, Some, Result, Ok, Err, if◌then◌else◌}
 use Rattle.std.specs.Fmt.{decimal}
+use Rattle.std.specs.Option.{option_and_then, option_map}
+use Rattle.sv_front.specs.Asking.{Explaining}
 use Rattle.sv_front.specs.declared.figures.Figures.{Figures}
 use Rattle.sv_readiness.specs.declared.asking.Ask.{Ask}
-use Rattle.sv_readiness.specs.declared.asking.Ask.TheVariants.{Status, Stop, Unknown}
+use Rattle.sv_readiness.specs.declared.asking.Ask.TheVariants.{Explain, Status, Unknown}
+use Rattle.sv_readiness.specs.declared.asking.Ask.TheVariants as ask
+use Rattle.sv_readiness.specs.declared.limits.TheConstants.{MAX_LINE_BYTES}
+use Rattle.sv_policy.specs.declared.edit.Edit.{Edit}
+use Rattle.sv_run.specs.Events.{Edited}
+use Rattle.sv_run.specs.Reacting.{Reacting}
+use Rattle.sv_run.specs.declared.reaction.Reaction.{Reaction}
+use Rattle.sv_run.specs.declared.step_fault.StepFault.{StepFault}
+use Rattle.sv_script.specs.Fields.{at_blank, text_of}
+use Rattle.sv_script.specs.Line.{asked}
+use Rattle.sv_script.specs.Printed.{edited_lines}
+use Rattle.sv_script.specs.declared.fault.LineFault.{LineFault}
+use Rattle.sv_script.specs.declared.line.ScriptLine.{ScriptLine}
+use Rattle.sv_script.specs.declared.line.ScriptLine.TheVariants as script
+use Rattle.sv_text.specs.Gives.{GivesAnswer}
+use Rattle.sv_text.specs.declared.no_memory.NoMemory.{NoMemory}
 
--- what a line asks
+-- where the first line ends, which has so many bytes at most, its end with it
+abbrev pub line_end : List ℕ → Option ℕ
+line_end bytes = position (λ b. b == 10) (take MAX_LINE_BYTES bytes)
+
+-- the server is asked to stop
+abbrev pub asks_to_stop : List ℕ → Bool
+asks_to_stop line = bytes_eq line (codes "stop")
+
+-- a method, a target, and a user behind another blank, where one is named
+abbrev pub explaining_of : List ℕ → List ℕ → Option (List ℕ × List ℕ) → Option Ask
+explaining_of method rest None = Some (Explain method rest None)
+explaining_of method rest (Some cut) = option_map (λ user. Explain method cut.0 (Some user)) (text_of cut.1)
+
+abbrev pub explaining : List ℕ → Option Ask
+explaining rest = option_and_then (λ cut. option_and_then (λ method. explaining_of method cut.1 (at_blank cut.1)) (text_of cut.0)) (at_blank rest)
+
+-- `explain METHOD TARGET` or `explain METHOD TARGET USER`
+abbrev pub explain_of : List ℕ → Option Ask
+explain_of line = option_and_then (λ cut. if bytes_eq cut.0 (codes "explain") then explaining cut.1 else None) (at_blank line)
+
+-- of the lines of a script the edits alone
+abbrev pub script_ask : Result ScriptLine LineFault → Ask
+script_ask (Ok (script.Edit path edit)) = ask.Edit path edit
+script_ask other = Unknown
+
+abbrev pub or_edit : Option Ask → List ℕ → Ask
+or_edit (Some explain) line = explain
+or_edit None line = script_ask (asked line)
+
+-- what any other line asks
 abbrev pub ask_of : List ℕ → Ask
-ask_of line =
-    if bytes_eq line (codes "status") then Status
-    else if bytes_eq line (codes "stop") then Stop
-    else Unknown
+ask_of line = if bytes_eq line (codes "status") then Status else or_edit (explain_of line) line
 
 -- how things stand, each figure behind its name
 abbrev pub figures_text : Figures → List ℕ
@@ -21,3 +64,34 @@ figures_text figures =
 -- the line that tells it
 abbrev pub status_line : Figures → List ℕ
 status_line figures = figures_text figures ++ codes "\n"
+
+-- what is said where nothing is known
+abbrev pub known_text : Option (List ℕ) → List ℕ
+known_text None = codes "unknown\n"
+known_text (Some text) = text
+
+-- what is said where no event is taken any more
+abbrev pub last_text : List ℕ → Figures → List ℕ
+last_text line figures = if bytes_eq line (codes "status") then status_line figures else codes "stopping\n"
+
+module _ {R : Type 0} (before : R) where
+  -- that is said, unless there was no memory, and no event was taken
+  abbrev pub SaysAlone : List ℕ → Result (Result (List ℕ) NoMemory) StepFault → R → Type 0
+  SaysAlone text (Ok said) after = GivesAnswer said text × (after ≡ before)
+  SaysAlone text (Err fault) after = ⊥
+
+  module _ (steps : Reacting R) where
+    -- an edit is taken once, and answered as a replay prints it; where there was no memory to answer, it was not taken
+    abbrev pub EditsTo : List ℕ → Edit → Result (Result (List ℕ) NoMemory) StepFault → R → Type 0
+    EditsTo path edit (Ok (Ok text)) after =
+        (reaction : Reaction) × steps before (Edited path edit) (Ok reaction) after × (text ≡ edited_lines reaction.edited)
+    EditsTo path edit (Ok (Err refused)) after = after ≡ before
+    EditsTo path edit (Err fault) after = steps before (Edited path edit) (Err fault) after
+
+    module _ (explains : Explaining R) (figures : Figures) where
+      -- what comes of what is asked
+      abbrev pub RepliesTo : Ask → Result (Result (List ℕ) NoMemory) StepFault → R → Type 0
+      RepliesTo Status result after = SaysAlone (status_line figures) result after
+      RepliesTo (ask.Edit path edit) result after = EditsTo path edit result after
+      RepliesTo (Explain method target user) result after = SaysAlone (known_text (explains before method target user)) result after
+      RepliesTo Unknown result after = SaysAlone (codes "unknown\n") result after

@@ -1,12 +1,19 @@
-//! The socket file at which a server that runs is asked how things stand, and stopped.
+//! The socket file at which a server that runs is asked, edited and stopped.
 
-use crate::asking::{Ask, ask_of, status_line};
+ghost use Rattle.std.specs.Prelude.{◌≡◌, ◌≤◌, drop, length};
+ghost use Rattle.sv_front.specs.Asking.{EditsOnce};
+
+use crate::asking::{asks_to_stop, line_end};
 use crate::calls::{try_read, try_write};
-use crate::limits::{MAX_ASKING_SECONDS, MAX_LINE_BYTES};
+use crate::limits::{ASKED_AT_ONCE, MAX_ASKING_SECONDS, MAX_LINE_BYTES};
+use crate::replying::{last_text, reply};
 use mio::net::{UnixListener, UnixStream};
 use mio::{Interest, Registry, Token};
 use std::alloc::Global;
-use sv_front::{Figures, Tried};
+use std::mem;
+use sv_front::{Consulted, Figures, Told, Tried};
+use sv_run::{Reactor, StepFault};
+use sv_text::{Bytes, NoMemory};
 
 /// The token of the socket file. No connection has it as its number.
 pub(crate) const CONTROL: usize = usize::MAX - 1;
@@ -20,7 +27,7 @@ const STOPPING: &[u8] = b"stopping\n";
 
 const NO_MEMORY: &[u8] = b"no memory\n";
 
-/// A listener at a socket file, and who asks there: one after another, as they have connected. One line is taken of each, and answered by one.
+/// A listener at a socket file, and who asks there: one after another, as they have connected. One line is taken of each, and answered.
 #[derive(Drop)]
 pub(crate) struct Control<'a> {
     alloc: Global,
@@ -28,6 +35,7 @@ pub(crate) struct Control<'a> {
     listener: UnixListener,
     asker: Option<UnixStream>,
     line: Vec<u8>,
+    answer: Vec<u8>,
     until: u64,
     stopper: Option<UnixStream>,
 }
@@ -41,6 +49,7 @@ impl<'a> Control<'a> {
             listener,
             asker: None,
             line: Vec::new(alloc),
+            answer: Vec::new(alloc),
             until: 0,
             stopper: None,
         }
@@ -69,24 +78,34 @@ impl<'a> Control<'a> {
         if registered.is_ok() {
             self.asker = Some(stream);
             self.line = Vec::new(self.alloc);
+            self.answer = Vec::new(self.alloc);
             self.until = now.saturating_add(MAX_ASKING_SECONDS);
         }
     }
 
-    /// Lets go who sent no whole line in time, and takes the next.
+    /// Lets go who sent no whole line in time, or did not take its answer, and takes the next.
     pub fn expire(&mut self, now: u64) {
         if self.until <= now {
-            self.asker = None;
+            self.let_go(now);
         }
         self.welcome(now);
     }
 
-    /// Reads on of who asks, and says what is asked, where a line is whole. Who ends before that is let go.
-    pub fn hear(&mut self, now: u64) -> Option<Ask> {
+    /// Reads on of who asks, and says where a line is whole. That the server stops is answered here. Who ends before a line is whole is let go, and who
+    /// is answered already is written to.
+    pub fn hear(&mut self, now: u64) -> Option<Told> {
+        if !self.answer.is_empty() {
+            self.write_on(now);
+            return None;
+        }
         for _ in 0..u64::MAX {
             match self.read_on() {
                 Heard::Part => {}
-                Heard::Whole(ask) => return Some(ask),
+                Heard::Whole => return Some(self.told_by_line(now)),
+                Heard::TooLong => {
+                    self.say(UNKNOWN, now);
+                    return None;
+                }
                 Heard::UntilPaused => return None,
                 Heard::End => {
                     self.let_go(now);
@@ -97,9 +116,18 @@ impl<'a> Control<'a> {
         None
     }
 
+    // What a whole line tells.
+    fn told_by_line(&mut self, now: u64) -> Told {
+        if asks_to_stop(self.line.as_slice()) {
+            self.stop(now);
+            return Told::Stop;
+        }
+        Told::Asked
+    }
+
     // Reads once.
     fn read_on(&mut self) -> Heard {
-        let mut buffer = [0; MAX_LINE_BYTES];
+        let mut buffer = [0; ASKED_AT_ONCE];
         let Some(stream) = &mut self.asker else {
             return Heard::UntilPaused;
         };
@@ -110,21 +138,23 @@ impl<'a> Control<'a> {
         }
     }
 
-    // Takes more of a line.
+    // Takes more of a line, without its end.
     fn add(&mut self, bytes: &[u8]) -> Heard {
         if self.line.extend_from_slice(bytes).is_err() {
             return Heard::End;
         }
-        let line = self.line.as_slice();
-        match line.iter().position(|byte| *byte == b'\n') {
-            Some(end) => Heard::Whole(ask_of(line.split_at(end).0)),
-            None if line.len() >= MAX_LINE_BYTES => Heard::Whole(Ask::Unknown),
+        match line_end(self.line.as_slice()) {
+            Some(end) => {
+                self.line.truncate(end);
+                Heard::Whole
+            }
+            None if self.line.len() >= MAX_LINE_BYTES => Heard::TooLong,
             None => Heard::Part,
         }
     }
 
-    /// Answers that the server stops. Who asked learns of its end by the end of the connection.
-    pub fn tell_stop(&mut self, now: u64) {
+    // Answers that the server stops. Who asked learns of its end by the end of the connection.
+    fn stop(&mut self, now: u64) {
         if let Some(stream) = self.asker.take() {
             let mut stream = stream;
             // Who is gone hears nothing.
@@ -134,33 +164,133 @@ impl<'a> Control<'a> {
         self.welcome(now);
     }
 
-    /// Answers that nothing is known by what was asked, and lets who asked go.
-    pub fn tell_unknown(&mut self, now: u64) {
-        self.answer(UNKNOWN, now);
-    }
-
-    /// Answers how things stand, and lets who asked go.
-    pub fn tell(&mut self, figures: Figures, now: u64) {
-        match status_line(self.alloc, figures) {
-            Ok(line) => self.answer(line.as_bytes(), now),
-            Err(_) => self.answer(NO_MEMORY, now),
+    /// Answers the line that is whole, by how things stand and by the reactor, which takes the edit that it asks for.
+    ///
+    /// # Errors
+    /// Why the edit was refused.
+    pub fn consult<R: Reactor + Consulted>(
+        &mut self,
+        figures: Figures,
+        reactor: &mut R,
+        now: u64,
+    ) -> Result<(), StepFault>
+        ensures { EditsOnce R.steps reactor.old result reactor.new }
+    {
+        let line = mem::replace(&mut self.line, Vec::new(self.alloc));
+        match reply(self.alloc, line.as_slice(), figures, reactor) {
+            Ok(text) => {
+                self.give(text, now);
+                Ok(())
+            }
+            Err(fault) => {
+                self.say(NO_MEMORY, now);
+                Err(fault)
+            }
         }
     }
 
-    // Answers who asked, where one did, and lets go.
-    fn answer(&mut self, line: &[u8], now: u64) {
+    /// Answers the line that is whole where no event is taken any more, by how things stand.
+    pub fn tell(&mut self, figures: Figures, now: u64) {
+        let line = mem::replace(&mut self.line, Vec::new(self.alloc));
+        let text = last_text(self.alloc, line.as_slice(), figures);
+        self.give(text, now);
+    }
+
+    // Answers who asked, or says that there is no memory.
+    fn give(&mut self, text: Result<Bytes, NoMemory>, now: u64) {
+        match text {
+            Ok(text) => self.write(text, now),
+            Err(_) => self.say(NO_MEMORY, now),
+        }
+    }
+
+    // Says a few words, which a stream that was not written to has room for.
+    fn say(&mut self, words: &[u8], now: u64) {
         if let Some(stream) = &mut self.asker {
             // Who is gone hears nothing.
-            let _ = try_write(stream, line);
+            let _ = try_write(stream, words);
         }
         self.let_go(now);
+    }
+
+    // Answers by a text, which may be longer than what the stream takes at once.
+    fn write(&mut self, text: Bytes, now: u64) {
+        self.answer = text.into_vec();
+        self.until = now.saturating_add(MAX_ASKING_SECONDS);
+        self.write_on(now);
+    }
+
+    // Writes what is left of an answer, as far as that goes without waiting. Behind the last of it, or where a write fails, who asked is let go.
+    fn write_on(&mut self, now: u64) {
+        for _ in 0..u64::MAX {
+            match self.write_once() {
+                Wrote::Some => {}
+                Wrote::UntilPaused => return,
+                Wrote::End => {
+                    self.let_go(now);
+                    return;
+                }
+            }
+        }
+    }
+
+    // Writes once, where something is left.
+    fn write_once(&mut self) -> Wrote {
+        if self.answer.is_empty() {
+            return Wrote::End;
+        }
+        let Some(stream) = &mut self.asker else {
+            return Wrote::End;
+        };
+        match try_write(stream, self.answer.as_slice()) {
+            Tried::Done(count) => {
+                skip(&mut self.answer, count);
+                Wrote::Some
+            }
+            Tried::Paused => self.await_room(),
+            Tried::Failed => Wrote::End,
+        }
+    }
+
+    // Asks to be told when the stream takes more.
+    fn await_room(&mut self) -> Wrote {
+        let Some(stream) = &mut self.asker else {
+            return Wrote::End;
+        };
+        let token = Token(ASKER);
+        match self.registry.reregister(stream, token, Interest::WRITABLE) {
+            Ok(()) => Wrote::UntilPaused,
+            Err(_) => Wrote::End,
+        }
     }
 
     // Lets go who asked, and takes the next.
     fn let_go(&mut self, now: u64) {
         self.asker = None;
+        self.answer = Vec::new(self.alloc);
         self.welcome(now);
     }
+}
+
+// Passes over so many bytes.
+fn skip(bytes: &mut Vec<u8>, count: usize)
+    requires { count ≤ length bytes.old.items }
+    ensures { bytes.new.items ≡ drop count bytes.old.items }
+{
+    let len = bytes.len();
+    bytes.copy_within(count..len, 0);
+    bytes.truncate(len - count);
+}
+
+// What a write of an answer came to.
+#[derive(Clone, Copy)]
+enum Wrote {
+    // More may be taken at once.
+    Some,
+    // The next write would have to wait.
+    UntilPaused,
+    // Nothing is left, nobody is there, or the write failed.
+    End,
 }
 
 // What reading on of a line came to.
@@ -168,8 +298,10 @@ impl<'a> Control<'a> {
 enum Heard {
     // More may come at once.
     Part,
-    // The line is whole, or longer than any that is known.
-    Whole(Ask),
+    // The line is whole.
+    Whole,
+    // The line is longer than any that is known.
+    TooLong,
     // The next read would have to wait, or nobody asks.
     UntilPaused,
     // There is no more to read, or no memory for the line.

@@ -3,7 +3,7 @@
 ghost use Rattle.std.specs.Prelude.{◌≡◌};
 
 use crate::limits::{
-    DROPPED_READ_BYTES, EVENTS_AT_ONCE, LINGER_SECONDS, MAX_ASKING_SECONDS, MAX_DROPPED_BYTES,
+    ASKED_AT_ONCE, DROPPED_READ_BYTES, EVENTS_AT_ONCE, LINGER_SECONDS, MAX_ASKING_SECONDS, MAX_DROPPED_BYTES,
     MAX_DROPPED_READS, MAX_LINE_BYTES, MAX_LINGERING, MAX_READY_BEFORE_ACCEPT,
 };
 
@@ -15,7 +15,8 @@ pub fn limits_are_as_stated()
     ensures seconds { LINGER_SECONDS ≡ 2 }
     ensures bytes { MAX_DROPPED_BYTES ≡ 16777216 }
     ensures reads { MAX_DROPPED_READS ≡ 64 }
-    ensures line { MAX_LINE_BYTES ≡ 64 }
+    ensures line { MAX_LINE_BYTES ≡ 8192 }
+    ensures asked { ASKED_AT_ONCE ≡ 1024 }
     ensures asking { MAX_ASKING_SECONDS ≡ 2 }
     ensures read { DROPPED_READ_BYTES ≡ 16384 }
 {}

@@ -6,11 +6,13 @@ mod asking;
 mod calls;
 mod control;
 mod dropping;
+mod fields;
 mod laws;
 mod limits;
 mod lingering;
 mod listening;
 mod ready;
+mod replying;
 mod sockets;
 mod stream_peer;
 

@@ -22,7 +22,10 @@ pub const MAX_DROPPED_READS: u32 = 64;
 pub(crate) const DROPPED_READ_BYTES: usize = 16_384;
 
 /// As many bytes a line at the socket file has at most, its end with it.
-pub const MAX_LINE_BYTES: usize = 64;
+pub const MAX_LINE_BYTES: usize = 8_192;
 
-/// Within so many seconds a line at the socket file is to be whole.
+/// How many bytes a read of such a line takes at most.
+pub(crate) const ASKED_AT_ONCE: usize = 1024;
+
+/// Within so many seconds a line at the socket file is to be whole, and within as many more its answer is to be read.
 pub const MAX_ASKING_SECONDS: u64 = 2;

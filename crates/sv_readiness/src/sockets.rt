@@ -1,6 +1,5 @@
 //! A listener and its connections as a network.
 
-use crate::asking::Ask;
 use crate::control::{ASKER, CONTROL, Control};
 use crate::limits::{EVENTS_AT_ONCE, MAX_READY_BEFORE_ACCEPT};
 use crate::lingering::Lingering;
@@ -14,7 +13,8 @@ use std::io;
 use std::io::ErrorKind;
 use std::net::Shutdown;
 use std::time::{Clock, Duration};
-use sv_front::{Figures, Network, Told};
+use sv_front::{Consulted, Figures, Network, Told};
+use sv_run::{Reactor, StepFault};
 
 /// A listener and its connections. What the system fails to do for one of them ends that one alone, or is tried again within a second.
 #[derive(Drop)]
@@ -104,18 +104,7 @@ impl<'a, C: Clock> Sockets<'a, C> {
         if token == CONTROL {
             control.welcome(now);
         }
-        match control.hear(now) {
-            Some(Ask::Status) => Some(Told::Asked),
-            Some(Ask::Stop) => {
-                control.tell_stop(now);
-                Some(Told::Stop)
-            }
-            Some(Ask::Unknown) => {
-                control.tell_unknown(now);
-                None
-            }
-            None => None,
-        }
+        control.hear(now)
     }
 
     // Lets go the streams whose time is over, and who asks at the socket file, where that is not heard by now: else it is told.
@@ -249,6 +238,18 @@ impl<'a, C: Clock> Network for Sockets<'a, C> {
         if stream.shutdown(Shutdown::Write).is_ok() {
             let now = self.seconds();
             self.lingering.take(number, stream, now, self.registry);
+        }
+    }
+
+    fn consult<R: Reactor + Consulted>(
+        &mut self,
+        figures: Figures,
+        reactor: &mut R,
+    ) -> Result<(), StepFault> {
+        let now = self.seconds();
+        match &mut self.control {
+            Some(control) => control.consult(figures, reactor, now),
+            None => Ok(()),
         }
     }
 

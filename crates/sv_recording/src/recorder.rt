@@ -3,8 +3,11 @@
 use crate::alarm::Alarm;
 use crate::place::connection_of;
 use crate::record::Record;
+use std::alloc::Global;
+use sv_front::Consulted;
 use sv_run::{Happening, Reaction, Reactor, StepFault};
 use sv_streams::Sink;
+use sv_text::{Bytes, NoMemory};
 
 /// What takes events as the one within does, and records what they bring.
 #[derive(Drop)]
@@ -52,5 +55,19 @@ impl<R: Reactor, O: Sink, A: Alarm> Reactor for Recorder<R, O, A> {
             }
             Err(fault) => Err(fault),
         }
+    }
+}
+
+impl<R: Consulted, O, A> Consulted for Recorder<R, O, A> {
+    ghost explains = { λ recorder method target user. R.explains recorder.within method target user };
+
+    fn explain(
+        &self,
+        alloc: Global,
+        method: &str,
+        target: &[u8],
+        user: Option<&str>,
+    ) -> Result<Option<Bytes>, NoMemory> {
+        self.within.explain(alloc, method, target, user)
     }
 }

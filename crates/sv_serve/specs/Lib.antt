@@ -1,3 +1,4 @@
+pub mod Asked
 pub mod Running
 pub mod Seeding
 pub mod Starting

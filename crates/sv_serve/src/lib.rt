@@ -1,6 +1,7 @@
 //! The commands that listen: a server's container over the connections of a port.
 #![tactic(auto)]
 
+mod asked_container;
 mod listening;
 mod recorded_run;
 mod run_command;

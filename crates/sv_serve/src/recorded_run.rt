@@ -9,6 +9,7 @@ use std::io::Write;
 use std::net::{Net, SocketAddr};
 use std::rt::Files;
 use std::time::Clock;
+use sv_front::Consulted;
 use sv_program::CommandFault;
 use sv_recording::{Alarm, Record, Recorder};
 use sv_run::Reactor;
@@ -18,7 +19,7 @@ use sv_streams::WriteSink;
 ///
 /// # Errors
 /// [`CommandFault::File`] where that file cannot be opened; then those of [`run_controlled`].
-pub(crate) fn run_recorded<H: Net + Clock + Files + Eprint, W: Write, R: Reactor + Drop>(
+pub(crate) fn run_recorded<H: Net + Clock + Files + Eprint, W: Write, R: Reactor + Consulted + Drop>(
     alloc: Global,
     host: &H,
     writer: &mut W,
@@ -40,7 +41,7 @@ pub(crate) fn run_recorded<H: Net + Clock + Files + Eprint, W: Write, R: Reactor
 ///
 /// # Errors
 /// Those of [`run_controlled`].
-pub(crate) fn run_plainly<H: Net + Clock + Files, W: Write, R: Reactor + Drop>(
+pub(crate) fn run_plainly<H: Net + Clock + Files, W: Write, R: Reactor + Consulted + Drop>(
     alloc: Global,
     host: &H,
     writer: &mut W,

@@ -3,6 +3,7 @@
 ghost use Rattle.sv_component.specs.Steps.{steps_of};
 ghost use Rattle.sv_serve.specs.Running.{BeginsRun};
 
+use crate::asked_container::AskedContainer;
 use crate::recorded_run::{run_plainly, run_recorded};
 use crate::seeded_start::start_seeded;
 use crate::seeding::Seeding;
@@ -47,12 +48,12 @@ pub fn run<S: FileStore + FolderStore, H: Net + Clock + RandomSource + Files + E
         Err(fault) => return Err(fault),
     };
     let address = address_or(address, port);
-    let (served, container) = match journal {
-        Some(name) => run_recorded(alloc, host, writer, address, control, name, container),
-        None => run_plainly(alloc, host, writer, address, control, container),
+    let asked = AskedContainer::new(container);
+    let (served, asked) = match journal {
+        Some(name) => run_recorded(alloc, host, writer, address, control, name, asked),
+        None => run_plainly(alloc, host, writer, address, control, asked),
     };
-    let mut container = container;
-    let _stopped = container.shutdown();
+    let _stopped = asked.into_container().shutdown();
     served
 }
 

@@ -6,37 +6,40 @@ use std::io::Write;
 use std::net::{Net, SocketAddr};
 use std::rt::Files;
 use std::time::Clock;
-use sv_front::run_front;
+use sv_front::{Consulted, Unasked, run_front};
 use sv_program::{CommandFault, print_line};
 use sv_readiness::{Listening, Sockets};
 use sv_run::Reactor;
 use sv_streams::SystemClock;
 
 /// Listens at the address, where port 0 stands for any that is free, writes the line `listening ADDRESS:PORT`, and serves all connections that come,
-/// none waiting for another, until the process is ended from outside. The container is one that [`start`](crate::start) gave; it goes on to stand,
-/// and its `shutdown` stops it.
+/// none waiting for another, until the process is ended from outside. The container is one that [`start`](crate::start) gave; it is given back, goes
+/// on to stand, and its `shutdown` stops it.
 ///
 /// # Errors
 /// [`CommandFault::Socket`], [`CommandFault::Output`] or [`CommandFault::NoMemory`] as the run meets them.
-pub fn listen_and_run<H: Net + Clock, W: Write, R: Reactor>(
+pub fn listen_and_run<H: Net + Clock, W: Write, R: Reactor + Drop>(
     alloc: Global,
     host: &H,
     writer: &mut W,
     address: SocketAddr,
-    container: &mut R,
-) -> Result<(), CommandFault> {
-    match Listening::at(host, address) {
-        Ok(listening) => tell_and_run(alloc, host, writer, listening, container),
+    container: R,
+) -> (Result<(), CommandFault>, R) {
+    let mut unasked = Unasked::new(container);
+    let served = match Listening::at(host, address) {
+        Ok(listening) => tell_and_run(alloc, host, writer, listening, &mut unasked),
         Err(_) => Err(CommandFault::Socket),
-    }
+    };
+    (served, unasked.into_within())
 }
 
-/// Serves as [`listen_and_run`] does, and where a socket file is named, until the line `stop` is sent there, too: then what waits to be written is
-/// written, for 5 seconds at most, and for 2 more what peers still send is read on and dropped.
+/// Serves as [`listen_and_run`] does, and where a socket file is named, answers what is asked there, has the container take the edits that are sent, and
+/// serves until the line `stop` is sent there, too: then what waits to be written is written, for 5 seconds at most, and for 2 more what peers still
+/// send is read on and dropped.
 ///
 /// # Errors
 /// [`CommandFault::Socket`]; then [`CommandFault::File`] for a socket file that cannot be had; then those of [`listen_and_run`].
-pub(crate) fn run_controlled<H: Net + Clock + Files, W: Write, R: Reactor>(
+pub(crate) fn run_controlled<H: Net + Clock + Files, W: Write, R: Reactor + Consulted>(
     alloc: Global,
     host: &H,
     writer: &mut W,
@@ -54,7 +57,7 @@ pub(crate) fn run_controlled<H: Net + Clock + Files, W: Write, R: Reactor>(
 }
 
 // Tells where it listens, and serves.
-fn tell_and_run<H: Net + Clock, W: Write, R: Reactor>(
+fn tell_and_run<H: Net + Clock, W: Write, R: Reactor + Consulted>(
     alloc: Global,
     host: &H,
     writer: &mut W,
@@ -97,7 +100,7 @@ fn tell_address<W: Write>(
 }
 
 // Serves the connections of a listener.
-fn run_listening<H: Net + Clock, R: Reactor>(
+fn run_listening<H: Net + Clock, R: Reactor + Consulted>(
     alloc: Global,
     host: &H,
     listening: Listening,
@@ -112,7 +115,7 @@ fn run_listening<H: Net + Clock, R: Reactor>(
     run_sockets(alloc, host, &mut sockets, container)
 }
 
-fn run_sockets<H: Clock, R: Reactor>(
+fn run_sockets<H: Clock, R: Reactor + Consulted>(
     alloc: Global,
     host: &H,
     sockets: &mut Sockets<'_, H>,

@@ -49,9 +49,9 @@ where
 {
     let alloc = rt.alloc();
     let seed = seed_for(alloc, rt, Seeding::Fresh, &[0; 32])?;
-    let mut container = start(alloc, deployments, &seed)?;
+    let container = start(alloc, deployments, &seed)?;
     let mut writer = io::writer(rt);
-    let served = listen_and_run(alloc, rt, &mut writer, options.address, &mut container);
+    let (served, container) = listen_and_run(alloc, rt, &mut writer, options.address, container);
     let _stopped = container.shutdown();
     served
 }

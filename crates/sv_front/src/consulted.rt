@@ -1,0 +1,29 @@
+//! What can be asked of what takes events.
+
+ghost use Rattle.std.specs.Option.{option_copied};
+ghost use Rattle.sv_text.specs.Gives.{GivesAnswer};
+
+use std::alloc::Global;
+use sv_text::{Bytes, NoMemory};
+
+/// What can be asked of what takes events, without any event.
+pub trait Consulted {
+    ghost use Rattle.sv_front.specs.Asking.{Explaining};
+
+    /// What is said of a request, where anything is.
+    ghost explains: { Explaining Self };
+
+    /// What would become of a request with this method and this target, from the named user or without a caller, as a line with its end; or nothing,
+    /// where that is not known here. Nothing changes.
+    ///
+    /// # Errors
+    /// Memory ran out.
+    fn explain(
+        &self,
+        alloc: Global,
+        method: &str,
+        target: &[u8],
+        user: Option<&str>,
+    ) -> Result<Option<Bytes>, NoMemory>
+        ensures { GivesAnswer result (explains self.now method.now target.now (option_copied user.entry)) };
+}

@@ -1,0 +1,54 @@
+//! What takes events, and is asked nothing.
+
+use crate::consulted::Consulted;
+use std::alloc::Global;
+use sv_run::{Happening, Reaction, Reactor, StepFault};
+use sv_text::{Bytes, NoMemory};
+
+/// What takes events as the one within does, and says nothing of requests.
+#[derive(Drop)]
+pub struct Unasked<R> {
+    within: R,
+}
+
+impl<R> Unasked<R> {
+    ghost use Rattle.std.specs.Prelude.{◌≡◌};
+
+    /// What takes them as that one does.
+    pub fn new(within: R) -> Unasked<R>
+        ensures { result.within ≡ within }
+    {
+        Unasked { within }
+    }
+
+    /// Gives the one within back.
+    pub fn into_within(self) -> R
+        ensures { result ≡ self.within }
+    {
+        self.within
+    }
+}
+
+impl<R: Reactor> Reactor for Unasked<R> {
+    ghost steps = { λ before happening result after. R.steps before.within happening result after.within };
+
+    fn step(&mut self, happening: Happening) -> Result<Reaction, StepFault> {
+        self.within.step(happening)
+    }
+}
+
+impl<R> Consulted for Unasked<R> {
+    ghost use Rattle.std.specs.Prelude.{None};
+
+    ghost explains = { λ unasked method target user. None };
+
+    fn explain(
+        &self,
+        _alloc: Global,
+        _method: &str,
+        _target: &[u8],
+        _user: Option<&str>,
+    ) -> Result<Option<Bytes>, NoMemory> {
+        Ok(None)
+    }
+}

@@ -1,0 +1,154 @@
+//! What is said to a line at the socket file.
+
+ghost use Rattle.std.specs.Prelude.{◌≡◌, ◌+◌, ◌++◌, ◌≤◌, [], length, vec_capacity};
+ghost use Rattle.std.specs.Fmt.{decimal};
+ghost use Rattle.sv_front.specs.Asking.{EditsOnce};
+ghost use Rattle.sv_readiness.specs.Asking as spec;
+ghost use Rattle.sv_script.specs.Printed as printed;
+ghost use Rattle.sv_text.specs.Gives.{GivesAnswer};
+
+use crate::asking::{Ask, ask_of, status_line};
+use itoa::Buffer;
+use std::alloc::Global;
+use sv_front::{Consulted, Figures};
+use sv_policy::{Edit, EditFault};
+use sv_run::{Happening, Reactor, StepFault};
+use sv_text::{Bytes, NoMemory, Text};
+
+// Room for the answer to an edit, which has 34 bytes at most.
+const EDITED_ROOM: usize = 64;
+
+/// What is said to a line that does not ask to stop, which stands here without its end. An edit is taken by the reactor, once, and answered by its number
+/// or why it was refused; any other line is no event. Where there is no memory to answer, that is told within, and nothing was done.
+///
+/// # Errors
+/// Why the edit was not taken.
+pub(crate) fn reply<R: Reactor + Consulted>(
+    alloc: Global,
+    line: &[u8],
+    figures: Figures,
+    reactor: &mut R,
+) -> Result<Result<Bytes, NoMemory>, StepFault>
+    ensures replies { spec.RepliesTo reactor.old R.steps R.explains figures (spec.ask_of line.now) result reactor.new }
+    ensures once { EditsOnce R.steps reactor.old result reactor.new }
+{
+    match ask_of(alloc, line) {
+        Ok(Ask::Status) => Ok(status_text(alloc, figures)),
+        Ok(Ask::Edit(path, edit)) => edit_reply(alloc, path.as_str(), &edit, reactor),
+        Ok(Ask::Explain(method, target, user)) => Ok(explain_text(alloc, &method, &target, &user, reactor)),
+        Ok(Ask::Unknown) => Ok(Bytes::copy_of(alloc, b"unknown\n")),
+        Err(NoMemory) => Ok(Err(NoMemory)),
+    }
+}
+
+/// What is said to a line where no event is taken any more.
+///
+/// # Errors
+/// Memory ran out.
+pub(crate) fn last_text(alloc: Global, line: &[u8], figures: Figures) -> Result<Bytes, NoMemory>
+    ensures { GivesAnswer result (spec.last_text line.now figures) }
+{
+    if line == b"status".as_slice() {
+        return status_text(alloc, figures);
+    }
+    Bytes::copy_of(alloc, b"stopping\n")
+}
+
+// How things stand.
+fn status_text(alloc: Global, figures: Figures) -> Result<Bytes, NoMemory>
+    ensures { GivesAnswer result (spec.status_line figures) }
+{
+    let line = status_line(alloc, figures)?;
+    Ok(Bytes::from_vec(line.into_bytes()))
+}
+
+// What the reactor says of a request.
+fn explain_text<R: Consulted>(
+    alloc: Global,
+    method: &Text,
+    target: &Bytes,
+    user: &Option<Text>,
+    reactor: &R,
+) -> Result<Bytes, NoMemory>
+    ensures { GivesAnswer result (spec.known_text (R.explains reactor.now method.now target.now user.now)) }
+{
+    let user = match user {
+        Some(user) => Some(user.as_str()),
+        None => None,
+    };
+    match reactor.explain(alloc, method.as_str(), target.as_slice(), user) {
+        Ok(Some(text)) => Ok(text),
+        Ok(None) => Bytes::copy_of(alloc, b"unknown\n"),
+        Err(NoMemory) => Err(NoMemory),
+    }
+}
+
+// Has an edit taken. There is room for the answer before.
+fn edit_reply<R: Reactor + Consulted>(
+    alloc: Global,
+    path: &str,
+    edit: &Edit,
+    reactor: &mut R,
+) -> Result<Result<Bytes, NoMemory>, StepFault>
+    ensures { spec.EditsTo reactor.old R.steps path.now edit.now result reactor.new }
+{
+    let Ok(mut text) = Vec::with_capacity(alloc, EDITED_ROOM) else {
+        return Ok(Err(NoMemory));
+    };
+    let context = path;
+    match reactor.step(Happening::Edit { context, edit }) {
+        Ok(reaction) => {
+            push_edited(&mut text, reaction.edited);
+            Ok(Ok(Bytes::from_vec(text)))
+        }
+        Err(fault) => Err(fault),
+    }
+}
+
+// The answer to an edit.
+fn push_edited(text: &mut Vec<u8>, edited: Option<Result<u64, EditFault>>)
+    requires none { text.old.items ≡ [] }
+    requires room { EDITED_ROOM ≤ vec_capacity text.old }
+    ensures { text.new.items ≡ printed.edited_lines edited }
+{
+    match edited {
+        None => {}
+        Some(Ok(number)) => push_number(text, b"edited ", number),
+        Some(Err(fault)) => push_number(text, b"edit refused ", edit_code(fault)),
+    }
+}
+
+// A line of a word and a number.
+fn push_number(text: &mut Vec<u8>, word: &[u8], number: u64)
+    requires none { text.old.items ≡ [] }
+    requires short { length word.now ≤ 16 }
+    requires room { EDITED_ROOM ≤ vec_capacity text.old }
+    ensures { text.new.items ≡ printed.line_of (word.now ++ decimal number) }
+{
+    let mut digits = Buffer::new();
+    push_all(text, word);
+    push_all(text, digits.format(number).as_bytes());
+    push_all(text, b"\n");
+}
+
+// Adds bytes, for which there is room.
+fn push_all(text: &mut Vec<u8>, bytes: &[u8])
+    requires { length text.old.items + length bytes.now ≤ vec_capacity text.old }
+    ensures items { text.new.items ≡ text.old.items ++ bytes.now }
+    ensures room { vec_capacity text.old ≤ vec_capacity text.new }
+{
+    // There is room.
+    let _room = text.extend_from_slice(bytes);
+}
+
+// The number by which a fault of an edit is told.
+fn edit_code(fault: EditFault) -> u64
+    ensures { result ≡ printed.edit_code fault }
+{
+    match fault {
+        EditFault::NoSuch => 1,
+        EditFault::TooMany => 2,
+        EditFault::NumberSpent => 3,
+        EditFault::NoMemory => 4,
+    }
+}
