@@ -7,14 +7,14 @@ ghost use Rattle.sv_front.specs.declared.network.Told.TheVariants.{Asked};
 
 use crate::finishing::finish;
 use crate::front::Front;
-use crate::limits::{ACCEPTED_AT_ONCE, MAX_CONNECTIONS};
+use crate::limits::{ACCEPTED_AT_ONCE, Limits, MAX_CONNECTIONS};
 use crate::network::{Network, Told};
 use crate::peer::Peer;
 use std::alloc::Global;
 use sv_run::{Happening, Reactor, StepFault};
 use sv_streams::Clock;
 
-/// Serves all connections of a network at once, until it tells to stop: what is ready is read, handed on in pieces and answered, as far as that
+/// Serves all connections of a network at once, within these limits, until it tells to stop: what is ready is read, handed on in pieces and answered, as far as that
 /// goes without waiting. No connection waits for another. Where it is asked how things stand, it tells the network so, and does nothing else. Behind
 /// the last event what waits to be written is written, for [`FINISH_SECONDS`](crate::FINISH_SECONDS) at most.
 ///
@@ -22,13 +22,14 @@ use sv_streams::Clock;
 /// Why an event was refused, or want of memory. No event follows it.
 pub fn run_front<R: Reactor, N: Network, C: Clock>(
     alloc: Global,
+    limits: Limits,
     reactor: &mut R,
     network: &mut N,
     clock: &mut C,
 ) -> Result<(), StepFault>
     ensures { Serves N.Peer.ways R.steps C.tells reactor.old clock.old result reactor.new clock.new }
 {
-    let mut front = Front::new(alloc);
+    let mut front = Front::new(alloc, limits);
     for _ in 0..u64::MAX {
         let told = network.wait();
         if told == Told::Stop {
