@@ -9,6 +9,7 @@ use std::io::Write;
 use std::net::{Net, SocketAddr};
 use std::rt::Files;
 use std::time::Clock;
+use sv_front::Limits;
 use sv_program::CommandFault;
 use sv_recording::{Alarm, Record, Recorder};
 use sv_run::Reactor;
@@ -23,6 +24,7 @@ pub(crate) fn run_recorded<H: Net + Clock + Files + Eprint, W: Write, R: Reactor
     host: &H,
     writer: &mut W,
     address: SocketAddr,
+    limits: Limits,
     control: Option<&str>,
     name: &str,
     container: R,
@@ -32,7 +34,7 @@ pub(crate) fn run_recorded<H: Net + Clock + Files + Eprint, W: Write, R: Reactor
     };
     let record = Record::new(alloc, WriteSink::new(file), StandardError { host });
     let mut recorder = Recorder::new(container, record);
-    let served = run_controlled(alloc, host, writer, address, control, &mut recorder);
+    let served = run_controlled(alloc, host, writer, address, limits, control, &mut recorder);
     (served, recorder.into_within())
 }
 
@@ -45,11 +47,20 @@ pub(crate) fn run_plainly<H: Net + Clock + Files, W: Write, R: Reactor + Drop>(
     host: &H,
     writer: &mut W,
     address: SocketAddr,
+    limits: Limits,
     control: Option<&str>,
     container: R,
 ) -> (Result<(), CommandFault>, R) {
     let mut container = container;
-    let served = run_controlled(alloc, host, writer, address, control, &mut container);
+    let served = run_controlled(
+        alloc,
+        host,
+        writer,
+        address,
+        limits,
+        control,
+        &mut container,
+    );
     (served, container)
 }
 
