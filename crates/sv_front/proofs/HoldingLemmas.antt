@@ -2,10 +2,9 @@
 use Rattle.std.proofs.Common.{ℕ, ◌≤◌, inr, Result, Ok, Err, OnOk}
 use Rattle.sv_front.specs.Holding.{HoldsWithin, held}
 use Rattle.sv_front.specs.Known.{Known}
-use Rattle.sv_front.specs.declared.limits.TheConstants.{MAX_HELD_BYTES}
 use Rattle.sv_run.specs.declared.step_fault.StepFault.{StepFault}
 
-pub eased : {S : Type 0} (number : ℕ) (known known_after : Known S) (result : Result (Unit {0}) StepFault) → OnOk result (held known_after ≤ MAX_HELD_BYTES)
-    → OnOk result (HoldsWithin number known known_after)
-eased number known known_after (Ok done) within = inr within
-eased number known known_after (Err fault) within = tt
+pub eased : {S : Type 0} (most number : ℕ) (known known_after : Known S) (result : Result (Unit {0}) StepFault) → OnOk result (held known_after ≤ most)
+    → OnOk result (HoldsWithin most number known known_after)
+eased most number known known_after (Ok done) within = inr within
+eased most number known known_after (Err fault) within = tt

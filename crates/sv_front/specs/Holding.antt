@@ -3,7 +3,6 @@ use Rattle.std.specs.Prelude.{◌⊎◌, ℕ, ◌+◌, ◌-◌, ◌≤◌, ◌^�
 use Rattle.std.specs.List.{fold}
 use Rattle.sv_front.specs.Known.{Known, found}
 use Rattle.sv_front.specs.Places.{Standing}
-use Rattle.sv_front.specs.declared.limits.TheConstants.{MAX_HELD_BYTES}
 
 -- two counts together, counted up to 2^64 - 1
 abbrev pub together : ℕ → ℕ → ℕ
@@ -26,6 +25,6 @@ module _ {S : Type 0} where
   abbrev pub held : Known S → ℕ
   held known = fold (λ sum at. together sum (weight at)) 0 (map (λ entry. entry.1) known.entries)
 
-  -- the one of that number holds no more than before, or all together hold no more than they may
-  abbrev pub HoldsWithin : ℕ → Known S → Known S → Type 0
-  HoldsWithin number known known_after = (weight_in known_after number ≤ weight_in known number) ⊎ (held known_after ≤ MAX_HELD_BYTES)
+  -- the one of that number holds no more than before, or all together hold so many bytes at most
+  abbrev pub HoldsWithin : ℕ → ℕ → Known S → Known S → Type 0
+  HoldsWithin most number known known_after = (weight_in known_after number ≤ weight_in known number) ⊎ (held known_after ≤ most)

@@ -8,9 +8,7 @@ ghost use Rattle.sv_front.specs.Steps.{Drives, HandsOn, IsArmed, SendsOn, StepsO
 use crate::allowance::Allowance;
 use crate::cause::Cause;
 use crate::ending::ends_message;
-use crate::limits::{
-    BYTES_A_WINDOW, FIRST_READ_BYTES, MAX_IDLE_SECONDS, READ_BYTES, WINDOW_SECONDS,
-};
+use crate::limits::{BYTES_A_WINDOW, FIRST_READ_BYTES, READ_BYTES, WINDOW_SECONDS};
 use crate::peer::{Peer, Tried};
 use crate::pending::Pending;
 use crate::pieces::piece_len;
@@ -37,6 +35,7 @@ pub(crate) struct Connection<P> {
     waits: bool,
     moved: usize,
     stirred: bool,
+    idle_seconds: u64,
     until: u64,
     rested: u64,
 }
@@ -55,8 +54,9 @@ impl<P: Peer> Connection<P> {
     ghost use Rattle.sv_front.specs.Holding.{weight};
     ghost use Rattle.sv_front.specs.Places.{under_way_behind};
 
-    /// A connection that was opened in that turn, whose stream is armed.
-    pub fn new(alloc: Global, stream: P, until: u64, turn: u64) -> Connection<P>
+    /// A connection that was opened at that time in seconds and in that turn, whose stream is armed. Where it stands between requests it is to be given up
+    /// after so many seconds.
+    pub fn new(alloc: Global, stream: P, now: u64, idle_seconds: u64, turn: u64) -> Connection<P>
         ensures { result ≡ record { stream = stream; ahead = []; unsent = []; closes = false; rests = true; under_way = 0 } }
     {
         Connection {
@@ -72,7 +72,8 @@ impl<P: Peer> Connection<P> {
             waits: false,
             moved: 0,
             stirred: false,
-            until,
+            idle_seconds,
+            until: now.saturating_add(idle_seconds),
             rested: turn,
         }
     }
@@ -172,7 +173,7 @@ impl<P: Peer> Connection<P> {
     {
         if self.stirred {
             self.waits = false;
-            self.until = now.saturating_add(MAX_IDLE_SECONDS);
+            self.until = now.saturating_add(self.idle_seconds);
             self.rested = turn;
         }
     }

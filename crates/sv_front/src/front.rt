@@ -13,7 +13,7 @@ ghost use Rattle.sv_run.specs.Seen.{happening_of};
 use crate::cause::Cause;
 use crate::connection::Connection;
 use crate::figures::Figures;
-use crate::limits::{MAX_CONNECTIONS, MAX_HELD_BYTES, MAX_IDLE_SECONDS};
+use crate::limits::{Limits, MAX_CONNECTIONS};
 use crate::network::Network;
 use crate::peer::Peer;
 use crate::sent::Sent;
@@ -23,11 +23,12 @@ use std::marker::Model;
 use sv_run::{Happening, Reactor, StepFault};
 use sv_streams::Clock;
 
-/// The connections that are known, by their numbers, the number of the next, and how often one was opened or driven, which tells apart what was
-/// done within a second. No number is given twice.
+/// The connections that are known, by their numbers, within limits, the number of the next, and how often one was opened or driven, which tells apart
+/// what was done within a second. No number is given twice.
 #[derive(Drop)]
 pub(crate) struct Front<P> {
     alloc: Global,
+    limits: Limits,
     next: u64,
     turns: u64,
     connections: HashMap<u64, Connection<P>>,
@@ -44,14 +45,14 @@ impl<P> Model for Front<P> {
 impl<P: Peer + Drop> Front<P> {
     ghost use Rattle.sv_front.specs.Known as spec;
     ghost use Rattle.std.specs.Prelude.{[], ◌<◌, ◌≤◌, ◌-◌, ◌^◌, IsTrue, OnOk};
-    ghost use Rattle.sv_front.specs.declared.limits.TheConstants.{MAX_HELD_BYTES};
 
     /// None is known.
-    pub fn new(alloc: Global) -> Front<P>
+    pub fn new(alloc: Global, limits: Limits) -> Front<P>
         ensures { result ≡ record { next = 0; entries = [] } }
     {
         Front {
             alloc,
+            limits,
             next: 0,
             turns: 0,
             connections: HashMap::new(alloc),
@@ -62,7 +63,8 @@ impl<P: Peer + Drop> Front<P> {
     pub fn has_room(&self) -> bool
         ensures { IsTrue result → self.now.next < 2 ^ 64 - 1 }
     {
-        self.connections.len() < MAX_CONNECTIONS && self.next < u64::MAX
+        let most = self.limits.connections.min(MAX_CONNECTIONS);
+        self.connections.len() < most && self.next < u64::MAX
     }
 
     /// Whether none is known.
@@ -100,7 +102,7 @@ impl<P: Peer + Drop> Front<P> {
     }
 
     /// Drives the connection of a number, where it is known, and ends it where it is over. Where it then holds more than before, and all connections
-    /// together more than [`MAX_HELD_BYTES`], those are given up whose time would be over first, until they hold no more.
+    /// together more than their limit, those are given up whose time would be over first, until they hold no more.
     ///
     /// # Errors
     /// Why an event was refused, or want of memory.
@@ -113,19 +115,21 @@ impl<P: Peer + Drop> Front<P> {
     ) -> Result<(), StepFault>
         ensures { Moves P.ways R.steps C.tells reactor.old clock.old self.old result reactor.new clock.new self.new }
     {
-        self.serve_within(number, reactor, clock, network)
+        let most = self.limits.held_bytes;
+        self.serve_within(most, number, reactor, clock, network)
     }
 
-    // Serves the connection of a number within what all may hold.
+    // Serves the connection of a number. All may hold so many bytes together.
     fn serve_within<R: Reactor, C: Clock, N: Network<Peer = P>>(
         &mut self,
+        most: u64,
         number: u64,
         reactor: &mut R,
         clock: &mut C,
         network: &mut N,
     ) -> Result<(), StepFault>
         ensures moves { Moves P.ways R.steps C.tells reactor.old clock.old self.old result reactor.new clock.new self.new }
-        ensures within { OnOk result (HoldsWithin number self.old self.new) }
+        ensures within { OnOk result (HoldsWithin most number self.old self.new) }
     {
         let before = self.weight_of(number);
         match self.serve_one(number, reactor, clock, network) {
@@ -135,21 +139,22 @@ impl<P: Peer + Drop> Front<P> {
         if self.weight_of(number) <= before {
             return Ok(());
         }
-        self.ease(reactor, clock, network)
+        self.ease(most, reactor, clock, network)
     }
 
-    // Gives connections up until all together hold no more than they may.
+    // Gives connections up until all together hold so many bytes at most.
     fn ease<R: Reactor, C: Clock, N: Network<Peer = P>>(
         &mut self,
+        most: u64,
         reactor: &mut R,
         clock: &mut C,
         network: &mut N,
     ) -> Result<(), StepFault>
         ensures moves { Moves P.ways R.steps C.tells reactor.old clock.old self.old result reactor.new clock.new self.new }
-        ensures within { OnOk result (held self.new ≤ MAX_HELD_BYTES) }
+        ensures within { OnOk result (held self.new ≤ most) }
     {
         for _ in 0..u64::MAX {
-            if self.held() <= MAX_HELD_BYTES {
+            if self.held() <= most {
                 return Ok(());
             }
             let Some(number) = self.slowest() else {
@@ -323,9 +328,9 @@ impl<P: Peer + Drop> Front<P> {
             Ok(_) => {}
             Err(fault) => return Err(fault),
         }
-        let until = now.saturating_add(MAX_IDLE_SECONDS);
         self.turns = self.turns.saturating_add(1);
-        let connection = Connection::new(self.alloc, stream, until, self.turns);
+        let idle_seconds = self.limits.idle_seconds;
+        let connection = Connection::new(self.alloc, stream, now, idle_seconds, self.turns);
         match self.connections.insert(self.next, connection) {
             Ok(_) => {}
             Err(_) => return Err(StepFault::NoMemory),

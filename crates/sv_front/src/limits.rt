@@ -18,7 +18,7 @@ pub const CALLS_AT_ONCE: u32 = 8;
 /// How many bytes such writes hand over at most, all of them together.
 pub const BYTES_AT_ONCE: usize = 65_536;
 
-/// A connection that stands between requests is given up after so many seconds.
+/// A connection that stands between requests is given up after so many seconds, unless a site sets another number.
 pub const MAX_IDLE_SECONDS: u64 = 60;
 
 /// Within so many seconds a message is to be read and answered, or enough bytes of it are to come or go.
@@ -27,8 +27,34 @@ pub const WINDOW_SECONDS: u64 = 10;
 /// So many bytes are enough.
 pub const BYTES_A_WINDOW: usize = 10_240;
 
-/// All connections together hold so many bytes at most, 64 MiB: what waits to be handed on or to be written, and messages that are not over.
+/// All connections together hold so many bytes at most, 64 MiB, unless a site sets another number: what waits to be handed on or to be written, and messages that are not over.
 pub const MAX_HELD_BYTES: u64 = 67_108_864;
+
+/// What a site may set of these limits.
+#[derive(Clone, Copy, Debug, PartialEq, Eq)]
+pub struct Limits {
+    /// As many connections are known at once, where that is less than [`MAX_CONNECTIONS`].
+    pub connections: usize,
+    /// A connection that stands between requests is given up after so many seconds.
+    pub idle_seconds: u64,
+    /// All connections together hold so many bytes at most.
+    pub held_bytes: u64,
+}
+
+impl Limits {
+    ghost use Rattle.std.specs.Prelude.{◌≡◌};
+
+    /// Those of a site that sets none.
+    pub fn standard() -> Limits
+        ensures { result ≡ record { connections = MAX_CONNECTIONS; idle_seconds = MAX_IDLE_SECONDS; held_bytes = MAX_HELD_BYTES } }
+    {
+        Limits {
+            connections: MAX_CONNECTIONS,
+            idle_seconds: MAX_IDLE_SECONDS,
+            held_bytes: MAX_HELD_BYTES,
+        }
+    }
+}
 
 /// At the end what waits to be written is written within so many seconds, or is not.
 pub const FINISH_SECONDS: u64 = 5;

@@ -9,29 +9,30 @@ ghost use Rattle.sv_front.specs.declared.network.Told.TheVariants.{Asked};
 use crate::consulted::Consulted;
 use crate::finishing::finish;
 use crate::front::Front;
-use crate::limits::{ACCEPTED_AT_ONCE, MAX_CONNECTIONS};
+use crate::limits::{ACCEPTED_AT_ONCE, Limits, MAX_CONNECTIONS};
 use crate::network::{Network, Told};
 use crate::peer::Peer;
 use std::alloc::Global;
 use sv_run::{Happening, Reactor, StepFault};
 use sv_streams::Clock;
 
-/// Serves all connections of a network at once, until it tells to stop: what is ready is read, handed on in pieces and answered, as far as that
-/// goes without waiting. No connection waits for another. Where something is asked, the network answers it, by how things stand and by the reactor, which
-/// may take an edit for it, and nothing is done of any connection. Behind the last event what waits to be written is written, for
+/// Serves all connections of a network at once, within these limits, until it tells to stop: what is ready is read, handed on in pieces and answered, as
+/// far as that goes without waiting. No connection waits for another. Where something is asked, the network answers it, by how things stand and by the
+/// reactor, which may take an edit for it, and nothing is done of any connection. Behind the last event what waits to be written is written, for
 /// [`FINISH_SECONDS`](crate::FINISH_SECONDS) at most.
 ///
 /// # Errors
 /// Why an event was refused, or want of memory. No event follows it.
 pub fn run_front<R: Reactor + Consulted, N: Network, C: Clock>(
     alloc: Global,
+    limits: Limits,
     reactor: &mut R,
     network: &mut N,
     clock: &mut C,
 ) -> Result<(), StepFault>
     ensures { Serves N.Peer.ways R.steps C.tells reactor.old clock.old result reactor.new clock.new }
 {
-    let mut front = Front::new(alloc);
+    let mut front = Front::new(alloc, limits);
     for _ in 0..u64::MAX {
         let told = network.wait();
         if told == Told::Stop {

@@ -35,7 +35,9 @@ pub(crate) fn reply<R: Reactor + Consulted>(
     match ask_of(alloc, line) {
         Ok(Ask::Status) => Ok(status_text(alloc, figures)),
         Ok(Ask::Edit(path, edit)) => edit_reply(alloc, path.as_str(), &edit, reactor),
-        Ok(Ask::Explain(method, target, user)) => Ok(explain_text(alloc, &method, &target, &user, reactor)),
+        Ok(Ask::Explain(method, target, user)) => Ok(explain_text(
+            alloc, &method, &target, &user, reactor,
+        )),
         Ok(Ask::Unknown) => Ok(Bytes::copy_of(alloc, b"unknown\n")),
         Err(NoMemory) => Ok(Err(NoMemory)),
     }

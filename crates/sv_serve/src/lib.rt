@@ -21,3 +21,4 @@ pub use seeding::{RANDOM_SOURCE, Seeding, seed_for};
 pub use self_test_command::self_test;
 pub use serve_command::serve;
 pub use starting::{ProgramContainer, StartedServer, start, start_server};
+pub use sv_front::Limits;

@@ -9,7 +9,7 @@ use std::io::Write;
 use std::net::{Net, SocketAddr};
 use std::rt::Files;
 use std::time::Clock;
-use sv_front::Consulted;
+use sv_front::{Consulted, Limits};
 use sv_program::CommandFault;
 use sv_recording::{Alarm, Record, Recorder};
 use sv_run::Reactor;
@@ -19,11 +19,16 @@ use sv_streams::WriteSink;
 ///
 /// # Errors
 /// [`CommandFault::File`] where that file cannot be opened; then those of [`run_controlled`].
-pub(crate) fn run_recorded<H: Net + Clock + Files + Eprint, W: Write, R: Reactor + Consulted + Drop>(
+pub(crate) fn run_recorded<
+    H: Net + Clock + Files + Eprint,
+    W: Write,
+    R: Reactor + Consulted + Drop,
+>(
     alloc: Global,
     host: &H,
     writer: &mut W,
     address: SocketAddr,
+    limits: Limits,
     control: Option<&str>,
     name: &str,
     container: R,
@@ -33,7 +38,7 @@ pub(crate) fn run_recorded<H: Net + Clock + Files + Eprint, W: Write, R: Reactor
     };
     let record = Record::new(alloc, WriteSink::new(file), StandardError { host });
     let mut recorder = Recorder::new(container, record);
-    let served = run_controlled(alloc, host, writer, address, control, &mut recorder);
+    let served = run_controlled(alloc, host, writer, address, limits, control, &mut recorder);
     (served, recorder.into_within())
 }
 
@@ -46,11 +51,20 @@ pub(crate) fn run_plainly<H: Net + Clock + Files, W: Write, R: Reactor + Consult
     host: &H,
     writer: &mut W,
     address: SocketAddr,
+    limits: Limits,
     control: Option<&str>,
     container: R,
 ) -> (Result<(), CommandFault>, R) {
     let mut container = container;
-    let served = run_controlled(alloc, host, writer, address, control, &mut container);
+    let served = run_controlled(
+        alloc,
+        host,
+        writer,
+        address,
+        limits,
+        control,
+        &mut container,
+    );
     (served, container)
 }
 

@@ -17,12 +17,13 @@ use std::time::Clock;
 use sv_application::{ProgramFilter, ProgramListener, ProgramServlet};
 use sv_component::{Filter, Listener, Servlet};
 use sv_deployments::FolderStore;
+use sv_front::Limits;
 use sv_program::{CommandFault, FileStore};
 
 /// Starts the container of the server file with the random words of that seeding, listens at the address, or at the server file's port on this
-/// machine where none is given, writes the line `listening ADDRESS:PORT`, serves all connections that come, none waiting for another, until the process
-/// is ended from outside, or is told to stop at the socket file, where one is named, and shuts the container down, also where something failed before.
-/// Where a journal is named, what the events bring is appended to that file.
+/// machine where none is given, writes the line `listening ADDRESS:PORT`, serves all connections that come within these limits, none waiting for
+/// another, until the process is ended from outside, or is told to stop at the socket file, where one is named, and shuts the container down, also where
+/// something failed before. Where a journal is named, what the events bring is appended to that file.
 ///
 /// # Errors
 /// The first fault: those of [`start_seeded`], when nothing was written; then [`CommandFault::File`] for a journal or a socket file that cannot be had; then
@@ -35,6 +36,7 @@ pub fn run<S: FileStore + FolderStore, H: Net + Clock + RandomSource + Files + E
     config: &str,
     address: Option<SocketAddr>,
     seeding: Seeding,
+    limits: Limits,
     control: Option<&str>,
     journal: Option<&str>,
 ) -> Result<(), CommandFault>
@@ -50,8 +52,8 @@ pub fn run<S: FileStore + FolderStore, H: Net + Clock + RandomSource + Files + E
     let address = address_or(address, port);
     let asked = AskedContainer::new(container);
     let (served, asked) = match journal {
-        Some(name) => run_recorded(alloc, host, writer, address, control, name, asked),
-        None => run_plainly(alloc, host, writer, address, control, asked),
+        Some(name) => run_recorded(alloc, host, writer, address, limits, control, name, asked),
+        None => run_plainly(alloc, host, writer, address, limits, control, asked),
     };
     let _stopped = asked.into_container().shutdown();
     served

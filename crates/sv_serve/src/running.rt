@@ -6,15 +6,15 @@ use std::io::Write;
 use std::net::{Net, SocketAddr};
 use std::rt::Files;
 use std::time::Clock;
-use sv_front::{Consulted, Unasked, run_front};
+use sv_front::{Consulted, Limits, Unasked, run_front};
 use sv_program::{CommandFault, print_line};
 use sv_readiness::{Listening, Sockets};
 use sv_run::Reactor;
 use sv_streams::SystemClock;
 
 /// Listens at the address, where port 0 stands for any that is free, writes the line `listening ADDRESS:PORT`, and serves all connections that come,
-/// none waiting for another, until the process is ended from outside. The container is one that [`start`](crate::start) gave; it is given back, goes
-/// on to stand, and its `shutdown` stops it.
+/// none waiting for another and within the limits of a site that sets none, until the process is ended from outside. The container is one that
+/// [`start`](crate::start) gave; it is given back, goes on to stand, and its `shutdown` stops it.
 ///
 /// # Errors
 /// [`CommandFault::Socket`], [`CommandFault::Output`] or [`CommandFault::NoMemory`] as the run meets them.
@@ -27,15 +27,18 @@ pub fn listen_and_run<H: Net + Clock, W: Write, R: Reactor + Drop>(
 ) -> (Result<(), CommandFault>, R) {
     let mut unasked = Unasked::new(container);
     let served = match Listening::at(host, address) {
-        Ok(listening) => tell_and_run(alloc, host, writer, listening, &mut unasked),
+        Ok(listening) => {
+            let limits = Limits::standard();
+            tell_and_run(alloc, host, writer, listening, limits, &mut unasked)
+        },
         Err(_) => Err(CommandFault::Socket),
     };
     (served, unasked.into_within())
 }
 
-/// Serves as [`listen_and_run`] does, and where a socket file is named, answers what is asked there, has the container take the edits that are sent, and
-/// serves until the line `stop` is sent there, too: then what waits to be written is written, for 5 seconds at most, and for 2 more what peers still
-/// send is read on and dropped.
+/// Serves as [`listen_and_run`] does, within these limits, and where a socket file is named, answers what is asked there, has the container take the
+/// edits that are sent, and serves until the line `stop` is sent there, too: then what waits to be written is written, for 5 seconds at most, and for 2
+/// more what peers still send is read on and dropped.
 ///
 /// # Errors
 /// [`CommandFault::Socket`]; then [`CommandFault::File`] for a socket file that cannot be had; then those of [`listen_and_run`].
@@ -44,6 +47,7 @@ pub(crate) fn run_controlled<H: Net + Clock + Files, W: Write, R: Reactor + Cons
     host: &H,
     writer: &mut W,
     address: SocketAddr,
+    limits: Limits,
     control: Option<&str>,
     container: &mut R,
 ) -> Result<(), CommandFault> {
@@ -51,7 +55,7 @@ pub(crate) fn run_controlled<H: Net + Clock + Files, W: Write, R: Reactor + Cons
         return Err(CommandFault::Socket);
     };
     match take_lines(alloc, host, &mut listening, control) {
-        Ok(()) => tell_and_run(alloc, host, writer, listening, container),
+        Ok(()) => tell_and_run(alloc, host, writer, listening, limits, container),
         Err(fault) => Err(fault),
     }
 }
@@ -62,10 +66,11 @@ fn tell_and_run<H: Net + Clock, W: Write, R: Reactor + Consulted>(
     host: &H,
     writer: &mut W,
     listening: Listening,
+    limits: Limits,
     container: &mut R,
 ) -> Result<(), CommandFault> {
     match tell_address(alloc, writer, &listening) {
-        Ok(()) => run_listening(alloc, host, listening, container),
+        Ok(()) => run_listening(alloc, host, listening, limits, container),
         Err(fault) => Err(fault),
     }
 }
@@ -104,6 +109,7 @@ fn run_listening<H: Net + Clock, R: Reactor + Consulted>(
     alloc: Global,
     host: &H,
     listening: Listening,
+    limits: Limits,
     container: &mut R,
 ) -> Result<(), CommandFault> {
     let Ok(registry) = listening.registry() else {
@@ -112,17 +118,18 @@ fn run_listening<H: Net + Clock, R: Reactor + Consulted>(
     let Ok(mut sockets) = Sockets::new(alloc, host, &registry, listening) else {
         return Err(CommandFault::NoMemory);
     };
-    run_sockets(alloc, host, &mut sockets, container)
+    run_sockets(alloc, host, &mut sockets, limits, container)
 }
 
 fn run_sockets<H: Clock, R: Reactor + Consulted>(
     alloc: Global,
     host: &H,
     sockets: &mut Sockets<'_, H>,
+    limits: Limits,
     container: &mut R,
 ) -> Result<(), CommandFault> {
     let mut clock = SystemClock::new(host);
-    let ran = run_front(alloc, container, sockets, &mut clock);
+    let ran = run_front(alloc, limits, container, sockets, &mut clock);
     sockets.read_out();
     match ran {
         Ok(()) if sockets.has_failed() => Err(CommandFault::Socket),

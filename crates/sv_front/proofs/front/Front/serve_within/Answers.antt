@@ -8,4 +8,4 @@ returns-clause-moves g c =
     c.args.self.now c.serve_one.new.self c.ease.new.self c.in-Ok.ensures c.ease.result c.ease.ensures.moves
 
 pub returns-clause-within : goal.returns-clause-within
-returns-clause-within g c = eased c.args.number c.args.self.now c.ease.new.self c.ease.result c.ease.ensures.within
+returns-clause-within g c = eased c.args.most c.args.number c.args.self.now c.ease.new.self c.ease.result c.ease.ensures.within
