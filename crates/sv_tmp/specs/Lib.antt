@@ -1,0 +1,4 @@
+pub mod Command
+pub mod Question
+pub mod Service
+pub mod Site
