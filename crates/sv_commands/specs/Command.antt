@@ -13,26 +13,30 @@ use Rattle.sv_program.specs.declared.command_fault.CommandFault.{CommandFault}
 use Rattle.sv_deployments.specs.Configuration.{FindsConfiguration}
 use Rattle.sv_deployments.specs.Folders.{FolderGiving}
 use Rattle.sv_deployments.specs.declared.configuration.Configuration.{Configuration}
+use Rattle.sv_options.specs.Asked.{IsAsked}
 use Rattle.sv_commands.specs.Policy.{RunsPolicy}
 use Rattle.sv_commands.specs.Printed.{Shows}
 use Rattle.sv_commands.specs.Question.{question_words}
-use Rattle.sv_commands.specs.Running.{running_words}
 use Rattle.sv_commands.specs.Service.{service_words}
 use Rattle.sv_commands.specs.declared.command.Command.{Command}
 use Rattle.sv_commands.specs.declared.command.Command.TheVariants.{First, Policy, Uncovered, Replay, Serve, Run, SelfTest, Help, Version}
 use Rattle.sv_commands.specs.declared.texts.TheConstants.{HELP, VERSION}
 
--- the arguments that name a command
-abbrev pub words_of : Command → List (List ℕ)
-words_of (First deny_uncovered) = codes "first" ∷ first_options deny_uncovered
-words_of (Policy question) = codes "policy" ∷ question_words question
-words_of (Uncovered config) = codes "uncovered" ∷ name_words config
-words_of (Replay config) = codes "replay" ∷ name_words config
-words_of (Serve service) = codes "serve" ∷ service_words service
-words_of (Run running) = codes "run" ∷ running_words running
-words_of (SelfTest config) = codes "selftest" ∷ name_words config
-words_of Help = codes "help" ∷ []
-words_of Version = codes "version" ∷ []
+-- the arguments are this word, and what stands behind it asks for this
+abbrev pub IsBehind : {A : Type 0} → List ℕ → (List (List ℕ) → A → Type 0) → List (List ℕ) → A → Type 0
+IsBehind word asks arguments asked = (rest : List (List ℕ)) × (arguments ≡ word ∷ rest) × asks rest asked
+
+-- the arguments name the command
+abbrev pub IsNamed : List (List ℕ) → Command → Type 0
+IsNamed arguments (First deny_uncovered) = arguments ≡ codes "first" ∷ first_options deny_uncovered
+IsNamed arguments (Policy question) = arguments ≡ codes "policy" ∷ question_words question
+IsNamed arguments (Uncovered config) = arguments ≡ codes "uncovered" ∷ name_words config
+IsNamed arguments (Replay config) = arguments ≡ codes "replay" ∷ name_words config
+IsNamed arguments (Serve service) = arguments ≡ codes "serve" ∷ service_words service
+IsNamed arguments (Run options) = IsBehind (codes "run") IsAsked arguments options
+IsNamed arguments (SelfTest config) = arguments ≡ codes "selftest" ∷ name_words config
+IsNamed arguments Help = arguments ≡ codes "help" ∷ []
+IsNamed arguments Version = arguments ≡ codes "version" ∷ []
 
 -- a fault of a server's files and folders, by what its store gives, is the command's
 abbrev pub EndsByFiles : Result Configuration CommandFault → Result (Unit {0}) CommandFault → Type 0
@@ -47,7 +51,7 @@ ReadsFiles gives_text gives_files config result before after =
 abbrev pub ServesNothing : Command → Type 0
 ServesNothing (Replay config) = ⊥
 ServesNothing (Serve service) = ⊥
-ServesNothing (Run running) = ⊥
+ServesNothing (Run options) = ⊥
 ServesNothing (SelfTest config) = ⊥
 ServesNothing other = Unit {0}
 
@@ -60,7 +64,7 @@ module _ (moving : ComponentSteps ProgramServlet ProgramFilter ProgramListener) 
   RunsCommand gives files (Uncovered config) result before after stream old new = Prints (AreLines gives config.now) result before after old new
   RunsCommand gives files (Replay config) result before after stream old new = ReadsFiles gives files config.now result before after
   RunsCommand gives files (Serve service) result before after stream old new = ReadsFiles gives files service.config.now result before after
-  RunsCommand gives files (Run running) result before after stream old new = ReadsFiles gives files running.config.now result before after
+  RunsCommand gives files (Run options) result before after stream old new = ReadsFiles gives files options.config.now result before after
   RunsCommand gives files (SelfTest config) result before after stream old new = ReadsFiles gives files config.now result before after
   RunsCommand gives files Help result before after stream old new = (after ≡ before) × Shows HELP.now result old new
   RunsCommand gives files Version result before after stream old new = (after ≡ before) × Shows VERSION.now result old new

@@ -1,8 +1,7 @@
-pub mod Address
 pub mod Command
 pub mod Policy
 pub mod Printed
 pub mod Question
 pub mod Replay
-pub mod Running
 pub mod Service
+pub mod Site

@@ -3,13 +3,14 @@
 ghost use Rattle.sv_component.specs.Steps.{steps_of};
 ghost use Rattle.std.specs.Prelude.{◌≡◌, ◌≢◌, [], IfErr, IfSome, IsSome, map, string_bytes};
 ghost use Rattle.sv_program.specs.Arguments.{Names, name_words};
-ghost use Rattle.sv_commands.specs.Command.{words_of, ReadsFiles, RunsCommand, ServesNothing};
+ghost use Rattle.sv_options.specs.Values.{Finds};
+ghost use Rattle.sv_commands.specs.Command.{IsNamed, ReadsFiles, RunsCommand, ServesNothing};
 
 use crate::policy_command::policy;
 use crate::question::Question;
 use crate::replay_command::replay;
-use crate::running::Running;
 use crate::service::Service;
+use crate::site::{limits_of, seeding_by};
 use crate::texts::{HELP, VERSION};
 use std::alloc::Global;
 use std::io::{Read, Write};
@@ -20,6 +21,7 @@ use std::time::Clock;
 use sv_application::{ProgramFilter, ProgramListener, ProgramServlet};
 use sv_component::{Filter, Listener, Servlet};
 use sv_deployments::FolderStore;
+use sv_options::RunOptions;
 use sv_program::{CommandFault, FileStore, denies_uncovered, first, print_text, uncovered};
 use sv_serve::{run, self_test, serve};
 use sv_streams::{ReadSource, WriteSink};
@@ -46,8 +48,8 @@ pub enum Command<'a> {
     },
     /// `serve CONFIG N`: serves so many connections, one after another.
     Serve(Service<'a>),
-    /// `run CONFIG [--control SOCKET] [--journal FILE] [--listen ADDRESS:PORT] [--same-seed]`: serves all connections that come, many at once.
-    Run(Running<'a>),
+    /// `run CONFIG [OPTION ..]`: serves all connections that come, many at once. [`RunOptions::parse`] names the options.
+    Run(RunOptions<'a>),
     /// `selftest CONFIG`: asks a server's container once over a connection of its own, and prints the first line of the answer.
     SelfTest {
         /// The name of the server file.
@@ -62,7 +64,7 @@ pub enum Command<'a> {
 impl<'a> Command<'a> {
     /// The command that these arguments name, the program's own name left out, or none.
     pub fn parse(arguments: &'a [String]) -> Option<Command<'a>>
-        ensures { Names words_of (map string_bytes arguments.now) result }
+        ensures { Finds (IsNamed (map string_bytes arguments.now)) result }
     {
         let (name, rest) = arguments.split_first()?;
         if name.as_str() == "first" {
@@ -84,7 +86,7 @@ impl<'a> Command<'a> {
             return Some(Command::Serve(Service::parse(rest)?));
         }
         if name.as_str() == "run" {
-            return Some(Command::Run(Running::parse(rest)?));
+            return Some(Command::Run(RunOptions::parse(rest)?));
         }
         if name.as_str() == "selftest" {
             let config = config_in(rest)?;
@@ -127,7 +129,7 @@ impl<'a> Command<'a> {
                 let count = service.connections.value();
                 serve(alloc, store, host, writer, service.config, count)
             }
-            Command::Run(running) => run_asked(alloc, store, host, writer, &running),
+            Command::Run(options) => run_asked(alloc, store, host, writer, &options),
             Command::SelfTest { config } => self_test(alloc, store, host, writer, config),
             Command::Help => print_text(writer, HELP),
             Command::Version => print_text(writer, VERSION),
@@ -180,23 +182,22 @@ fn run_asked<S: FileStore + FolderStore, H: Net + Clock + RandomSource + Files +
     store: &mut S,
     host: &H,
     writer: &mut W,
-    running: &Running<'_>,
+    options: &RunOptions<'_>,
 ) -> Result<(), CommandFault>
-    ensures { ReadsFiles S.gives_text S.gives_files running.now.config.now result store.old store.new }
+    ensures { ReadsFiles S.gives_text S.gives_files options.now.config.now result store.old store.new }
 {
-    let address = running.address();
-    let seeding = running.seeding();
-    let control = running.control();
-    let journal = running.journal();
+    let seeding = seeding_by(options.same_seed);
+    let limits = limits_of(options);
     run(
         alloc,
         store,
         host,
         writer,
-        running.config,
-        address,
+        options.config,
+        options.listen,
         seeding,
-        control,
-        journal,
+        limits,
+        options.control,
+        options.journal,
     )
 }

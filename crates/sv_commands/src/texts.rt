@@ -12,9 +12,15 @@ sv replay CONFIG
     runs the script on standard input over the server, and prints what comes of it
 sv serve CONFIG N
     serves N connections, one after another, at the port of the server file
-sv run CONFIG [--control SOCKET] [--journal FILE] [--listen ADDRESS:PORT] [--same-seed]
-    serves many connections at once, at that address or at the port of the server file,
-    appends to FILE what became of each request, and answers `status` and `stop` at SOCKET
+sv run CONFIG [OPTION ..]
+    serves many connections at once, at the port of the server file; options, in any order:
+    --control SOCKET        answers `status` and `stop` at that socket file
+    --journal FILE          appends to that file what became of each request
+    --listen ADDRESS:PORT   listens there
+    --same-seed             gives the same session ids at each start, for tests
+    --connections N         connections at once, 1 to 1024; 1024 without it
+    --idle-seconds N        seconds between requests, 1 to 86400; 60 without it
+    --held-mebibytes N      MiB that all connections hold, 1 to 1048576; 64 without it
 sv selftest CONFIG
     asks the server once over a connection of its own, and prints the answer's first line
 sv help

@@ -1,0 +1,5 @@
+pub mod Asked
+pub mod Laws
+pub mod Reading
+pub mod Settings
+pub mod Values
