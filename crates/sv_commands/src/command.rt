@@ -1,7 +1,7 @@
 //! The command that the program's arguments name.
 
 ghost use Rattle.sv_component.specs.Steps.{steps_of};
-ghost use Rattle.std.specs.Prelude.{◌≡◌, ◌≢◌, [], IfErr, IfSome, IsSome, map, string_bytes};
+ghost use Rattle.std.specs.Prelude.{◌≡◌, ◌≢◌, [], ◌∷◌, IfErr, IfSome, IsSome, codes, map, string_bytes};
 ghost use Rattle.sv_program.specs.Arguments.{Names, name_words};
 ghost use Rattle.sv_options.specs.Values.{Finds};
 ghost use Rattle.sv_commands.specs.Command.{IsNamed, ReadsFiles, RunsCommand, ServesNothing};
@@ -86,7 +86,7 @@ impl<'a> Command<'a> {
             return Some(Command::Serve(Service::parse(rest)?));
         }
         if name.as_str() == "run" {
-            return Some(Command::Run(RunOptions::parse(rest)?));
+            return run_in(rest);
         }
         if name.as_str() == "selftest" {
             let config = config_in(rest)?;
@@ -146,6 +146,16 @@ fn config_in(arguments: &[String]) -> Option<&str>
         Some(config.as_str())
     } else {
         None
+    }
+}
+
+// The command `run` with the options that its arguments ask for, or none.
+fn run_in(arguments: &[String]) -> Option<Command<'_>>
+    ensures { Finds (IsNamed (codes "run" ∷ map string_bytes arguments.now)) result }
+{
+    match RunOptions::parse(arguments) {
+        Some(options) => Some(Command::Run(options)),
+        None => None,
     }
 }
 
