@@ -53,6 +53,7 @@ SELF_TESTS = [
     ({"stderr": ""}, 1, 1),
     ({"stdin": "%1,%2", "rows": "-- no row\n\na b| \"\"\nc |d\n", "stdout": "%1,%2", "stderr": "0"}, 2, 0),
     ({"stdin": "%1,%2", "rows": "a b| \"\" |w", "w/stdout": "a b,", "w/stderr": "0"}, 1, 0),
+    ({"stdin": "%1", "rows": "--a\n-- no row\n--\n", "stdout": "--a", "stderr": "0"}, 1, 0),
     ({"stdin": "%2", "rows": "-- no row\n\na b| \"\"\nc |d\n", "stdout": "d", "stderr": "0"}, 2, 1),
     ({"args": "%1\n", "rows": "x <3*@:> ; y | w", "w/stdout": "[x 0:1:2:][y]", "w/stderr": "2", "w/status": "2\n"}, 1, 0),
     ({"files/f": "<%1>", "rows": "NotToml | w\nTooMany a.b | v\n", "w/stdout": "{f <1 ->}", "w/stderr": "0", "v/stdout": "{f <14 a.b>}", "v/stderr": "0"}, 2, 0),
