@@ -1,5 +1,7 @@
 //! A deployed context.
 
+ghost use Rattle.std.specs.Prelude.{◌≡◌, length};
+
 use std::marker::Model;
 use sv_lifecycle::Live;
 use sv_policy::Policy;
@@ -27,4 +29,13 @@ impl<S, F, L> Model for Context<S, F, L> {
     ghost view = { λ context. context_of context.site context.policy context.users context.live context.sessions };
 
     ghost invariant = { λ context. AreComponentsOf context.site context.live };
+}
+
+impl<S, F, L> Context<S, F, L> {
+    /// How many sessions of the context live.
+    pub fn session_count(&self) -> usize
+        ensures { result ≡ length self.now.store.sessions }
+    {
+        self.sessions.count()
+    }
 }

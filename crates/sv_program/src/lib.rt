@@ -23,4 +23,4 @@ pub use laws::limits_are_as_stated;
 pub use limits::MAX_INPUT_BYTES;
 pub use output::{print_line, print_text};
 pub use sv_constraints::{OwnedDecision, OwnedWhy};
-pub use uncovered_command::{uncovered, uncovered_lines};
+pub use uncovered_command::{gap_lines, uncovered, uncovered_lines};

@@ -102,8 +102,11 @@ fn gaps_of(alloc: Global, descriptor: Descriptor) -> Result<Vec<Gap>, NoMemory>
     Policy::compile(alloc, web_app.constraints.into_vec(), web_app.rules)?.uncovered(alloc)
 }
 
-/// The lines of gaps in the context of this path.
-fn gap_lines(alloc: Global, path: &str, gaps: &[Gap]) -> Result<Text, NoMemory>
+/// The lines that the command `uncovered` prints of gaps in the context of this path.
+///
+/// # Errors
+/// Memory ran out.
+pub fn gap_lines(alloc: Global, path: &str, gaps: &[Gap]) -> Result<Text, NoMemory>
     ensures { GivesAnswer result (flat_map (spec.gap_line path.now) gaps.now) }
 {
     let mut lines = String::new(alloc);

@@ -6,13 +6,12 @@ ghost use Rattle.sv_script.specs.Fields as fields;
 ghost use Rattle.sv_script.specs.Line as script;
 ghost use Rattle.sv_text.specs.Gives.{GivesAnswer};
 
-use crate::fields::{at_blank, text_of};
 use crate::limits::MAX_LINE_BYTES;
 use std::alloc::{AllocError, Global};
 use std::fmt;
 use sv_front::Figures;
 use sv_policy::Edit;
-use sv_script::{LineFault, ScriptLine, read_line};
+use sv_script::{LineFault, ScriptLine, at_blank, read_line, text_of};
 use sv_text::{Bytes, NoMemory, Text};
 
 /// What a line asks that does not ask to stop.

@@ -6,7 +6,6 @@ mod asking;
 mod calls;
 mod control;
 mod dropping;
-mod fields;
 mod laws;
 mod limits;
 mod lingering;

@@ -7,7 +7,7 @@ ghost use Rattle.std.specs.List.{list_all};
 ghost use Rattle.sv_script.specs.Fields as spec;
 
 /// What stands before the first blank and behind it, where there is one.
-pub(crate) fn at_blank(text: &[u8]) -> Option<(&[u8], &[u8])>
+pub fn at_blank(text: &[u8]) -> Option<(&[u8], &[u8])>
     ensures { option_map (λ cut. (cut.0.now, cut.1.now)) result ≡ spec.at_blank text.now }
 {
     let place = first_blank(text)?;
@@ -21,7 +21,7 @@ fn first_blank(text: &[u8]) -> Option<usize>
 }
 
 /// The text that bytes are, where they are UTF-8.
-pub(crate) fn text_of(bytes: &[u8]) -> Option<&str>
+pub fn text_of(bytes: &[u8]) -> Option<&str>
     ensures { option_copied result ≡ spec.text_of bytes.now }
 {
     match str::from_utf8(bytes) {

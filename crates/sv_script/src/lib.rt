@@ -13,6 +13,7 @@ mod printed;
 
 pub use escape::{escaped, unescaped};
 pub use fault::LineFault;
+pub use fields::{at_blank, text_of};
 pub use laws::{an_escaped_text_reads_back, limits_are_as_stated};
 pub use limits::{MAX_METHOD_BYTES, MAX_ROLE_BYTES};
 pub use line::{ScriptLine, read_line};

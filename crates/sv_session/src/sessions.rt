@@ -1,6 +1,6 @@
 //! The sessions of a context.
 
-ghost use Rattle.std.specs.Prelude.{◌≡◌, ◌+◌, ◌<◌, ◌++◌, ◌∷◌, [], ℕ, MatchResult, None, OnErr, OnOk, Some, is_some, slice_get};
+ghost use Rattle.std.specs.Prelude.{◌≡◌, ◌+◌, ◌<◌, ◌++◌, ◌∷◌, [], ℕ, MatchResult, None, OnErr, OnOk, Some, is_some, length, slice_get};
 ghost use Rattle.std.specs.Option.{option_copied};
 
 use crate::attribute::Attribute;
@@ -334,6 +334,13 @@ impl Sessions {
     {
         let place = place_of(self.slots.as_slice(), number)?;
         self.slots[place].kept.remove_value(name)
+    }
+
+    /// How many sessions live.
+    pub fn count(&self) -> usize
+        ensures { result ≡ length self.now.sessions }
+    {
+        self.count
     }
 
     /// How many records [`expire`](Sessions::expire) has judged, as [`expire_counted`](Sessions::expire_counted) counts them.

@@ -2,7 +2,6 @@
 use Rattle.std.proofs.Common.{◌≡◌, ℕ, ◌+◌, ◌<◌, ◌≤◌, false, Result, Ok, Err, List, [], ◌∷◌, ◌++◌, length, get_or, take, drop, map, refl, ◌==◌, sym, ap, ◌∙◌, subst, inl, inr, cond, arith, length-append}
 use Rattle.std.specs.Prelude.{All, IfOk}
 use Rattle.std.specs.List.{count_by, flat_map}
-use Rattle.std.proofs.lemmas.Bool.{ltb-false}
 use Rattle.std.proofs.lemmas.List.{append-nil, append_assoc, length-map, get_or-map, drop_all}
 use Rattle.std.proofs.lemmas.List.Elements.{All-nil, All-cons, All-map, All-weaker}
 use Rattle.std.proofs.lemmas.List.Sums.{sum_by-append}
@@ -173,17 +172,17 @@ reads_whole text headers line h at whole =
     subst (λ rest. ReadsRequest text h rest) (ap (λ n. drop n text) whole ∙ drop_all (length text) text (omega arith)) at.reads
 
 -- a text of which the parser does not read the whole is no head
-pub no_head : (text : List ℕ) (headers : List HeaderSpan) (r : Result (Status RequestSpans) Error) → has_too_many_lines text ≡ false
-    → FindsRequest text 128 headers r
+pub no_head : (text : List ℕ) (headers : List HeaderSpan) (r : Result (Status RequestSpans) Error) (places : ℕ) → feeds text ≤ places + 2
+    → FindsRequest text places headers r
     → ((line : RequestSpans) → r ≡ Ok (Complete line) → line.len ≡ length text → ⊥)
     → IsNoHead text
-no_head text headers r few finds part h reads = by_result r refl (finds h [] reads room)
+no_head text headers r places few finds part h reads = by_result r refl (finds h [] reads room)
   where
     same : text ≡ print_request h
     same = reads.1 ∙ append-nil (print_request h)
 
-    room : length h.fields ≤ 128
-    room = omega (arith, feeds-request h, ap feeds same, ltb-false 130 (feeds text) few)
+    room : length h.fields ≤ places
+    room = omega (arith, feeds-request h, ap feeds same, few)
 
     by_result : (q : Result (Status RequestSpans) Error) → r ≡ q → IsCompleteAnd q (λ line. IsRequestAt text headers line h) → ⊥
     by_result (Ok (Complete line)) is at = part line is (at.len ∙ ap length (sym same))

@@ -34,9 +34,13 @@ pub data Start : Type 0 where
 abbrev pub IsNoHead : List ℕ → Type 0
 IsNoHead text = (head : RequestHead) → ¬ (ReadsRequest text head [])
 
+-- how many lines a text has
+abbrev pub lines : List ℕ → ℕ
+lines text = count_by (λ b. b == line_feed) text
+
 -- whether the text of a head has too many lines: beside those of the fields it has a request line and an empty one
 abbrev pub has_too_many_lines : List ℕ → Bool
-has_too_many_lines text = nat_lt (MAX_FIELD_LINES + 2) (count_by (λ b. b == line_feed) text)
+has_too_many_lines text = nat_lt (MAX_FIELD_LINES + 2) (lines text)
 
 -- the judgement on the text: that on the head that it holds, or the refusal of a text that holds none
 abbrev pub IsJudged : List ℕ → Judgement → Type 0

@@ -1,6 +1,6 @@
 //! The head of a request, and the judgement on it.
 
-ghost use Rattle.std.specs.Prelude.{◌≡◌, ◌≤◌, length, map, All, IfOk, OnOk};
+ghost use Rattle.std.specs.Prelude.{◌≡◌, ◌+◌, ◌≤◌, false, length, map, All, IfOk, OnOk};
 ghost use Rattle.http_header.specs.Token.{IsToken};
 ghost use Rattle.httparse.specs.Grammar.{RequestHead};
 ghost use Rattle.sv_head.specs.TargetForm.{FitsForm, with_slash};
@@ -8,10 +8,10 @@ ghost use Rattle.sv_text.specs.Faults.{first_or};
 ghost use Rattle.sv_text.specs.Gives.{GivesAnswer};
 ghost use Rattle.sv_wire.specs.Head.{accept, awaits_continue, faults_by_kind, fields_beside, framing_faults, framing_of, has_codings, has_length, is_unknown, is_unknown_expectation, judge, target_in};
 ghost use Rattle.sv_wire.specs.declared.message.Target.TheVariants.{Path};
-ghost use Rattle.sv_wire.specs.Reads.{ReadsHead, has_too_many_lines};
+ghost use Rattle.sv_wire.specs.Reads.{ReadsHead, has_too_many_lines, lines};
 ghost use Rattle.sv_wire.specs.Spans.{field_at, IsFieldAt, AreHeadSpans, ShowHead};
 
-use crate::limits::{MAX_FIELD_LINES, MAX_HEAD_LEN};
+use crate::limits::{FEW_FIELD_LINES, MAX_FIELD_LINES, MAX_HEAD_LEN};
 use crate::message::{Message, Target};
 use crate::owed_head::{Judgement, OwedHead, has_body};
 use crate::wire_fault::WireFault;
@@ -27,16 +27,36 @@ use sv_head::{
 };
 use sv_text::{Bytes, Listed, NoMemory};
 
-/// Reads the whole text of a head, which is no longer than a head may be.
+/// Reads the whole text of a head, which is no longer than a head may be. Most heads have few lines, and places for few fields are made for these.
 pub(crate) fn read_head(alloc: Global, text: &[u8]) -> Result<Judgement, NoMemory>
     requires { length text.now ≤ MAX_HEAD_LEN }
     ensures { IfOk result (ReadsHead text.now) }
 {
-    if has_too_many_lines(text) {
+    let lines = lines_of(text);
+    if lines > MAX_FIELD_LINES + 2 {
         return Ok(Judgement::Refused(WireFault::HeadTooLarge));
     }
-    let mut spans = [EMPTY_HEADER_SPAN; MAX_FIELD_LINES];
-    match parse_request(text, &mut spans) {
+    if lines > FEW_FIELD_LINES + 2 {
+        return read_few(alloc, text, &mut [EMPTY_HEADER_SPAN; MAX_FIELD_LINES]);
+    }
+    read_few(alloc, text, &mut [EMPTY_HEADER_SPAN; FEW_FIELD_LINES])
+}
+
+/// How many lines the text of a head has.
+fn lines_of(text: &[u8]) -> usize
+    ensures { result ≡ lines text.now }
+{
+    text.iter().filter(|b| **b == b'\n').count()
+}
+
+/// Reads the text of a head that has no more lines than it may have, with places for as many fields as they may show.
+fn read_few(alloc: Global, text: &[u8], spans: &mut [HeaderSpan]) -> Result<Judgement, NoMemory>
+    requires short { length text.now ≤ MAX_HEAD_LEN }
+    requires few { has_too_many_lines text.now ≡ false }
+    requires room { lines text.now ≤ length spans.old + 2 }
+    ensures { IfOk result (ReadsHead text.now) }
+{
+    match parse_request(text, spans) {
         Ok(Status::Complete(head)) if head.len == text.len() => {
             judge(alloc, text, &head, &spans[..head.headers])
         }
@@ -44,13 +64,6 @@ pub(crate) fn read_head(alloc: Global, text: &[u8]) -> Result<Judgement, NoMemor
         Ok(Status::Partial) => Ok(Judgement::Refused(WireFault::BadHead)),
         Err(_) => Ok(Judgement::Refused(WireFault::BadHead)),
     }
-}
-
-/// Whether the text of a head has more lines than a head may have.
-fn has_too_many_lines(text: &[u8]) -> bool
-    ensures { result ≡ has_too_many_lines text.now }
-{
-    text.iter().filter(|b| **b == b'\n').count() > MAX_FIELD_LINES + 2
 }
 
 /// The judgement on a head that `httparse` has read.
