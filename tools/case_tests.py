@@ -72,7 +72,7 @@ SELF_TESTS = [
     ({"stdin": "%1%2%3", "forms": "cut\n", "rows": "a\\x41\\rb | - | w", "w/stdout": "a\\x41\\rb-", "w/stderr": "0"}, 1, 0),
     ({"stdin": "%1", "forms": "cut\n", "rows": "\\x41b | w", "w/stdout": "\\x41", "w/stderr": "0"}, 1, 0),
     ({"stdin": "%1", "forms": "cut\n", "rows": "abc | w", "w/stdout": "a", "w/stderr": "0"}, 1, 1),
-    ({"generated": "generated_policies\n", "stdin": "-", "stdout": "-", "stderr": "0"}, 200, 0),
+    ({"generated": "generated_edits\n", "stdin": "-", "stdout": "-", "stderr": "0"}, 100, 0),
     ({"args": "%1\n", "files/g/f": "%1", "rows": "a | w\n", "w/stdout": "[a]", "w/stderr": "1", "w/status": "1\n"}, 1, 0),
     ({"entries": "file a\\x5A\nlink b\npipe c\n", "stdout": "{aZ }{link b}{pipe c}", "stderr": "0"}, 1, 0),
     ({"entries": "%1\n", "rows": "pipe c | w\n", "w/stdout": "{pipe c}", "w/stderr": "0"}, 1, 0),

@@ -35,6 +35,13 @@ a on /x               | roles b | append * on /y > GET /y by caller b > GET /y b
 a on /x               | - | withdraw 2 > withdraw 0 > GET /x | NoSuch rebuilt 0 > NoSuch rebuilt 0 > login pattern=/x constraint=1 cause=NeedsCaller
 18446744073709551615: a on /x | - | append a on /y > GET /y > withdraw 18446744073709551615 > append a on /y | NumberSpent rebuilt 0 > open pattern=- constraint=- cause=NoPattern > 18446744073709551615 rebuilt 1 > NumberSpent rebuilt 1
 
+-- the least number decides, wherever it stands in the list
+9: a on /x/*; 4: b on /x/* | - | GET /x > GET /x by caller a > GET /x by caller a,b > GET /x by caller c | login pattern=/x/* constraint=4 cause=NeedsCaller > open pattern=/x/* constraint=9 cause=Role > open pattern=/x/* constraint=4 cause=Role > denied pattern=/x/* constraint=4 cause=NoRole
+9: nobody on /x/*; 4: nobody on /x/*; 2: a on /x/* | - | GET /x | denied pattern=/x/* constraint=4 cause=Precluded
+9: open on /x/*; 4: open on /x/*; 2: a on /x/* | - | GET /x | open pattern=/x/* constraint=4 cause=Unauthenticated
+9: a over integral on /x/*; 4: a over integral on /x/* | - | GET /x by caller a | denied pattern=/x/* constraint=4 cause=Transport
+18446744073709551615: a on /x/* | - | GET /x by caller b | denied pattern=/x/* constraint=18446744073709551615 cause=NoRole
+
 -- a constraint lists at most 64 patterns in all its collections, each place in a list counted; at most 1,000 constraints stand
 a on /x | - | append b on /p,/p,/p,/p,/p,/p,/p,/p,/p,/p,/p,/p,/p,/p,/p,/p,/p,/p,/p,/p,/p,/p,/p,/p,/p,/p,/p,/p,/p,/p,/p,/p GET and /p,/p,/p,/p,/p,/p,/p,/p,/p,/p,/p,/p,/p,/p,/p,/p,/p,/p,/p,/p,/p,/p,/p,/p,/p,/p,/p,/p,/p,/p,/p,/p PUT | 2 rebuilt 1
 a on /x | - | append b on /p,/p,/p,/p,/p,/p,/p,/p,/p,/p,/p,/p,/p,/p,/p,/p,/p,/p,/p,/p,/p,/p,/p,/p,/p,/p,/p,/p,/p,/p,/p,/p GET and /p,/p,/p,/p,/p,/p,/p,/p,/p,/p,/p,/p,/p,/p,/p,/p,/p,/p,/p,/p,/p,/p,/p,/p,/p,/p,/p,/p,/p,/p,/p,/p,/p PUT > GET /p | TooMany rebuilt 0 > open pattern=- constraint=- cause=NoPattern

@@ -12,8 +12,6 @@ mod edit_load;
 #[cfg(test)]
 mod edits;
 #[cfg(test)]
-mod generated;
-#[cfg(test)]
 mod load;
 #[cfg(test)]
 mod numbered;
@@ -21,5 +19,3 @@ mod numbered;
 mod pattern_texts;
 #[cfg(test)]
 mod policies;
-#[cfg(test)]
-mod verdicts;
