@@ -21,12 +21,3 @@ pub struct Container<S, F, L, W> {
     ghost room_for_back: { (vec_len back ≡ 0) × (length (state_of host).world.contexts ≤ vec_capacity back) },
     ghost room_for_parts: { (vec_len parts ≡ 0) × (length (state_of host).world.contexts ≤ vec_capacity parts) },
 }
-
-impl<S, F, L, W> Container<S, F, L, W> {
-    /// The contexts as they stand, in the order in which they were deployed.
-    pub fn contexts(&self) -> &[Context<S, F, L>]
-        ensures { result.now ≡ (state_of self.now).world.contexts }
-    {
-        self.host.contexts()
-    }
-}

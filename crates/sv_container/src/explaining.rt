@@ -1,5 +1,6 @@
-//! What would become of a request to a container.
+//! What would become of a request to a container, and its contexts.
 
+ghost use Rattle.std.specs.Prelude.{◌≡◌};
 ghost use Rattle.std.specs.Option.{option_copied};
 ghost use Rattle.sv_container.specs.Container.{state_of};
 ghost use Rattle.sv_container.specs.Explaining.{explanation_of};
@@ -7,9 +8,17 @@ ghost use Rattle.sv_explain.specs.Fault.{explain_fault};
 ghost use Rattle.sv_text.specs.Gives.{Gives};
 
 use crate::container::Container;
+use sv_context::Context;
 use sv_explain::{ExplainFault, Explanation, explain_request};
 
 impl<S, F, L, W> Container<S, F, L, W> {
+    /// The contexts as they stand, in the order in which they were deployed.
+    pub fn contexts(&self) -> &[Context<S, F, L>]
+        ensures { result.now ≡ (state_of self.now).world.contexts }
+    {
+        self.host.contexts()
+    }
+
     /// What would become of a request with this method and this target, from the named user of its context or without a caller (Jakarta
     /// Servlet 6.0, sections 3.5, 10.5, 12.1 and 13.8). Nothing is called, and nothing changes. A password is not asked for. The target is
     /// read as a path with an optional query, and a method may have any length.
