@@ -10,6 +10,10 @@ use Rattle.sv_run.specs.declared.step_fault.StepFault.{StepFault}
 abbrev pub Explaining : Type 0 → Type 0
 Explaining R = R → List ℕ → List ℕ → Option (List ℕ) → Option (List ℕ)
 
+-- what it says of itself, where it says anything
+abbrev pub Saying : Type 0 → Type 0
+Saying R = R → Option (List ℕ)
+
 -- no event was taken, or one, which edits the constraints of a context; or that one was refused
 abbrev pub EditsOnce : {R A : Type 0} → Reacting R → R → Result A StepFault → R → Type 0
 EditsOnce steps before (Ok done) after =

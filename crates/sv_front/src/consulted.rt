@@ -8,10 +8,16 @@ use sv_text::{Bytes, NoMemory};
 
 /// What can be asked of what takes events, without any event.
 pub trait Consulted {
-    ghost use Rattle.sv_front.specs.Asking.{Explaining};
+    ghost use Rattle.sv_front.specs.Asking.{Explaining, Saying};
 
     /// What is said of a request, where anything is.
     ghost explains: { Explaining Self };
+
+    /// What is said of the methods that are left uncovered, where anything is.
+    ghost uncovers: { Saying Self };
+
+    /// What is said of how it stands, where anything is.
+    ghost stands: { Saying Self };
 
     /// What would become of a request with this method and this target, from the named user or without a caller, as a line with its end; or nothing,
     /// where that is not known here. Nothing changes.
@@ -26,4 +32,19 @@ pub trait Consulted {
         user: Option<&str>,
     ) -> Result<Option<Bytes>, NoMemory>
         ensures { GivesAnswer result (explains self.now method.now target.now (option_copied user.entry)) };
+
+    /// Which methods the constraints leave uncovered, as lines with their ends, and none where there are no such methods; or nothing, where that is not
+    /// known here. Nothing changes.
+    ///
+    /// # Errors
+    /// Memory ran out.
+    fn uncovered(&self, alloc: Global) -> Result<Option<Bytes>, NoMemory>
+        ensures { GivesAnswer result (uncovers self.now) };
+
+    /// How it stands, as words that a line goes on with, a blank before each; or nothing, where that is not known here. Nothing changes.
+    ///
+    /// # Errors
+    /// Memory ran out.
+    fn standing(&self, alloc: Global) -> Result<Option<Bytes>, NoMemory>
+        ensures { GivesAnswer result (stands self.now) };
 }

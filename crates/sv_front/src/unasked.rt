@@ -5,7 +5,7 @@ use std::alloc::Global;
 use sv_run::{Happening, Reaction, Reactor, StepFault};
 use sv_text::{Bytes, NoMemory};
 
-/// What takes events as the one within does, and says nothing of requests.
+/// What takes events as the one within does, and says nothing of requests, of what is left uncovered or of how it stands.
 #[derive(Drop)]
 pub struct Unasked<R> {
     within: R,
@@ -42,6 +42,10 @@ impl<R> Consulted for Unasked<R> {
 
     ghost explains = { λ unasked method target user. None };
 
+    ghost uncovers = { λ unasked. None };
+
+    ghost stands = { λ unasked. None };
+
     fn explain(
         &self,
         _alloc: Global,
@@ -49,6 +53,14 @@ impl<R> Consulted for Unasked<R> {
         _target: &[u8],
         _user: Option<&str>,
     ) -> Result<Option<Bytes>, NoMemory> {
+        Ok(None)
+    }
+
+    fn uncovered(&self, _alloc: Global) -> Result<Option<Bytes>, NoMemory> {
+        Ok(None)
+    }
+
+    fn standing(&self, _alloc: Global) -> Result<Option<Bytes>, NoMemory> {
         Ok(None)
     }
 }

@@ -1,2 +1,1 @@
 mod DroppingLemmas
-mod FieldLemmas

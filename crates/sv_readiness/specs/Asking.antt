@@ -1,11 +1,11 @@
 -- The lines at the socket file.
-use Rattle.std.specs.Prelude.{◌≡◌, ◌==◌, ℕ, ◌++◌, Bool, List, bytes_eq, codes, position, take, Option, None, Some, Result, Ok, Err, if◌then◌else◌}
+use Rattle.std.specs.Prelude.{◌≡◌, ◌==◌, ℕ, ◌++◌, Bool, List, [], bytes_eq, codes, position, take, Option, None, Some, Result, Ok, Err, if◌then◌else◌}
 use Rattle.std.specs.Fmt.{decimal}
 use Rattle.std.specs.Option.{option_and_then, option_map}
-use Rattle.sv_front.specs.Asking.{Explaining}
+use Rattle.sv_front.specs.Asking.{Explaining, Saying}
 use Rattle.sv_front.specs.declared.figures.Figures.{Figures}
 use Rattle.sv_readiness.specs.declared.asking.Ask.{Ask}
-use Rattle.sv_readiness.specs.declared.asking.Ask.TheVariants.{Explain, Status, Unknown}
+use Rattle.sv_readiness.specs.declared.asking.Ask.TheVariants.{Explain, Status, Uncovered, Unknown}
 use Rattle.sv_readiness.specs.declared.asking.Ask.TheVariants as ask
 use Rattle.sv_readiness.specs.declared.limits.TheConstants.{MAX_LINE_BYTES}
 use Rattle.sv_policy.specs.declared.edit.Edit.{Edit}
@@ -53,7 +53,9 @@ or_edit None line = script_ask (asked line)
 
 -- what any other line asks
 abbrev pub ask_of : List ℕ → Ask
-ask_of line = if bytes_eq line (codes "status") then Status else or_edit (explain_of line) line
+ask_of line =
+    if bytes_eq line (codes "status") then Status else
+    if bytes_eq line (codes "uncovered") then Uncovered else or_edit (explain_of line) line
 
 -- how things stand, each figure behind its name
 abbrev pub figures_text : Figures → List ℕ
@@ -61,9 +63,14 @@ figures_text figures =
     codes "connections " ++ decimal figures.connections ++ codes " writing " ++ decimal figures.writing
     ++ codes " held " ++ decimal figures.held ++ codes " opened " ++ decimal figures.opened
 
--- the line that tells it
-abbrev pub status_line : Figures → List ℕ
-status_line figures = figures_text figures ++ codes "\n"
+-- what is said behind that of how the reactor stands
+abbrev pub standing_text : Option (List ℕ) → List ℕ
+standing_text None = []
+standing_text (Some text) = text
+
+-- the line that tells both
+abbrev pub status_line : Figures → Option (List ℕ) → List ℕ
+status_line figures stands = figures_text figures ++ standing_text stands ++ codes "\n"
 
 -- what is said where nothing is known
 abbrev pub known_text : Option (List ℕ) → List ℕ
@@ -72,7 +79,7 @@ known_text (Some text) = text
 
 -- what is said where no event is taken any more
 abbrev pub last_text : List ℕ → Figures → List ℕ
-last_text line figures = if bytes_eq line (codes "status") then status_line figures else codes "stopping\n"
+last_text line figures = if bytes_eq line (codes "status") then status_line figures None else codes "stopping\n"
 
 module _ {R : Type 0} (before : R) where
   -- that is said, unless there was no memory, and no event was taken
@@ -88,10 +95,11 @@ module _ {R : Type 0} (before : R) where
     EditsTo path edit (Ok (Err refused)) after = after ≡ before
     EditsTo path edit (Err fault) after = steps before (Edited path edit) (Err fault) after
 
-    module _ (explains : Explaining R) (figures : Figures) where
+    module _ (explains : Explaining R) (uncovers stands : Saying R) (figures : Figures) where
       -- what comes of what is asked
       abbrev pub RepliesTo : Ask → Result (Result (List ℕ) NoMemory) StepFault → R → Type 0
-      RepliesTo Status result after = SaysAlone (status_line figures) result after
+      RepliesTo Status result after = SaysAlone (status_line figures (stands before)) result after
+      RepliesTo Uncovered result after = SaysAlone (known_text (uncovers before)) result after
       RepliesTo (ask.Edit path edit) result after = EditsTo path edit result after
       RepliesTo (Explain method target user) result after = SaysAlone (known_text (explains before method target user)) result after
       RepliesTo Unknown result after = SaysAlone (codes "unknown\n") result after

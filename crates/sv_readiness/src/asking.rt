@@ -19,6 +19,8 @@ use sv_text::{Bytes, NoMemory, Text};
 pub(crate) enum Ask {
     /// How things stand.
     Status,
+    /// Which methods the constraints leave uncovered.
+    Uncovered,
     /// What would become of a request with this method and this target, from this user or without a caller.
     Explain(Text, Bytes, Option<Text>),
     /// That the constraints of the context of this path are edited so.
@@ -60,6 +62,9 @@ pub(crate) fn ask_of(alloc: Global, line: &[u8]) -> Result<Ask, NoMemory>
 {
     if line == b"status".as_slice() {
         return Ok(Ask::Status);
+    }
+    if line == b"uncovered".as_slice() {
+        return Ok(Ask::Uncovered);
     }
     match explain_of(alloc, line) {
         Ok(Some(ask)) => Ok(ask),
@@ -145,15 +150,15 @@ fn script_ask(line: ScriptLine) -> Ask
     }
 }
 
-/// The line that tells how things stand.
+/// How things stand with the connections, each figure behind its name.
 ///
 /// # Errors
 /// Memory ran out.
-pub(crate) fn status_line(alloc: Global, figures: Figures) -> Result<String, AllocError>
-    ensures { IfOk result (λ line. string_bytes line ≡ spec.status_line figures) }
+pub(crate) fn figures_text(alloc: Global, figures: Figures) -> Result<String, AllocError>
+    ensures { IfOk result (λ text. string_bytes text ≡ spec.figures_text figures) }
 {
     let shown = Shown(figures);
-    format!(in alloc; "{shown}\n")
+    format!(in alloc; "{shown}")
 }
 
 // Prints how things stand.

@@ -7,7 +7,7 @@ ghost use Rattle.sv_readiness.specs.Asking as spec;
 ghost use Rattle.sv_script.specs.Printed as printed;
 ghost use Rattle.sv_text.specs.Gives.{GivesAnswer};
 
-use crate::asking::{Ask, ask_of, status_line};
+use crate::asking::{Ask, ask_of, figures_text};
 use itoa::Buffer;
 use std::alloc::Global;
 use sv_front::{Consulted, Figures};
@@ -29,11 +29,12 @@ pub(crate) fn reply<R: Reactor + Consulted>(
     figures: Figures,
     reactor: &mut R,
 ) -> Result<Result<Bytes, NoMemory>, StepFault>
-    ensures replies { spec.RepliesTo reactor.old R.steps R.explains figures (spec.ask_of line.now) result reactor.new }
+    ensures replies { spec.RepliesTo reactor.old R.steps R.explains R.uncovers R.stands figures (spec.ask_of line.now) result reactor.new }
     ensures once { EditsOnce R.steps reactor.old result reactor.new }
 {
     match ask_of(alloc, line) {
-        Ok(Ask::Status) => Ok(status_text(alloc, figures)),
+        Ok(Ask::Status) => Ok(standing_text(alloc, figures, reactor)),
+        Ok(Ask::Uncovered) => Ok(uncovered_text(alloc, reactor)),
         Ok(Ask::Edit(path, edit)) => edit_reply(alloc, path.as_str(), &edit, reactor),
         Ok(Ask::Explain(method, target, user)) => Ok(explain_text(
             alloc, &method, &target, &user, reactor,
@@ -51,17 +52,50 @@ pub(crate) fn last_text(alloc: Global, line: &[u8], figures: Figures) -> Result<
     ensures { GivesAnswer result (spec.last_text line.now figures) }
 {
     if line == b"status".as_slice() {
-        return status_text(alloc, figures);
+        return status_text(alloc, figures, &None);
     }
     Bytes::copy_of(alloc, b"stopping\n")
 }
 
-// How things stand.
-fn status_text(alloc: Global, figures: Figures) -> Result<Bytes, NoMemory>
-    ensures { GivesAnswer result (spec.status_line figures) }
+// How things stand with the connections, and with the reactor.
+fn standing_text<R: Consulted>(
+    alloc: Global,
+    figures: Figures,
+    reactor: &R,
+) -> Result<Bytes, NoMemory>
+    ensures { GivesAnswer result (spec.status_line figures (R.stands reactor.now)) }
 {
-    let line = status_line(alloc, figures)?;
-    Ok(Bytes::from_vec(line.into_bytes()))
+    let stands = reactor.standing(alloc)?;
+    status_text(alloc, figures, &stands)
+}
+
+// The line of how things stand.
+fn status_text(alloc: Global, figures: Figures, stands: &Option<Bytes>) -> Result<Bytes, NoMemory>
+    ensures { GivesAnswer result (spec.status_line figures stands.now) }
+{
+    let mut line = figures_text(alloc, figures)?.into_bytes();
+    if let Some(text) = stands {
+        line.extend_from_slice(text.as_slice())?;
+    }
+    line.push(b'\n')?;
+    Ok(Bytes::from_vec(line))
+}
+
+// What the reactor says of what is left uncovered.
+fn uncovered_text<R: Consulted>(alloc: Global, reactor: &R) -> Result<Bytes, NoMemory>
+    ensures { GivesAnswer result (spec.known_text (R.uncovers reactor.now)) }
+{
+    known_text(alloc, reactor.uncovered(alloc)?)
+}
+
+// What is said, or that nothing is known.
+fn known_text(alloc: Global, said: Option<Bytes>) -> Result<Bytes, NoMemory>
+    ensures { GivesAnswer result (spec.known_text said) }
+{
+    match said {
+        Some(text) => Ok(text),
+        None => Bytes::copy_of(alloc, b"unknown\n"),
+    }
 }
 
 // What the reactor says of a request.
@@ -79,8 +113,7 @@ fn explain_text<R: Consulted>(
         None => None,
     };
     match reactor.explain(alloc, method.as_str(), target.as_slice(), user) {
-        Ok(Some(text)) => Ok(text),
-        Ok(None) => Bytes::copy_of(alloc, b"unknown\n"),
+        Ok(said) => known_text(alloc, said),
         Err(NoMemory) => Err(NoMemory),
     }
 }

@@ -61,6 +61,10 @@ impl<R: Reactor, O: Sink, A: Alarm> Reactor for Recorder<R, O, A> {
 impl<R: Consulted, O, A> Consulted for Recorder<R, O, A> {
     ghost explains = { λ recorder method target user. R.explains recorder.within method target user };
 
+    ghost uncovers = { λ recorder. R.uncovers recorder.within };
+
+    ghost stands = { λ recorder. R.stands recorder.within };
+
     fn explain(
         &self,
         alloc: Global,
@@ -69,5 +73,13 @@ impl<R: Consulted, O, A> Consulted for Recorder<R, O, A> {
         user: Option<&str>,
     ) -> Result<Option<Bytes>, NoMemory> {
         self.within.explain(alloc, method, target, user)
+    }
+
+    fn uncovered(&self, alloc: Global) -> Result<Option<Bytes>, NoMemory> {
+        self.within.uncovered(alloc)
+    }
+
+    fn standing(&self, alloc: Global) -> Result<Option<Bytes>, NoMemory> {
+        self.within.standing(alloc)
     }
 }
