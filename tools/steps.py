@@ -10,6 +10,8 @@ import time
 # A connection is reset where it is closed so.
 RESETS = struct.pack("ii", 1, 0)
 ID = re.compile(rb"ID[1-9]")
+# How many events were taken, which no case knows, as a tick is one.
+EVENTS = re.compile(rb" events \d+ ")
 # An id has as many.
 DIGITS = 48
 # So often a file is looked at, each tenth of a second, for what it is to hold.
@@ -29,7 +31,8 @@ class Peer:
     def read(self):
         """Reads once; says whether anything came."""
         more = self.stream.recv(65_536)
-        self.came = re.sub(rb"(?m)^date: [^\r\n]*\r", b"date: DATE\r", self.came + more)
+        dated = re.sub(rb"(?m)^date: [^\r\n]*\r", b"date: DATE\r", self.came + more)
+        self.came = EVENTS.sub(b" events EVENTS ", dated)
         return bool(more)
 
     def reset(self):

@@ -14,7 +14,7 @@ sv serve CONFIG N
     serves N connections, one after another, at the port of the server file
 sv run CONFIG [OPTION ..]
     serves many connections at once, at the port of the server file; options, in any order:
-    --control SOCKET        takes lines at that socket file: status, explain, append, withdraw, stop
+    --control SOCKET        takes lines at that socket file: status, uncovered, explain, append, withdraw, stop
     --journal FILE          appends to that file what became of each request
     --listen ADDRESS:PORT   listens there
     --same-seed             gives the same session ids at each start, for tests

@@ -1,8 +1,13 @@
--- What a container says of a request.
-use Rattle.std.specs.Prelude.{ℕ, List, ◌++◌, codes, Ok, Err}
+-- What a container says of a request, of what its constraints leave uncovered, and of how it stands.
+use Rattle.std.specs.Prelude.{ℕ, ◌+◌, List, ◌++◌, codes, flat_map, length, min, Ok, Err}
+use Rattle.std.specs.Fmt.{decimal}
+use Rattle.sv_context.specs.State.{ContextState}
 use Rattle.sv_explain.specs.Explanation.{Answer}
 use Rattle.sv_explain.specs.Text.{explanation_text}
 use Rattle.sv_explain.specs.declared.fault.ExplainFault.TheVariants.{BadMethod, NoMemory, NoSuchUser}
+use Rattle.sv_policy.specs.Gaps.{gaps}
+use Rattle.sv_program.specs.Uncovered.{gap_line}
+use Rattle.sv_uri.specs.ContextPath.{shown_context}
 
 -- the line of an explanation, or the word of the fault in its place
 abbrev pub answer_line : Answer → List ℕ
@@ -10,3 +15,24 @@ answer_line (Ok explanation) = explanation_text explanation ++ codes "\n"
 answer_line (Err BadMethod) = codes "method\n"
 answer_line (Err NoSuchUser) = codes "user\n"
 answer_line (Err NoMemory) = codes "no memory\n"
+
+-- how many events were taken, behind one more: the greatest number stays
+abbrev pub counted : ℕ → ℕ
+counted events = min (events + 1) 18446744073709551615
+
+module _ {S F L : Type 0} where
+  -- the methods that the constraints of a context leave uncovered, as they stand (Jakarta Servlet 6.0, section 13.8.4)
+  abbrev pub context_lines : ContextState S F L → List ℕ
+  context_lines context = flat_map (gap_line context.content.context_path) (gaps context.policy.constraints)
+
+  -- those of the contexts in their order
+  abbrev pub uncovered_lines : List (ContextState S F L) → List ℕ
+  uncovered_lines contexts = flat_map context_lines contexts
+
+  -- how many sessions of a context live
+  abbrev pub sessions_text : ContextState S F L → List ℕ
+  sessions_text context = codes " " ++ shown_context context.content.context_path ++ codes "=" ++ decimal (length context.store.sessions)
+
+  -- how many events were taken, and how many sessions of each context live
+  abbrev pub standing_text : ℕ → List (ContextState S F L) → List ℕ
+  standing_text events contexts = codes " events " ++ decimal events ++ codes " sessions" ++ flat_map sessions_text contexts

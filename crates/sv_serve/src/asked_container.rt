@@ -11,6 +11,7 @@ ghost use Rattle.sv_host.specs.Host.{StepsSo};
 ghost use Rattle.sv_serve.specs.Asked as spec;
 ghost use Rattle.sv_text.specs.Gives.{GivesAnswer};
 
+use crate::standing::{standing_of, uncovered_of};
 use std::alloc::Global;
 use sv_component::{Filter, Listener, Servlet};
 use sv_container::{Container, ExplainFault, Explanation};
@@ -18,20 +19,27 @@ use sv_front::Consulted;
 use sv_run::{Happening, Reaction, Reactor, StepFault, Words};
 use sv_text::{Bytes, NoMemory};
 
-/// A container that takes events, and is asked what would become of requests by its constraints as they stand.
+/// A container that takes events, which are counted, and is asked what would become of requests by its constraints as they stand, what these leave
+/// uncovered, and how it stands.
 #[derive(Drop)]
 pub(crate) struct AskedContainer<S, F, L, W> {
     container: Container<S, F, L, W>,
+    // How many events were taken, also those that were refused: the greatest number stands for it and all above.
+    events: u64,
 }
 
 impl<S, F, L, W> AskedContainer<S, F, L, W> {
     ghost use Rattle.std.specs.Prelude.{◌≡◌};
 
-    /// Asks that one.
+    /// Asks that one, which has taken no event yet.
     pub fn new(container: Container<S, F, L, W>) -> AskedContainer<S, F, L, W>
-        ensures { result.container ≡ container }
+        ensures container { result.container ≡ container }
+        ensures events { result.events ≡ 0 }
     {
-        AskedContainer { container }
+        AskedContainer {
+            container,
+            events: 0,
+        }
     }
 
     /// Gives the container back.
@@ -43,11 +51,15 @@ impl<S, F, L, W> AskedContainer<S, F, L, W> {
 }
 
 impl<S: Servlet, F: Filter, L: Listener, W: Words> Reactor for AskedContainer<S, F, L, W> {
+    ghost use Rattle.std.specs.Prelude.{◌≡◌};
+
     ghost steps = { λ before happening result after.
         StepsSo (theory (steps_of S.servlet_step F.filter_step L.listener_step) W.draws)
-        (state_of before.container) happening result (state_of after.container) };
+        (state_of before.container) happening result (state_of after.container)
+        × (after.events ≡ spec.counted before.events) };
 
     fn step(&mut self, happening: Happening) -> Result<Reaction, StepFault> {
+        self.events = self.events.saturating_add(1);
         self.container.step(happening)
     }
 }
@@ -58,6 +70,10 @@ impl<S, F, L, W> Consulted for AskedContainer<S, F, L, W> {
     ghost explains = { λ asked method target user.
         Some (spec.answer_line (explanation_of (state_of asked.container).world.contexts method target user)) };
 
+    ghost uncovers = { λ asked. Some (spec.uncovered_lines (state_of asked.container).world.contexts) };
+
+    ghost stands = { λ asked. Some (spec.standing_text asked.events (state_of asked.container).world.contexts) };
+
     fn explain(
         &self,
         alloc: Global,
@@ -67,6 +83,20 @@ impl<S, F, L, W> Consulted for AskedContainer<S, F, L, W> {
     ) -> Result<Option<Bytes>, NoMemory> {
         match answer_line(alloc, &self.container, method, target, user) {
             Ok(line) => Ok(Some(line)),
+            Err(NoMemory) => Err(NoMemory),
+        }
+    }
+
+    fn uncovered(&self, alloc: Global) -> Result<Option<Bytes>, NoMemory> {
+        match uncovered_of(alloc, self.container.contexts()) {
+            Ok(lines) => Ok(Some(lines)),
+            Err(NoMemory) => Err(NoMemory),
+        }
+    }
+
+    fn standing(&self, alloc: Global) -> Result<Option<Bytes>, NoMemory> {
+        match standing_of(alloc, self.events, self.container.contexts()) {
+            Ok(text) => Ok(Some(text)),
             Err(NoMemory) => Err(NoMemory),
         }
     }

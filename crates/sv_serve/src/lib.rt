@@ -11,6 +11,7 @@ mod seeding;
 mod self_test_command;
 mod serve_command;
 mod sockets;
+mod standing;
 mod starting;
 
 pub use listening::listen_and_serve;
