@@ -1,9 +1,10 @@
 mod AloneLemmas
 mod Doing
 mod FinishingLemmas
-mod HoldingLemmas
 mod Fronting
+mod HoldingLemmas
 mod Joining
 mod LawLemmas
+mod PieceLemmas
 mod Rounding
 mod Stepping

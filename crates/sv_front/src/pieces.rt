@@ -3,6 +3,8 @@
 ghost use Rattle.std.specs.Prelude.{◌≡◌, ◌+◌, ◌<◌, ◌≤◌, ℕ, false, length};
 ghost use Rattle.sv_front.specs.Pieces as spec;
 
+use memchr::memchr;
+
 /// How many bytes the first piece has: those up to the end of the first empty line, or all.
 pub(crate) fn piece_len(bytes: &[u8]) -> usize
     requires { 0 < length bytes.now }
@@ -10,9 +12,15 @@ pub(crate) fn piece_len(bytes: &[u8]) -> usize
     ensures within { result ≤ length bytes.now }
     ensures cut { (place : ℕ) → place + 1 < result → spec.ends_empty_line bytes.now place ≡ false }
 {
-    for place in 0..bytes.len() {
+    let mut at = 0;
+    while at < bytes.len() {
+        let Some(behind) = memchr(b'\n', bytes.split_at(at).1) else {
+            return bytes.len();
+        };
+        let place = at + behind;
+        at = place + 1;
         if ends_empty_line(bytes, place) {
-            return place + 1;
+            return at;
         }
     }
     bytes.len()

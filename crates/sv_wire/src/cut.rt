@@ -1,41 +1,59 @@
 //! Where a head ends.
 
 ghost use Rattle.std.specs.Prelude.{◌≡◌, ℕ, ◌<◌, false, take};
+ghost use Rattle.sv_text.specs.Front.{shortest_front};
 ghost use Rattle.sv_wire.specs.Head.{ends_head};
 ghost use Rattle.sv_wire.specs.Reads.{cut_head};
 ghost use Rattle.sv_wire.specs.Next.{HoldsText};
 
 use crate::limits::MAX_HEAD_LEN;
-use sv_text::{Cut, Delimited, cut_front};
+use memchr::memchr;
+use sv_text::Cut;
 
-/// The text of a head, which has an end (RFC 9112, section 2.1).
-struct HeadText;
-
-impl Delimited for HeadText {
-    ghost use Rattle.sv_wire.specs.declared.limits.TheConstants.{MAX_HEAD_LEN};
-
-    ghost ends = { λ _ text. ends_head text };
-
-    ghost limit = { λ _. MAX_HEAD_LEN };
-
-    fn is_ended(&self, bytes: &[u8]) -> bool {
-        // Most bytes end no line.
-        if !bytes.ends_with(b"\n") {
-            return false;
-        }
-        bytes.ends_with(b"\n\n") || bytes.ends_with(b"\n\r\n")
-    }
-
-    fn limit(&self) -> usize {
-        MAX_HEAD_LEN
-    }
-}
-
-/// Where the head ends that the stream begins with. No front of fewer than `from` bytes ends it.
+/// Where the head ends that the stream begins with (RFC 9112, section 2.1). No front of fewer than `from` bytes ends it.
 pub(crate) fn cut_head(stream: &[u8], from: usize) -> Cut
     requires { (k : ℕ) → k < from → ends_head (take k stream.now) ≡ false }
     ensures value { result ≡ cut_head stream.now }
     ensures holds { HoldsText stream.now result }
 {
-    cut_front(&HeadText, stream, from)
+    match head_len(front_of(stream), from) {
+        Some(len) => Cut::Whole(len),
+        None if stream.len() < MAX_HEAD_LEN => Cut::Unended,
+        None => Cut::Endless,
+    }
+}
+
+/// As many bytes as a head may have, or all.
+fn front_of(stream: &[u8]) -> &[u8]
+    ensures { result.now ≡ take MAX_HEAD_LEN stream.now }
+{
+    if stream.len() <= MAX_HEAD_LEN {
+        return stream;
+    }
+    stream.split_at(MAX_HEAD_LEN).0
+}
+
+/// The length of the shortest front that ends a head, which is one behind a line feed. No front of fewer than `from` bytes does.
+fn head_len(text: &[u8], from: usize) -> Option<usize>
+    requires { (k : ℕ) → k < from → ends_head (take k text.now) ≡ false }
+    ensures { result ≡ shortest_front ends_head text.now }
+{
+    let mut at = from.saturating_sub(1);
+    while at < text.len() {
+        let Some(place) = memchr(b'\n', text.split_at(at).1) else {
+            return None;
+        };
+        at += place + 1;
+        if ends_head(&text[..at]) {
+            return Some(at);
+        }
+    }
+    None
+}
+
+/// Whether a text ends as a head does.
+fn ends_head(text: &[u8]) -> bool
+    ensures { result ≡ ends_head text.now }
+{
+    text.ends_with(b"\n\n") || text.ends_with(b"\n\r\n")
 }

@@ -27,7 +27,8 @@ use sv_head::{
 };
 use sv_text::{Bytes, Listed, NoMemory};
 
-/// Reads the whole text of a head, which is no longer than a head may be. Most heads have few lines, and places for few fields are made for these.
+/// Reads the whole text of a head, which is no longer than a head may be. Most heads have few lines, and places for few fields are made for these: a
+/// function makes its places where it begins, so each number of them has a function of its own.
 pub(crate) fn read_head(alloc: Global, text: &[u8]) -> Result<Judgement, NoMemory>
     requires { length text.now ≤ MAX_HEAD_LEN }
     ensures { IfOk result (ReadsHead text.now) }
@@ -37,9 +38,28 @@ pub(crate) fn read_head(alloc: Global, text: &[u8]) -> Result<Judgement, NoMemor
         return Ok(Judgement::Refused(WireFault::HeadTooLarge));
     }
     if lines > FEW_FIELD_LINES + 2 {
-        return read_few(alloc, text, &mut [EMPTY_HEADER_SPAN; MAX_FIELD_LINES]);
+        return read_many(alloc, text);
     }
-    read_few(alloc, text, &mut [EMPTY_HEADER_SPAN; FEW_FIELD_LINES])
+    read_few(alloc, text)
+}
+
+/// Reads the text of a head that has no more lines than it may have.
+fn read_many(alloc: Global, text: &[u8]) -> Result<Judgement, NoMemory>
+    requires short { length text.now ≤ MAX_HEAD_LEN }
+    requires few { has_too_many_lines text.now ≡ false }
+    ensures { IfOk result (ReadsHead text.now) }
+{
+    read_lines(alloc, text, &mut [EMPTY_HEADER_SPAN; MAX_FIELD_LINES])
+}
+
+/// Reads the text of a head that has few lines.
+fn read_few(alloc: Global, text: &[u8]) -> Result<Judgement, NoMemory>
+    requires short { length text.now ≤ MAX_HEAD_LEN }
+    requires few { has_too_many_lines text.now ≡ false }
+    requires room { lines text.now ≤ FEW_FIELD_LINES + 2 }
+    ensures { IfOk result (ReadsHead text.now) }
+{
+    read_lines(alloc, text, &mut [EMPTY_HEADER_SPAN; FEW_FIELD_LINES])
 }
 
 /// How many lines the text of a head has.
@@ -50,7 +70,7 @@ fn lines_of(text: &[u8]) -> usize
 }
 
 /// Reads the text of a head that has no more lines than it may have, with places for as many fields as they may show.
-fn read_few(alloc: Global, text: &[u8], spans: &mut [HeaderSpan]) -> Result<Judgement, NoMemory>
+fn read_lines(alloc: Global, text: &[u8], spans: &mut [HeaderSpan]) -> Result<Judgement, NoMemory>
     requires short { length text.now ≤ MAX_HEAD_LEN }
     requires few { has_too_many_lines text.now ≡ false }
     requires room { lines text.now ≤ length spans.old + 2 }

@@ -5,7 +5,7 @@ use Rattle.httparse.specs.declared.Status.TheVariants.{Complete, Partial}
 use Rattle.httparse.specs.declared.spans.RequestSpans.{RequestSpans}
 use Rattle.httparse.specs.Spans.{IsRequestWithin, IsRequestOf}
 use Rattle.sv_wire.proofs.HeadLemmas.{are_head_spans, shows_head, reads_whole, no_head, judged, refused}
-use Rattle.sv_wire.proofs.head.read_few.Goals as goal
+use Rattle.sv_wire.proofs.head.read_lines.Goals as goal
 
 pub judge-requires : goal.judge-requires
 judge-requires c =
