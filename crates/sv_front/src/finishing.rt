@@ -4,6 +4,7 @@ ghost use Rattle.std.specs.Prelude.{◌≡◌};
 ghost use Rattle.sv_front.specs.Finishing.{OnlyWrites};
 ghost use Rattle.sv_front.specs.declared.network.Told.TheVariants.{Asked};
 
+use crate::cause::Cause;
 use crate::front::Front;
 use crate::limits::{FINISH_SECONDS, MAX_CONNECTIONS};
 use crate::network::{Network, Told};
@@ -47,6 +48,6 @@ fn let_go<N: Network>(front: &mut Front<N::Peer>, network: &mut N)
         let Some(number) = front.written() else {
             return;
         };
-        front.forget(number, network);
+        front.forget(number, Cause::GivenUp, network);
     }
 }

@@ -239,12 +239,13 @@ impl<P: Peer + Drop> Front<P> {
         Ok(None)
     }
 
-    /// Forgets the connection of a number, where it is known, and gives its stream back.
-    pub fn forget<N: Network<Peer = P>>(&mut self, number: u64, network: &mut N)
+    /// Forgets the connection of a number, where it is known, which is over for that cause, and gives its stream back.
+    pub fn forget<N: Network<Peer = P>>(&mut self, number: u64, cause: Cause, network: &mut N)
         ensures { ForgetsOne number self.old self.new }
     {
         if let Some(connection) = self.connections.remove(&number) {
-            network.part(number, connection.into_stream());
+            let closing = connection.closing(cause);
+            network.part(number, connection.into_stream(), closing);
         }
     }
 
@@ -258,7 +259,7 @@ impl<P: Peer + Drop> Front<P> {
     ) -> Result<(), StepFault>
         ensures { EndsOne R.steps number cause reactor.old self.old result reactor.new self.new }
     {
-        self.forget(number, network);
+        self.forget(number, cause, network);
         match reactor.step(over_event(number, cause)) {
             Ok(_) => Ok(()),
             Err(fault) => Err(fault),
@@ -347,7 +348,7 @@ impl<P: Peer + Drop> Front<P> {
         match self.write_out(number) {
             None => {}
             Some(Sent::Waits) => {}
-            Some(_) => self.forget(number, network),
+            Some(_) => self.forget(number, Cause::GivenUp, network),
         }
     }
 

@@ -3,6 +3,7 @@
 
 mod allowance;
 mod cause;
+mod closing;
 mod connection;
 mod consulted;
 mod ending;
@@ -21,6 +22,7 @@ mod step;
 mod unasked;
 
 pub use cause::Cause;
+pub use closing::Closing;
 pub use consulted::Consulted;
 pub use figures::Figures;
 pub use laws::{

@@ -2,6 +2,7 @@
 
 ghost use Rattle.sv_front.specs.Asking.{EditsOnce};
 
+use crate::closing::Closing;
 use crate::consulted::Consulted;
 use crate::figures::Figures;
 use crate::peer::Peer;
@@ -33,8 +34,8 @@ pub trait Network {
     /// Accepts a connection under this number, if one has come. It is armed.
     fn accept(&mut self, number: u64) -> Option<Self::Peer>;
 
-    /// Takes back the stream of a connection that is over.
-    fn part(&mut self, number: u64, peer: Self::Peer);
+    /// Takes back the stream of a connection that is over, and closes it so.
+    fn part(&mut self, number: u64, peer: Self::Peer, closing: Closing);
 
     /// Answers what is asked, where it told so, by how things stand and by the reactor. Where an edit of the constraints of a context is asked for,
     /// the reactor takes it, once. It takes no other event.

@@ -3,12 +3,13 @@
 ghost use Rattle.std.specs.Prelude.{◌≡◌, ◌<◌, ◌≤◌, [], drop, length, vec_items};
 ghost use Rattle.sv_front.specs.Ways.{ReadsPiece};
 
+use crate::limits::FIRST_READ_BYTES;
 use crate::peer::{Peer, Tried};
 use std::alloc::Global;
 use std::marker::Model;
 use sv_text::{Bytes, NoMemory};
 
-/// Bytes that wait to be handed on or to be written. Contracts see their list. No more is kept than twice as many bytes as wait: none, where none wait.
+/// Bytes that wait to be handed on or to be written. Contracts see their list. No more is kept than twice as many bytes as wait, or the room of a first read.
 #[derive(Drop)]
 pub(crate) struct Pending {
     bytes: Vec<u8>,
@@ -83,7 +84,7 @@ impl Pending {
         bytes.split_at(most).0
     }
 
-    /// Passes over so many bytes. Where that is more than half of all, their memory is given back.
+    /// Passes over so many bytes. Where that is more than half of all, their memory is given back, but for the room of a first read.
     pub fn skip(&mut self, count: usize)
         requires { count ≤ length self.old }
         ensures { self.new ≡ drop count self.old }
@@ -101,17 +102,12 @@ impl Pending {
     ///
     /// # Errors
     /// Memory ran out, and nothing was read.
-    pub fn refill<P: Peer>(
-        &mut self,
-        alloc: Global,
-        peer: &mut P,
-        most: usize,
-    ) -> Result<Tried, NoMemory>
+    pub fn refill<P: Peer>(&mut self, peer: &mut P, most: usize) -> Result<Tried, NoMemory>
         requires idle { self.old ≡ [] }
         requires room { 0 < most }
         ensures { Refills P.ways peer.old result peer.new self.new }
     {
-        self.bytes = Vec::new(alloc);
+        self.bytes.clear();
         self.at = 0;
         if peer.would_wait() {
             return Ok(Tried::Paused);
@@ -121,7 +117,7 @@ impl Pending {
     }
 }
 
-// Lets go of so many bytes at the front, and of their memory.
+// Lets go of so many bytes at the front, and of their memory where that is more than a first read takes.
 fn keep_rest(bytes: &mut Vec<u8>, at: usize)
     requires { at ≤ length (vec_items bytes.old) }
     ensures { vec_items bytes.new ≡ drop at (vec_items bytes.old) }
@@ -129,7 +125,9 @@ fn keep_rest(bytes: &mut Vec<u8>, at: usize)
     let len = bytes.len();
     bytes.copy_within(at..len, 0);
     bytes.truncate(len - at);
-    bytes.shrink_to_fit();
+    if bytes.capacity() > FIRST_READ_BYTES {
+        bytes.shrink_to_fit();
+    }
 }
 
 // Reads once into a piece, which then holds what came.

@@ -1,12 +1,13 @@
 //! A listener, whose connections are reported.
 
 use crate::control::CONTROL;
-use mio::net::{TcpListener, UnixListener};
+use mio::net::{TcpListener, TcpStream, UnixListener};
 use mio::{Interest, Poll, Registry, Token};
 use std::fs::{Files, Permissions, remove_file, set_permissions, symlink_metadata};
 use std::io;
 use std::io::ErrorKind;
 use std::net::{Net, SocketAddr};
+use std::os::fd::OwnedFd;
 use std::os::unix::fs::{FileTypeExt, PermissionsExt};
 use std::os::unix::net::UnixStream;
 
@@ -31,7 +32,7 @@ impl Listening {
     /// The system's: the address is taken or is none of this machine's, or the sockets cannot be had.
     pub fn at<H: Net>(host: &H, address: SocketAddr) -> io::Result<Listening> {
         let poll = Poll::new(host)?;
-        let mut listener = TcpListener::bind(host, address)?;
+        let mut listener = without_delay(TcpListener::bind(host, address)?);
         poll.registry()
             .register(&mut listener, LISTENER, Interest::READABLE)?;
         Ok(Listening {
@@ -75,6 +76,14 @@ impl Listening {
     pub fn registry(&self) -> io::Result<Registry> {
         self.poll.registry().try_clone()
     }
+}
+
+// The listener, whose connections send at once what is written to them: a socket that Linux accepts has that of its listener.
+fn without_delay(listener: TcpListener) -> TcpListener {
+    let socket = TcpStream::from(OwnedFd::from(listener));
+    // Where the system holds an answer back nevertheless, it is later and the same.
+    let _ = socket.set_nodelay(true);
+    TcpListener::from(OwnedFd::from(socket))
 }
 
 // Lets go who connected before the file was its owner's alone.

@@ -13,7 +13,7 @@ use std::io;
 use std::io::ErrorKind;
 use std::net::Shutdown;
 use std::time::{Clock, Duration};
-use sv_front::{Consulted, Figures, Network, Told};
+use sv_front::{Closing, Consulted, Figures, Network, Told};
 use sv_run::{Reactor, StepFault};
 
 /// A listener and its connections. What the system fails to do for one of them ends that one alone, or is tried again within a second.
@@ -184,8 +184,6 @@ impl<'a, C: Clock> Sockets<'a, C> {
         if token.0 >= ASKER || self.registry.register(&mut stream, token, both).is_err() {
             return None;
         }
-        // An answer is written in one piece; where the system holds it back nevertheless, it is later and the same.
-        let _ = stream.set_nodelay(true);
         Some(StreamPeer::new(stream, self.registry, token))
     }
 }
@@ -232,10 +230,10 @@ impl<'a, C: Clock> Network for Sockets<'a, C> {
         None
     }
 
-    fn part(&mut self, number: u64, peer: StreamPeer<'a, TcpStream>) {
+    fn part(&mut self, number: u64, peer: StreamPeer<'a, TcpStream>, closing: Closing) {
         let stream = peer.into_stream();
-        // A peer that is gone is sent no end.
-        if stream.shutdown(Shutdown::Write).is_ok() {
+        // What is dropped is closed. A peer that is gone is sent no end.
+        if closing == Closing::InStages && stream.shutdown(Shutdown::Write).is_ok() {
             let now = self.seconds();
             self.lingering.take(number, stream, now, self.registry);
         }
