@@ -1,15 +1,18 @@
 -- Cookies that a servlet sets (RFC 6265, section 4.1; Jakarta Servlet 6.0, section 5.2).
-use Rattle.std.specs.Prelude.{ℕ, Bool, true, false, ◌&&◌, ◌||◌, not, ◌==◌, nat_le, nat_eq, List, [], ◌∷◌, ◌++◌, length, codes, Option, None, Some}
+use Rattle.std.specs.Prelude.{ℕ, Bool, true, false, ◌&&◌, ◌||◌, not, ◌==◌, nat_le, nat_eq, List, [], ◌∷◌, ◌++◌, length, codes, Option, None, Some, Result, Err}
 use Rattle.std.specs.List.{list_all, starts_with}
 use Rattle.std.specs.Option.{option_copied}
 use Rattle.std.specs.Str.{byte}
 use Rattle.http_header.specs.Token.{is_token_byte}
-use Rattle.sv_exchange.specs.Changing.{AddHeader, after_all}
+use Rattle.sv_exchange.specs.Changing.{AddHeader, after_all, answer}
 use Rattle.sv_exchange.specs.State.{State}
 use Rattle.sv_wire.specs.Cookies.{http_only_attribute, max_age_attribute, path_attribute}
+use Rattle.sv_web.specs.Answering.{told}
 use Rattle.sv_web.specs.declared.cookies.NewCookie.{NewCookie}
 use Rattle.sv_web.specs.declared.cookies.SameSite.{SameSite}
 use Rattle.sv_web.specs.declared.cookies.SameSite.TheVariants.{Strict, Lax, Everywhere}
+use Rattle.sv_web.specs.declared.fault.Fault.{Fault}
+use Rattle.sv_web.specs.declared.fault.Fault.TheVariants.{BadCookie}
 
 -- a name is a token
 abbrev pub has_name : List ℕ → Bool
@@ -60,3 +63,8 @@ cookie_text cookie =
 -- one field more
 abbrev pub with_cookie : NewCookie → State → State
 with_cookie cookie before = after_all (AddHeader (codes "set-cookie") (cookie_text cookie) ∷ []) before
+
+-- what is answered, by whether it is a cookie: what adding the field answers
+abbrev pub cookie_answer : Bool → NewCookie → State → Result Bool Fault
+cookie_answer true cookie before = told (answer (AddHeader (codes "set-cookie") (cookie_text cookie)) before)
+cookie_answer false cookie before = Err BadCookie

@@ -1,5 +1,4 @@
-pub use Rattle.sv_component.specs.Call
-pub use Rattle.sv_exchange.specs.Changing
+pub mod Answering
 pub mod Cookies
 pub mod Deploying
 pub mod Elements
@@ -10,3 +9,5 @@ pub mod Methods
 pub mod Redirecting
 pub mod Sending
 pub mod SentCookies
+pub use Rattle.sv_component.specs.Call
+pub use Rattle.sv_exchange.specs.Changing

@@ -1,8 +1,10 @@
 -- What a servlet answers, by the method of the request (Jakarta Servlet 6.0, section 2.1.1; RFC 9110, sections 9.3, 10.2.1 and 15.5.6).
-use Rattle.std.specs.Prelude.{ℕ, Bool, ◌||◌, List, [], ◌∷◌, ◌++◌, Option, None, Some, bytes_eq, codes, find, if◌then◌else◌}
+use Rattle.std.specs.Prelude.{ℕ, Bool, ◌||◌, List, [], ◌∷◌, ◌++◌, Option, None, Some, bytes_eq, codes, find, if◌then◌else◌, Result, Ok, Err}
 use Rattle.std.specs.List.{flat_map}
-use Rattle.sv_exchange.specs.Changing.{SetHeader, SetStatus, after_all}
+use Rattle.sv_exchange.specs.Changing.{SetHeader, SetStatus, after_all, answer}
 use Rattle.sv_exchange.specs.State.{State}
+use Rattle.sv_web.specs.Answering.{done_told}
+use Rattle.sv_web.specs.declared.fault.Fault.{Fault}
 use Rattle.sv_web.specs.declared.methods.Verb.{Verb}
 use Rattle.sv_web.specs.declared.methods.Verb.TheVariants.{Get, Post, Put, Patch, Delete}
 
@@ -38,3 +40,17 @@ abbrev pub left_without : Option Verb → List Verb → State → State
 left_without (Some verb) allowed before = before
 left_without None allowed before =
     after_all (SetStatus (refusal_status before.method) ∷ SetHeader (codes "allow") (allow_text allowed) ∷ []) before
+
+-- what making the answer to no verb answers
+abbrev pub refusal_answer : List Verb → State → Result (Unit {0}) Fault
+refusal_answer allowed before =
+    done_told (answer (SetHeader (codes "allow") (allow_text allowed)) (after_all (SetStatus (refusal_status before.method) ∷ []) before))
+
+abbrev pub none_told : Result (Unit {0}) Fault → Result (Option Verb) Fault
+none_told (Ok done) = Ok None
+none_told (Err fault) = Err fault
+
+-- what is answered: the verb that is asked for, or that none is, where the answer to that could be made
+abbrev pub asked_answer : Option Verb → List Verb → State → Result (Option Verb) Fault
+asked_answer (Some verb) allowed before = Ok (Some verb)
+asked_answer None allowed before = none_told (refusal_answer allowed before)

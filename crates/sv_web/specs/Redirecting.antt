@@ -1,9 +1,12 @@
 -- Answers that send the client elsewhere (Jakarta Servlet 6.0, section 5.3; RFC 9110, sections 10.2.2 and 15.4; RFC 3986, sections 2 and 4.2).
-use Rattle.std.specs.Prelude.{ℕ, Bool, ◌&&◌, ◌||◌, not, ◌==◌, List, [], ◌∷◌, codes, nat_eq}
+use Rattle.std.specs.Prelude.{ℕ, Bool, true, false, ◌&&◌, ◌||◌, not, ◌==◌, List, [], ◌∷◌, codes, nat_eq, Result, Err}
 use Rattle.std.specs.Char.{is_ascii_alphanumeric}
 use Rattle.std.specs.List.{list_all, list_any, starts_with}
-use Rattle.sv_exchange.specs.Changing.{SetHeader, SetStatus, after_all}
+use Rattle.sv_exchange.specs.Changing.{SetHeader, SetStatus, after_all, answer}
 use Rattle.sv_exchange.specs.State.{State}
+use Rattle.sv_web.specs.Answering.{told}
+use Rattle.sv_web.specs.declared.fault.Fault.{Fault}
+use Rattle.sv_web.specs.declared.fault.Fault.TheVariants.{BadLocation}
 use Rattle.sv_web.specs.declared.redirecting.RedirectKind.{RedirectKind}
 use Rattle.sv_web.specs.declared.redirecting.RedirectKind.TheVariants.{MovedPermanently, Found, SeeOther, Temporary, Permanent}
 
@@ -33,3 +36,9 @@ is_location location =
 -- the status is set, and then the location
 abbrev pub redirected : RedirectKind → List ℕ → State → State
 redirected kind location before = after_all (SetStatus (status_of kind) ∷ SetHeader (codes "location") location ∷ []) before
+
+-- what is answered, by whether the text is a location: what setting the location answers, behind the status
+abbrev pub redirect_answer : Bool → RedirectKind → List ℕ → State → Result Bool Fault
+redirect_answer true kind location before =
+    told (answer (SetHeader (codes "location") location) (after_all (SetStatus (status_of kind) ∷ []) before))
+redirect_answer false kind location before = Err BadLocation

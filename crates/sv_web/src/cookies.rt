@@ -5,9 +5,10 @@ ghost use Rattle.http_header.specs.Token.{is_token_byte};
 ghost use Rattle.std.specs.List.{list_all};
 ghost use Rattle.std.specs.Option.{option_copied};
 ghost use Rattle.sv_exchange.specs.Changing.{Reaches};
-ghost use Rattle.sv_text.specs.Gives.{GivesAnswer};
+ghost use Rattle.sv_text.specs.Gives.{Gives, GivesAnswer};
 ghost use Rattle.sv_wire.specs.Cookies.{http_only_attribute, max_age_attribute};
-ghost use Rattle.sv_web.specs.Cookies.{cookie_text, has_name, has_path, is_cookie, is_octet, is_path, is_path_byte, path_part, same_site_attribute, secure_attribute, with_cookie};
+ghost use Rattle.sv_web.specs.Answering.{told_fault};
+ghost use Rattle.sv_web.specs.Cookies.{cookie_answer, cookie_text, has_name, has_path, is_cookie, is_octet, is_path, is_path_byte, path_part, same_site_attribute, secure_attribute, with_cookie};
 
 use crate::fault::Fault;
 use http_header::is_token_char;
@@ -61,6 +62,7 @@ pub fn set_cookie(
     ensures proper { OnOk result (is_cookie cookie.now ≡ true) }
     ensures added { OnOk result (exchange.new ≡ with_cookie cookie.now exchange.old) }
     ensures refused { OnErr result (exchange.new ≡ exchange.old) }
+    ensures answered { Gives told_fault result (cookie_answer (is_cookie cookie.now) cookie.now exchange.old) }
     ensures reached { Reaches exchange.old exchange.new }
 {
     if !is_cookie(cookie) {

@@ -2,8 +2,9 @@
 
 ghost use Rattle.std.specs.Prelude.{◌≡◌, IfOk, OnOk, None};
 ghost use Rattle.sv_exchange.specs.Changing.{Reaches};
-ghost use Rattle.sv_text.specs.Gives.{GivesAnswer};
-ghost use Rattle.sv_web.specs.Methods.{allow_text, asked_for, answers, left_without, names_of, refusal_status};
+ghost use Rattle.sv_text.specs.Gives.{Gives, GivesAnswer};
+ghost use Rattle.sv_web.specs.Answering.{told_fault};
+ghost use Rattle.sv_web.specs.Methods.{allow_text, answers, asked_answer, asked_for, left_without, names_of, refusal_answer, refusal_status};
 
 use crate::fault::Fault;
 use std::alloc::Global;
@@ -65,6 +66,7 @@ pub fn asked_verb(
 ) -> Result<Option<Verb>, Fault>
     ensures asked { IfOk result (λ verb. verb ≡ asked_for exchange.old.method allowed.now) }
     ensures left { IfOk result (λ verb. exchange.new ≡ left_without verb allowed.now exchange.old) }
+    ensures answered { Gives told_fault result (asked_answer (asked_for exchange.old.method allowed.now) allowed.now exchange.old) }
     ensures reached { Reaches exchange.old exchange.new }
 {
     let asked = asked_for(exchange.method(), allowed);
@@ -88,6 +90,7 @@ fn asked_for(method: &str, allowed: &[Verb]) -> Option<Verb>
 // Tells the methods that are answered.
 fn refuse(alloc: Global, exchange: &mut Exchange, allowed: &[Verb]) -> Result<(), Fault>
     ensures left { OnOk result (exchange.new ≡ left_without None allowed.now exchange.old) }
+    ensures answered { Gives told_fault result (refusal_answer allowed.now exchange.old) }
     ensures reached { Reaches exchange.old exchange.new }
 {
     let allow = allow_text(alloc, allowed)?;

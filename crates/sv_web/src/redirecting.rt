@@ -1,9 +1,11 @@
 //! Answers that send the client elsewhere.
 
-ghost use Rattle.std.specs.Prelude.{◌≡◌, OnOk, false, true};
+ghost use Rattle.std.specs.Prelude.{◌≡◌, [], ◌∷◌, OnOk, codes, false, true};
 ghost use Rattle.std.specs.List.{list_all};
-ghost use Rattle.sv_exchange.specs.Changing.{Reaches};
-ghost use Rattle.sv_web.specs.Redirecting.{is_location, is_location_byte, is_own_location, redirected, status_of};
+ghost use Rattle.sv_exchange.specs.Changing.{Reaches, SetHeader, SetStatus, after_all, answer};
+ghost use Rattle.sv_text.specs.Gives.{Gives};
+ghost use Rattle.sv_web.specs.Answering.{call_fault, told_fault};
+ghost use Rattle.sv_web.specs.Redirecting.{is_location, is_location_byte, is_own_location, redirect_answer, redirected, status_of};
 
 use crate::fault::Fault;
 use sv_component::{Exchange, ExchangeFault};
@@ -49,6 +51,7 @@ pub fn redirect(exchange: &mut Exchange, kind: RedirectKind, location: &str) -> 
     ensures own { OnOk result (is_own_location location.now ≡ true) }
     ensures redirected { OnOk result (exchange.new ≡ redirected kind location.now exchange.old) }
     ensures stays { is_own_location location.now ≡ false → exchange.new ≡ exchange.old }
+    ensures answered { Gives told_fault result (redirect_answer (is_own_location location.now) kind location.now exchange.old) }
     ensures reached { Reaches exchange.old exchange.new }
 {
     if !is_own_location(location.as_bytes()) {
@@ -70,6 +73,7 @@ pub fn redirect_elsewhere(
     ensures proper { OnOk result (is_location location.now ≡ true) }
     ensures redirected { OnOk result (exchange.new ≡ redirected kind location.now exchange.old) }
     ensures stays { is_location location.now ≡ false → exchange.new ≡ exchange.old }
+    ensures answered { Gives told_fault result (redirect_answer (is_location location.now) kind location.now exchange.old) }
     ensures reached { Reaches exchange.old exchange.new }
 {
     if !is_location(location.as_bytes()) {
@@ -85,6 +89,8 @@ fn put_location(
     location: &str,
 ) -> Result<bool, ExchangeFault>
     ensures redirected { OnOk result (exchange.new ≡ redirected kind location.now exchange.old) }
+    ensures answered { Gives call_fault result
+        (answer (SetHeader (codes "location") location.now) (after_all (SetStatus (status_of kind) ∷ []) exchange.old)) }
     ensures reached { Reaches exchange.old exchange.new }
 {
     exchange.set_status(kind.status())?;

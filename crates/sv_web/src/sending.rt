@@ -2,13 +2,16 @@
 
 ghost use Rattle.std.specs.Prelude.{◌≡◌, OnOk, codes};
 ghost use Rattle.sv_exchange.specs.Changing.{Reaches};
-ghost use Rattle.sv_web.specs.Sending.{sent};
+ghost use Rattle.sv_text.specs.Gives.{Gives};
+ghost use Rattle.sv_web.specs.Answering.{call_fault};
+ghost use Rattle.sv_web.specs.Sending.{sent, sent_answer};
 
 use sv_component::{Exchange, ExchangeFault};
 
 /// Writes a text, and says that it is plain text in UTF-8. See [`send`].
 pub fn send_text(exchange: &mut Exchange, text: &str) -> Result<(), ExchangeFault>
     ensures sent { OnOk result (exchange.new ≡ sent (codes "text/plain; charset=utf-8") text.now exchange.old) }
+    ensures answered { Gives call_fault result (sent_answer (codes "text/plain; charset=utf-8") text.now exchange.old) }
     ensures reached { Reaches exchange.old exchange.new }
 {
     send(exchange, "text/plain; charset=utf-8", text.as_bytes())
@@ -17,6 +20,7 @@ pub fn send_text(exchange: &mut Exchange, text: &str) -> Result<(), ExchangeFaul
 /// Writes a page, and says that it is HTML in UTF-8. What a client said goes into it by [`escape_html`](crate::escape_html). See [`send`].
 pub fn send_html(exchange: &mut Exchange, page: &str) -> Result<(), ExchangeFault>
     ensures sent { OnOk result (exchange.new ≡ sent (codes "text/html; charset=utf-8") page.now exchange.old) }
+    ensures answered { Gives call_fault result (sent_answer (codes "text/html; charset=utf-8") page.now exchange.old) }
     ensures reached { Reaches exchange.old exchange.new }
 {
     send(exchange, "text/html; charset=utf-8", page.as_bytes())
@@ -30,6 +34,7 @@ pub fn send_html(exchange: &mut Exchange, page: &str) -> Result<(), ExchangeFaul
 /// alone may have.
 pub fn send(exchange: &mut Exchange, content_type: &str, bytes: &[u8]) -> Result<(), ExchangeFault>
     ensures sent { OnOk result (exchange.new ≡ sent content_type.now bytes.now exchange.old) }
+    ensures answered { Gives call_fault result (sent_answer content_type.now bytes.now exchange.old) }
     ensures reached { Reaches exchange.old exchange.new }
 {
     exchange.set_header("content-type", content_type)?;
