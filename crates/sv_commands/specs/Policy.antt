@@ -20,7 +20,7 @@ use Rattle.sv_program.specs.Configuration.{Step}
 use Rattle.sv_program.specs.FileStore.{Giving}
 use Rattle.sv_program.specs.declared.command_fault.CommandFault.{CommandFault}
 use Rattle.sv_program.specs.declared.command_fault.CommandFault.TheVariants as fault
-use Rattle.sv_serve.specs.Starting.{StartsWith}
+use Rattle.sv_starting.specs.Starting.{StartsWith}
 use Rattle.sv_words.specs.declared.seeded_words.SeededWords.{SeededWords}
 use Rattle.sv_commands.specs.Printed.{Shows}
 use Rattle.sv_commands.specs.declared.question.Question.{Question}

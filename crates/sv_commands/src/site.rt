@@ -4,8 +4,9 @@ ghost use Rattle.std.specs.Prelude.{◌≡◌};
 ghost use Rattle.std.specs.Option.{unwrap_or};
 ghost use Rattle.sv_commands.specs.Site as spec;
 
+use sv_front::Limits;
 use sv_options::RunOptions;
-use sv_serve::{Limits, Seeding};
+use sv_starting::Seeding;
 
 /// How many bytes a mebibyte is.
 const MEBIBYTE: u64 = 1_048_576;

@@ -22,17 +22,17 @@ counted events = min (events + 1) 18446744073709551615
 
 module _ {S F L : Type 0} where
   -- the methods that the constraints of a context leave uncovered, as they stand (Jakarta Servlet 6.0, section 13.8.4)
-  abbrev pub context_lines : ContextState S F L → List ℕ
-  context_lines context = flat_map (gap_line context.content.context_path) (gaps context.policy.constraints)
+  abbrev pub context_gaps_text : ContextState S F L → List ℕ
+  context_gaps_text context = flat_map (gap_line context.content.context_path) (gaps context.policy.constraints)
 
   -- those of the contexts in their order
-  abbrev pub uncovered_lines : List (ContextState S F L) → List ℕ
-  uncovered_lines contexts = flat_map context_lines contexts
+  abbrev pub gaps_text : List (ContextState S F L) → List ℕ
+  gaps_text contexts = flat_map context_gaps_text contexts
 
   -- how many sessions of a context live
   abbrev pub sessions_text : ContextState S F L → List ℕ
   sessions_text context = codes " " ++ shown_context context.content.context_path ++ codes "=" ++ decimal (length context.store.sessions)
 
   -- how many events were taken, and how many sessions of each context live
-  abbrev pub standing_text : ℕ → List (ContextState S F L) → List ℕ
-  standing_text events contexts = codes " events " ++ decimal events ++ codes " sessions" ++ flat_map sessions_text contexts
+  abbrev pub counts_text : ℕ → List (ContextState S F L) → List ℕ
+  counts_text events contexts = codes " events " ++ decimal events ++ codes " sessions" ++ flat_map sessions_text contexts

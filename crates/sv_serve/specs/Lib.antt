@@ -1,4 +1,2 @@
 pub mod Asked
-pub mod Running
-pub mod Seeding
-pub mod Starting
+pub mod Commands

@@ -70,9 +70,9 @@ impl<S, F, L, W> Consulted for AskedContainer<S, F, L, W> {
     ghost explains = { λ asked method target user.
         Some (spec.answer_line (explanation_of (state_of asked.container).world.contexts method target user)) };
 
-    ghost uncovers = { λ asked. Some (spec.uncovered_lines (state_of asked.container).world.contexts) };
+    ghost uncovers = { λ asked. Some (spec.gaps_text (state_of asked.container).world.contexts) };
 
-    ghost stands = { λ asked. Some (spec.standing_text asked.events (state_of asked.container).world.contexts) };
+    ghost stands = { λ asked. Some (spec.counts_text asked.events (state_of asked.container).world.contexts) };
 
     fn explain(
         &self,

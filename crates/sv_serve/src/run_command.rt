@@ -1,13 +1,9 @@
 //! The command `run`: a server's container over many connections at once.
 
 ghost use Rattle.sv_component.specs.Steps.{steps_of};
-ghost use Rattle.sv_serve.specs.Running.{BeginsRun};
+ghost use Rattle.sv_serve.specs.Commands.{BeginsRun};
 
 use crate::asked_container::AskedContainer;
-use crate::recorded_run::{run_plainly, run_recorded};
-use crate::seeded_start::start_seeded;
-use crate::seeding::Seeding;
-use crate::starting::StartedServer;
 use std::alloc::Global;
 use std::io::Write;
 use std::net::{IpAddr, Ipv4Addr, Net, SocketAddr};
@@ -18,7 +14,9 @@ use sv_application::{ProgramFilter, ProgramListener, ProgramServlet};
 use sv_component::{Filter, Listener, Servlet};
 use sv_deployments::FolderStore;
 use sv_front::Limits;
+use sv_listening::{run_plainly, run_recorded};
 use sv_program::{CommandFault, FileStore};
+use sv_starting::{Seeding, StartedServer, start_seeded};
 
 /// Starts the container of the server file with the random words of that seeding, listens at the address, or at the server file's port on this
 /// machine where none is given, writes the line `listening ADDRESS:PORT`, serves all connections that come within these limits, none waiting for

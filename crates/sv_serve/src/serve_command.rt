@@ -1,10 +1,8 @@
 //! The command `serve`: a server's container over connections that come one after another.
 
 ghost use Rattle.sv_component.specs.Steps.{steps_of};
-ghost use Rattle.sv_serve.specs.Starting.{BeginsWith};
+ghost use Rattle.sv_serve.specs.Commands.{BeginsWith};
 
-use crate::listening::listen_and_serve;
-use crate::starting::{StartedServer, start_server};
 use std::alloc::Global;
 use std::io::Write;
 use std::net::Net;
@@ -12,7 +10,9 @@ use std::time::Clock;
 use sv_application::{ProgramFilter, ProgramListener, ProgramServlet};
 use sv_component::{Filter, Listener, Servlet};
 use sv_deployments::FolderStore;
+use sv_listening::listen_and_serve;
 use sv_program::{CommandFault, FileStore};
+use sv_starting::{StartedServer, start_server};
 
 /// Starts the container of the server file, listens at its port on this machine, writes the line `listening PORT`, serves so many connections one
 /// after another, writes the line `served COUNT`, and shuts the container down, also where something failed before.

@@ -23,19 +23,19 @@ pub(crate) fn uncovered_of<S, F, L>(
     alloc: Global,
     contexts: &[Context<S, F, L>],
 ) -> Result<Bytes, NoMemory>
-    ensures { GivesAnswer result (spec.uncovered_lines contexts.now) }
+    ensures { GivesAnswer result (spec.gaps_text contexts.now) }
 {
     let mut lines = String::new(alloc);
     for context in contexts {
-        let more = context_lines(alloc, context)?;
+        let more = context_gaps(alloc, context)?;
         lines.push_str(more.as_str())?;
     }
     Ok(Bytes::from_vec(lines.into_bytes()))
 }
 
 // The lines of a context.
-fn context_lines<S, F, L>(alloc: Global, context: &Context<S, F, L>) -> Result<Text, NoMemory>
-    ensures { GivesAnswer result (spec.context_lines context.now) }
+fn context_gaps<S, F, L>(alloc: Global, context: &Context<S, F, L>) -> Result<Text, NoMemory>
+    ensures { GivesAnswer result (spec.context_gaps_text context.now) }
 {
     let gaps = context.policy().uncovered(alloc)?;
     gap_lines(alloc, context.context_path(), gaps.as_slice())
@@ -50,7 +50,7 @@ pub(crate) fn standing_of<S, F, L>(
     events: u64,
     contexts: &[Context<S, F, L>],
 ) -> Result<Bytes, NoMemory>
-    ensures { GivesAnswer result (spec.standing_text events contexts.now) }
+    ensures { GivesAnswer result (spec.counts_text events contexts.now) }
 {
     let mut text = events_text(alloc, events)?;
     push_sessions(alloc, &mut text, contexts)?;

@@ -1,7 +1,7 @@
 //! The start of a server's container with random words of its own.
 
 ghost use Rattle.sv_component.specs.Steps.{steps_of};
-ghost use Rattle.sv_serve.specs.Running.{StartsSeeded};
+ghost use Rattle.sv_starting.specs.Seeded.{StartsSeeded};
 
 use crate::seeding::{Seeding, seed_for};
 use crate::starting::{StartedServer, start};

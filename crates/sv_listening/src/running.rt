@@ -1,4 +1,4 @@
-//! A container over all connections of an address at once.
+//! All connections of an address at once.
 
 use crate::sockets::{file_fault, front_fault_of};
 use std::alloc::Global;
@@ -13,8 +13,7 @@ use sv_run::Reactor;
 use sv_streams::SystemClock;
 
 /// Listens at the address, where port 0 stands for any that is free, writes the line `listening ADDRESS:PORT`, and serves all connections that come,
-/// none waiting for another and within the limits of a site that sets none, until the process is ended from outside. The container is one that
-/// [`start`](crate::start) gave; it is given back, goes on to stand, and its `shutdown` stops it.
+/// none waiting for another and within the limits of a site that sets none, until the process is ended from outside. The reactor is given back.
 ///
 /// # Errors
 /// [`CommandFault::Socket`], [`CommandFault::Output`] or [`CommandFault::NoMemory`] as the run meets them.
@@ -23,9 +22,9 @@ pub fn listen_and_run<H: Net + Clock, W: Write, R: Reactor + Drop>(
     host: &H,
     writer: &mut W,
     address: SocketAddr,
-    container: R,
+    reactor: R,
 ) -> (Result<(), CommandFault>, R) {
-    let mut unasked = Unasked::new(container);
+    let mut unasked = Unasked::new(reactor);
     let served = match Listening::at(host, address) {
         Ok(listening) => {
             let limits = Limits::standard();
@@ -36,7 +35,7 @@ pub fn listen_and_run<H: Net + Clock, W: Write, R: Reactor + Drop>(
     (served, unasked.into_within())
 }
 
-/// Serves as [`listen_and_run`] does, within these limits, and where a socket file is named, answers what is asked there, has the container take the
+/// Serves as [`listen_and_run`] does, within these limits, and where a socket file is named, answers what is asked there, has the reactor take the
 /// edits that are sent, and serves until the line `stop` is sent there, too: then what waits to be written is written, for 5 seconds at most, and for 2
 /// more what peers still send is read on and dropped.
 ///
@@ -49,13 +48,13 @@ pub(crate) fn run_controlled<H: Net + Clock + Files, W: Write, R: Reactor + Cons
     address: SocketAddr,
     limits: Limits,
     control: Option<&str>,
-    container: &mut R,
+    reactor: &mut R,
 ) -> Result<(), CommandFault> {
     let Ok(mut listening) = Listening::at(host, address) else {
         return Err(CommandFault::Socket);
     };
     match take_lines(alloc, host, &mut listening, control) {
-        Ok(()) => tell_and_run(alloc, host, writer, listening, limits, container),
+        Ok(()) => tell_and_run(alloc, host, writer, listening, limits, reactor),
         Err(fault) => Err(fault),
     }
 }
@@ -67,10 +66,10 @@ fn tell_and_run<H: Net + Clock, W: Write, R: Reactor + Consulted>(
     writer: &mut W,
     listening: Listening,
     limits: Limits,
-    container: &mut R,
+    reactor: &mut R,
 ) -> Result<(), CommandFault> {
     match tell_address(alloc, writer, &listening) {
-        Ok(()) => run_listening(alloc, host, listening, limits, container),
+        Ok(()) => run_listening(alloc, host, listening, limits, reactor),
         Err(fault) => Err(fault),
     }
 }
@@ -110,7 +109,7 @@ fn run_listening<H: Net + Clock, R: Reactor + Consulted>(
     host: &H,
     listening: Listening,
     limits: Limits,
-    container: &mut R,
+    reactor: &mut R,
 ) -> Result<(), CommandFault> {
     let Ok(registry) = listening.registry() else {
         return Err(CommandFault::Socket);
@@ -118,7 +117,7 @@ fn run_listening<H: Net + Clock, R: Reactor + Consulted>(
     let Ok(mut sockets) = Sockets::new(alloc, host, &registry, listening) else {
         return Err(CommandFault::NoMemory);
     };
-    run_sockets(alloc, host, &mut sockets, limits, container)
+    run_sockets(alloc, host, &mut sockets, limits, reactor)
 }
 
 fn run_sockets<H: Clock, R: Reactor + Consulted>(
@@ -126,10 +125,10 @@ fn run_sockets<H: Clock, R: Reactor + Consulted>(
     host: &H,
     sockets: &mut Sockets<'_, H>,
     limits: Limits,
-    container: &mut R,
+    reactor: &mut R,
 ) -> Result<(), CommandFault> {
     let mut clock = SystemClock::new(host);
-    let ran = run_front(alloc, limits, container, sockets, &mut clock);
+    let ran = run_front(alloc, limits, reactor, sockets, &mut clock);
     sockets.read_out();
     match ran {
         Ok(()) if sockets.has_failed() => Err(CommandFault::Socket),

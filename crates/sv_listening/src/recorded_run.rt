@@ -1,4 +1,4 @@
-//! A container over all connections of an address at once, with a journal.
+//! All connections of an address at once, with a socket file and a journal.
 
 use crate::running::run_controlled;
 use crate::sockets::file_fault;
@@ -15,15 +15,11 @@ use sv_recording::{Alarm, Record, Recorder};
 use sv_run::Reactor;
 use sv_streams::WriteSink;
 
-/// Serves as [`run_controlled`] does, appends what the events bring to the file of that name, and gives the container back.
+/// Serves as [`run_controlled`] does, appends what the events bring to the file of that name, and gives the reactor back.
 ///
 /// # Errors
 /// [`CommandFault::File`] where that file cannot be opened; then those of [`run_controlled`].
-pub(crate) fn run_recorded<
-    H: Net + Clock + Files + Eprint,
-    W: Write,
-    R: Reactor + Consulted + Drop,
->(
+pub fn run_recorded<H: Net + Clock + Files + Eprint, W: Write, R: Reactor + Consulted + Drop>(
     alloc: Global,
     host: &H,
     writer: &mut W,
@@ -31,41 +27,33 @@ pub(crate) fn run_recorded<
     limits: Limits,
     control: Option<&str>,
     name: &str,
-    container: R,
+    reactor: R,
 ) -> (Result<(), CommandFault>, R) {
     let Ok(file) = open_to_append(host, name) else {
-        return (Err(file_fault(alloc, name)), container);
+        return (Err(file_fault(alloc, name)), reactor);
     };
     let record = Record::new(alloc, WriteSink::new(file), StandardError { host });
-    let mut recorder = Recorder::new(container, record);
+    let mut recorder = Recorder::new(reactor, record);
     let served = run_controlled(alloc, host, writer, address, limits, control, &mut recorder);
     (served, recorder.into_within())
 }
 
-/// Serves as [`run_controlled`] does, and gives the container back.
+/// Serves as [`run_controlled`] does, and gives the reactor back.
 ///
 /// # Errors
 /// Those of [`run_controlled`].
-pub(crate) fn run_plainly<H: Net + Clock + Files, W: Write, R: Reactor + Consulted + Drop>(
+pub fn run_plainly<H: Net + Clock + Files, W: Write, R: Reactor + Consulted + Drop>(
     alloc: Global,
     host: &H,
     writer: &mut W,
     address: SocketAddr,
     limits: Limits,
     control: Option<&str>,
-    container: R,
+    reactor: R,
 ) -> (Result<(), CommandFault>, R) {
-    let mut container = container;
-    let served = run_controlled(
-        alloc,
-        host,
-        writer,
-        address,
-        limits,
-        control,
-        &mut container,
-    );
-    (served, container)
+    let mut reactor = reactor;
+    let served = run_controlled(alloc, host, writer, address, limits, control, &mut reactor);
+    (served, reactor)
 }
 
 // Opens a file to append to it, which is made where it is missing.

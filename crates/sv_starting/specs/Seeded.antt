@@ -9,10 +9,10 @@ use Rattle.sv_deployments.specs.Folders.{FolderGiving}
 use Rattle.sv_deployments.specs.declared.configuration.Configuration.{Configuration}
 use Rattle.sv_program.specs.FileStore.{Giving}
 use Rattle.sv_program.specs.declared.command_fault.CommandFault.{CommandFault}
-use Rattle.sv_serve.specs.Seeding.{GivesSeed}
-use Rattle.sv_serve.specs.Starting.{StartsWith, UnlessStarted}
-use Rattle.sv_serve.specs.declared.seeding.Seeding.{Seeding}
-use Rattle.sv_serve.specs.declared.starting.StartedServer.{StartedServer}
+use Rattle.sv_starting.specs.Seeding.{GivesSeed}
+use Rattle.sv_starting.specs.Starting.{StartsWith}
+use Rattle.sv_starting.specs.declared.seeding.Seeding.{Seeding}
+use Rattle.sv_starting.specs.declared.starting.StartedServer.{StartedServer}
 
 module _ (moving : ComponentSteps ProgramServlet ProgramFilter ProgramListener) where
   -- what is configured starts with this seed, or its fault is told
@@ -36,9 +36,3 @@ module _ (moving : ComponentSteps ProgramServlet ProgramFilter ProgramListener) 
   abbrev pub StartsSeeded : {S : Type 0} → Giving S → FolderGiving S → Seeding → List ℕ → S → Result StartedServer CommandFault → S → Type 0
   StartsSeeded gives_text gives_files seeding config before result after =
       (found : Result Configuration CommandFault) × FindsConfiguration gives_text gives_files config found before after × GoesOnSeeded seeding found result
-
-  -- the command begins with the start of the server
-  abbrev pub BeginsRun : {S W : Type 0} → Giving S → FolderGiving S → Seeding → List ℕ → S → W → Result (Unit {0}) CommandFault → S → W → Type 0
-  BeginsRun gives_text gives_files seeding config before writer result after writer_after =
-      (begun : Result StartedServer CommandFault) × StartsSeeded gives_text gives_files seeding config before begun after
-      × UnlessStarted moving begun result writer writer_after

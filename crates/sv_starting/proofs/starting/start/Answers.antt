@@ -1,4 +1,4 @@
-use Rattle.sv_serve.proofs.starting.start.Goals as goal
+use Rattle.sv_starting.proofs.starting.start.Goals as goal
 
 pub returns : goal.returns
 returns g c = (

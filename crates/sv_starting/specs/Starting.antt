@@ -20,7 +20,7 @@ use Rattle.sv_program.specs.FileStore.{Giving}
 use Rattle.sv_program.specs.declared.command_fault.CommandFault.{CommandFault}
 use Rattle.sv_program.specs.declared.command_fault.CommandFault.TheVariants as fault
 use Rattle.sv_words.specs.declared.seeded_words.SeededWords.{SeededWords}
-use Rattle.sv_serve.specs.declared.starting.StartedServer.{StartedServer}
+use Rattle.sv_starting.specs.declared.starting.StartedServer.{StartedServer}
 
 -- the fault of a container that did not start, by its code and the context that goes with it
 abbrev pub start_fault : NewCode → List ℕ → CommandFault
@@ -62,14 +62,3 @@ module _ (moving : ComponentSteps ProgramServlet ProgramFilter ProgramListener) 
   abbrev pub StartsServer : {S : Type 0} → Giving S → FolderGiving S → List ℕ → S → Result StartedServer CommandFault → S → Type 0
   StartsServer gives_text gives_files config before result after =
       (found : Result Configuration CommandFault) × FindsConfiguration gives_text gives_files config found before after × GoesOn found result
-
-  -- where the server did not start, its fault is the command's, and nothing was written
-  abbrev pub UnlessStarted : {W : Type 0} → Result StartedServer CommandFault → Result (Unit {0}) CommandFault → W → W → Type 0
-  UnlessStarted (Ok started) result writer writer_after = Unit {0}
-  UnlessStarted (Err fault) result writer writer_after = (result ≡ Err fault) × (writer_after ≡ writer)
-
-  -- a command begins with the start of the server
-  abbrev pub BeginsWith : {S W : Type 0} → Giving S → FolderGiving S → List ℕ → S → W → Result (Unit {0}) CommandFault → S → W → Type 0
-  BeginsWith gives_text gives_files config before writer result after writer_after =
-      (begun : Result StartedServer CommandFault) × StartsServer gives_text gives_files config before begun after
-      × UnlessStarted begun result writer writer_after

@@ -1,7 +1,7 @@
 //! The seed of a start.
 
 ghost use Rattle.std.specs.Prelude.{◌≡◌, length};
-ghost use Rattle.sv_serve.specs.Seeding.{GivesSeed, HasSeedLength, IsRandomFault};
+ghost use Rattle.sv_starting.specs.Seeding.{GivesSeed, HasSeedLength, IsRandomFault};
 
 use std::alloc::Global;
 use std::random::RandomSource;

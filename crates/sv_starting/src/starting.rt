@@ -2,7 +2,7 @@
 
 ghost use Rattle.sv_component.specs.Steps.{steps_of};
 ghost use Rattle.std.specs.Prelude.{◌≡◌, length};
-ghost use Rattle.sv_serve.specs.Starting as spec;
+ghost use Rattle.sv_starting.specs.Starting as spec;
 
 use std::alloc::Global;
 use sv_application::{ProgramFilter, ProgramListener, ProgramServlet};

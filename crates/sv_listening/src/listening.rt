@@ -1,4 +1,4 @@
-//! A container over the connections of a port.
+//! The connections of a port, one after another.
 
 use crate::sockets::{fault_of, listen};
 use std::alloc::Global;
@@ -11,7 +11,7 @@ use sv_sockets::serve_on;
 use sv_streams::{SystemClock, WriteSink};
 
 /// Listens at the port on this machine, 0 for any that is free, writes the line `listening PORT`, serves so many connections one after another,
-/// and writes the line `served COUNT`. The container is one that [`start`](crate::start) gave; it goes on to stand, and its `shutdown` stops it.
+/// and writes the line `served COUNT`.
 ///
 /// # Errors
 /// [`CommandFault::Socket`], [`CommandFault::Output`] or [`CommandFault::NoMemory`] as the run meets them.
@@ -21,7 +21,7 @@ pub fn listen_and_serve<H: Net + Clock, W: Write, R: Reactor>(
     writer: &mut W,
     port: u16,
     count: u64,
-    container: &mut R,
+    reactor: &mut R,
 ) -> Result<(), CommandFault> {
     let Ok(listener) = listen(host, port) else {
         return Err(CommandFault::Socket);
@@ -33,7 +33,7 @@ pub fn listen_and_serve<H: Net + Clock, W: Write, R: Reactor>(
         &listener,
         host,
         count,
-        container,
+        reactor,
         &mut clock,
         &mut output,
     ) {

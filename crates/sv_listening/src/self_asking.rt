@@ -1,0 +1,55 @@
+//! A request that a program sends to itself.
+
+use crate::sockets::{fault_of, listen};
+use std::alloc::Global;
+use std::io;
+use std::io::ErrorKind;
+use std::net::{Net, OpenListener, OpenStream, SocketAddr};
+use std::time::Clock;
+use sv_program::CommandFault;
+use sv_run::Reactor;
+use sv_runs::serve_connections;
+use sv_sockets::{OwnAcceptor, READ_BYTES, ask, first_line};
+use sv_streams::SystemClock;
+
+/// Listens at the port on this machine, 0 for any that is free, connects to it, asks for the root path by `HEAD`, serves that connection and no other, and
+/// gives the first line of the answer. No call waits for ever.
+///
+/// # Errors
+/// [`CommandFault::Socket`] or [`CommandFault::NoMemory`].
+pub fn own_answer<H: Net + Clock, R: Reactor>(
+    alloc: Global,
+    host: &H,
+    port: u16,
+    reactor: &mut R,
+) -> Result<Vec<u8>, CommandFault> {
+    let Ok(listener) = listen(host, port) else {
+        return Err(CommandFault::Socket);
+    };
+    let Ok((client, address)) = connected(host, &listener) else {
+        return Err(CommandFault::Socket);
+    };
+    let mut acceptor = OwnAcceptor::new(&listener, host, address);
+    let mut clock = SystemClock::new(host);
+    let mut buffer = [0; READ_BYTES];
+    match serve_connections(reactor, &mut acceptor, &mut clock, 1, &mut buffer) {
+        Ok(()) => answered(alloc, client),
+        Err(fault) => Err(fault_of(fault)),
+    }
+}
+
+// A connection to the listener, which then waits for no other, and the address that it has.
+fn connected<H: Net>(host: &H, listener: &H::Listener) -> io::Result<(H::Stream, SocketAddr)> {
+    let client = ask(host, listener.local_addr()?)?;
+    let address = client.local_addr()?;
+    listener.set_nonblocking(true)?;
+    Ok((client, address))
+}
+
+fn answered<T: io::Read + Drop>(alloc: Global, client: T) -> Result<Vec<u8>, CommandFault> {
+    match first_line(alloc, client) {
+        Ok(line) => Ok(line),
+        Err(error) if error.kind() == ErrorKind::OutOfMemory => Err(CommandFault::NoMemory),
+        Err(_) => Err(CommandFault::Socket),
+    }
+}

@@ -1,0 +1,31 @@
+-- How the commands that listen begin.
+use Rattle.std.specs.Prelude.{◌≡◌, ℕ, List, Result, Ok, Err}
+use Rattle.sv_component.specs.Steps.{ComponentSteps}
+use Rattle.sv_application.specs.declared.program_filter.ProgramFilter.{ProgramFilter}
+use Rattle.sv_application.specs.declared.program_listener.ProgramListener.{ProgramListener}
+use Rattle.sv_application.specs.declared.program_servlet.ProgramServlet.{ProgramServlet}
+use Rattle.sv_deployments.specs.Folders.{FolderGiving}
+use Rattle.sv_program.specs.FileStore.{Giving}
+use Rattle.sv_program.specs.declared.command_fault.CommandFault.{CommandFault}
+use Rattle.sv_starting.specs.Seeded.{StartsSeeded}
+use Rattle.sv_starting.specs.Starting.{StartsServer}
+use Rattle.sv_starting.specs.declared.seeding.Seeding.{Seeding}
+use Rattle.sv_starting.specs.declared.starting.StartedServer.{StartedServer}
+
+-- where the server did not start, its fault is the command's, and nothing was written
+abbrev pub UnlessStarted : {W : Type 0} → Result StartedServer CommandFault → Result (Unit {0}) CommandFault → W → W → Type 0
+UnlessStarted (Ok started) result writer writer_after = Unit {0}
+UnlessStarted (Err fault) result writer writer_after = (result ≡ Err fault) × (writer_after ≡ writer)
+
+module _ (moving : ComponentSteps ProgramServlet ProgramFilter ProgramListener) where
+  -- a command begins with the start of the server
+  abbrev pub BeginsWith : {S W : Type 0} → Giving S → FolderGiving S → List ℕ → S → W → Result (Unit {0}) CommandFault → S → W → Type 0
+  BeginsWith gives_text gives_files config before writer result after writer_after =
+      (begun : Result StartedServer CommandFault) × StartsServer moving gives_text gives_files config before begun after
+      × UnlessStarted begun result writer writer_after
+
+  -- the command `run` begins with the start of the server, with the random words of that seeding
+  abbrev pub BeginsRun : {S W : Type 0} → Giving S → FolderGiving S → Seeding → List ℕ → S → W → Result (Unit {0}) CommandFault → S → W → Type 0
+  BeginsRun gives_text gives_files seeding config before writer result after writer_after =
+      (begun : Result StartedServer CommandFault) × StartsSeeded moving gives_text gives_files seeding config before begun after
+      × UnlessStarted begun result writer writer_after

@@ -1,0 +1,3 @@
+pub mod Seeded
+pub mod Seeding
+pub mod Starting
