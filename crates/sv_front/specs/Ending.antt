@@ -1,9 +1,7 @@
--- Whether what a piece brought ends a message, or refuses one (RFC 9110, section 15.2: an interim response is not the answer to its request).
-use Rattle.std.specs.Prelude.{ℕ, ◌-◌, ◌&&◌, Bool, true, false, not, List, bytes_eq, drop, length, nat_le}
+-- Whether what a piece brought ends a message (RFC 9110, section 15.2: an interim response is not the answer to its request).
+use Rattle.std.specs.Prelude.{ℕ, ◌-◌, ◌&&◌, Bool, not, List, bytes_eq, drop, length, nat_le}
 use Rattle.std.specs.List.{list_any}
 use Rattle.sv_journal.specs.declared.entry.Entry.{Entry}
-use Rattle.sv_journal.specs.declared.entry.Entry.TheVariants.{Refused}
-use Rattle.sv_journal.specs.declared.refusal_cause.RefusalCause.TheVariants.{Wire}
 use Rattle.sv_run.specs.Items.{continue_text}
 use Rattle.sv_run.specs.Lawful.{is_outcome}
 
@@ -19,11 +17,3 @@ asks_for_more sends =
 -- a message is over, and no other is under way that was told to go on
 abbrev pub ends_message : List Entry → List ℕ → Bool
 ends_message entries sends = has_outcome entries && not (asks_for_more sends)
-
--- a message was refused before all of it was read
-abbrev pub is_broken_off : Entry → Bool
-is_broken_off (Refused (Wire fault)) = true
-is_broken_off entry = false
-
-abbrev pub breaks_off : List Entry → Bool
-breaks_off entries = list_any is_broken_off entries

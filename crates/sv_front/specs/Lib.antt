@@ -1,11 +1,12 @@
 pub mod Alone
 pub mod Asking
+pub mod Closing
 pub mod Course
 pub mod Ending
 pub mod Figures
 pub mod Finishing
-pub mod Holding
 pub mod Fronts
+pub mod Holding
 pub mod Known
 pub mod Laws
 pub mod Notes

@@ -7,8 +7,7 @@ ghost use Rattle.sv_front.specs.Steps.{Drives, HandsOn, IsArmed, SendsOn, StepsO
 
 use crate::allowance::Allowance;
 use crate::cause::Cause;
-use crate::closing::Closing;
-use crate::ending::{breaks_off, ends_message};
+use crate::ending::ends_message;
 use crate::limits::{BYTES_A_WINDOW, FIRST_READ_BYTES, READ_BYTES, WINDOW_SECONDS};
 use crate::peer::{Peer, Tried};
 use crate::pending::Pending;
@@ -30,7 +29,6 @@ pub(crate) struct Connection<P> {
     closes: bool,
     rests: bool,
     under_way: u64,
-    broken_off: bool,
     begun: bool,
     flows: bool,
     waits: bool,
@@ -67,7 +65,6 @@ impl<P: Peer> Connection<P> {
             closes: false,
             rests: true,
             under_way: 0,
-            broken_off: false,
             begun: false,
             flows: false,
             waits: false,
@@ -84,16 +81,6 @@ impl<P: Peer> Connection<P> {
         ensures { result ≡ self.stream }
     {
         self.stream
-    }
-
-    /// How it is closed where it is over for that cause: at once, where its peer has ended, or is gone, or was to send no more than it has sent; else in
-    /// stages.
-    pub fn closing(&self, cause: Cause) -> Closing {
-        match cause {
-            Cause::PeerEnded | Cause::ReadFails | Cause::WriteFails => Closing::AtOnce,
-            Cause::AnswerCloses if !self.broken_off && self.ahead.is_empty() => Closing::AtOnce,
-            Cause::AnswerCloses | Cause::GivenUp => Closing::InStages,
-        }
     }
 
     /// When it is to be given up, in seconds.
@@ -353,7 +340,6 @@ impl<P: Peer> Connection<P> {
             ..
         } = reaction;
         let is_over = ends_message(journal.entries(), sends.as_slice());
-        self.broken_off = breaks_off(journal.entries());
         self.begun = !is_over;
         self.under_way = if is_over {
             0

@@ -1,10 +1,10 @@
-//! Whether what a piece brought ends a message, or refuses one.
+//! Whether what a piece brought ends a message.
 
 ghost use Rattle.std.specs.Prelude.{◌≡◌};
 ghost use Rattle.sv_front.specs.Ending as spec;
 ghost use Rattle.sv_run.specs.Lawful as run;
 
-use sv_journal::{Entry, RefusalCause};
+use sv_journal::Entry;
 
 const CONTINUE: &[u8] = b"HTTP/1.1 100 Continue\r\n\r\n";
 
@@ -29,19 +29,6 @@ fn is_outcome(entry: &Entry) -> bool
         Entry::Entered(..) | Entry::SentToLogin(..) | Entry::Refused(_) | Entry::Hidden(_) => true,
         Entry::Told(..) | Entry::Called(..) => false,
     }
-}
-
-/// Whether a message was refused before all of it was read, so that its peer may still send of it.
-pub(crate) fn breaks_off(entries: &[Entry]) -> bool
-    ensures { result ≡ spec.breaks_off entries.now }
-{
-    entries.iter().any(|entry| is_broken_off(entry))
-}
-
-fn is_broken_off(entry: &Entry) -> bool
-    ensures { result ≡ spec.is_broken_off entry.now }
-{
-    matches!(entry, Entry::Refused(RefusalCause::Wire(_)))
 }
 
 // Whether the last that is sent asks for a body.

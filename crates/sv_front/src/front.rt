@@ -244,8 +244,7 @@ impl<P: Peer + Drop> Front<P> {
         ensures { ForgetsOne number self.old self.new }
     {
         if let Some(connection) = self.connections.remove(&number) {
-            let closing = connection.closing(cause);
-            network.part(number, connection.into_stream(), closing);
+            network.part(number, connection.into_stream(), cause.closing());
         }
     }
 
