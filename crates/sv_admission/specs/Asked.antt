@@ -1,7 +1,7 @@
 -- A message as its context receives it (Jakarta Servlet 6.0, section 3.5).
 use Rattle.std.specs.Prelude.{ℕ}
 use Rattle.sv_uri.specs.declared.path.Canon.{Canon}
-use Rattle.sv_wire.specs.declared.message.Message.{Message}
+use Rattle.sv_message.specs.declared.message.Message.{Message}
 
 pub record Asked : Type 0 where
   pub message : Message

@@ -14,13 +14,13 @@ use std::alloc::Global;
 use sv_cookies::held;
 use sv_exchange::HeldSession;
 use sv_journal::{Entry, Event};
+use sv_message::Message;
 use sv_policy::Policy;
 use sv_realm::Realm;
 use sv_session::Sessions;
 use sv_site::Site;
 use sv_text::NoMemory;
 use sv_uri::path::Canon;
-use sv_wire::Message;
 
 /// What becomes of a message in its context before any component is called.
 #[derive(Drop)]

@@ -16,13 +16,13 @@ use sv_context_path::is_protected;
 use sv_descriptor::WebApp;
 use sv_head::Field;
 use sv_login::login_step;
+use sv_message::Message;
 use sv_outcome::Outcome;
 use sv_policy::Policy;
 use sv_realm::{Caller, Realm};
 use sv_session::Sessions;
 use sv_text::NoMemory;
 use sv_uri::path::Canon;
-use sv_wire::Message;
 
 /// What becomes of a message to this path in its context, which holds this session, by the policy as it stands. A login that passes changes the
 /// sessions.

@@ -13,13 +13,13 @@ use crate::judging::caller_held;
 use std::alloc::Global;
 use sv_exchange::HeldSession;
 use sv_journal::Event;
+use sv_message::Message;
 use sv_outcome::Outcome;
 use sv_realm::{Caller, Realm};
 use sv_session::{SessionFault, Sessions};
 use sv_site::sent_to;
 use sv_text::{NoMemory, Text};
 use sv_uri::path::Canon;
-use sv_wire::Message;
 
 /// The session of a message, whether the message opened or renamed it, and the event that this is.
 #[derive(Drop)]

@@ -65,7 +65,7 @@ fn answer<S: Servlet, F: Filter, L: Listener, D: Drop, W: Write>(
     ensures untouched { IfErr result (λ fault. fault ≢ CommandFault.Output → writer.new ≡ writer.old) }
 {
     let explained = container.explain(question.method, question.target.as_bytes(), question.user);
-    let _stopped = container.shutdown();
+    container.shutdown().let_go();
     match explained {
         Ok(explanation) => print_explanation(alloc, &explanation, writer),
         Err(fault) => Err(fault_of(fault)),

@@ -4,9 +4,10 @@ use crate::runs::{Sees, add_seen};
 use std::alloc::Global;
 use sv_exchange::Exchange;
 use sv_head::Field;
+use sv_message::{Body, Response};
 use sv_rows::{Asks, Draft, Strays, cell, hold};
 use sv_text::NoMemory;
-use sv_wire::{Body, Response, write_response};
+use sv_wire::write_response;
 
 /// Calls, the answer to the last one, and the response: its status, its fields, its body.
 const STATUSES: &str = r#"

@@ -11,9 +11,9 @@ use sv_component::{
     step_answer,
 };
 use sv_journal::Answer;
+use sv_message::Response;
 use sv_rows::{Asks, Draft, Strays, cell, hold, unescaped_text};
 use sv_text::{Listed, NoMemory, Text};
-use sv_wire::Response;
 
 /// A class, a component's name with its parameters, calls made before its own, and then: the answers to `init` and to `service` or
 /// `before`, the fields and the body of the response.

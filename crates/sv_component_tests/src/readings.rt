@@ -4,9 +4,9 @@ use crate::runs::{Sees, add_seen};
 use std::alloc::Global;
 use sv_exchange::Exchange;
 use sv_mapping::Kind;
+use sv_message::Response;
 use sv_rows::{Asks, Draft, Strays, cell, hold};
 use sv_text::NoMemory;
-use sv_wire::Response;
 
 /// Calls, what is read behind them, and what it tells: `-` for nothing.
 const REQUESTS: &str = r#"

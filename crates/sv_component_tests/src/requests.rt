@@ -4,9 +4,9 @@ use http::Method;
 use http_header::{HeaderName, HeaderValue};
 use std::alloc::Global;
 use sv_head::Field;
+use sv_message::{CookieSettings, Message, Target};
 use sv_text::{Bytes, Listed, NoMemory, Text};
 use sv_uri::path::Canon;
-use sv_wire::{CookieSettings, Message, Target};
 
 /// The fields of the request: a Host, two of one name and one without a value.
 const FIELDS: &str = "host:h,x-two:1,x-two:2,x-none:";

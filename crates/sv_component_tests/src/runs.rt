@@ -4,10 +4,10 @@ use crate::calls::call_all;
 use crate::requests::{Request, app_request};
 use std::alloc::Global;
 use sv_exchange::Exchange;
+use sv_message::Response;
 use sv_rows::{Draft, unescaped_text};
 use sv_session::Sessions;
 use sv_text::NoMemory;
-use sv_wire::Response;
 
 /// What a table looks at behind the calls of a row.
 pub trait Sees {

@@ -21,8 +21,8 @@ use Rattle.sv_run.specs.State.{State, World}
 use Rattle.sv_run.specs.declared.step_fault.StepFault.TheVariants.{Stopped, BadConnection, TooManyConnections, NoMemory}
 use Rattle.sv_wire.specs.declared.item.Item.{Item}
 use Rattle.sv_wire.specs.declared.item.Item.TheVariants.{Continue, Message, Refuse}
-use Rattle.sv_wire.specs.declared.message.Message.{Message as MessageRecord}
-use Rattle.sv_wire.specs.declared.message.Target.{Target}
+use Rattle.sv_message.specs.declared.message.Message.{Message as MessageRecord}
+use Rattle.sv_message.specs.declared.message.Target.{Target}
 
 -- ---- places by paths
 from_map : {X Y : Type 0} (test : Y → Bool) (f : X → Y) (place : ℕ) (xs : List X) → position_from test place (map f xs) ≡ position_from (λ x. test (f x)) place xs

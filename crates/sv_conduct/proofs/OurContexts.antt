@@ -31,7 +31,7 @@ use Rattle.sv_site.specs.Site.{Content, site_of}
 use Rattle.sv_tree.specs.Laws.{AnswersMoveSessions, MovedGiveNoCaller, MovedLeaveNoneExpired, MovesJoin, StepsMoveSessions}
 use Rattle.sv_tree.specs.Moving.{IsMoved}
 use Rattle.sv_tree.specs.Site.{Site}
-use Rattle.sv_wire.specs.declared.response.Response.{Response}
+use Rattle.sv_message.specs.declared.response.Response.{Response}
 use Rattle.sv_conduct.proofs.Admitting.{IsLoginAs, left_by_admission, left_holds, left_orderly}
 use Rattle.sv_conduct.proofs.Answers.{answered_moves}
 use Rattle.sv_conduct.proofs.Outcomes.{growth_is_silent, run_is_silent}

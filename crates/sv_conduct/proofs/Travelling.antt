@@ -29,9 +29,9 @@ use Rattle.sv_uri.specs.declared.fault.PathFault.{PathFault}
 use Rattle.sv_uri.specs.declared.path.Canon.{Canon}
 use Rattle.sv_wire.specs.declared.item.Item.{Item}
 use Rattle.sv_wire.specs.declared.item.Item.TheVariants.{Continue, Message, Refuse}
-use Rattle.sv_wire.specs.declared.message.Message.{Message as MessageRecord}
-use Rattle.sv_wire.specs.declared.message.Target.{Target}
-use Rattle.sv_wire.specs.declared.message.Target.TheVariants.{Star, Path}
+use Rattle.sv_message.specs.declared.message.Message.{Message as MessageRecord}
+use Rattle.sv_message.specs.declared.message.Target.{Target}
+use Rattle.sv_message.specs.declared.message.Target.TheVariants.{Star, Path}
 use Rattle.sv_conduct.specs.Record.{calls_of, is_call, outcomes_of}
 
 pub all_append : {X : Type 0} (P : X → Type 0) (xs ys : List X) → AllByRecursion P xs → AllByRecursion P ys → AllByRecursion P (xs ++ ys)

@@ -39,8 +39,8 @@ use Rattle.sv_tree.specs.Site.{Site}
 use Rattle.sv_tree.specs.State.{KeptError, State, on_exchange}
 use Rattle.sv_tree.specs.Telling.{all_told, hears}
 use Rattle.sv_uri.specs.declared.path.Canon.{Canon}
-use Rattle.sv_wire.specs.ResponseText.{phrase_of}
-use Rattle.sv_wire.specs.declared.response.Response.{Response}
+use Rattle.sv_message.specs.Phrases.{phrase_of}
+use Rattle.sv_message.specs.declared.response.Response.{Response}
 
 -- ---- calls of listeners alone
 

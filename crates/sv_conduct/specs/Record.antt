@@ -50,9 +50,9 @@ use Rattle.sv_site.specs.Site.{site_of}
 use Rattle.sv_tree.specs.Does.{Does, ◌>>◌, never}
 use Rattle.sv_tree.specs.Served.{Served, ShowsError}
 use Rattle.sv_tree.specs.Site.{Site}
-use Rattle.sv_wire.specs.declared.message.Target.{Target}
-use Rattle.sv_wire.specs.declared.response.Response.{Response}
-use Rattle.sv_wire.specs.declared.wire_fault.WireFault.{WireFault}
+use Rattle.sv_message.specs.declared.message.Target.{Target}
+use Rattle.sv_message.specs.declared.response.Response.{Response}
+use Rattle.sv_message.specs.declared.wire_fault.WireFault.{WireFault}
 
 module _ {S F L : Type 0} (context : ContextState S F L) (request : Request) where
   abbrev pub path_in : List ℕ

@@ -4,6 +4,7 @@ ghost use Rattle.std.specs.Prelude.{◌≡◌, Some};
 ghost use Rattle.sv_container.specs.NewCode.{code_name, code_number, code_of};
 
 use std::fmt;
+use sv_component::{Filter, Listener, Servlet};
 use sv_context::Deployment;
 use sv_lifecycle::StartCode;
 use sv_text::Text;
@@ -33,6 +34,18 @@ pub struct NewFault<S, F, L> {
     pub context: Text,
     /// All that was handed in, in its order, the components as the calls left them.
     pub deployments: Vec<Deployment<S, F, L>>,
+}
+
+impl<S: Servlet, F: Filter, L: Listener> NewFault<S, F, L> {
+    ghost use Rattle.std.specs.Prelude.{◌≡◌};
+
+    /// Its code, and the context path that goes with it, without what was handed in.
+    pub fn into_cause(self) -> (NewCode, Text)
+        ensures code { result.0 ≡ self.code }
+        ensures context { result.1 ≡ self.context }
+    {
+        (self.code, self.context)
+    }
 }
 
 impl NewCode {

@@ -30,6 +30,20 @@ pub struct Shutdown<S, F, L> {
     pub journal: Journal,
 }
 
+impl<S: Servlet, F: Filter, L: Listener> Shutdown<S, F, L> {
+    ghost use Rattle.std.specs.Prelude.{◌≡◌};
+
+    /// Its journal, without the components.
+    pub fn into_journal(self) -> Journal
+        ensures { result ≡ self.journal }
+    {
+        self.journal
+    }
+
+    /// Lets go of it. Who calls it drops none of what it holds, and is proved without that.
+    pub fn let_go(self) {}
+}
+
 impl<S: Servlet, F: Filter, L: Listener, W: Drop> Container<S, F, L, W> {
     /// Stops the contexts in their order, and hands their components back (Jakarta Servlet 6.0, sections 2.3.4, 6.2.1 and 11.3.4). It takes
     /// no memory but the journal's, and no refusal of memory holds it up. After an event that wanted memory nothing is told of sessions.

@@ -13,7 +13,7 @@ use Rattle.sv_run.specs.Contexts.{Request}
 use Rattle.sv_run.specs.Effect.{noting, whole}
 use Rattle.sv_site.specs.Site.{site_of}
 use Rattle.sv_text.specs.declared.no_memory.NoMemory.{NoMemory}
-use Rattle.sv_wire.specs.declared.response.Response.{Response}
+use Rattle.sv_message.specs.declared.response.Response.{Response}
 use Rattle.sv_context.specs.Conduct.{IsMoved, asked_of, conduct, unnoted}
 use Rattle.sv_context.specs.Expiry.{Expires, ends_told}
 use Rattle.sv_context.specs.Handled.{GivesResponse, CutShort, HandlesMessage, IsAnswered, admitted, exchange_begun, state_in}

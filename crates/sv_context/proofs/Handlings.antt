@@ -21,9 +21,9 @@ use Rattle.sv_session.specs.Store.{Store}
 use Rattle.sv_site.specs.Site.{Content, site_of}
 use Rattle.sv_tree.specs.Site.{Site}
 use Rattle.sv_uri.specs.declared.path.Canon.{Canon}
-use Rattle.sv_wire.specs.declared.cookie_settings.CookieSettings.{CookieSettings}
-use Rattle.sv_wire.specs.declared.message.Message.{Message}
-use Rattle.sv_wire.specs.declared.response.Response.{Response}
+use Rattle.sv_message.specs.declared.cookie_settings.CookieSettings.{CookieSettings}
+use Rattle.sv_message.specs.declared.message.Message.{Message}
+use Rattle.sv_message.specs.declared.response.Response.{Response}
 use Rattle.sv_context.specs.Answered.{Answered}
 use Rattle.sv_context.specs.Handled.{GivesResponse, CutShort, IsAnswered, admitted, exchange_begun, state_in}
 use Rattle.sv_context.specs.Responding.{RespondsNoted}

@@ -31,7 +31,7 @@ use Rattle.sv_tree.specs.Site.{Site}
 use Rattle.sv_tree.specs.State.{State, on_exchange}
 use Rattle.sv_tree.specs.Telling.{hears}
 use Rattle.sv_uri.specs.declared.path.Canon.{Canon}
-use Rattle.sv_wire.specs.ResponseText.{phrase_of}
+use Rattle.sv_message.specs.Phrases.{phrase_of}
 use Rattle.sv_context.specs.Answered.{Answered, Answers, Requested, SendsTo, Tells}
 
 -- without a call

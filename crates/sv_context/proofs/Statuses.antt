@@ -31,7 +31,7 @@ use Rattle.sv_tree.specs.declared.finished.Finished.{Finished}
 use Rattle.sv_tree.specs.declared.finished.Finished.TheVariants as finished
 use Rattle.sv_tree.specs.declared.limits.TheConstants.{INTERNAL_SERVER_ERROR, MAX_NESTING}
 use Rattle.sv_uri.specs.declared.path.Canon.{Canon}
-use Rattle.sv_wire.specs.ResponseText.{phrase_of}
+use Rattle.sv_message.specs.Phrases.{phrase_of}
 use Rattle.sv_context.specs.Answered.{Answered, Answers, Requested, Tells}
 
 -- a status that can be set is a status code

@@ -12,7 +12,7 @@ use Rattle.sv_journal.specs.Journal.{JournalState, Takes, with_entry}
 use Rattle.sv_site.specs.Site.{site_of}
 use Rattle.sv_tree.specs.State.{State}
 use Rattle.sv_uri.specs.declared.path.Canon.{Canon}
-use Rattle.sv_wire.specs.declared.response.Response.{Response}
+use Rattle.sv_message.specs.declared.response.Response.{Response}
 use Rattle.sv_context.specs.Answered.{Answered}
 use Rattle.sv_context.specs.State.{ContextState, IsSameDeployment, world_of}
 

@@ -29,13 +29,13 @@ use sv_context_path::path_within;
 use sv_exchange::{BeginFault, HeldSession};
 use sv_journal::{Entry, Journal};
 use sv_lifecycle::Live;
+use sv_message::{Message, Response};
 use sv_policy::Policy;
 use sv_realm::Realm;
 use sv_session::Sessions;
 use sv_site::Site;
 use sv_text::{NoMemory, Text};
 use sv_uri::path::Canon;
-use sv_wire::{Message, Response};
 
 impl<S: Servlet, F: Filter, L: Listener> Context<S, F, L> {
     /// Handles a message whose target has that canonical path, which the context serves, at a moment in seconds since 1970, with the two random
@@ -102,17 +102,57 @@ fn handle_in<S: Servlet, F: Filter, L: Listener>(
     if !journal.whole() {
         return Err(NoMemory);
     }
+    if is_path_within(site.context_path(), canon) {
+        return handle_at(
+            alloc, site, policy, users, live, sessions, message, canon, moment, words, journal,
+        );
+    }
     let Ok(canon) = within(alloc, site.context_path(), canon) else {
         return Err(NoMemory);
     };
+    handle_at(
+        alloc, site, policy, users, live, sessions, message, &canon, moment, words, journal,
+    )
+}
+
+// Handles a message to that path in the context.
+fn handle_at<S: Servlet, F: Filter, L: Listener>(
+    alloc: Global,
+    site: &mut Site,
+    policy: &Policy,
+    users: &Realm,
+    live: &mut Live<S, F, L>,
+    sessions: &mut Sessions,
+    message: &Message,
+    canon: &Canon,
+    moment: u64,
+    words: (u64, u64),
+    journal: &mut Journal,
+) -> Result<Response, NoMemory>
+    requires components { AreComponentsOf site.old live.old }
+    requires whole { journal.old.whole ≡ true }
+    ensures handles { HandlesMessage (steps_of S.servlet_step F.filter_step L.listener_step) (asked_by message.now canon.now moment words)
+        (context_of site.old policy.now users.now live.old sessions.old) journal.old (seen result)
+        (context_of site.old policy.now users.now live.new sessions.new) journal.new }
+    ensures components { AreComponentsOf site.old live.new }
+    ensures status { IfOk result (λ response. IsStatusCode response.status) }
+    ensures site { site.new ≡ site.old }
+{
     let Ok(admission) = admit(
-        alloc, site, policy, users, message, &canon, moment, words, sessions,
+        alloc, site, policy, users, message, canon, moment, words, sessions,
     ) else {
         return Err(NoMemory);
     };
     answer(
-        alloc, site, live, sessions, message, &canon, moment, words, admission, journal,
+        alloc, site, live, sessions, message, canon, moment, words, admission, journal,
     )
+}
+
+// Whether the path in the context is the whole path, as it is in the root context.
+fn is_path_within(context_path: &str, canon: &Canon) -> bool
+    ensures { IsTrue result → record canon.now { path = path_within context_path.now canon.now.path } ≡ canon.now }
+{
+    context_path.is_empty() && !canon.path.as_str().is_empty()
 }
 
 // The path in the context, with the query.

@@ -5,10 +5,10 @@ use std::alloc::Global;
 use sv_component::{Filter, Listener, Servlet};
 use sv_context_path::HasContextPath;
 use sv_journal::Journal;
+use sv_message::{Message, Response};
 use sv_policy::{Edit, EditFault};
 use sv_text::NoMemory;
 use sv_uri::path::Canon;
-use sv_wire::{Message, Response};
 
 impl<S, F, L> HasContextPath for Context<S, F, L> {
     ghost path_of = { λ context. context.content.context_path };

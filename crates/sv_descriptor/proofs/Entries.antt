@@ -12,8 +12,8 @@ use Rattle.sv_schema.specs.declared.fault.FaultCode.{FaultCode}
 use Rattle.sv_schema.specs.declared.fault.FaultCode.TheVariants.{BadValue, MissingKey, ReservedRole, BadTimeout}
 use Rattle.sv_schema.specs.declared.limits.TheConstants.{MAX_LIST_ITEMS}
 use Rattle.sv_schema.proofs.Yields.{bind-Ok, holds-Ok, list_of-short, text_of-yields, whole_of-yields, table_of-yields, required-Ok, optional-Ok, optional_or-Ok}
-use Rattle.sv_wire.specs.Cookies.{standard_settings}
-use Rattle.sv_wire.specs.declared.cookie_settings.CookieSettings.{CookieSettings}
+use Rattle.sv_message.specs.Cookies.{standard_settings}
+use Rattle.sv_message.specs.declared.cookie_settings.CookieSettings.{CookieSettings}
 use Rattle.sv_descriptor.specs.CookieConfig.{age_of, cookie_config, cookie_name, cookie_path, is_cookie_name, is_cookie_path, max_age}
 use Rattle.sv_descriptor.specs.ErrorPage.{error_page, page_for}
 use Rattle.sv_descriptor.specs.Filter.{dispatcher, filter_mapping}

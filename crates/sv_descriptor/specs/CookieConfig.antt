@@ -10,8 +10,8 @@ use Rattle.sv_schema.specs.Table.{optional, optional_or}
 use Rattle.sv_schema.specs.Value.{is_within, text_of, truth, whole_of}
 use Rattle.sv_schema.specs.declared.fault.FaultCode.TheVariants.{BadValue}
 use Rattle.sv_schema.specs.declared.limits.TheConstants.{MAX_NAME_BYTES}
-use Rattle.sv_wire.specs.Cookies.{standard_settings}
-use Rattle.sv_wire.specs.declared.cookie_settings.CookieSettings.{CookieSettings}
+use Rattle.sv_message.specs.Cookies.{standard_settings}
+use Rattle.sv_message.specs.declared.cookie_settings.CookieSettings.{CookieSettings}
 use Rattle.sv_descriptor.specs.Ignored.{element_keys}
 use Rattle.sv_descriptor.specs.declared.limits.TheConstants.{MAX_COOKIE_AGE, MAX_COOKIE_PATH_BYTES}
 

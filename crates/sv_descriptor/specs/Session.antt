@@ -6,7 +6,7 @@ use Rattle.sv_schema.specs.Fault.{Reads, refuse}
 use Rattle.sv_schema.specs.Table.{optional_or}
 use Rattle.sv_schema.specs.Value.{table_of, whole_of}
 use Rattle.sv_schema.specs.declared.fault.FaultCode.TheVariants.{BadTimeout}
-use Rattle.sv_wire.specs.Cookies.{standard_settings}
+use Rattle.sv_message.specs.Cookies.{standard_settings}
 use Rattle.sv_descriptor.specs.CookieConfig.{cookie_config}
 use Rattle.sv_descriptor.specs.Ignored.{element_keys}
 use Rattle.sv_descriptor.specs.declared.limits.TheConstants.{DEFAULT_SESSION_TIMEOUT, MAX_SESSION_TIMEOUT}

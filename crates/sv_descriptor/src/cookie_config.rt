@@ -8,12 +8,12 @@ use crate::collection::is_token_text;
 use crate::ignored::element_keys;
 use crate::limits::{MAX_COOKIE_AGE, MAX_COOKIE_PATH_BYTES};
 use std::alloc::Global;
+use sv_message::CookieSettings;
 use sv_schema::{
     FaultCode, MAX_NAME_BYTES, ReadFault, TableSchema, TextOf, TextSchema, Truth, WholeOf,
     WholeSchema, is_within, optional, optional_or, refuse,
 };
 use sv_text::Text;
-use sv_wire::CookieSettings;
 use toml::Table;
 
 /// The table of a session cookie (`cookie-config`, Jakarta Servlet 6.0 section 7.1.1; RFC 6265 section 4.1).

@@ -11,11 +11,11 @@ use crate::ignored::element_keys;
 use crate::limits::{DEFAULT_SESSION_TIMEOUT, MAX_SESSION_TIMEOUT};
 use crate::version::Version;
 use std::alloc::Global;
+use sv_message::CookieSettings;
 use sv_schema::{
     FaultCode, ReadFault, TableOf, TableSchema, WholeOf, WholeSchema, optional_or, refuse,
 };
 use sv_text::NoMemory;
-use sv_wire::CookieSettings;
 use toml::Table;
 
 /// How the sessions of a context are kept (`session-config`, Jakarta Servlet 6.0 sections 7.1.1 and 7.5).

@@ -4,7 +4,7 @@ ghost use Rattle.std.specs.Prelude.{◌≡◌, ◌≤◌, None, IfOk};
 ghost use Rattle.sv_dispatch.specs.Did.{Did, lasting, seen};
 ghost use Rattle.sv_dispatch.specs.Seen.{field_of};
 ghost use Rattle.sv_tree.specs.Endings.{error_status, errs, errs_with, fails, faults, is_away_for, is_missing, is_not_allowed};
-ghost use Rattle.sv_wire.specs.ResponseText.{phrase_of};
+ghost use Rattle.sv_message.specs.Phrases.{phrase_of};
 
 use crate::error_field::ErrorField;
 use crate::machine::Machine;

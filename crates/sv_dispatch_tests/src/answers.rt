@@ -8,6 +8,7 @@ use std::alloc::Global;
 use sv_dispatch::dispatch;
 use sv_exchange::{Exchange, KeptError};
 use sv_journal::Journal;
+use sv_message::{Body, Response};
 use sv_rows::Draft;
 use sv_served::{serve, show_error};
 use sv_session::Sessions;
@@ -15,7 +16,7 @@ use sv_site::Site;
 use sv_text::NoMemory;
 use sv_tree::Finished;
 use sv_uri::path::Canon;
-use sv_wire::{Body, Response, write_response};
+use sv_wire::write_response;
 
 /// What is asked of a context.
 #[derive(Clone, Copy)]

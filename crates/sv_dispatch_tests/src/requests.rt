@@ -9,12 +9,12 @@ use std::alloc::Global;
 use sv_exchange::{Exchange, HeldSession};
 use sv_head::Field;
 use sv_mapping::Kind;
+use sv_message::{CookieSettings, Message, Target};
 use sv_realm::Caller;
 use sv_session::Sessions;
 use sv_text::{Bytes, Listed, NoMemory, Text};
 use sv_uri::canon;
 use sv_uri::path::Canon;
-use sv_wire::{CookieSettings, Message, Target};
 
 /// A request: a method and a target in the context, and words: a moment behind `@`, the session that is held behind `#`, its caller behind
 /// `~`, the status of an error that it is answered by without a dispatch behind `!`, the kind of its dispatch, and else the body of a form.

@@ -1,7 +1,7 @@
 -- What is told of the answer so far (Jakarta Servlet 6.0, chapter 5).
 use Rattle.std.specs.Prelude.{ℕ, ◌+◌, ◌-◌, ◌^◌, length, min}
 use Rattle.sv_exchange.specs.State.{State}
-use Rattle.sv_wire.specs.Chunking.{joined}
+use Rattle.sv_message.specs.Chunking.{joined}
 
 -- how many bytes were written, up to the greatest number
 abbrev pub written_len : State → ℕ

@@ -4,13 +4,13 @@ use Rattle.std.specs.Option.{option_and_then, option_map}
 use Rattle.sv_session.specs.Calls.{id_of}
 use Rattle.sv_session.specs.Store.{Store}
 use Rattle.sv_uri.specs.declared.path.Canon.{Canon}
-use Rattle.sv_wire.specs.Chunking.{piece_of}
-use Rattle.sv_wire.specs.declared.body.Body.{Body}
-use Rattle.sv_wire.specs.declared.body.Body.TheVariants.{Whole, Flushed}
-use Rattle.sv_wire.specs.declared.cookie_settings.CookieSettings.{CookieSettings}
-use Rattle.sv_wire.specs.declared.message.Message.{Message}
-use Rattle.sv_wire.specs.declared.response.Cookie.{Cookie}
-use Rattle.sv_wire.specs.declared.response.Response.{Response}
+use Rattle.sv_message.specs.Chunking.{piece_of}
+use Rattle.sv_message.specs.declared.body.Body.{Body}
+use Rattle.sv_message.specs.declared.body.Body.TheVariants.{Whole, Flushed}
+use Rattle.sv_message.specs.declared.cookie_settings.CookieSettings.{CookieSettings}
+use Rattle.sv_message.specs.declared.message.Message.{Message}
+use Rattle.sv_message.specs.declared.response.Cookie.{Cookie}
+use Rattle.sv_message.specs.declared.response.Response.{Response}
 use Rattle.sv_exchange.specs.declared.held_session.HeldSession.{HeldSession}
 use Rattle.sv_exchange.specs.declared.limits.TheConstants.{OK}
 use Rattle.sv_exchange.specs.Dispatches.{paths_at}

@@ -9,7 +9,7 @@ use Rattle.sv_exchange.specs.Fields.{add_field, is_field, is_reserved_field, set
 use Rattle.sv_exchange.specs.Sessions.{ended, has_session, logged_out, on_session, opened, opening_faults, session_value, setting_faults, wants_session, with_attribute, without_attribute}
 use Rattle.sv_exchange.specs.State.{State}
 use Rattle.sv_text.specs.Faults.{first_or}
-use Rattle.sv_wire.specs.Chunking.{joined, piece_of}
+use Rattle.sv_message.specs.Chunking.{joined, piece_of}
 
 -- a changing call with its arguments
 pub data Change : Type 0 where

@@ -13,8 +13,8 @@ use Rattle.sv_session.specs.declared.session_fault.SessionFault.{SessionFault}
 use Rattle.sv_session.specs.declared.session_fault.SessionFault.TheVariants as session_faults
 use Rattle.sv_text.specs.Faults.{when}
 use Rattle.sv_uri.specs.LocationField.{location}
-use Rattle.sv_wire.specs.declared.cookie_settings.CookieSettings.{CookieSettings}
-use Rattle.sv_wire.specs.declared.response.Cookie.{Cookie}
+use Rattle.sv_message.specs.declared.cookie_settings.CookieSettings.{CookieSettings}
+use Rattle.sv_message.specs.declared.response.Cookie.{Cookie}
 use Rattle.sv_exchange.specs.declared.exchange_fault.ExchangeFault.{ExchangeFault}
 use Rattle.sv_exchange.specs.declared.exchange_fault.ExchangeFault.TheVariants as faults
 use Rattle.sv_exchange.specs.State.{State}

@@ -6,8 +6,8 @@ use Rattle.sv_head.specs.declared.field.Field.{Field}
 use Rattle.sv_journal.specs.declared.event.Event.{Event}
 use Rattle.sv_realm.specs.declared.caller.Caller.{Caller}
 use Rattle.sv_session.specs.Store.{Store}
-use Rattle.sv_wire.specs.declared.cookie_settings.CookieSettings.{CookieSettings}
-use Rattle.sv_wire.specs.declared.response.Cookie.{Cookie}
+use Rattle.sv_message.specs.declared.cookie_settings.CookieSettings.{CookieSettings}
+use Rattle.sv_message.specs.declared.response.Cookie.{Cookie}
 use Rattle.sv_exchange.specs.declared.attribute.Attribute.{Attribute}
 use Rattle.sv_exchange.specs.declared.dispatch.Dispatch.{Dispatch}
 use Rattle.sv_exchange.specs.declared.dispatch.Paths.{Paths}

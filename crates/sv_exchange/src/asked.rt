@@ -8,9 +8,9 @@ use crate::fields::copies;
 use http::Method;
 use std::alloc::Global;
 use sv_head::Field;
+use sv_message::{CookieSettings, Message};
 use sv_text::{Bytes, NoMemory, Text};
 use sv_uri::path::Canon;
-use sv_wire::{CookieSettings, Message};
 
 /// What a client asked of a context, and how its session cookie is set there.
 #[derive(Drop)]

@@ -17,11 +17,11 @@ use std::collections::VecDeque;
 use std::marker::Model;
 use sv_head::Field;
 use sv_journal::Event;
+use sv_message::{Cookie, CookieSettings, Message, Response};
 use sv_realm::Caller;
 use sv_session::Sessions;
 use sv_text::{Bytes, Listed, Text};
 use sv_uri::path::Canon;
-use sv_wire::{Cookie, CookieSettings, Message, Response};
 
 /// A request with the answer that components make of it (Jakarta Servlet 6.0, chapters 3 and 5). Contracts see it as a `State`.
 #[derive(Drop)]

@@ -2,13 +2,13 @@
 
 ghost use Rattle.std.specs.Prelude.{◌≡◌, ◌^◌, ◌-◌, ◌++◌, [], OnOk, OnErr, length, min};
 ghost use Rattle.sv_exchange.specs.Beginning.{body_of, last_piece};
-ghost use Rattle.sv_wire.specs.Chunking.{joined, piece_of};
+ghost use Rattle.sv_message.specs.Chunking.{joined, piece_of};
 
 use std::alloc::Global;
 use std::marker::Model;
 use std::mem;
+use sv_message::{Body, Pieces};
 use sv_text::{Bytes, NoMemory};
-use sv_wire::{Body, Pieces};
 
 /// The pieces of a body that were flushed, and how many bytes they have. Contracts see their list.
 #[derive(Drop)]
@@ -20,7 +20,7 @@ pub(crate) struct Flushed {
 
 impl Model for Flushed {
     ghost use Rattle.std.specs.Prelude.{ℕ, List, ◌≡◌, ◌^◌, ◌-◌, length, min};
-    ghost use Rattle.sv_wire.specs.Chunking.{joined};
+    ghost use Rattle.sv_message.specs.Chunking.{joined};
 
     ghost Value = { List (List ℕ) };
 

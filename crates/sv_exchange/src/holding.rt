@@ -10,11 +10,11 @@ ghost use Rattle.sv_exchange.specs.Sessions.{context_cookie_path, cookie_of, coo
 use crate::exchange::Exchange;
 use crate::held_session::HeldSession;
 use std::alloc::Global;
+use sv_message::{Cookie, CookieSettings};
 use sv_realm::Caller;
 use sv_session::{Attribute, Sessions};
 use sv_text::{NoMemory, Text};
 use sv_uri::location;
-use sv_wire::{Cookie, CookieSettings};
 
 impl Exchange {
     ghost use Rattle.sv_exchange.specs.Sessions.{has_session, session_attributes_of, session_id_of, session_of, session_value};

@@ -5,9 +5,10 @@ use std::rt::Clock;
 use std::time::Duration;
 use sv_cookies::held;
 use sv_measure::{Rounds, Work, report_time};
+use sv_message::Message;
 use sv_session::Sessions;
 use sv_text::NoMemory;
-use sv_wire::{Inbox, Item, Message};
+use sv_wire::{Inbox, Item};
 
 /// A request among sessions of which its cookies name none.
 #[derive(Drop)]

@@ -3,10 +3,11 @@
 use std::alloc::Global;
 use sv_exchange::Exchange;
 use sv_measure::{HEAD, Work};
+use sv_message::{Body, CookieSettings, Message};
 use sv_session::Sessions;
 use sv_uri::canon;
 use sv_uri::path::Canon;
-use sv_wire::{Body, CookieSettings, Inbox, Item, Message};
+use sv_wire::{Inbox, Item};
 
 /// A request with ten fields, and its path.
 #[derive(Drop)]

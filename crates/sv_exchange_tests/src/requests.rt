@@ -5,11 +5,11 @@ use http_header::{HeaderName, HeaderValue};
 use std::alloc::Global;
 use sv_exchange::{Exchange, HeldSession};
 use sv_head::Field;
+use sv_message::{CookieSettings, Message, Target};
 use sv_realm::Caller;
 use sv_session::Sessions;
 use sv_text::{Bytes, Listed, NoMemory, Text};
 use sv_uri::path::Canon;
-use sv_wire::{CookieSettings, Message, Target};
 
 /// What a client asks of `/app/a`.
 #[derive(Clone, Copy)]

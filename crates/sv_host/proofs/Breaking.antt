@@ -17,8 +17,8 @@ use Rattle.sv_run.specs.State.{State, World, settled_at, world_of}
 use Rattle.sv_uri.specs.declared.path.Canon.{Canon}
 use Rattle.sv_wire.specs.declared.item.Item.{Item}
 use Rattle.sv_wire.specs.declared.item.Item.TheVariants as item
-use Rattle.sv_wire.specs.declared.message.Message.{Message}
-use Rattle.sv_wire.specs.declared.response.Response.{Response}
+use Rattle.sv_message.specs.declared.message.Message.{Message}
+use Rattle.sv_message.specs.declared.response.Response.{Response}
 
 -- a list by one of its items
 take_next : {A : Type 0} (all : List A) (place : ℕ) (one : A) → place < length all → one ≡ slice_index_or all place one

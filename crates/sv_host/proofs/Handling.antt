@@ -14,10 +14,10 @@ use Rattle.sv_run.specs.declared.reaction.Reaction.{Reaction}
 use Rattle.sv_uri.specs.Canonical.{canonical}
 use Rattle.sv_uri.specs.declared.fault.PathFault.{PathFault}
 use Rattle.sv_uri.specs.declared.path.Canon.{Canon}
-use Rattle.sv_wire.specs.declared.message.Message.{Message}
-use Rattle.sv_wire.specs.declared.message.Target.{Target}
-use Rattle.sv_wire.specs.declared.message.Target.TheVariants.{Star, Path}
-use Rattle.sv_wire.specs.declared.response.Response.{Response}
+use Rattle.sv_message.specs.declared.message.Message.{Message}
+use Rattle.sv_message.specs.declared.message.Target.{Target}
+use Rattle.sv_message.specs.declared.message.Target.TheVariants.{Star, Path}
+use Rattle.sv_message.specs.declared.response.Response.{Response}
 
 pub there_at : {A : Type 0} (items : List A) (place : ℕ) (item : A) → place < length items → item ≡ slice_index_or items place item
     → slice_get items place ≡ Some item

@@ -10,16 +10,17 @@ ghost use Rattle.sv_run.specs.Effect.{answered, sending};
 ghost use Rattle.sv_run.specs.Items.{IsAnswerTo, IsTextAt, closes_behind, continue_text};
 ghost use Rattle.sv_run.specs.Messages.{empty_response, plain_response, plain_text};
 ghost use Rattle.sv_text.specs.Gives.{GivesAnswer};
-ghost use Rattle.sv_wire.specs.ResponseText.{phrase_of};
-ghost use Rattle.sv_wire.specs.WireFault.{fault_status};
+ghost use Rattle.sv_message.specs.Phrases.{phrase_of};
+ghost use Rattle.sv_message.specs.WireFault.{fault_status};
 
 use crate::output::Output;
 use http::StatusCode;
 use std::alloc::Global;
 use sv_head::Field;
 use sv_journal::{Entry, RefusalCause};
+use sv_message::{Body, Message, Response, WireFault};
 use sv_text::{Bytes, Listed, NoMemory};
-use sv_wire::{Body, Message, Response, WireFault, write_response};
+use sv_wire::write_response;
 
 const CONTINUE: &[u8] = b"HTTP/1.1 100 Continue\r\n\r\n";
 
@@ -60,7 +61,7 @@ fn plain_text(alloc: Global, status: u16) -> Result<Vec<u8>, NoMemory>
 }
 
 // The phrase of a status, empty where it has none.
-#[tactic(auto, unfolding(sv_wire::specs::ResponseText::phrase_of))]
+#[tactic(auto, unfolding(sv_message::specs::Phrases::phrase_of))]
 fn phrase_of(status: u16) -> &'static str
     requires { IsStatusCode status }
     ensures { result.now ≡ phrase_of status }

@@ -23,11 +23,11 @@ use std::marker::Model;
 use sv_context_index::ContextIndex;
 use sv_context_path::HasContextPath;
 use sv_journal::Journal;
+use sv_message::Message;
 use sv_policy::{Edit, EditFault};
 use sv_run::{Context, Words};
 use sv_text::NoMemory;
 use sv_uri::path::Canon;
-use sv_wire::Message;
 
 /// Contexts in their order, with an index of their paths. Contracts see their list.
 #[derive(Drop)]

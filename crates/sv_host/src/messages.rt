@@ -16,12 +16,12 @@ use crate::indexed::Indexed;
 use crate::output::Output;
 use std::alloc::Global;
 use sv_journal::{Entry, RefusalCause};
+use sv_message::{Message, Target};
 use sv_run::{Context, Words};
 use sv_text::NoMemory;
 use sv_uri::canon;
 use sv_uri::fault::CanonFault;
 use sv_uri::path::Canon;
-use sv_wire::{Message, Target};
 
 // Handles a message, which draws a pair of words whoever answers it.
 pub(crate) fn take_message<C: Context, W: Words>(

@@ -13,10 +13,10 @@ ghost use Rattle.sv_run.specs.Messages.{Within};
 use crate::answering::send;
 use crate::output::Output;
 use std::alloc::Global;
+use sv_message::Message;
 use sv_run::{Context, Words};
 use sv_text::NoMemory;
 use sv_uri::path::Canon;
-use sv_wire::Message;
 
 // Has the context at the place handle a message.
 pub(crate) fn handle_at<C: Context, W: Words>(

@@ -6,11 +6,11 @@ use http::Method;
 use std::alloc::Global;
 use sv_component::{Event, Exchange, Gate, Step};
 use sv_journal::Journal;
+use sv_message::{CookieSettings, Message, Target};
 use sv_rows::{Asks, Draft, Strays, cell, hold};
 use sv_session::Sessions;
 use sv_text::{Bytes, Listed, NoMemory, Text};
 use sv_uri::path::Canon;
-use sv_wire::{CookieSettings, Message, Target};
 
 /// The calls that are made of a context with a servlet, a filter and two listeners, and the attributes of the second of its two sessions; then
 /// the answers with the standing behind them, and the entries, those of the start before them and those of the stop behind them.

@@ -19,7 +19,7 @@ use sv_streams::WriteSink;
 ///
 /// # Errors
 /// [`CommandFault::File`] where that file cannot be opened; then those of [`run_controlled`].
-pub fn run_recorded<H: Net + Clock + Files + Eprint, W: Write, R: Reactor + Consulted + Drop>(
+pub fn run_recorded<H: Net + Clock + Files + Eprint, W: Write, R: Reactor + Consulted>(
     alloc: Global,
     host: &H,
     writer: &mut W,
@@ -42,7 +42,7 @@ pub fn run_recorded<H: Net + Clock + Files + Eprint, W: Write, R: Reactor + Cons
 ///
 /// # Errors
 /// Those of [`run_controlled`].
-pub fn run_plainly<H: Net + Clock + Files, W: Write, R: Reactor + Consulted + Drop>(
+pub fn run_plainly<H: Net + Clock + Files, W: Write, R: Reactor + Consulted>(
     alloc: Global,
     host: &H,
     writer: &mut W,

@@ -17,7 +17,7 @@ use sv_streams::SystemClock;
 ///
 /// # Errors
 /// [`CommandFault::Socket`], [`CommandFault::Output`] or [`CommandFault::NoMemory`] as the run meets them.
-pub fn listen_and_run<H: Net + Clock, W: Write, R: Reactor + Drop>(
+pub fn listen_and_run<H: Net + Clock, W: Write, R: Reactor>(
     alloc: Global,
     host: &H,
     writer: &mut W,

@@ -4,8 +4,9 @@ ghost use Rattle.std.specs.Prelude.{◌<◌};
 
 use std::alloc::Global;
 use sv_head::Field;
+use sv_message::{Message, Target, WireFault};
 use sv_rows::Draft;
-use sv_wire::{Ended, Inbox, Item, Message, Target, WireFault};
+use sv_wire::{Ended, Inbox, Item};
 
 /// What is read of a stream.
 #[derive(Drop)]

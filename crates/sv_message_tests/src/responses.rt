@@ -2,9 +2,10 @@
 
 use http::{HeaderName, HeaderValue};
 use std::alloc::Global;
+use sv_message::{Body, Cookie, Pieces, Response};
 use sv_rows::{Asks, cell, unescaped};
 use sv_text::{Bytes, Listed, NoMemory, Text};
-use sv_wire::{Body, Cookie, Field, Pieces, Response, write_response};
+use sv_wire::{Field, write_response};
 
 /// The text of a response, which is written behind a word.
 pub struct Responses;

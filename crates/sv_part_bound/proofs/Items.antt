@@ -18,15 +18,16 @@ use Rattle.sv_wire.specs.declared.item.Item.{Item}
 use Rattle.sv_wire.specs.declared.item.Item.TheVariants.{Continue, Message, Refuse}
 use Rattle.sv_wire.specs.declared.limits.TheConstants.{MAX_HEAD_LEN}
 use Rattle.sv_wire.specs.declared.owed_head.OwedHead.{OwedHead}
-use Rattle.sv_wire.specs.declared.wire_fault.WireFault.{WireFault}
-use Rattle.sv_wire.specs.declared.wire_fault.WireFault.TheVariants.{BadHead, HeadTooLarge}
+use Rattle.sv_message.specs.declared.wire_fault.WireFault.{WireFault}
+use Rattle.sv_message.specs.declared.wire_fault.WireFault.TheVariants.{BadHead, HeadTooLarge}
 use Rattle.sv_wire.specs.EmptyLines.{drop_empty_lines, is_of_empty_line}
 use Rattle.sv_wire.specs.Head.{ends_head, judgement_of}
 use Rattle.sv_wire.specs.Items.{is_last}
-use Rattle.sv_wire.specs.WireFault.{fault_of}
-use Rattle.sv_wire.specs.declared.message.Message.{Message as MessageRecord}
+use Rattle.sv_message.specs.WireFault.{fault_of}
+use Rattle.sv_message.specs.declared.message.Message.{Message as MessageRecord}
 use Rattle.sv_wire.specs.Next.{HoldsText}
-use Rattle.sv_wire.specs.Reads.{IsJudged, ReadsHead, Reads, Start, Starts, StartsAt, StartsBehind, StartsBody, after_body, awaits, cut_head, gives, has_too_many_lines, text_of, with_body}
+use Rattle.sv_message.specs.Messages.{with_body}
+use Rattle.sv_wire.specs.Reads.{IsJudged, ReadsHead, Reads, Start, Starts, StartsAt, StartsBehind, StartsBody, after_body, awaits, cut_head, gives, has_too_many_lines, text_of}
 use Rattle.sv_wire.proofs.ReadsLemmas.{settled, IsSettled, ReadsHead-unique, cut_holds}
 use Rattle.sv_wire.proofs.EmptyLinesLemmas.{drop_empty_lines_twice}
 use Rattle.sv_part_bound.proofs.LineEnds.{AreLineEnds, EndsInLineEnds, HasLineEndsBehind, IsLineEnd, ends_so_behind, part_ends_so, parts_end_so}

@@ -10,10 +10,10 @@ use Rattle.sv_run.specs.Messages.{plain_response}
 use Rattle.sv_run.specs.Runs.{Answer, Run}
 use Rattle.sv_run.specs.State.{State}
 use Rattle.sv_sockets.specs.Parts.{IsPart}
-use Rattle.sv_wire.specs.WireFault.{fault_status}
+use Rattle.sv_message.specs.WireFault.{fault_status}
 use Rattle.sv_wire.specs.declared.item.Item.{Item}
 use Rattle.sv_wire.specs.declared.item.Item.TheVariants.{Continue, Message, Refuse}
-use Rattle.sv_wire.specs.declared.response.Response.{Response}
+use Rattle.sv_message.specs.declared.response.Response.{Response}
 
 -- the text that an item is answered with: `100 Continue`, the response to a message, or that of a refusal
 abbrev pub IsTextFor : ℕ → Item → List ℕ → Type 0

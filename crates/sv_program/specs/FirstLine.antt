@@ -3,14 +3,14 @@ use Rattle.std.specs.Prelude.{◌≡◌, ℕ, Bool, List, ◌∷◌, [], ◌++�
 use Rattle.std.specs.Io.KnownBytes.{Appends}
 use Rattle.sv_wire.specs.Reads.{Reads}
 use Rattle.sv_wire.specs.Items.{first_item}
-use Rattle.sv_wire.specs.WireFault as wire_fault
+use Rattle.sv_message.specs.WireFault as wire_fault
 use Rattle.sv_wire.specs.declared.item.Item.{Item}
 use Rattle.sv_wire.specs.declared.owed_head.OwedHead.{OwedHead}
 use Rattle.sv_wire.specs.declared.item.Item.TheVariants.{Continue, Refuse}
 use Rattle.sv_wire.specs.declared.item.Item.TheVariants.{Message as IsMessage}
-use Rattle.sv_wire.specs.declared.message.Message.{Message}
-use Rattle.sv_wire.specs.declared.message.Target.{Target}
-use Rattle.sv_wire.specs.declared.message.Target.TheVariants.{Star, Path}
+use Rattle.sv_message.specs.declared.message.Message.{Message}
+use Rattle.sv_message.specs.declared.message.Target.{Target}
+use Rattle.sv_message.specs.declared.message.Target.TheVariants.{Star, Path}
 use Rattle.sv_uri.specs.Canonical.{canonical}
 use Rattle.sv_uri.specs.declared.path.Canon.{Canon}
 use Rattle.sv_uri.specs.declared.fault.PathFault.{PathFault}

@@ -13,10 +13,11 @@ use std::alloc::Global;
 use std::fmt::Display;
 use std::io::{ErrorKind, Read, Write};
 use sv_constraints::{Rules, decide_plain};
+use sv_message::{Message, Target};
 use sv_text::{Listed, NoMemory};
 use sv_uri::canon;
 use sv_uri::fault::CanonFault;
-use sv_wire::{Inbox, Item, Message, Target};
+use sv_wire::{Inbox, Item};
 
 /// Whether the options of the command, `deny` or none, deny uncovered methods; none where they are others.
 pub fn denies_uncovered(options: &[String]) -> Option<bool>

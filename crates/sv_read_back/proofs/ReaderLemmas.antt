@@ -11,7 +11,7 @@ use Rattle.sv_body.proofs.BodyLemmas.{ReadsBody-unique, ReadsBody_front, and_mor
 use Rattle.sv_text.specs.declared.front.Cut.{Cut}
 use Rattle.sv_text.specs.declared.front.Cut.TheVariants.{Endless, Unended, Whole}
 use Rattle.sv_text.specs.Front.{cut}
-use Rattle.sv_wire.specs.Chunking.{flushed_content, joined}
+use Rattle.sv_message.specs.Chunking.{flushed_content, joined}
 use Rattle.sv_read_back.specs.ChunkedBody.{BeginsWithBody, BeginsWithChunk, BeginsWithEnd, ends_line}
 use Rattle.sv_read_back.specs.Laws.{FitsMemory, ReaderAwaitsTheEnd, ReaderDecodes, ReaderReadsChunksBack}
 use Rattle.sv_read_back.proofs.DataLemmas.{IsData-from, IsTrailer-from, read_data-no_end, read_trailer-is}

@@ -15,7 +15,7 @@ use Rattle.sv_body.proofs.ListLemmas.{drop_behind}
 use Rattle.sv_text.specs.declared.front.Cut.TheVariants.{Whole}
 use Rattle.sv_text.specs.Front.{cut, cut_at, shortest_front}
 use Rattle.sv_text.proofs.FrontLemmas.{shortest_front_some}
-use Rattle.sv_wire.specs.Chunking.{size_line}
+use Rattle.sv_message.specs.Chunking.{size_line}
 use Rattle.sv_read_back.specs.ChunkedBody.{BeginsWithSize, ends_line}
 use Rattle.sv_read_back.proofs.CutLemmas.{whole_fits, whole_stays}
 use Rattle.sv_read_back.proofs.Digits.{digits_all, digits_few}

@@ -2,7 +2,7 @@
 use Rattle.std.proofs.Common.{◌≡◌, ℕ, ◌^◌, ◌<◌, Bool, true, false, cond, eqb, List, [], ◌∷◌, ◌++◌, length, All, refl, sym, ap, ◌∙◌, subst, arith, append_assoc, append-nil, length-append, eqb-true}
 use Rattle.std.proofs.lemmas.Bool.{eqb-false}
 use Rattle.std.proofs.lemmas.List.Elements.{All-head, All-tail}
-use Rattle.sv_wire.specs.Chunking.{chunk, chunks, flushed_content, joined, size_line}
+use Rattle.sv_message.specs.Chunking.{chunk, chunks, flushed_content, joined, size_line}
 use Rattle.sv_read_back.specs.ChunkedBody.{BeginsWithBody, BeginsWithChunk, BeginsWithEnd}
 use Rattle.sv_read_back.specs.Laws.{BrokenChunksAreNoBody, ChunksAreReadBack, CutChunksAreNoBody, FitsMemory}
 use Rattle.sv_read_back.proofs.BodyLemmas.{body_more, body_unique}

@@ -7,7 +7,7 @@ use Rattle.sv_body.specs.declared.limits.TheConstants.{MAX_SIZE_LINE_LEN}
 use Rattle.sv_body.specs.Chunks.{ReadsSize, chunk, complete, read_data, read_trailer}
 use Rattle.sv_text.specs.declared.front.Cut.TheVariants.{Whole}
 use Rattle.sv_text.specs.Front.{cut}
-use Rattle.sv_wire.specs.Chunking.{joined}
+use Rattle.sv_message.specs.Chunking.{joined}
 
 -- a line ends at its LF
 abbrev pub ends_line : List ℕ → Bool

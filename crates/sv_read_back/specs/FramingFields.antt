@@ -3,8 +3,8 @@ use Rattle.std.specs.Prelude.{◌≡◌, ℕ, true, false, List, [], ◌∷◌, 
 use Rattle.http_header.specs.FieldValue.{plain_value}
 use Rattle.sv_head.specs.declared.field.Field.{Field}
 use Rattle.sv_head.specs.Fields.{is_named}
-use Rattle.sv_wire.specs.declared.body.Body.{Body}
-use Rattle.sv_wire.specs.declared.body.Body.TheVariants.{Flushed, Whole}
+use Rattle.sv_message.specs.declared.body.Body.{Body}
+use Rattle.sv_message.specs.declared.body.Body.TheVariants.{Flushed, Whole}
 
 -- a field of that name and value
 abbrev pub field : List ℕ → List ℕ → Field

@@ -9,10 +9,10 @@ use Rattle.sv_head.specs.declared.field.Field.{Field}
 use Rattle.sv_head.specs.Length.{content_length}
 use Rattle.sv_read_back.specs.ChunkedBody.{Decodes}
 use Rattle.sv_read_back.specs.FramingFields.{SaysNoEnd, framed, framing_fields}
-use Rattle.sv_wire.specs.declared.body.Body.{Body as Sent}
-use Rattle.sv_wire.specs.declared.body.Body.TheVariants.{Flushed, Whole}
-use Rattle.sv_wire.specs.Chunking.{joined}
-use Rattle.sv_wire.specs.Content.{content}
+use Rattle.sv_message.specs.declared.body.Body.{Body as Sent}
+use Rattle.sv_message.specs.declared.body.Body.TheVariants.{Flushed, Whole}
+use Rattle.sv_message.specs.Chunking.{joined}
+use Rattle.sv_message.specs.Content.{content}
 use Rattle.sv_wire.specs.Head.{framing_faults, framing_of}
 use Rattle.sv_wire.specs.ResponseText.{field_lines, framing_line}
 

@@ -15,7 +15,7 @@ use Rattle.sv_run.specs.State.{State, World}
 use Rattle.sv_run.proofs.Taking.{either}
 use Rattle.sv_wire.specs.declared.item.Item.{Item}
 use Rattle.sv_wire.specs.declared.item.Item.TheVariants.{Continue, Message, Refuse}
-use Rattle.sv_wire.specs.declared.message.Message.{Message as MessageRecord}
+use Rattle.sv_message.specs.declared.message.Message.{Message as MessageRecord}
 
 pub all_parts : {X : Type 0} (P : X → Type 0) (xs ys : List X) → AllByRecursion P (xs ++ ys) → AllByRecursion P xs × AllByRecursion P ys
 all_parts P [] ys all = (tt, all)

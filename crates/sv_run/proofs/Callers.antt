@@ -21,7 +21,7 @@ use Rattle.sv_session.specs.Calls.{HoldsCaller}
 use Rattle.sv_session.specs.Store.{Store}
 use Rattle.sv_wire.specs.declared.item.Item.{Item}
 use Rattle.sv_wire.specs.declared.item.Item.TheVariants.{Continue, Message, Refuse}
-use Rattle.sv_wire.specs.declared.message.Message.{Message as MessageRecord}
+use Rattle.sv_message.specs.declared.message.Message.{Message as MessageRecord}
 
 -- what stands at a place of a list in which another place was set
 pub at_set : {X : Type 0} (items : List X) (set place : ℕ) (new there : X) → slice_get (slice_set items set new) place ≡ Some there

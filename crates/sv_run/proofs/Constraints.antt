@@ -28,7 +28,7 @@ use Rattle.sv_run.proofs.Callers.{runs_on, stopped_stays}
 use Rattle.sv_run.proofs.Taking.{either}
 use Rattle.sv_wire.specs.declared.item.Item.{Item}
 use Rattle.sv_wire.specs.declared.item.Item.TheVariants.{Continue, Message, Refuse}
-use Rattle.sv_wire.specs.declared.message.Message.{Message as MessageRecord}
+use Rattle.sv_message.specs.declared.message.Message.{Message as MessageRecord}
 
 some_is : {X : Type 0} {a b : X} → ◌≡◌ {A = Option X} (Some a) (Some b) → a ≡ b
 some_is same = cc

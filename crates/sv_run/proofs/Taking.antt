@@ -13,7 +13,7 @@ use Rattle.sv_run.specs.State.{World}
 use Rattle.sv_run.proofs.Effects.{joined-assoc, joined-nothing}
 use Rattle.sv_wire.specs.declared.item.Item.{Item}
 use Rattle.sv_wire.specs.declared.item.Item.TheVariants.{Continue, Message, Refuse}
-use Rattle.sv_wire.specs.declared.message.Message.{Message as MessageRecord}
+use Rattle.sv_message.specs.declared.message.Message.{Message as MessageRecord}
 
 -- what follows from both, follows
 pub either : {A B P : Type 0} (t : Bool) → MatchBool t A B → (A → P) → (B → P) → P

@@ -11,8 +11,8 @@ use Rattle.sv_run.specs.State.{State, World}
 use Rattle.sv_wire.specs.Inbox.{Held}
 use Rattle.sv_wire.specs.declared.item.Item.{Item}
 use Rattle.sv_wire.specs.declared.item.Item.TheVariants.{Continue, Message, Refuse}
-use Rattle.sv_wire.specs.declared.message.Message.{Message as MessageRecord}
-use Rattle.sv_wire.specs.declared.response.Response.{Response}
+use Rattle.sv_message.specs.declared.message.Message.{Message as MessageRecord}
+use Rattle.sv_message.specs.declared.response.Response.{Response}
 
 -- a request that was given to the context at a place, which then was so
 pub record Given (Context : Type 0) : Type 0 where

@@ -8,8 +8,8 @@ use Rattle.sv_policy.specs.declared.edit_fault.EditFault.{EditFault}
 use Rattle.sv_session.specs.Expiry as expiry
 use Rattle.sv_session.specs.Store.{Store}
 use Rattle.sv_uri.specs.declared.path.Canon.{Canon}
-use Rattle.sv_wire.specs.declared.message.Message.{Message}
-use Rattle.sv_wire.specs.declared.response.Response.{Response}
+use Rattle.sv_message.specs.declared.message.Message.{Message}
+use Rattle.sv_message.specs.declared.response.Response.{Response}
 
 -- a message that a context handles: its target's canonical path and query, the moment, and the pair of random words that it was given
 pub record Request : Type 0 where

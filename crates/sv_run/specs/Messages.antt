@@ -9,11 +9,11 @@ use Rattle.sv_run.specs.Contexts.{Theory}
 use Rattle.sv_uri.specs.Canonical.{canonical}
 use Rattle.sv_uri.specs.declared.fault.PathFault.{PathFault}
 use Rattle.sv_uri.specs.declared.path.Canon.{Canon}
-use Rattle.sv_wire.specs.ResponseText.{phrase_of}
-use Rattle.sv_wire.specs.declared.body.Body.TheVariants.{Whole}
-use Rattle.sv_wire.specs.declared.message.Target.{Target}
-use Rattle.sv_wire.specs.declared.message.Target.TheVariants.{Star, Path}
-use Rattle.sv_wire.specs.declared.response.Response.{Response}
+use Rattle.sv_message.specs.Phrases.{phrase_of}
+use Rattle.sv_message.specs.declared.body.Body.TheVariants.{Whole}
+use Rattle.sv_message.specs.declared.message.Target.{Target}
+use Rattle.sv_message.specs.declared.message.Target.TheVariants.{Star, Path}
+use Rattle.sv_message.specs.declared.response.Response.{Response}
 
 -- the status and its phrase, as a line
 abbrev pub plain_text : ℕ → List ℕ

@@ -12,10 +12,10 @@ ghost use Rattle.sv_run.specs.Lawful.{EditsAlone, IsMotion, KeepsPath};
 use std::alloc::Global;
 use sv_context_path::HasContextPath;
 use sv_journal::Journal;
+use sv_message::{Message, Response};
 use sv_policy::{Edit, EditFault};
 use sv_text::NoMemory;
 use sv_uri::path::Canon;
-use sv_wire::{Message, Response};
 
 /// A deployed context, which handles requests. The laws of runs speak of what it does, its [`conduct`](crate).
 pub trait Context: HasContextPath + Sized {

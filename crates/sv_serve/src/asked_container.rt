@@ -21,7 +21,6 @@ use sv_text::{Bytes, NoMemory};
 
 /// A container that takes events, which are counted, and is asked what would become of requests by its constraints as they stand, what these leave
 /// uncovered, and how it stands.
-#[derive(Drop)]
 pub(crate) struct AskedContainer<S, F, L, W> {
     container: Container<S, F, L, W>,
     // How many events were taken, also those that were refused: the greatest number stands for it and all above.
@@ -46,7 +45,11 @@ impl<S, F, L, W> AskedContainer<S, F, L, W> {
     pub fn into_container(self) -> Container<S, F, L, W>
         ensures { result ≡ self.container }
     {
-        self.container
+        let AskedContainer {
+            container,
+            events: _events,
+        } = self;
+        container
     }
 }
 

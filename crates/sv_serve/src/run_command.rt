@@ -53,7 +53,7 @@ pub fn run<S: FileStore + FolderStore, H: Net + Clock + RandomSource + Files + E
         Some(name) => run_recorded(alloc, host, writer, address, limits, control, name, asked),
         None => run_plainly(alloc, host, writer, address, limits, control, asked),
     };
-    let _stopped = asked.into_container().shutdown();
+    asked.into_container().shutdown().let_go();
     served
 }
 

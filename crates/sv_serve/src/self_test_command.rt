@@ -40,7 +40,7 @@ pub fn self_test<S: FileStore + FolderStore, H: Net + Clock, W: Write>(
         Err(fault) => return Err(fault),
     };
     let answer = own_answer(alloc, host, port, &mut container);
-    let _stopped = container.shutdown();
+    container.shutdown().let_go();
     match print_answer(writer, answer?.as_slice()) {
         Ok(()) => Ok(()),
         Err(_) => Err(CommandFault::Output),

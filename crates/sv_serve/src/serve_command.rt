@@ -39,6 +39,6 @@ pub fn serve<S: FileStore + FolderStore, H: Net + Clock, W: Write>(
         Err(fault) => return Err(fault),
     };
     let served = listen_and_serve(alloc, host, writer, port, count, &mut container);
-    let _stopped = container.shutdown();
+    container.shutdown().let_go();
     served
 }

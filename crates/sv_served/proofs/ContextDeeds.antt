@@ -21,7 +21,7 @@ use Rattle.sv_tree.specs.Tree.{Tree}
 use Rattle.sv_tree.specs.declared.finished.Finished.{Finished}
 use Rattle.sv_tree.specs.declared.limits.TheConstants.{MAX_NESTING}
 use Rattle.sv_uri.specs.declared.path.Canon.{Canon}
-use Rattle.sv_wire.specs.ResponseText.{phrase_of}
+use Rattle.sv_message.specs.Phrases.{phrase_of}
 use Rattle.sv_exchange.specs.Keeping.{broken_off}
 use Rattle.sv_served.proofs.ExchangeDeeds.{alone_not, unless_broken, unless_so}
 

@@ -4,7 +4,7 @@ use Rattle.std.specs.Prelude.{◌==◌, unwrap_or}
 use Rattle.std.proofs.lemmas.Bool.{cond-false}
 use Rattle.std.proofs.lemmas.Bool.Decides.{eqb_tells}
 use Rattle.http.specs.StatusCode.{IsStatusCode}
-use Rattle.sv_wire.specs.ResponseText.{phrase_of}
+use Rattle.sv_message.specs.Phrases.{phrase_of}
 
 -- one of the statuses that have a phrase is not that status
 apart : (status code : ℕ) → (IsStatusCode status → ⊥) → IsStatusCode code → (phrase : List ℕ) (others : Option (List ℕ)) → unwrap_or others [] ≡ []

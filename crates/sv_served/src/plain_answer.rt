@@ -6,7 +6,7 @@ ghost use Rattle.sv_dispatch.specs.Did.{seen};
 ghost use Rattle.sv_dispatch.specs.Running.{made_seen};
 ghost use Rattle.sv_served.specs.ServedBy.{Alone};
 ghost use Rattle.sv_tree.specs.Served.{Plain, Resets, plain_text, sets, unless_committed};
-ghost use Rattle.sv_wire.specs.ResponseText.{phrase_of};
+ghost use Rattle.sv_message.specs.Phrases.{phrase_of};
 
 use http::StatusCode;
 use std::alloc::Global;

@@ -12,7 +12,6 @@ use sv_run::{Happening, Reaction, Reactor, StepFault, Words};
 use sv_script_run::Stops;
 
 /// A container that runs, and then stops.
-#[derive(Drop)]
 pub struct Running<S, F, L, W> {
     /// The container.
     pub container: Container<S, F, L, W>,
@@ -30,6 +29,7 @@ impl<S: Servlet, F: Filter, L: Listener, W: Words + Drop> Stops for Running<S, F
     ghost stops = { StopsOf (steps_of S.servlet_step F.filter_step L.listener_step) };
 
     fn stop(self) -> Journal {
-        self.container.shutdown().journal
+        let Running { container } = self;
+        container.shutdown().into_journal()
     }
 }

@@ -35,7 +35,10 @@ pub fn run_script<S: Servlet, F: Filter, L: Listener, I: Source, O: Sink>(
             let running = Running { container };
             ended_by(run_started(alloc, &started, running, script, output))
         }
-        Err(fault) => refuse(alloc, fault.code, fault.context, &started, output),
+        Err(fault) => {
+            let (code, context) = fault.into_cause();
+            refuse(alloc, code, context, &started, output)
+        }
     }
 }
 

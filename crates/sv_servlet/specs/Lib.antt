@@ -1,4 +1,3 @@
 pub use Rattle.sv_component.specs.Call
 pub use Rattle.sv_exchange.specs.Changing
-pub mod Contexts
 pub mod Options

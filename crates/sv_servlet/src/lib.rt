@@ -1,7 +1,6 @@
 //! All that the author of a web application names: components, exchanges, answers, what an application is deployed with, and its run.
 #![tactic(auto)]
 
-mod contexts;
 mod options;
 mod running;
 

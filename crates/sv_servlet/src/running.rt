@@ -1,15 +1,15 @@
 //! The run of an application.
 
-ghost use Rattle.sv_servlet.specs.Contexts as spec;
+ghost use Rattle.sv_author_deployments.specs.Deployments as spec;
 
-use crate::contexts::deployments_of;
 use crate::options::Options;
 use std::io;
 use std::net::Net;
 use std::random::RandomSource;
 use std::time::Clock;
+use sv_author_deployments::deployments_of;
 use sv_component::{Filter, Listener, Servlet};
-use sv_context::Deployment;
+use sv_context::{Deployment, let_go};
 use sv_listening::listen_and_run;
 use sv_program::CommandFault;
 use sv_starting::{Seeding, seed_for, start};
@@ -49,10 +49,16 @@ where
     R: Net + Clock + RandomSource + Print + AllocGlobal,
 {
     let alloc = rt.alloc();
-    let seed = seed_for(alloc, rt, Seeding::Fresh, &[0; 32])?;
+    let seed = match seed_for(alloc, rt, Seeding::Fresh, &[0; 32]) {
+        Ok(seed) => seed,
+        Err(fault) => {
+            let_go(deployments);
+            return Err(fault);
+        }
+    };
     let container = start(alloc, deployments, &seed)?;
     let mut writer = io::writer(rt);
     let (served, container) = listen_and_run(alloc, rt, &mut writer, options.address, container);
-    let _stopped = container.shutdown();
+    container.shutdown().let_go();
     served
 }

@@ -3,13 +3,13 @@
 use crate::requests::exchange;
 use std::alloc::Global;
 use sv_mapping::Kind;
+use sv_message::{Body, Response};
 use sv_rows::{Draft, cell};
 use sv_web::{
     Exchange, ExchangeFault, Fault, Field, NewCookie, NoMemory, RedirectKind, SameSite, Text, Verb,
     asked_verb, cookie, link_to, redirect, redirect_elsewhere, send, send_html, send_text,
     set_cookie,
 };
-use sv_wire::{Body, Response};
 
 /// What a table calls.
 #[derive(Clone, Copy)]

@@ -3,11 +3,11 @@
 use http::Method;
 use http_header::{HeaderName, HeaderValue};
 use std::alloc::Global;
+use sv_message::{CookieSettings, Message, Target};
 use sv_session::Sessions;
 use sv_text::{Bytes, Listed};
 use sv_uri::path::Canon;
 use sv_web::{Exchange, Field, NoMemory, Text};
-use sv_wire::{CookieSettings, Message, Target};
 
 /// The exchange of a request by that method with those lines, for `/app/a`, where `/app` is the context.
 pub fn exchange(alloc: Global, method: &str, lines: &str) -> Result<Exchange, NoMemory> {

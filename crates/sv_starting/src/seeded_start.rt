@@ -9,6 +9,7 @@ use std::alloc::Global;
 use std::random::RandomSource;
 use sv_application::{ProgramFilter, ProgramListener, ProgramServlet};
 use sv_component::{Filter, Listener, Servlet};
+use sv_context::let_go;
 use sv_deployments::{Configuration, FolderStore, read_deployments};
 use sv_program::{CommandFault, FileStore};
 
@@ -37,7 +38,10 @@ pub fn start_seeded<S: FileStore + FolderStore, H: RandomSource>(
     };
     let key = match seed_for(alloc, host, seeding, seed.as_slice()) {
         Ok(key) => key,
-        Err(fault) => return Err(fault),
+        Err(fault) => {
+            let_go(deployments);
+            return Err(fault);
+        }
     };
     match start(alloc, deployments, &key) {
         Ok(container) => Ok(StartedServer { port, container }),

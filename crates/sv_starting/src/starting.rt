@@ -18,8 +18,7 @@ use sv_words::SeededWords;
 /// A container whose components are of the program's own classes, and whose random words are those of a seed.
 pub type ProgramContainer = Container<ProgramServlet, ProgramFilter, ProgramListener, SeededWords>;
 
-/// A server's container, which has started.
-#[derive(Drop)]
+/// A server's container, which has started. Who has one stops it.
 pub struct StartedServer {
     /// The port, 0 for any that is free.
     pub port: u16,
@@ -74,7 +73,10 @@ pub fn start<S: Servlet, F: Filter, L: Listener>(
         &mut journal,
     ) {
         Ok(container) => Ok(container),
-        Err(fault) => Err(start_fault(fault.code, fault.context)),
+        Err(fault) => {
+            let (code, context) = fault.into_cause();
+            Err(start_fault(code, context))
+        }
     }
 }
 

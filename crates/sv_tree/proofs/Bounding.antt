@@ -23,7 +23,7 @@ use Rattle.sv_tree.proofs.Doing.{chosen_then}
 use Rattle.sv_tree.proofs.Keeping.{Keeps, Steps, becomes_keeps, gives_keeps, keeps_keeps, makes_keeps, then_keeps, wants_keeps}
 use Rattle.sv_tree.proofs.Nesting.{Nests, nests, nests_tree}
 use Rattle.sv_uri.specs.declared.path.Canon.{Canon}
-use Rattle.sv_wire.specs.ResponseText.{phrase_of}
+use Rattle.sv_message.specs.Phrases.{phrase_of}
 
 module _ (site : Site) (Q : ℕ → State → List Record → State → Bool → Type 0) (law : Steps site Q) (room : ℕ)
     (resets : (x : State) → Q room x [] (on_exchange reset x) true)

@@ -33,7 +33,7 @@ use Rattle.sv_tree.specs.declared.limits.TheConstants.{FOUND, INTERNAL_SERVER_ER
 use Rattle.sv_tree.proofs.Changing.{without_added, without_last}
 use Rattle.sv_tree.proofs.Doing.{absurd_result, same_result}
 use Rattle.sv_uri.specs.declared.path.Canon.{Canon}
-use Rattle.sv_wire.specs.ResponseText.{phrase_of}
+use Rattle.sv_message.specs.Phrases.{phrase_of}
 
 record Alike {A : Type 0} (r r' : List Record) (y y' : State) (a a' : A) : Type 0 where
   calls : r ≡ r'

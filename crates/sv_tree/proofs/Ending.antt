@@ -33,7 +33,7 @@ use Rattle.sv_tree.proofs.Doing.{absurd_result, chosen_then, same_result, tries_
 use Rattle.sv_tree.proofs.Keeping.{inside_keeps, within_keeps}
 use Rattle.sv_tree.proofs.Nesting.{Shows, filters_show, shows}
 use Rattle.sv_uri.specs.declared.path.Canon.{Canon}
-use Rattle.sv_wire.specs.ResponseText.{phrase_of}
+use Rattle.sv_message.specs.Phrases.{phrase_of}
 
 -- the error that is kept where one arises
 abbrev kept_as : Site → Resource → ℕ → List ℕ → Option KeptField → KeptError

@@ -23,7 +23,7 @@ use Rattle.sv_tree.specs.declared.limits.TheConstants.{NOT_FOUND, SERVICE_UNAVAI
 use Rattle.sv_tree.proofs.Doing.{absurd_result, becomes_then, chosen_then, same_result, tries_then, wants_then}
 use Rattle.sv_tree.proofs.Silence.{Silent, behind_silent, errs_silent, faults_silent, filed_silent, gives_silent, last_silent}
 use Rattle.sv_uri.specs.declared.path.Canon.{Canon}
-use Rattle.sv_wire.specs.ResponseText.{phrase_of}
+use Rattle.sv_message.specs.Phrases.{phrase_of}
 
 -- there is a first call, and it finds the buffer empty
 abbrev Begun : List Record → Type 0

@@ -33,7 +33,7 @@ use Rattle.sv_tree.specs.declared.limits.TheConstants.{FOUND, METHOD_NOT_ALLOWED
 use Rattle.sv_tree.proofs.Changing.{Unchanged, called_unchanged, changes_account}
 use Rattle.sv_tree.proofs.Doing.{absurd_result, becomes_then, chosen_then, tries_then}
 use Rattle.sv_uri.specs.declared.path.Canon.{Canon}
-use Rattle.sv_wire.specs.ResponseText.{phrase_of}
+use Rattle.sv_message.specs.Phrases.{phrase_of}
 
 -- whether memory did not end it
 abbrev pub came : {A : Type 0} → Option A → Bool

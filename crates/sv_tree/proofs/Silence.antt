@@ -20,7 +20,7 @@ use Rattle.sv_tree.specs.declared.finished.Finished.{Finished}
 use Rattle.sv_tree.specs.declared.finished.Finished.TheVariants.{Done, Error, Failed}
 use Rattle.sv_tree.specs.declared.limits.TheConstants.{FOUND, INTERNAL_SERVER_ERROR, METHOD_NOT_ALLOWED, NOT_FOUND}
 use Rattle.sv_tree.proofs.Doing.{chosen_then}
-use Rattle.sv_wire.specs.ResponseText.{phrase_of}
+use Rattle.sv_message.specs.Phrases.{phrase_of}
 
 abbrev pub Silent : {A : Type 0} → Does A → Type 0
 Silent {A} does = (x y : State) (r : List Record) (result : Option A) → does x r y result → r ≡ []

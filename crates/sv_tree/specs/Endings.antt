@@ -9,7 +9,7 @@ use Rattle.sv_tree.specs.declared.dispatch_fault.DispatchFault.{DispatchFault}
 use Rattle.sv_tree.specs.declared.finished.Finished.{Finished}
 use Rattle.sv_tree.specs.declared.finished.Finished.TheVariants.{Done, Error, Failed}
 use Rattle.sv_tree.specs.declared.limits.TheConstants.{INTERNAL_SERVER_ERROR, LEAST_ERROR, MAX_ERROR, METHOD_NOT_ALLOWED, NOT_FOUND, SERVICE_UNAVAILABLE}
-use Rattle.sv_wire.specs.ResponseText.{phrase_of}
+use Rattle.sv_message.specs.Phrases.{phrase_of}
 
 -- the status of an error that a servlet answers with a code
 abbrev pub error_status : ℕ → ℕ

@@ -14,7 +14,7 @@ use Rattle.sv_tree.specs.declared.finished.Finished.{Finished}
 use Rattle.sv_tree.specs.declared.finished.Finished.TheVariants.{Done, Error, Failed}
 use Rattle.sv_tree.specs.declared.limits.TheConstants.{INTERNAL_SERVER_ERROR, MAX_NESTING}
 use Rattle.sv_uri.specs.declared.path.Canon.{Canon}
-use Rattle.sv_wire.specs.ResponseText.{phrase_of}
+use Rattle.sv_message.specs.Phrases.{phrase_of}
 
 -- the field that goes with the error that was kept
 abbrev pub kept_field : Option KeptError → Option KeptField

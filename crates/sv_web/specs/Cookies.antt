@@ -6,7 +6,7 @@ use Rattle.std.specs.Str.{byte}
 use Rattle.http_header.specs.Token.{is_token_byte}
 use Rattle.sv_exchange.specs.Changing.{AddHeader, after_all, answer}
 use Rattle.sv_exchange.specs.State.{State}
-use Rattle.sv_wire.specs.Cookies.{http_only_attribute, max_age_attribute, path_attribute}
+use Rattle.sv_message.specs.Cookies.{http_only_attribute, max_age_attribute, path_attribute}
 use Rattle.sv_web.specs.Answering.{told}
 use Rattle.sv_web.specs.declared.cookies.NewCookie.{NewCookie}
 use Rattle.sv_web.specs.declared.cookies.SameSite.{SameSite}

@@ -6,7 +6,7 @@ ghost use Rattle.std.specs.List.{list_all};
 ghost use Rattle.std.specs.Option.{option_copied};
 ghost use Rattle.sv_exchange.specs.Changing.{Reaches};
 ghost use Rattle.sv_text.specs.Gives.{Gives, GivesAnswer};
-ghost use Rattle.sv_wire.specs.Cookies.{http_only_attribute, max_age_attribute};
+ghost use Rattle.sv_message.specs.Cookies.{http_only_attribute, max_age_attribute};
 ghost use Rattle.sv_web.specs.Answering.{told_fault};
 ghost use Rattle.sv_web.specs.Cookies.{cookie_answer, cookie_text, has_name, has_path, is_cookie, is_octet, is_path, is_path_byte, path_part, same_site_attribute, secure_attribute, with_cookie};
 

@@ -19,14 +19,14 @@ use Rattle.sv_head.specs.Length.{content_length}
 use Rattle.sv_head.specs.Persistence.{keeps}
 use Rattle.sv_head.specs.TargetForm.{authority_of, path_of, target_form}
 use Rattle.sv_text.specs.Faults.{when, first_or}
-use Rattle.sv_wire.specs.declared.message.Target.{Target}
-use Rattle.sv_wire.specs.declared.message.Target.TheVariants.{Path}
-use Rattle.sv_wire.specs.declared.message.Target.TheVariants as targets
+use Rattle.sv_message.specs.declared.message.Target.{Target}
+use Rattle.sv_message.specs.declared.message.Target.TheVariants.{Path}
+use Rattle.sv_message.specs.declared.message.Target.TheVariants as targets
 use Rattle.sv_wire.specs.declared.owed_head.OwedHead.{OwedHead}
 use Rattle.sv_wire.specs.declared.owed_head.Judgement.{Judgement}
 use Rattle.sv_wire.specs.declared.owed_head.Judgement.TheVariants.{Refused, Expecting, Accepted}
-use Rattle.sv_wire.specs.declared.wire_fault.WireFault.{WireFault}
-use Rattle.sv_wire.specs.declared.wire_fault.WireFault.TheVariants.{BadHost, BadFraming, UnknownCoding, BodyTooLarge, BadExpect, BadTarget}
+use Rattle.sv_message.specs.declared.wire_fault.WireFault.{WireFault}
+use Rattle.sv_message.specs.declared.wire_fault.WireFault.TheVariants.{BadHost, BadFraming, UnknownCoding, BodyTooLarge, BadExpect, BadTarget}
 
 -- whether a text ends as a head does: an empty line, CRLF or LF, behind a line's LF
 abbrev pub ends_head : List ℕ → Bool

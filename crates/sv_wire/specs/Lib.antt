@@ -1,6 +1,3 @@
-pub mod Chunking
-pub mod Content
-pub mod Cookies
 pub mod EmptyLines
 pub mod Head
 pub mod Inbox
@@ -12,4 +9,3 @@ pub mod Reads
 pub mod ResponseText
 pub mod Spans
 pub mod State
-pub mod WireFault

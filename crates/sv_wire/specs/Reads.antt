@@ -13,15 +13,16 @@ use Rattle.sv_text.specs.Front.{cut}
 use Rattle.sv_wire.specs.declared.item.Item.{Item}
 use Rattle.sv_wire.specs.declared.item.Item.TheVariants.{Continue, Message, Refuse}
 use Rattle.sv_wire.specs.declared.limits.TheConstants.{MAX_HEAD_LEN, MAX_FIELD_LINES}
-use Rattle.sv_wire.specs.declared.message.Message.{Message as MessageRecord}
+use Rattle.sv_message.specs.declared.message.Message.{Message as MessageRecord}
 use Rattle.sv_wire.specs.declared.owed_head.OwedHead.{OwedHead}
 use Rattle.sv_wire.specs.declared.owed_head.Judgement.{Judgement}
 use Rattle.sv_wire.specs.declared.owed_head.Judgement.TheVariants.{Refused, Expecting, Accepted}
-use Rattle.sv_wire.specs.declared.wire_fault.WireFault.TheVariants.{BadHead, HeadTooLarge}
+use Rattle.sv_message.specs.declared.wire_fault.WireFault.TheVariants.{BadHead, HeadTooLarge}
 use Rattle.sv_wire.specs.EmptyLines.{drop_empty_lines}
 use Rattle.sv_wire.specs.Head.{ends_head, judge}
 use Rattle.sv_wire.specs.Items.{is_last}
-use Rattle.sv_wire.specs.WireFault.{fault_of}
+use Rattle.sv_message.specs.Messages.{with_body}
+use Rattle.sv_message.specs.WireFault.{fault_of}
 
 -- what a text begins with
 pub data Start : Type 0 where
@@ -54,10 +55,6 @@ ReadsHead text judgement = MatchBool (has_too_many_lines text) (judgement ≡ Re
 -- where the head that a text begins with ends
 abbrev pub cut_head : List ℕ → Cut
 cut_head text = cut ends_head MAX_HEAD_LEN text
-
--- a message with its body
-abbrev pub with_body : List ℕ → MessageRecord → MessageRecord
-with_body bytes message = record message { body = bytes }
 
 -- what the stream says with a head and the end of its body
 abbrev pub item_of : OwedHead → BodyEnd → Item

@@ -1,16 +1,17 @@
 -- The text of a response (RFC 9112, sections 4 to 7 and 9.6; RFC 9110, sections 6.6.1, 8.6, 9.3.2 and 15.3.5; RFC 6265, section 4.1).
-use Rattle.std.specs.Prelude.{◌≡◌, ℕ, ◌==◌, min, Bool, true, false, ◌&&◌, ◌||◌, not, List, [], ◌++◌, length, codes, decimal, unwrap_or, Option, Some, None, if◌then◌else◌}
+use Rattle.std.specs.Prelude.{◌≡◌, ℕ, ◌==◌, min, Bool, true, false, ◌&&◌, ◌||◌, not, List, [], ◌++◌, length, codes, decimal, Option, Some, None, if◌then◌else◌}
 use Rattle.std.specs.List.{flat_map}
-use Rattle.http.specs.StatusCode.{code_digits, reason_phrase}
+use Rattle.http.specs.StatusCode.{code_digits}
 use Rattle.httpdate.specs.Date.{date_text, unix_secs}
 use Rattle.httpdate.specs.declared.date.HttpDate.{HttpDate}
 use Rattle.sv_head.specs.declared.field.Field.{Field}
-use Rattle.sv_wire.specs.Content.{content, has_own_end}
-use Rattle.sv_wire.specs.Cookies.{cookie_text}
-use Rattle.sv_wire.specs.declared.body.Body.{Body}
-use Rattle.sv_wire.specs.declared.body.Body.TheVariants.{Whole, Flushed}
-use Rattle.sv_wire.specs.declared.response.Cookie.{Cookie}
-use Rattle.sv_wire.specs.declared.response.Response.{Response}
+use Rattle.sv_message.specs.Content.{content, has_own_end}
+use Rattle.sv_message.specs.Cookies.{cookie_text}
+use Rattle.sv_message.specs.Phrases.{phrase_of}
+use Rattle.sv_message.specs.declared.body.Body.{Body}
+use Rattle.sv_message.specs.declared.body.Body.TheVariants.{Whole, Flushed}
+use Rattle.sv_message.specs.declared.response.Cookie.{Cookie}
+use Rattle.sv_message.specs.declared.response.Response.{Response}
 use Rattle.sv_wire.specs.declared.response_text.TheConstants.{LAST_SECOND, NO_CONTENT}
 
 -- the date shows the moment, or the last second of the year 9999 where the moment lies behind it
@@ -20,10 +21,6 @@ IsDateAt moment date = unix_secs date ≡ min moment LAST_SECOND
 -- the end of a line
 abbrev pub line_end : List ℕ
 line_end = codes "\r\n"
-
--- the phrase of a status, empty where it has none
-unfoldable pub phrase_of : ℕ → List ℕ
-phrase_of status = unwrap_or (reason_phrase status) []
 
 -- the version, the status, and its phrase
 abbrev pub status_line : ℕ → List ℕ

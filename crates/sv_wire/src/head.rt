@@ -7,14 +7,12 @@ ghost use Rattle.sv_head.specs.TargetForm.{FitsForm, with_slash};
 ghost use Rattle.sv_text.specs.Faults.{first_or};
 ghost use Rattle.sv_text.specs.Gives.{GivesAnswer};
 ghost use Rattle.sv_wire.specs.Head.{accept, awaits_continue, faults_by_kind, fields_beside, framing_faults, framing_of, has_codings, has_length, is_unknown, is_unknown_expectation, judge, target_in};
-ghost use Rattle.sv_wire.specs.declared.message.Target.TheVariants.{Path};
+ghost use Rattle.sv_message.specs.declared.message.Target.TheVariants.{Path};
 ghost use Rattle.sv_wire.specs.Reads.{ReadsHead, has_too_many_lines, lines};
 ghost use Rattle.sv_wire.specs.Spans.{field_at, IsFieldAt, AreHeadSpans, ShowHead};
 
 use crate::limits::{FEW_FIELD_LINES, MAX_FIELD_LINES, MAX_HEAD_LEN};
-use crate::message::{Message, Target};
 use crate::owed_head::{Judgement, OwedHead, has_body};
-use crate::wire_fault::WireFault;
 use http::Method;
 use http::method::MethodError;
 use httparse::Status;
@@ -25,6 +23,7 @@ use sv_head::{
     Codings, Field, SCHEME_LEN, TargetForm, accepts_hosts, asks_to_continue, coding_kind,
     content_length, has_field, keeps, replace_hosts, target_form,
 };
+use sv_message::{Message, Target, WireFault};
 use sv_text::{Bytes, Listed, NoMemory};
 
 /// Reads the whole text of a head, which is no longer than a head may be. Most heads have few lines, and places for few fields are made for these: a

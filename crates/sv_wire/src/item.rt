@@ -2,8 +2,7 @@
 
 ghost use Rattle.std.specs.Prelude.{◌≡◌};
 
-use crate::message::Message;
-use crate::wire_fault::WireFault;
+use sv_message::{Message, WireFault};
 
 /// One thing that a stream says.
 #[derive(Drop)]

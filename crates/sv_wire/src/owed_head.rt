@@ -4,10 +4,9 @@ ghost use Rattle.std.specs.Prelude.{◌≡◌, []};
 ghost use Rattle.sv_wire.specs.Head.{has_body};
 
 use crate::item::Item;
-use crate::message::Message;
-use crate::wire_fault::WireFault;
 use std::alloc::Global;
 use sv_body::Framing;
+use sv_message::{Message, WireFault};
 use sv_text::Bytes;
 
 /// A head whose body is awaited: the message without its body, and how its end is found (RFC 9112, section 6).

@@ -5,10 +5,10 @@ ghost use Rattle.sv_wire.specs.Reads.{item_of};
 
 use crate::item::Item;
 use crate::owed_head::OwedHead;
-use crate::wire_fault::WireFault;
 use std::alloc::Global;
 use std::marker::Model;
 use sv_body::{BodyEnd, BodyReader, History, Piece, Progress};
+use sv_message::WireFault;
 use sv_text::NoMemory;
 
 /// A head whose body is being read.

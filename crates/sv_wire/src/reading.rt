@@ -15,9 +15,9 @@ use crate::item::Item;
 use crate::limits::MAX_HEAD_LEN;
 use crate::owed_head::{Judgement, OwedHead, has_body};
 use crate::pending::PendingBox;
-use crate::wire_fault::WireFault;
 use std::alloc::Global;
 use sv_body::Progress;
+use sv_message::WireFault;
 use sv_text::{Cut, NoMemory};
 
 /// What comes next in a stream.

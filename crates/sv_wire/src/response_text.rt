@@ -3,17 +3,17 @@
 ghost use Rattle.std.specs.Prelude.{◌≡◌, [], ◌++◌, ◌&&◌, vec_capacity, IfOk, OnOk, OnErr, Some, codes, decimal};
 ghost use Rattle.http.specs.StatusCode.{IsStatusCode};
 ghost use Rattle.httpdate.specs.declared.date.HttpDate.{HttpDate as Date};
-ghost use Rattle.sv_wire.specs.Content.{content, has_own_end};
-ghost use Rattle.sv_wire.specs.Cookies.{cookie_pair, cookie_text, http_only_attribute, max_age_attribute, path_attribute};
-ghost use Rattle.sv_wire.specs.ResponseText.{IsDateAt, ResponseTextsAreUnique, allows_content, connection_lines, cookie_line, cookie_lines, field_line, field_lines, framing_line, framing_lines, phrase_of, response_head, response_text, sent_body, status_line};
+ghost use Rattle.sv_message.specs.Content.{content, has_own_end};
+ghost use Rattle.sv_message.specs.Cookies.{cookie_pair, cookie_text, http_only_attribute, max_age_attribute, path_attribute};
+ghost use Rattle.sv_message.specs.Phrases.{phrase_of};
+ghost use Rattle.sv_wire.specs.ResponseText.{IsDateAt, ResponseTextsAreUnique, allows_content, connection_lines, cookie_line, cookie_lines, field_line, field_lines, framing_line, framing_lines, response_head, response_text, sent_body, status_line};
 
-use crate::body::{Body, flushed_content};
-use crate::response::{Cookie, Response};
 use http::StatusCode;
 use httpdate::HttpDate;
 use itoa::Buffer;
 use std::alloc::{AllocError, Global};
 use sv_head::Field;
+use sv_message::{Body, Cookie, Response, flushed_content};
 use sv_text::NoMemory;
 
 /// The last second that a date can show: `Fri, 31 Dec 9999 23:59:59 GMT`.
@@ -164,7 +164,7 @@ fn push_status_line(head: &mut Vec<u8>, status: u16) -> Result<(), AllocError>
     Ok(())
 }
 
-#[tactic(auto, unfolding(crate::specs::ResponseText::phrase_of))]
+#[tactic(auto, unfolding(sv_message::specs::Phrases::phrase_of))]
 fn phrase_of(code: StatusCode) -> &'static [u8]
     ensures { result.now ≡ phrase_of code }
 {

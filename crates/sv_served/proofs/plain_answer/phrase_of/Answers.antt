@@ -1,5 +1,5 @@
 use Rattle.std.proofs.Common.{rules}
-use Rattle.sv_wire.specs.ResponseText.{phrase_of}
+use Rattle.sv_message.specs.Phrases.{phrase_of}
 use Rattle.sv_served.proofs.Phrases.{no_phrase}
 use Rattle.sv_served.proofs.plain_answer.phrase_of.Goals as goal
 

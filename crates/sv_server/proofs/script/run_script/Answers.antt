@@ -29,5 +29,5 @@ returns g c =
       begun = Err c.in-Err.fault;
       started = c.new-2.new.journal;
       starts = subst P c.new-started.ensures c.in-Err.ensures;
-      follows = (refl, c.refuse.ensures);
+      follows = (refl, rw (c.into_cause-code.ensures.code, c.into_cause-code.ensures.context) at c.refuse.ensures);
     }

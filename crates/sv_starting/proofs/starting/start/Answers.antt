@@ -4,5 +4,10 @@ pub returns : goal.returns
 returns g c = (
   c.from_seed.result,
   c.from_seed.ensures,
-  (c.new.new.journal, c.in-Err.fault, rw c.new-journal.ensures at c.in-Err.ensures, c.start_fault.ensures),
+  (
+    c.new.new.journal,
+    c.in-Err.fault,
+    rw c.new-journal.ensures at c.in-Err.ensures,
+    rw (c.into_cause-code.ensures.code, c.into_cause-code.ensures.context) at c.start_fault.ensures,
+  ),
 )

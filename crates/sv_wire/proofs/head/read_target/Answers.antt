@@ -4,7 +4,7 @@ use Rattle.sv_head.specs.declared.target.TargetForm.{TargetForm}
 use Rattle.sv_head.specs.declared.target.TargetForm.TheVariants.{Absolute}
 use Rattle.sv_head.specs.TargetForm.{FitsForm, with_slash}
 use Rattle.sv_text.specs.Gives.{GivesAnswer}
-use Rattle.sv_wire.specs.declared.message.Target.TheVariants.{Path}
+use Rattle.sv_message.specs.declared.message.Target.TheVariants.{Path}
 use Rattle.sv_wire.specs.Head.{target_in}
 use Rattle.sv_wire.proofs.head.read_target.Goals as goal
 

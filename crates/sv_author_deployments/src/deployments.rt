@@ -1,0 +1,127 @@
+//! What the contexts of an application are deployed with.
+
+ghost use Rattle.std.specs.Prelude.{◌≡◌, Err, MatchOption, map};
+ghost use Rattle.sv_text.specs.Gives.{Gives, GivesAnswer};
+ghost use Rattle.sv_application.specs.Parts.{seen};
+ghost use Rattle.sv_deployments.specs.Files.{files_fault, told};
+ghost use Rattle.sv_files.specs.Fault.{files_of, list_fault};
+ghost use Rattle.sv_program.specs.CommandFault.{command_fault};
+ghost use Rattle.sv_author_deployments.specs.Deployments as spec;
+
+use std::alloc::Global;
+use sv_component::{Filter, Listener, Servlet};
+use sv_context::Deployment;
+use sv_files::{File, Files, FilesFault};
+use sv_lifecycle::Parts;
+use sv_program::{CommandFault, ContextTexts, descriptor_in, realm_in};
+use sv_settings::ContextEntry;
+use sv_text::{Listed, NoMemory, Text};
+use sv_web::Content;
+
+/// What the contexts of an application are deployed with, in their order: their descriptors and users as their texts are read, and their
+/// components as they are.
+///
+/// # Errors
+/// The first fault, of each context in turn that of its descriptor ([`CommandFault::Descriptor`]), its users ([`CommandFault::Users`]) and its
+/// static files ([`CommandFault::Files`]); or [`CommandFault::NoMemory`].
+pub fn deployments_of<S: Servlet, F: Filter, L: Listener>(
+    alloc: Global,
+    contexts: Vec<sv_web::Deployment<S, F, L>>,
+) -> Result<Vec<Deployment<S, F, L>>, CommandFault>
+    ensures { Gives command_fault (seen (λ made. map spec.deployed made.items) result) (spec.deployments_of contexts.items) }
+{
+    let mut deployments = Vec::new(alloc);
+    for context in contexts {
+        deployments.push(deployment_of(alloc, context.into_content())?)?;
+    }
+    Ok(deployments)
+}
+
+// What one context is deployed with.
+fn deployment_of<S: Servlet, F: Filter, L: Listener>(
+    alloc: Global,
+    content: Content<S, F, L>,
+) -> Result<Deployment<S, F, L>, CommandFault>
+    ensures { Gives command_fault (seen spec.deployed result) (spec.deployment_of content) }
+{
+    let Content {
+        path,
+        descriptor,
+        servlets,
+        filters,
+        listeners,
+        files,
+        users,
+    } = content;
+    let texts = texts_of(alloc, path.as_str(), descriptor, users)?;
+    let descriptor = descriptor_in(alloc, &texts)?;
+    let users = realm_in(alloc, &texts)?;
+    let files = files_in(alloc, path.as_str(), files)?;
+    Ok(Deployment {
+        path,
+        descriptor,
+        files,
+        users,
+        parts: Parts {
+            servlets: servlets.into_vec(),
+            filters: filters.into_vec(),
+            listeners: listeners.into_vec(),
+        },
+    })
+}
+
+// The texts of a context's files.
+fn texts_of(
+    alloc: Global,
+    path: &str,
+    descriptor: Text,
+    users: Text,
+) -> Result<ContextTexts, NoMemory>
+    ensures { GivesAnswer result (spec.texts_of path.now descriptor users) }
+{
+    let name = users_name(alloc, users.as_str())?;
+    Ok(ContextTexts {
+        context: ContextEntry {
+            path: Text::copy_of(alloc, path)?,
+            descriptor: Text::copy_of(alloc, "descriptor")?,
+            files: Text::from_string(String::new(alloc)),
+            users: name,
+        },
+        descriptor: Some(descriptor),
+        users: Some(users),
+    })
+}
+
+// The name of the users file, where it has a text.
+fn users_name(alloc: Global, users: &str) -> Result<Option<Text>, NoMemory>
+    ensures { GivesAnswer result (spec.users_name users.now) }
+{
+    if users.is_empty() {
+        return Ok(None);
+    }
+    Ok(Some(Text::copy_of(alloc, "users")?))
+}
+
+// The static files of a context.
+fn files_in(alloc: Global, path: &str, files: Listed<File>) -> Result<Files, CommandFault>
+    ensures { Gives command_fault result (told path.now (files_of files)) }
+{
+    match Files::from_list(alloc, files.into_vec()) {
+        Ok(files) => Ok(files),
+        Err(fault) => refused(alloc, path, fault),
+    }
+}
+
+// Files that are refused, or that there is no memory for.
+fn refused<T>(alloc: Global, path: &str, fault: FilesFault) -> Result<T, CommandFault>
+    ensures { MatchOption (list_fault fault) (result ≡ Err CommandFault.NoMemory)
+        (λ found. Gives command_fault result (Err (files_fault path.now found))) }
+{
+    if fault == FilesFault::NoMemory {
+        return Err(CommandFault::NoMemory);
+    }
+    Err(CommandFault::Files {
+        context: Text::copy_of(alloc, path)?,
+        code: fault as u8,
+    })
+}

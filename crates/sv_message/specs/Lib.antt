@@ -1,0 +1,6 @@
+pub mod Chunking
+pub mod Content
+pub mod Cookies
+pub mod Messages
+pub mod Phrases
+pub mod WireFault

@@ -1,0 +1,83 @@
+//! The body of a response.
+
+ghost use Rattle.std.specs.Prelude.{◌≡◌, ◌++◌, IfOk, OnOk};
+ghost use Rattle.sv_message.specs.Chunking.{flushed_content, last_chunk};
+ghost use Rattle.sv_message.specs.Content.{ends_connection, has_own_end};
+
+use crate::pieces::Pieces;
+use std::alloc::{AllocError, Global};
+use sv_text::Bytes;
+
+const LAST_CHUNK: &[u8] = b"0\r\n\r\n";
+
+/// The body of a response (RFC 9112, section 6).
+#[derive(Drop)]
+pub enum Body {
+    /// The whole body, whose length is stated.
+    Whole(Bytes),
+    /// A body that leaves in pieces, of which none knows how many will follow.
+    Flushed {
+        /// What was written up to each flush, and behind the last one.
+        pieces: Pieces,
+        /// Whether the client reads chunks, as one of HTTP/1.1 does. To any other the body ends with the connection.
+        chunked: bool,
+        /// Whether the body broke off, so that its end is missing.
+        broken: bool,
+    },
+}
+
+impl Body {
+    /// Whether nothing can follow the body on its connection: it ends with the connection, or its end is missing (RFC 9112, sections 6.3
+    /// and 8).
+    pub fn ends_connection(&self) -> bool
+        ensures { result ≡ ends_connection self.now }
+    {
+        match self {
+            Body::Whole(_) => false,
+            Body::Flushed {
+                chunked,
+                broken,
+                ..
+            } => !*chunked || *broken,
+        }
+    }
+
+    /// Whether the body says itself where it ends, by a length or by chunks.
+    pub fn has_own_end(&self) -> bool
+        ensures { result ≡ has_own_end self.now }
+    {
+        match self {
+            Body::Whole(_) => true,
+            Body::Flushed { chunked, .. } => *chunked,
+        }
+    }
+}
+
+/// The text of a body in pieces.
+pub fn flushed_content(
+    alloc: Global,
+    pieces: &Pieces,
+    chunked: bool,
+    broken: bool,
+) -> Result<Vec<u8>, AllocError>
+    ensures { IfOk result (λ text. text.items ≡ flushed_content pieces.now chunked broken) }
+{
+    let mut text = Vec::new(alloc);
+    if chunked {
+        pieces.push_chunks(alloc, &mut text)?;
+        push_last_chunk(&mut text, broken)?;
+    } else {
+        pieces.push_joined(&mut text)?;
+    }
+    Ok(text)
+}
+
+// Appends what ends the chunks of a body that did not break off.
+fn push_last_chunk(text: &mut Vec<u8>, broken: bool) -> Result<(), AllocError>
+    ensures { OnOk result (text.new.items ≡ text.old.items ++ last_chunk broken) }
+{
+    if !broken {
+        text.extend_from_slice(LAST_CHUNK)?;
+    }
+    Ok(())
+}

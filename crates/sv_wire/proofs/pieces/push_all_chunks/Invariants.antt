@@ -1,6 +1,0 @@
-use Rattle.std.proofs.Common.{◌≡◌, ◌++◌, take}
-use Rattle.sv_wire.specs.Chunking.{chunks}
-use Rattle.sv_wire.proofs.pieces.push_all_chunks.Given as goal
-
-abbrev pub invariant-loop-piece : goal.invariant-loop-piece
-invariant-loop-piece l = l.text.items ≡ l.initial.text.items ++ chunks (take l.piece-index l.pieces)
