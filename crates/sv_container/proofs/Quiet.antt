@@ -3,10 +3,10 @@ use Rattle.std.proofs.Common.{◌≡◌, true, List, [], ◌∷◌, ◌++◌, le
 use Rattle.sv_component.proofs.Running.{runs_grown}
 use Rattle.sv_component.specs.Runs.{IsRun}
 use Rattle.sv_component.specs.Steps.{ComponentSteps}
-use Rattle.sv_container.specs.Deploying.{UndeploysAll}
 use Rattle.sv_container.specs.Stopping.{AllStopQuietly, StoppedContainersStopQuietly, StopsQuietly, contexts_to_stop, journal_to_stop}
 use Rattle.sv_context.specs.Deployment.{Undeploys}
 use Rattle.sv_context.specs.Forgetting.{without_sessions}
+use Rattle.sv_context.specs.Several.{UndeploysAll}
 use Rattle.sv_context.specs.State.{ContextState, in_service, world_of}
 use Rattle.sv_context.specs.declared.deployment.Deployment.{Deployment}
 use Rattle.sv_journal.specs.Journal.{JournalState}

@@ -1,7 +1,7 @@
 -- What would become of a request to a container (Jakarta Servlet 6.0, sections 3.5, 10.5, 12.1 and 13.8).
 use Rattle.std.specs.Prelude.{◌≡◌, ℕ, List, map, Option}
 use Rattle.sv_component.specs.Steps.{ComponentSteps}
-use Rattle.sv_container.specs.Deploying.{DeploysAll}
+use Rattle.sv_context.specs.Several.{DeploysAll}
 use Rattle.sv_context.specs.Deployment.{declared_policy}
 use Rattle.sv_context.specs.State.{ContextState}
 use Rattle.sv_context.specs.declared.deployment.Deployment.{Deployment}

@@ -1,14 +1,10 @@
 -- The context paths of a container, which differ (Jakarta Servlet 6.0, section 12.1).
-use Rattle.std.specs.Prelude.{◌≡◌, ℕ, ◌≤◌, true, false, List, [], ◌∷◌, ◌++◌, length, map, slice_get, Some}
+use Rattle.std.specs.Prelude.{◌≡◌, ℕ, ◌≤◌, true, false, List, [], ◌∷◌, ◌++◌, length, slice_get, Some}
 use Rattle.sv_container.specs.declared.limits.TheConstants.{MAX_CONTEXTS}
 use Rattle.sv_container.specs.declared.new_fault.NewCode.{NewCode}
 use Rattle.sv_container.specs.declared.new_fault.NewCode.TheVariants.{DuplicateContext, TooManyContexts, PartsMismatch, InitFailed, NoMemory}
-use Rattle.sv_context.specs.declared.deployment.Deployment.{Deployment}
 use Rattle.sv_schema.specs.Names.{repeats}
 use Rattle.sv_schema.specs.Table.{is_among}
-
-abbrev pub paths_of : {S F L : Type 0} → List (Deployment S F L) → List (List ℕ)
-paths_of deployments = map (λ deployment. deployment.path) deployments
 
 -- the first path of a list that an earlier one is, too
 pub record IsRepeatedFirst (paths : List (List ℕ)) (path : List ℕ) : Type 0 where

@@ -1,37 +1,26 @@
 -- The start of a container (Jakarta Servlet 6.0, sections 2.3.1, 6.2.1 and 11.3.3).
-use Rattle.std.specs.Prelude.{◌≡◌, ◌⊎◌, List, ◌∷◌, ◌++◌, Result, Ok, Err}
+use Rattle.std.specs.Prelude.{◌≡◌, ◌⊎◌, List, Result, Ok, Err}
 use Rattle.sv_component.specs.Steps.{ComponentSteps}
 use Rattle.sv_container.specs.Container.{state_of}
-use Rattle.sv_container.specs.Deploying.{DeploysAll, UndeploysAll}
 use Rattle.sv_container.specs.NewCode.{code_of, named_path}
-use Rattle.sv_container.specs.Paths.{ArePermitted, Forbids, paths_of}
+use Rattle.sv_container.specs.Paths.{ArePermitted, Forbids}
 use Rattle.sv_container.specs.declared.container.Container.{Container}
 use Rattle.sv_container.specs.declared.new_fault.NewFault.{NewFault}
-use Rattle.sv_context.specs.Deployment.{Deploys}
+use Rattle.sv_context.specs.Several.{DeploysAll, FailsAll, paths_of}
 use Rattle.sv_context.specs.State.{ContextState}
-use Rattle.sv_context.specs.declared.deployment.DeployFault.{DeployFault}
+use Rattle.sv_context.specs.declared.deployment.DeployAllFault.{DeployAllFault}
 use Rattle.sv_context.specs.declared.deployment.Deployment.{Deployment}
 use Rattle.sv_host.specs.Host.{opening}
 use Rattle.sv_journal.specs.Journal.{JournalState}
 
 module _ {S F L : Type 0} (moving : ComponentSteps S F L) where
-  -- the deployments before one become contexts, that one does not start, and the contexts are undeployed again
+  -- one of the deployments does not become a context, and the contexts before it are undeployed again
   pub record Fails (deployments : List (Deployment S F L)) (before : JournalState) (fault : NewFault S F L) (after : JournalState) : Type 0 where
-    pub front : List (Deployment S F L)
-    pub failed : Deployment S F L
-    pub rest : List (Deployment S F L)
-    pub are : deployments ≡ front ++ failed ∷ rest
-    pub contexts : List (ContextState S F L)
-    pub started : JournalState
-    pub starts : DeploysAll moving front before contexts started
-    pub refusal : DeployFault S F L
-    pub undone : JournalState
-    pub fails : Deploys moving failed started (Err refusal) undone
-    pub stopped : List (Deployment S F L)
-    pub stops : UndeploysAll moving contexts undone stopped after
-    pub code : fault.code ≡ code_of refusal.fault
-    pub context : fault.context ≡ named_path refusal.fault failed.path
-    pub back : fault.deployments.items ≡ stopped ++ refusal.deployment ∷ rest
+    pub failure : DeployAllFault S F L
+    pub fails : FailsAll moving deployments before failure after
+    pub code : fault.code ≡ code_of failure.code
+    pub context : fault.context ≡ named_path failure.code failure.context
+    pub back : fault.deployments.items ≡ failure.deployments.items
 
   -- nothing was called, and all is handed back as it was
   pub record DoesNothing (deployments : List (Deployment S F L)) (before : JournalState) (fault : NewFault S F L) (after : JournalState) : Type 0 where

@@ -2,10 +2,9 @@
 use Rattle.std.specs.Prelude.{◌≡◌, Bool, true, false, List, [], ◌∷◌, length, map}
 use Rattle.sv_component.specs.Runs.{IsRun}
 use Rattle.sv_component.specs.Steps.{ComponentSteps}
-use Rattle.sv_container.specs.Deploying.{UndeploysAll}
 use Rattle.sv_context.specs.Forgetting.{without_sessions}
+use Rattle.sv_context.specs.Several.{GivesBackParts}
 use Rattle.sv_context.specs.State.{ContextState, in_service, world_of}
-use Rattle.sv_context.specs.declared.deployment.Deployment.{Deployment}
 use Rattle.sv_journal.specs.Journal.{JournalState, broken, new_journal}
 use Rattle.sv_lifecycle.specs.Calls.{stop_calls}
 use Rattle.sv_lifecycle.specs.World.{world}
@@ -24,11 +23,9 @@ journal_to_stop false = new_journal
 
 module _ {S F L : Type 0} (moving : ComponentSteps S F L) where
   -- the contexts stop in the order of their list, and their components are handed back
-  pub record ShutsDown {W : Type 0} (state : State (ContextState S F L) W) (parts : List (Parts S F L)) (journal : JournalState) : Type 0 where
-    pub back : List (Deployment S F L)
-    pub undeploys : UndeploysAll moving
-        (contexts_to_stop state.stopped state.world.contexts) (journal_to_stop state.stopped) back journal
-    pub are : parts ≡ map (λ deployment. deployment.parts) back
+  abbrev pub ShutsDown : {W : Type 0} → State (ContextState S F L) W → List (Parts S F L) → JournalState → Type 0
+  ShutsDown state parts journal =
+      GivesBackParts moving (contexts_to_stop state.stopped state.world.contexts) (journal_to_stop state.stopped) parts journal
 
   -- a context stops as if it had no session: what was initialised and is not gone is destroyed, in the reverse of the order of the inits, and then
   -- each listener hears in reverse that the context stops

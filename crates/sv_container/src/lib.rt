@@ -7,9 +7,7 @@ mod explaining;
 mod laws;
 mod limits;
 mod new_fault;
-mod pushing;
 mod refusal;
-mod room;
 mod starting;
 mod stopping;
 
@@ -19,5 +17,5 @@ pub use laws::{
 };
 pub use limits::MAX_CONTEXTS;
 pub use new_fault::{NewCode, NewFault};
-pub use stopping::Shutdown;
+pub use sv_context::Shutdown;
 pub use sv_explain::{ExplainFault, Explanation, HiddenCause};

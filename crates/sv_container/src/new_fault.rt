@@ -5,7 +5,7 @@ ghost use Rattle.sv_container.specs.NewCode.{code_name, code_number, code_of};
 
 use std::fmt;
 use sv_component::{Filter, Listener, Servlet};
-use sv_context::Deployment;
+use sv_context::{Deployment, let_go};
 use sv_lifecycle::StartCode;
 use sv_text::Text;
 
@@ -24,8 +24,7 @@ pub enum NewCode {
     NoMemory = 13,
 }
 
-/// A container that did not start.
-#[derive(Drop)]
+/// A container that did not start. Who has one takes it apart.
 pub struct NewFault<S, F, L> {
     /// Why it did not start.
     pub code: NewCode,
@@ -44,7 +43,13 @@ impl<S: Servlet, F: Filter, L: Listener> NewFault<S, F, L> {
         ensures code { result.0 ≡ self.code }
         ensures context { result.1 ≡ self.context }
     {
-        (self.code, self.context)
+        let NewFault {
+            code,
+            context,
+            deployments,
+        } = self;
+        let_go(deployments);
+        (code, context)
     }
 }
 

@@ -1,7 +1,8 @@
 //! What refuses deployments before the first call.
 
 ghost use Rattle.std.specs.Prelude.{◌≡◌, false, [], IfOk, MatchOption, MatchResult};
-ghost use Rattle.sv_container.specs.Paths.{ArePermitted, Forbids, IsRepeatedFirst, paths_of};
+ghost use Rattle.sv_container.specs.Paths.{ArePermitted, Forbids, IsRepeatedFirst};
+ghost use Rattle.sv_context.specs.Several.{paths_of};
 ghost use Rattle.sv_schema.specs.Names.{repeats};
 
 use crate::limits::MAX_CONTEXTS;

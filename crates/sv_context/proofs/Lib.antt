@@ -7,3 +7,4 @@ pub mod Journals
 pub mod Responses
 pub mod Retirings
 pub mod Statuses
+pub mod Succession

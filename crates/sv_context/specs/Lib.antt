@@ -10,5 +10,7 @@ pub mod Motion
 pub mod Responding
 pub mod Retirement
 pub mod Retiring
+pub mod Room
+pub mod Several
 pub mod State
 pub mod Theory

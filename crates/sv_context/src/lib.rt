@@ -1,4 +1,5 @@
-//! One context: how it is deployed, handles messages, ends its expired sessions, and is undeployed (Jakarta Servlet 6.0).
+//! One context: how it is deployed, handles messages, ends its expired sessions, and is undeployed (Jakarta Servlet 6.0); and how several are
+//! deployed and undeployed one after another.
 #![tactic(auto)]
 
 mod answering;
@@ -14,9 +15,16 @@ mod laws;
 mod letting_go;
 mod limits;
 mod policy;
+mod pushing;
+mod room;
+mod several;
+mod shutdown;
 
 pub use context::Context;
-pub use deployment::{DeployFault, Deployment};
+pub use deployment::{DeployAllFault, DeployFault, Deployment};
 pub use laws::{an_expiry_leaves_none_expired, an_expiry_of_none_is_nothing, limits_are_as_stated};
 pub use letting_go::let_go;
 pub use limits::SECONDS_OF_MINUTE;
+pub use room::{Room, StopRoom};
+pub use several::{deploy_all, undeploy_all};
+pub use shutdown::Shutdown;

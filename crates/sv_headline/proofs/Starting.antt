@@ -8,7 +8,7 @@ use Rattle.sv_conduct.specs.Record.{IsLawfulRun}
 use Rattle.sv_conduct.specs.Start.{CallersLoggedInSinceTheStart}
 use Rattle.sv_conduct.specs.Until.{EveryRunIsLawfulUntilRefused, IsLawfulUpTo}
 use Rattle.sv_container.specs.Container.{state_of}
-use Rattle.sv_container.specs.Deploying.{DeploysAll}
+use Rattle.sv_context.specs.Several.{DeploysAll}
 use Rattle.sv_container.specs.Starting.{Starts}
 use Rattle.sv_container.specs.declared.container.Container.{Container}
 use Rattle.sv_context.specs.State.{ContextState}

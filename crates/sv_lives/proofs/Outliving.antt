@@ -5,7 +5,7 @@ use Rattle.sv_component.proofs.Running.{runs_grown}
 use Rattle.sv_component.specs.Runs.{IsRun, Runs}
 use Rattle.sv_component.specs.Steps.{ComponentSteps}
 use Rattle.sv_container.specs.Container.{state_of}
-use Rattle.sv_container.specs.Deploying.{DeploysAll, UndeploysAll}
+use Rattle.sv_context.specs.Several.{DeploysAll, UndeploysAll}
 use Rattle.sv_container.specs.Stopping.{contexts_to_stop, journal_to_stop}
 use Rattle.sv_context.proofs.Journals.{runs_unnoted}
 use Rattle.sv_context.specs.Conduct.{unnoted}

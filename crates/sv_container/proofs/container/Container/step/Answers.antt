@@ -1,6 +1,7 @@
-use Rattle.std.proofs.Common.{◌≡◌, length, sym, subst, arith}
+use Rattle.std.proofs.Common.{◌≡◌, length, sym, subst}
 use Rattle.sv_container.proofs.Moving.{count_kept, paths_kept}
 use Rattle.sv_container.specs.Paths.{ArePermitted}
+use Rattle.sv_context.specs.Room.{HasRoomToStop}
 use Rattle.sv_container.proofs.container.Container.step.Goals as goal
 use Rattle.sv_component.specs.Steps.{steps_of}
 
@@ -13,6 +14,5 @@ invariant_of-self g c =
     let count : length after ≡ length before =
     count_kept (steps_of g.S.Servlet.servlet_step g.F.Filter.filter_step g.L.Listener.listener_step) before after c.step.ensures.alters in record {
       permitted = subst ArePermitted (sym paths) container.permitted;
-      room_for_back = (container.room_for_back.0, omega (arith, count, container.room_for_back.1));
-      room_for_parts = (container.room_for_parts.0, omega (arith, count, container.room_for_parts.1));
+      room_to_stop = subst (λ n. HasRoomToStop n container.stop) (sym count) container.room_to_stop;
     }

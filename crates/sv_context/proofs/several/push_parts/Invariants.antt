@@ -1,5 +1,5 @@
 use Rattle.std.proofs.Common.{◌≡◌, ◌+◌, ◌≤◌, ◌++◌, length, map, vec_capacity}
-use Rattle.sv_container.proofs.stopping.push_parts.Given as goal
+use Rattle.sv_context.proofs.several.push_parts.Given as goal
 
 abbrev pub decreases-loop-deployment : goal.decreases-loop-deployment
 decreases-loop-deployment g l = length l.waiting.items

@@ -1,8 +1,8 @@
 use Rattle.std.proofs.Common.{◌≡◌, ◌+◌, ◌≤◌, List, ◌++◌, length, vec_capacity}
-use Rattle.sv_container.specs.Deploying.{UndeploysAll}
+use Rattle.sv_context.specs.Several.{UndeploysAll}
 use Rattle.sv_context.specs.State.{ContextState}
 use Rattle.sv_context.specs.declared.deployment.Deployment.{Deployment}
-use Rattle.sv_container.proofs.stopping.undeploy_all.Given as goal
+use Rattle.sv_context.proofs.several.undeploy_each.Given as goal
 use Rattle.sv_component.specs.Steps.{steps_of}
 
 abbrev pub decreases-loop-context : goal.decreases-loop-context

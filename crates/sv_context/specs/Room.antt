@@ -1,12 +1,13 @@
 -- The room that a start takes before its first call.
 use Rattle.std.specs.Prelude.{◌≡◌, ℕ, ◌≤◌, List, [], length, vec_capacity}
-use Rattle.sv_container.specs.Paths.{paths_of}
-use Rattle.sv_container.specs.declared.room.Room.{Room}
+use Rattle.sv_context.specs.Several.{paths_of}
 use Rattle.sv_context.specs.declared.deployment.Deployment.{Deployment}
+use Rattle.sv_context.specs.declared.room.Room.{Room}
+use Rattle.sv_context.specs.declared.room.StopRoom.{StopRoom}
 
 module _ {S F L : Type 0} where
   -- room for what so many contexts are made into, of which nothing is there yet
-  pub record HasRoomToStop (count : ℕ) (room : Room S F L) : Type 0 where
+  pub record HasRoomToStop (count : ℕ) (room : StopRoom S F L) : Type 0 where
     pub back : room.back.items ≡ []
     pub back_room : count ≤ vec_capacity room.back
     pub parts : room.parts.items ≡ []
@@ -17,4 +18,4 @@ module _ {S F L : Type 0} where
     pub paths : room.paths.items ≡ paths_of deployments
     pub contexts : room.contexts.items ≡ []
     pub contexts_room : length deployments ≤ vec_capacity room.contexts
-    pub stop : HasRoomToStop (length deployments) room
+    pub stop : HasRoomToStop (length deployments) room.stop

@@ -1,9 +1,8 @@
 use Rattle.std.proofs.Common.{◌≡◌, ◌≤◌, List, ◌++◌, length, vec_capacity}
-use Rattle.sv_container.specs.Deploying.{DeploysAll}
-use Rattle.sv_container.specs.Paths.{paths_of}
-use Rattle.sv_container.specs.Room.{HasRoomToStop}
+use Rattle.sv_context.specs.Several.{DeploysAll, paths_of}
+use Rattle.sv_context.specs.Room.{HasRoomToStop}
 use Rattle.sv_context.specs.declared.deployment.Deployment.{Deployment}
-use Rattle.sv_container.proofs.starting.deploy_all.Given as goal
+use Rattle.sv_context.proofs.several.deploy_each.Given as goal
 use Rattle.sv_component.specs.Steps.{steps_of}
 
 abbrev pub decreases-loop-deployment : goal.decreases-loop-deployment
@@ -16,5 +15,5 @@ invariant-loop-deployment g l = record {
       × DeploysAll (steps_of g.S.Servlet.servlet_step g.F.Filter.filter_step g.L.Listener.listener_step) front l.fn.journal l.room.contexts.items l.journal;
   paths : l.room.paths.items ≡ paths_of l.fn.deployments.items;
   room : length l.fn.deployments.items ≤ vec_capacity l.room.contexts;
-  stop : HasRoomToStop (length l.fn.deployments.items) l.room;
+  stop : HasRoomToStop (length l.fn.deployments.items) l.room.stop;
 }

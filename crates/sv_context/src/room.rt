@@ -1,28 +1,38 @@
 //! The room that a start takes before its first call.
 
 ghost use Rattle.std.specs.Prelude.{◌≡◌, IfOk};
-ghost use Rattle.sv_container.specs.Paths.{paths_of};
-ghost use Rattle.sv_container.specs.Room.{IsReady};
+ghost use Rattle.sv_context.specs.Room.{IsReady};
+ghost use Rattle.sv_context.specs.Several.{paths_of};
 
+use crate::context::Context;
+use crate::deployment::Deployment;
 use std::alloc::Global;
 use sv_component::{Filter, Listener, Servlet};
-use sv_context::{Context, Deployment};
 use sv_lifecycle::Parts;
 use sv_text::{NoMemory, Text};
 
-/// What a start needs memory for, and what the stop of its contexts needs memory for.
+/// What the start of several contexts needs memory for, and what their stop needs memory for.
 #[derive(Drop)]
-pub(crate) struct Room<S, F, L> {
+pub struct Room<S, F, L> {
     // The context paths, one of which a refusal names.
     pub(crate) paths: Vec<Text>,
     pub(crate) contexts: Vec<Context<S, F, L>>,
+    pub(crate) stop: StopRoom<S, F, L>,
+}
+
+/// What the stop of several contexts needs memory for.
+#[derive(Drop)]
+pub struct StopRoom<S, F, L> {
     pub(crate) back: Vec<Deployment<S, F, L>>,
     pub(crate) parts: Vec<Parts<S, F, L>>,
 }
 
 impl<S: Servlet, F: Filter, L: Listener> Room<S, F, L> {
     /// Room for the contexts of the deployments.
-    pub(crate) fn for_all(
+    ///
+    /// # Errors
+    /// [`NoMemory`].
+    pub fn for_all(
         alloc: Global,
         deployments: &[Deployment<S, F, L>],
     ) -> Result<Room<S, F, L>, NoMemory>
@@ -32,10 +42,22 @@ impl<S: Servlet, F: Filter, L: Listener> Room<S, F, L> {
         Ok(Room {
             paths: copies_of_paths(alloc, deployments)?,
             contexts: Vec::with_capacity(alloc, count)?,
-            back: Vec::with_capacity(alloc, count)?,
-            parts: Vec::with_capacity(alloc, count)?,
+            stop: StopRoom {
+                back: Vec::with_capacity(alloc, count)?,
+                parts: Vec::with_capacity(alloc, count)?,
+            },
         })
     }
+
+    /// The context paths, in the order of the deployments.
+    pub fn paths(&self) -> &[Text]
+        ensures { result.now ≡ self.now.paths.items }
+    {
+        self.paths.as_slice()
+    }
+
+    /// Lets go of it. Who calls it drops none of what it holds, and is proved without that.
+    pub fn let_go(self) {}
 }
 
 // The context paths of the deployments.

@@ -1,8 +1,7 @@
 use Rattle.std.proofs.Common.{◌+◌, ◌≤◌, [], ◌∷◌, ◌++◌, length, vec_capacity, sym, ap, ◌∙◌, subst, arith, append_assoc, length-append}
-use Rattle.sv_container.proofs.Deploying.{contexts_count, deploys_next, failed_path, fits_next, path_there}
-use Rattle.sv_container.specs.Deploying.{DeploysAll, UndeploysAll}
-use Rattle.sv_container.specs.NewCode.{named_path}
-use Rattle.sv_container.proofs.starting.deploy_all.Goals as goal
+use Rattle.sv_context.proofs.Succession.{contexts_count, deploys_next, failed_path, fits_next, path_there}
+use Rattle.sv_context.specs.Several.{DeploysAll, UndeploysAll}
+use Rattle.sv_context.proofs.several.deploy_each.Goals as goal
 use Rattle.sv_component.specs.Steps.{steps_of}
 
 pub deploy_next-requires : goal.deploy_next-requires
@@ -30,7 +29,7 @@ undo-requires-clause-fits g c =
     let contexts = c.loop-deployment.room.contexts.items in
     let counts = contexts_count (steps_of g.S.Servlet.servlet_step g.F.Filter.filter_step g.L.Listener.listener_step) so_far.0 c.args.journal.now
     c.loop-deployment.journal contexts so_far.2 in
-    let fits : length c.deploy_next.new.contexts.items + 1 + length c.into_vec.result.items ≤ vec_capacity c.loop-deployment.room.back =
+    let fits : length c.deploy_next.new.contexts.items + 1 + length c.into_vec.result.items ≤ vec_capacity c.loop-deployment.room.stop.back =
     omega (
       arith,
       ap length c.in-Err.ensures.deploys.1,
@@ -67,9 +66,9 @@ returns-in-Err g c =
       stops = subst (λ cs. UndeploysAll moving cs c.deploy_next.new.journal stopped.0 c.undo.new.journal)
           c.in-Err.ensures.deploys.1 stopped.1;
       code = c.undo.ensures.code;
-      context = c.undo.ensures.context ∙ ap (named_path refusal.fault)
-          (failed_path so_far.0 c.in-Some.deployment rest c.args.deployments.items c.loop-deployment.room.paths.items
-          (length c.deploy_next.new.contexts.items) are c.loop-deployment.invariant.paths (ap length c.in-Err.ensures.deploys.1 ∙ counts));
+      context = c.undo.ensures.context
+          ∙ failed_path so_far.0 c.in-Some.deployment rest c.args.deployments.items c.loop-deployment.room.paths.items
+          (length c.deploy_next.new.contexts.items) are c.loop-deployment.invariant.paths (ap length c.in-Err.ensures.deploys.1 ∙ counts);
       back = stopped.2 ∙ ap (λ others. stopped.0 ++ refusal.deployment ∷ others) c.into_vec.ensures.items;
     }
 

@@ -1,8 +1,7 @@
 use Rattle.std.proofs.Common.{[], ◌∷◌, ◌++◌, vec_capacity, sym, ap, ◌∙◌, subst, arith, append-nil, append_assoc}
-use Rattle.sv_container.proofs.Deploying.{back_counts, undeploys_next}
-use Rattle.sv_container.proofs.Mapping.{none_left, room_stays}
-use Rattle.sv_container.specs.Deploying.{UndeploysAll}
-use Rattle.sv_container.proofs.stopping.undeploy_all.Goals as goal
+use Rattle.sv_context.proofs.Succession.{back_counts, none_left, room_stays, undeploys_next}
+use Rattle.sv_context.specs.Several.{UndeploysAll}
+use Rattle.sv_context.proofs.several.undeploy_each.Goals as goal
 use Rattle.sv_component.specs.Steps.{steps_of}
 
 pub loop-context-preserved : goal.loop-context-preserved
