@@ -1,2 +1,11 @@
-pub mod ProgramFault
+pub mod Asked
+pub mod Command
 pub mod Ended
+pub mod Policy
+pub mod Printed
+pub mod ProgramFault
+pub mod Question
+pub mod Replay
+pub mod Service
+pub mod Serving
+pub mod Site

@@ -1,9 +1,23 @@
-//! The program `sv`: its arguments, its standard streams and its exit status.
+//! The program `sv`: its arguments and the commands that they name, its standard streams and its exit status.
 #![tactic(auto)]
 
+mod asked_container;
+mod command;
+mod count;
 mod ended;
+mod policy_command;
 mod program_fault;
+mod question;
+mod replay_command;
+mod run_command;
+mod self_test_command;
+mod serve_command;
+mod service;
+mod site;
+mod standing;
+mod texts;
 
+use command::Command;
 use ended::Ended;
 use program_fault::ProgramFault;
 use std::net::Net;
@@ -12,7 +26,6 @@ use std::random::RandomSource;
 use std::rt::{Env, Files};
 use std::time::Clock;
 use std::{env, io};
-use sv_commands::Command;
 use sv_program::{CommandFault, Disk};
 
 fn main(rt: HostRuntime) -> ExitCode {

@@ -1,0 +1,67 @@
+-- The command `policy`: what the container of a server says of a request.
+use Rattle.std.specs.Prelude.{◌≡◌, ℕ, List, [], ◌∷◌, ◌++◌, Option, Result, Ok, Err}
+use Rattle.std.specs.Option.{option_copied}
+use Rattle.sv_application.specs.declared.program_filter.ProgramFilter.{ProgramFilter}
+use Rattle.sv_application.specs.declared.program_listener.ProgramListener.{ProgramListener}
+use Rattle.sv_application.specs.declared.program_servlet.ProgramServlet.{ProgramServlet}
+use Rattle.sv_component.specs.Steps.{ComponentSteps}
+use Rattle.sv_container.specs.Explaining.{policies_of}
+use Rattle.sv_container.specs.declared.container.Container.{Container}
+use Rattle.sv_deployments.specs.Configuration.{FindsConfiguration}
+use Rattle.sv_deployments.specs.Deployments.{ProgramDeployment}
+use Rattle.sv_deployments.specs.Folders.{FolderGiving}
+use Rattle.sv_deployments.specs.declared.configuration.Configuration.{Configuration}
+use Rattle.sv_explain.specs.Explanation as explained
+use Rattle.sv_explain.specs.Text.{explanation_text}
+use Rattle.sv_explain.specs.declared.fault.ExplainFault.{ExplainFault}
+use Rattle.sv_explain.specs.declared.fault.ExplainFault.TheVariants as explain
+use Rattle.sv_program.specs.CommandFault.{UnlessNoMemory}
+use Rattle.sv_program.specs.Configuration.{Step}
+use Rattle.sv_program.specs.FileStore.{Giving}
+use Rattle.sv_program.specs.declared.command_fault.CommandFault.{CommandFault}
+use Rattle.sv_program.specs.declared.command_fault.CommandFault.TheVariants as fault
+use Rattle.sv_starting.specs.Starting.{StartsWith}
+use Rattle.sv_words.specs.declared.seeded_words.SeededWords.{SeededWords}
+use Rattle.sv.specs.Printed.{Shows}
+use Rattle.sv.specs.declared.question.Question.{Question}
+
+-- the command's fault where there is no explanation
+abbrev pub fault_of : ExplainFault → CommandFault
+fault_of explain.BadMethod = fault.Method
+fault_of explain.NoSuchUser = fault.User
+fault_of explain.NoMemory = fault.NoMemory
+
+-- the line of an explanation
+abbrev pub line_of : explained.Answer → Step (List ℕ)
+line_of (Ok explanation) = Ok (explanation_text explanation ++ 10 ∷ [])
+line_of (Err found) = Err (fault_of found)
+
+-- the line for contexts that are deployed so
+abbrev pub policy_line : List ProgramDeployment → Question → Step (List ℕ)
+policy_line deployments question =
+    line_of (explained.explanation (policies_of deployments) question.method.now question.target.now (option_copied question.user))
+
+-- the line is written, or its fault told
+abbrev pub Ends : Step (List ℕ) → Result (Unit {0}) CommandFault → Option (List ℕ) → Option (List ℕ) → Type 0
+Ends (Ok line) result old new = Shows line result old new
+Ends (Err found) result old new = result ≡ Err found
+
+-- the container that was started says the line, unless memory ran out, or why it did not start is told
+abbrev pub EndsBy : {A : Type 0} → Result A CommandFault → Step (List ℕ) → Result (Unit {0}) CommandFault → Option (List ℕ) → Option (List ℕ) → Type 0
+EndsBy (Ok container) line result old new = UnlessNoMemory result (Ends line result old new)
+EndsBy (Err found) line result old new = result ≡ Err found
+
+module _ (moving : ComponentSteps ProgramServlet ProgramFilter ProgramListener) where
+  -- a fault of the files is told; without one, what they configure is started and asked
+  abbrev pub GoesOn : Result Configuration CommandFault → Question → Result (Unit {0}) CommandFault → Option (List ℕ) → Option (List ℕ) → Type 0
+  GoesOn (Ok configuration) question result old new =
+      (begun : Result (Container ProgramServlet ProgramFilter ProgramListener SeededWords) CommandFault)
+      × StartsWith moving configuration.deployments.items configuration.seed begun
+      × EndsBy begun (policy_line configuration.deployments.items question) result old new
+  GoesOn (Err found) question result old new = result ≡ Err found
+
+  -- the command's run, by what the store gives
+  abbrev pub RunsPolicy : {S : Type 0} → Giving S → FolderGiving S → Question → Result (Unit {0}) CommandFault → S → S → Option (List ℕ) → Option (List ℕ) → Type 0
+  RunsPolicy gives_text gives_files question result before after old new =
+      (found : Result Configuration CommandFault) × FindsConfiguration gives_text gives_files question.config.now found before after
+      × GoesOn found question result old new

@@ -1,0 +1,132 @@
+//! A container that is asked.
+
+ghost use Rattle.std.specs.Option.{option_copied};
+ghost use Rattle.std.specs.Prelude.{◌++◌, codes};
+ghost use Rattle.sv.specs.Asked as spec;
+ghost use Rattle.sv_component.specs.Steps.{steps_of};
+ghost use Rattle.sv_container.specs.Container.{state_of};
+ghost use Rattle.sv_container.specs.Explaining.{explanation_of};
+ghost use Rattle.sv_context.specs.Theory.{theory};
+ghost use Rattle.sv_explain.specs.Text.{explanation_text};
+ghost use Rattle.sv_host.specs.Host.{StepsSo};
+ghost use Rattle.sv_text.specs.Gives.{GivesAnswer};
+
+use crate::standing::{standing_of, uncovered_of};
+use std::alloc::Global;
+use sv_component::{Filter, Listener, Servlet};
+use sv_container::{Container, ExplainFault, Explanation};
+use sv_front::Consulted;
+use sv_run::{Happening, Reaction, Reactor, StepFault, Words};
+use sv_text::{Bytes, NoMemory};
+
+/// A container that takes events, which are counted, and is asked what would become of requests by its constraints as they stand, what these leave
+/// uncovered, and how it stands.
+pub(crate) struct AskedContainer<S, F, L, W> {
+    container: Container<S, F, L, W>,
+    // How many events were taken, also those that were refused: the greatest number stands for it and all above.
+    events: u64,
+}
+
+impl<S, F, L, W> AskedContainer<S, F, L, W> {
+    ghost use Rattle.std.specs.Prelude.{◌≡◌};
+
+    /// Asks that one, which has taken no event yet.
+    pub fn new(container: Container<S, F, L, W>) -> AskedContainer<S, F, L, W>
+        ensures container { result.container ≡ container }
+        ensures events { result.events ≡ 0 }
+    {
+        AskedContainer {
+            container,
+            events: 0,
+        }
+    }
+
+    /// Gives the container back.
+    pub fn into_container(self) -> Container<S, F, L, W>
+        ensures { result ≡ self.container }
+    {
+        let AskedContainer {
+            container,
+            events: _events,
+        } = self;
+        container
+    }
+}
+
+impl<S: Servlet, F: Filter, L: Listener, W: Words> Reactor for AskedContainer<S, F, L, W> {
+    ghost use Rattle.std.specs.Prelude.{◌≡◌};
+
+    ghost steps = { λ before happening result after.
+        StepsSo (theory (steps_of S.servlet_step F.filter_step L.listener_step) W.draws)
+        (state_of before.container) happening result (state_of after.container)
+        × (after.events ≡ spec.counted before.events) };
+
+    fn step(&mut self, happening: Happening) -> Result<Reaction, StepFault> {
+        self.events = self.events.saturating_add(1);
+        self.container.step(happening)
+    }
+}
+
+impl<S, F, L, W> Consulted for AskedContainer<S, F, L, W> {
+    ghost use Rattle.std.specs.Prelude.{Some};
+
+    ghost explains = { λ asked method target user.
+        Some (spec.answer_line (explanation_of (state_of asked.container).world.contexts method target user)) };
+
+    ghost uncovers = { λ asked. Some (spec.gaps_text (state_of asked.container).world.contexts) };
+
+    ghost stands = { λ asked. Some (spec.counts_text asked.events (state_of asked.container).world.contexts) };
+
+    fn explain(
+        &self,
+        alloc: Global,
+        method: &str,
+        target: &[u8],
+        user: Option<&str>,
+    ) -> Result<Option<Bytes>, NoMemory> {
+        match answer_line(alloc, &self.container, method, target, user) {
+            Ok(line) => Ok(Some(line)),
+            Err(NoMemory) => Err(NoMemory),
+        }
+    }
+
+    fn uncovered(&self, alloc: Global) -> Result<Option<Bytes>, NoMemory> {
+        match uncovered_of(alloc, self.container.contexts()) {
+            Ok(lines) => Ok(Some(lines)),
+            Err(NoMemory) => Err(NoMemory),
+        }
+    }
+
+    fn standing(&self, alloc: Global) -> Result<Option<Bytes>, NoMemory> {
+        match standing_of(alloc, self.events, self.container.contexts()) {
+            Ok(text) => Ok(Some(text)),
+            Err(NoMemory) => Err(NoMemory),
+        }
+    }
+}
+
+// What the container says of a request.
+fn answer_line<S, F, L, W>(
+    alloc: Global,
+    container: &Container<S, F, L, W>,
+    method: &str,
+    target: &[u8],
+    user: Option<&str>,
+) -> Result<Bytes, NoMemory>
+    ensures { GivesAnswer result (spec.answer_line
+        (explanation_of (state_of container.now).world.contexts method.now target.now (option_copied user.entry))) }
+{
+    match container.explain(method, target, user) {
+        Ok(explanation) => explanation_line(alloc, &explanation),
+        Err(ExplainFault::BadMethod) => Bytes::copy_of(alloc, b"method\n"),
+        Err(ExplainFault::NoSuchUser) => Bytes::copy_of(alloc, b"user\n"),
+        Err(ExplainFault::NoMemory) => Err(NoMemory),
+    }
+}
+
+fn explanation_line(alloc: Global, explanation: &Explanation) -> Result<Bytes, NoMemory>
+    ensures { GivesAnswer result (explanation_text explanation.now ++ codes "\n") }
+{
+    let line = format!(in alloc; "{explanation}\n")?;
+    Ok(Bytes::from_vec(line.into_bytes()))
+}

@@ -1,0 +1,95 @@
+//! The command `policy`: what the container of a server says of a request.
+
+ghost use Rattle.sv_component.specs.Steps.{steps_of};
+ghost use Rattle.std.specs.Prelude.{◌≡◌, ◌≢◌, [], ◌∷◌, ◌++◌, IfErr};
+ghost use Rattle.std.specs.Option.{option_copied};
+ghost use Rattle.sv_container.specs.Container.{state_of};
+ghost use Rattle.sv_container.specs.Explaining.{explanation_of};
+ghost use Rattle.sv_explain.specs.Text.{explanation_text};
+ghost use Rattle.sv_program.specs.CommandFault.{UnlessNoMemory};
+ghost use Rattle.sv.specs.Policy as spec;
+ghost use Rattle.sv.specs.Printed.{Shows};
+
+use crate::question::Question;
+use std::alloc::Global;
+use std::io::Write;
+use sv_application::{ProgramFilter, ProgramListener, ProgramServlet};
+use sv_component::{Filter, Listener, Servlet};
+use sv_container::{Container, ExplainFault, Explanation, containers_explain_what_was_deployed};
+use sv_deployments::{Configuration, FolderStore, read_deployments};
+use sv_program::{CommandFault, FileStore, print_line};
+use sv_starting::start;
+
+/// Reads the server file of the question and all that it names, starts a container with it, asks it what would become of the request, shuts it
+/// down, and writes the line of its answer.
+///
+/// # Errors
+/// The first fault: those of [`read_deployments`]; then [`CommandFault::Start`]; then [`CommandFault::Method`]; then, for a target that has a
+/// context, [`CommandFault::User`]; or [`CommandFault::NoMemory`]. After [`CommandFault::Output`] a part of the line may have been written, after any
+/// other fault none.
+pub fn policy<S: FileStore + FolderStore, W: Write>(
+    alloc: Global,
+    store: &mut S,
+    writer: &mut W,
+    question: &Question<'_>,
+) -> Result<(), CommandFault>
+    ensures run { spec.RunsPolicy (steps_of ⟦<ProgramServlet as Servlet>⟧.servlet_step ⟦<ProgramFilter as Filter>⟧.filter_step ⟦<ProgramListener as Listener>⟧.listener_step)
+        S.gives_text S.gives_files question.now result store.old store.new (W.contents writer.old) (W.contents writer.new) }
+    ensures untouched { IfErr result (λ fault. fault ≢ CommandFault.Output → writer.new ≡ writer.old) }
+{
+    let Configuration {
+        seed,
+        deployments,
+        ..
+    } = match read_deployments(alloc, store, question.config) {
+        Ok(configuration) => configuration,
+        Err(fault) => return Err(fault),
+    };
+    containers_explain_what_was_deployed::<ProgramServlet, ProgramFilter, ProgramListener>();
+    match start(alloc, deployments, seed.as_slice()) {
+        Ok(container) => answer(alloc, container, writer, question),
+        Err(fault) => Err(fault),
+    }
+}
+
+// Writes what the container says of the question, and shuts it down.
+fn answer<S: Servlet, F: Filter, L: Listener, D: Drop, W: Write>(
+    alloc: Global,
+    container: Container<S, F, L, D>,
+    writer: &mut W,
+    question: &Question<'_>,
+) -> Result<(), CommandFault>
+    ensures answers { UnlessNoMemory result (spec.Ends (spec.line_of (explanation_of (state_of container).world.contexts
+        question.now.method.now question.now.target.now (option_copied question.now.user)))
+        result (W.contents writer.old) (W.contents writer.new)) }
+    ensures untouched { IfErr result (λ fault. fault ≢ CommandFault.Output → writer.new ≡ writer.old) }
+{
+    let explained = container.explain(question.method, question.target.as_bytes(), question.user);
+    container.shutdown().let_go();
+    match explained {
+        Ok(explanation) => print_explanation(alloc, &explanation, writer),
+        Err(fault) => Err(fault_of(fault)),
+    }
+}
+
+fn print_explanation<W: Write>(
+    alloc: Global,
+    explanation: &Explanation,
+    writer: &mut W,
+) -> Result<(), CommandFault>
+    ensures shows { UnlessNoMemory result (Shows (explanation_text explanation.now ++ 10 ∷ []) result (W.contents writer.old) (W.contents writer.new)) }
+    ensures untouched { IfErr result (λ fault. fault ≢ CommandFault.Output → writer.new ≡ writer.old) }
+{
+    let line = format!(in alloc; "{explanation}")?;
+    print_line(writer, line.as_str())
+}
+
+fn fault_of(fault: ExplainFault) -> CommandFault
+    ensures { result ≡ spec.fault_of fault }
+{
+    match fault {
+        ExplainFault::BadMethod => CommandFault::Method,
+        ExplainFault::NoSuchUser => CommandFault::User,
+        ExplainFault::NoMemory => CommandFault::NoMemory,
+    }
+}

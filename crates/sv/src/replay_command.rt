@@ -1,0 +1,55 @@
+//! The command `replay`: a script over a server's container.
+
+ghost use Rattle.sv_component.specs.Steps.{steps_of};
+ghost use Rattle.std.specs.Prelude.{◌≡◌};
+ghost use Rattle.sv.specs.Replay as spec;
+
+use std::alloc::Global;
+use sv_application::{ProgramFilter, ProgramListener, ProgramServlet};
+use sv_component::{Filter, Listener, Servlet};
+use sv_deployments::{FolderStore, read_deployments};
+use sv_program::{CommandFault, FileStore};
+use sv_server::{RunFault, run_script};
+use sv_streams::{Sink, Source};
+
+/// Reads the server file of this name and all that it names, starts a container with it, replays the script over it, and stops it. What is written
+/// is what `run_script` writes; where the files have a fault nothing is read of the script, and nothing is written.
+///
+/// # Errors
+/// The first fault: those of [`read_deployments`]; then [`CommandFault::Start`]; then [`CommandFault::Script`], [`CommandFault::Output`] or
+/// [`CommandFault::NoMemory`] as the run meets them.
+pub fn replay<S: FileStore + FolderStore, I: Source, O: Sink>(
+    alloc: Global,
+    store: &mut S,
+    script: &mut I,
+    output: &mut O,
+    config: &str,
+) -> Result<(), CommandFault>
+    ensures { spec.RunsReplay (steps_of ⟦<ProgramServlet as Servlet>⟧.servlet_step ⟦<ProgramFilter as Filter>⟧.filter_step ⟦<ProgramListener as Listener>⟧.listener_step)
+        I.makes O.makes S.gives_text S.gives_files config.now store.old script.old output.old result store.new script.new output.new }
+{
+    let configuration = match read_deployments(alloc, store, config) {
+        Ok(configuration) => configuration,
+        Err(fault) => return Err(fault),
+    };
+    match run_script(alloc, script, output, configuration.deployments) {
+        Ok(()) => Ok(()),
+        Err(fault) => Err(fault_of(fault)),
+    }
+}
+
+// The command's fault by that of the run.
+fn fault_of(fault: RunFault) -> CommandFault
+    ensures { result ≡ spec.fault_of fault }
+{
+    match fault {
+        RunFault::Script(line) => CommandFault::Script { line },
+        RunFault::Start(code, context) => CommandFault::Start {
+            code: code.number(),
+            context,
+        },
+        RunFault::Output => CommandFault::Output,
+        RunFault::NoMemory => CommandFault::NoMemory,
+        RunFault::Connection => CommandFault::Socket,
+    }
+}

@@ -1,0 +1,55 @@
+//! The command `selftest`: a server's container asked by the program itself.
+
+ghost use Rattle.sv_component.specs.Steps.{steps_of};
+ghost use Rattle.sv.specs.Serving.{BeginsWith};
+
+use std::alloc::Global;
+use std::io;
+use std::io::Write;
+use std::net::Net;
+use std::time::Clock;
+use sv_application::{ProgramFilter, ProgramListener, ProgramServlet};
+use sv_component::{Filter, Listener, Servlet};
+use sv_deployments::FolderStore;
+use sv_listening::own_answer;
+use sv_program::{CommandFault, FileStore};
+use sv_starting::{StartedServer, start_server};
+
+/// Starts the container of the server file, listens at its port on this machine, connects to it, asks for the root path by `HEAD`, serves that
+/// connection and no other, shuts the container down, and writes the line `selftest ` with the first line of the answer behind it. No call waits for
+/// ever.
+///
+/// # Errors
+/// The first fault: those of [`start_server`]; then [`CommandFault::Socket`] or [`CommandFault::NoMemory`], when nothing was written; then
+/// [`CommandFault::Output`].
+pub fn self_test<S: FileStore + FolderStore, H: Net + Clock, W: Write>(
+    alloc: Global,
+    store: &mut S,
+    host: &H,
+    writer: &mut W,
+    config: &str,
+) -> Result<(), CommandFault>
+    ensures { BeginsWith (steps_of ⟦<ProgramServlet as Servlet>⟧.servlet_step ⟦<ProgramFilter as Filter>⟧.filter_step ⟦<ProgramListener as Listener>⟧.listener_step)
+        S.gives_text S.gives_files config.now store.old writer.old result store.new writer.new }
+{
+    let StartedServer {
+        port,
+        mut container,
+    } = match start_server(alloc, store, config) {
+        Ok(started) => started,
+        Err(fault) => return Err(fault),
+    };
+    let answer = own_answer(alloc, host, port, &mut container);
+    container.shutdown().let_go();
+    match print_answer(writer, answer?.as_slice()) {
+        Ok(()) => Ok(()),
+        Err(_) => Err(CommandFault::Output),
+    }
+}
+
+fn print_answer<W: Write>(writer: &mut W, line: &[u8]) -> io::Result<()> {
+    writer.write_all(b"selftest ")?;
+    writer.write_all(line)?;
+    writer.write_all(b"\n")?;
+    writer.flush()
+}

@@ -1,0 +1,97 @@
+//! What contexts leave uncovered, and how they stand.
+
+ghost use Rattle.std.specs.Prelude.{◌≡◌, ◌++◌, codes, flat_map, IfOk, OnOk};
+ghost use Rattle.std.specs.Fmt.{decimal};
+ghost use Rattle.std.specs.String.{string_bytes};
+ghost use Rattle.sv.specs.Asked as spec;
+ghost use Rattle.sv_text.specs.Gives.{GivesAnswer};
+ghost use Rattle.sv_uri.specs.ContextPath.{shown_context};
+
+use std::alloc::{AllocError, Global};
+use sv_context::Context;
+use sv_context_path::HasContextPath;
+use sv_explain::HasPolicy;
+use sv_program::gap_lines;
+use sv_text::{Bytes, NoMemory, Text};
+use sv_uri::shown_context;
+
+/// A line for each pattern of a context at which its constraints leave methods uncovered, as they stand, the contexts in their order.
+///
+/// # Errors
+/// Memory ran out.
+pub(crate) fn uncovered_of<S, F, L>(
+    alloc: Global,
+    contexts: &[Context<S, F, L>],
+) -> Result<Bytes, NoMemory>
+    ensures { GivesAnswer result (spec.gaps_text contexts.now) }
+{
+    let mut lines = String::new(alloc);
+    for context in contexts {
+        let more = context_gaps(alloc, context)?;
+        lines.push_str(more.as_str())?;
+    }
+    Ok(Bytes::from_vec(lines.into_bytes()))
+}
+
+// The lines of a context.
+fn context_gaps<S, F, L>(alloc: Global, context: &Context<S, F, L>) -> Result<Text, NoMemory>
+    ensures { GivesAnswer result (spec.context_gaps_text context.now) }
+{
+    let gaps = context.policy().uncovered(alloc)?;
+    gap_lines(alloc, context.context_path(), gaps.as_slice())
+}
+
+/// How many events were taken, and how many sessions of each context live, the contexts in their order.
+///
+/// # Errors
+/// Memory ran out.
+pub(crate) fn standing_of<S, F, L>(
+    alloc: Global,
+    events: u64,
+    contexts: &[Context<S, F, L>],
+) -> Result<Bytes, NoMemory>
+    ensures { GivesAnswer result (spec.counts_text events contexts.now) }
+{
+    let mut text = events_text(alloc, events)?;
+    push_sessions(alloc, &mut text, contexts)?;
+    Ok(Bytes::from_vec(text.into_bytes()))
+}
+
+// The words before those of the contexts.
+fn events_text(alloc: Global, events: u64) -> Result<String, AllocError>
+    ensures { IfOk result (λ text. string_bytes text ≡ codes " events " ++ decimal events ++ codes " sessions") }
+{
+    format!(in alloc; " events {events} sessions")
+}
+
+// How many sessions of each context live.
+fn push_sessions<S, F, L>(
+    alloc: Global,
+    text: &mut String,
+    contexts: &[Context<S, F, L>],
+) -> Result<(), NoMemory>
+    ensures { OnOk result (string_bytes text.new ≡ string_bytes text.old ++ flat_map spec.sessions_text contexts.now) }
+{
+    for context in contexts {
+        let count = count_text(alloc, context.session_count())?;
+        push_count(text, context.context_path(), count.as_str())?;
+    }
+    Ok(())
+}
+
+// A context's count behind its path.
+fn push_count(text: &mut String, path: &str, count: &str) -> Result<(), NoMemory>
+    ensures { OnOk result (string_bytes text.new ≡ string_bytes text.old ++ codes " " ++ shown_context path.now ++ count.now) }
+{
+    text.push_str(" ")?;
+    text.push_str(shown_context(path))?;
+    text.push_str(count)?;
+    Ok(())
+}
+
+// A count behind its sign.
+fn count_text(alloc: Global, count: usize) -> Result<String, AllocError>
+    ensures { IfOk result (λ text. string_bytes text ≡ codes "=" ++ decimal count) }
+{
+    format!(in alloc; "={count}")
+}
