@@ -176,7 +176,7 @@ fn push_parts<S: Servlet, F: Filter, L: Listener>(
     ensures { parts.new.items ≡ parts.old.items ++ map (λ deployment. deployment.parts) back.items }
 {
     let mut waiting = VecDeque::from_vec(back);
-    while let Some(deployment) = waiting.pop_front() {
-        push(parts, deployment.into_parts());
+    while let Some(undeployed) = waiting.pop_front() {
+        push(parts, undeployed.into_parts());
     }
 }
