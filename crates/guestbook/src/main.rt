@@ -45,7 +45,7 @@ fn run<R: Net + Clock + RandomSource + Print + AllocGlobal, S: Alter + Drop>(
         book,
         visits: visits.shared()?,
     };
-    let context = Deployment::at(alloc, "/")?
+    let contexts = Deployment::at(alloc, "/")?
         .describe(DESCRIPTOR)?
         .servlet("guestbook", &["", "/write", "/remove", "/leave"], guestbook)?
         .filter("shield", &["/*"], Shield {})?
@@ -53,8 +53,9 @@ fn run<R: Net + Clock + RandomSource + Print + AllocGlobal, S: Alter + Drop>(
         .file("/login.html", LOGIN.as_bytes())?
         .file("/login-failed.html", LOGIN_FAILED.as_bytes())?
         .file("/style.css", STYLE.as_bytes())?
-        .users(USERS)?;
-    run_application(rt, vec![in alloc; context]?, options)?;
+        .users(USERS)?
+        .alone()?;
+    run_application(rt, contexts, options)?;
     Ok(())
 }
 

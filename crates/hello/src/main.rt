@@ -86,10 +86,11 @@ fn main(rt: HostRuntime) -> anyhow::Result<ExitCode> {
         eprintln!(rt; "usage: hello PORT")?;
         return Ok(ExitCode::from(2));
     };
-    let context = Deployment::at(rt.alloc(), "/")?
+    let contexts = Deployment::at(rt.alloc(), "/")?
         .servlet("greet", &["/hello"], Greet { greeted: 0 })?
         .filter("no-sniff", &["/*"], NoSniff {})?
-        .listener(Requests { heard: 0 })?;
-    run_application(&rt, vec![in rt.alloc(); context]?, options)?;
+        .listener(Requests { heard: 0 })?
+        .alone()?;
+    run_application(&rt, contexts, options)?;
     Ok(ExitCode::SUCCESS)
 }

@@ -46,7 +46,7 @@ impl<S, F, L> Model for Deployment<S, F, L> {
 }
 
 impl<S: Servlet, F: Filter, L: Listener> Deployment<S, F, L> {
-    ghost use Rattle.std.specs.Prelude.{◌≡◌, OnOk, string_bytes, ◌++◌};
+    ghost use Rattle.std.specs.Prelude.{◌≡◌, OnOk, string_bytes, [], ◌∷◌, ◌++◌};
     ghost use Rattle.sv_web.specs.Deploying as spec;
 
     /// A context at a path, with nothing in it: `/` for the root context, or a path as `/shop` (Jakarta Servlet 6.0, section 3.5).
@@ -139,6 +139,14 @@ impl<S: Servlet, F: Filter, L: Listener> Deployment<S, F, L> {
     {
         self.users = Text::copy_of(self.alloc, users)?;
         Ok(self)
+    }
+
+    /// The list of this context alone, for an application that has no other.
+    pub fn alone(self) -> Result<Vec<Deployment<S, F, L>>, NoMemory>
+        ensures { IfOk result (λ contexts. contexts.items ≡ self ∷ []) }
+    {
+        let alloc = self.alloc;
+        Ok(vec![in alloc; self]?)
     }
 
     /// Gives up what it holds, without taking memory.
