@@ -1,14 +1,13 @@
 //! The container of a row.
 
 use crate::counted::{Counted, Counts};
-use crate::deployments::{TestDeployment, deployments, shown};
-use crate::results::{Tells, tell};
+use crate::deployments::{deployments, shown};
 use std::alloc::Global;
 use sv_application::{ProgramFilter, ProgramListener, ProgramServlet};
-use sv_container::{Container, NewFault, Shutdown};
+use sv_container::{Container, NewCode, NewFault};
 use sv_journal::Journal;
 use sv_rows::{Draft, cell};
-use sv_text::NoMemory;
+use sv_text::{NoMemory, Text};
 use sv_words::CountedWords;
 
 /// A container of the program's own classes, whose calls are counted.
@@ -25,16 +24,26 @@ type TestFault = NewFault<
     Counted<ProgramListener>,
 >;
 
-type TestShutdown = Shutdown<
-    Counted<ProgramServlet>,
-    Counted<ProgramFilter>,
-    Counted<ProgramListener>,
->;
-
 /// What is done with the container of a row.
 pub trait Does {
-    /// Does it, and tells what came of it.
-    fn act(&self, alloc: Global, row: &str, container: &mut TestContainer, told: &mut Draft);
+    /// Does it, and tells what came of it. It may note entries, a line each.
+    fn act(
+        &self,
+        alloc: Global,
+        row: &str,
+        container: &mut TestContainer,
+        told: &mut Draft,
+        entries: &mut Draft,
+    );
+}
+
+/// How the container of a row ended.
+#[derive(Drop)]
+pub enum Ending {
+    /// It was shut down: so many contexts have their components handed back.
+    Stopped(usize),
+    /// It did not start: why, the context path that goes with the code, and how many deployments are handed back.
+    Unstarted(NewCode, Text, usize),
 }
 
 /// Starts a container with the deployments of the first cell, does something with it, and shuts it down: how many contexts have their components
@@ -46,27 +55,33 @@ pub fn answer_with<D: Does>(
     answer: &mut Vec<u8>,
 ) -> Result<(), NoMemory> {
     let mut counts = Counts::new(alloc);
-    let deployments = deployments(alloc, cell(row, 0), &mut counts)?;
     let mut told = Draft::new(alloc);
-    start(alloc, row, deployments, does, &mut told);
+    let mut entries = Draft::new(alloc);
+    let ending = live(alloc, row, does, &mut counts, &mut told, &mut entries)?;
+    let entries = entries.finish()?;
+    let lines = str::from_utf8(entries.as_slice()).unwrap_or("");
+    tell_ending(&ending, lines, &mut told);
     told.add_to(answer)
 }
 
-fn start<D: Does>(
+/// Starts a container with the deployments of the first cell, does something with it, and shuts it down. The entries of the start and of the
+/// shutdown are noted, a line each.
+pub fn live<D: Does>(
     alloc: Global,
     row: &str,
-    deployments: Vec<TestDeployment>,
     does: &D,
+    counts: &mut Counts,
     told: &mut Draft,
-) {
+    entries: &mut Draft,
+) -> Result<Ending, NoMemory> {
+    let deployments = deployments(alloc, cell(row, 0), counts)?;
     let mut journal = Journal::new(alloc);
-    match Container::new(alloc, deployments, CountedWords::new(), &mut journal) {
-        Ok(container) => run(alloc, row, container, does, told),
-        Err(fault) => {
-            tell(fault, told);
-            tell_entries(&journal, told);
-        }
-    }
+    let started = Container::new(alloc, deployments, CountedWords::new(), &mut journal);
+    note(&journal, entries);
+    Ok(match started {
+        Ok(container) => run(alloc, row, container, does, told, entries),
+        Err(fault) => unstarted(fault),
+    })
 }
 
 fn run<D: Does>(
@@ -75,36 +90,64 @@ fn run<D: Does>(
     mut container: TestContainer,
     does: &D,
     told: &mut Draft,
-) {
-    does.act(alloc, row, &mut container, told);
-    told.add(" | ");
-    tell(container.shutdown(), told);
+    entries: &mut Draft,
+) -> Ending {
+    does.act(alloc, row, &mut container, told, entries);
+    let shutdown = container.shutdown();
+    note(&shutdown.journal, entries);
+    let contexts = shutdown.parts.len();
+    shutdown.let_go();
+    Ending::Stopped(contexts)
 }
 
-impl Tells for TestShutdown {
-    fn tell(&self, told: &mut Draft) {
-        told.add_shown(&self.parts.len());
+fn unstarted(fault: TestFault) -> Ending {
+    let deployments = fault.deployments.len();
+    let (code, context) = fault.into_cause();
+    Ending::Unstarted(code, context, deployments)
+}
+
+/// Notes the entries of a journal, a line each.
+pub fn note(journal: &Journal, entries: &mut Draft) {
+    if !journal.whole() {
+        entries.fail();
+    }
+    for entry in journal.entries() {
+        entries.add_shown(entry);
+        entries.add("\n");
     }
 }
 
-impl Tells for TestFault {
-    fn tell(&self, told: &mut Draft) {
-        told.add_shown(&self.code);
-        told.add(" ");
-        told.add_shown(&self.code.number());
-        told.add(" ");
-        told.add(shown(self.context.as_str()));
-        told.add(" | ");
-        told.add_shown(&self.deployments.len());
+fn tell_ending(ending: &Ending, entries: &str, told: &mut Draft) {
+    match ending {
+        Ending::Stopped(contexts) => {
+            told.add(" | ");
+            told.add_shown(contexts);
+        }
+        Ending::Unstarted(code, context, deployments) => {
+            told.add_shown(code);
+            told.add(" ");
+            tell_cause(*code, context.as_str(), told);
+            told.add(" | ");
+            told.add_shown(deployments);
+            tell_entries(entries, told);
+        }
     }
 }
 
-fn tell_entries(journal: &Journal, told: &mut Draft) {
+/// Tells the number of a code, and the context path that goes with it.
+pub fn tell_cause(code: NewCode, context: &str, told: &mut Draft) {
+    told.add_shown(&code.number());
+    told.add(" ");
+    told.add(shown(context));
+}
+
+/// Tells entries, which are a line each, with `, ` between.
+fn tell_entries(entries: &str, told: &mut Draft) {
     told.add(" | ");
     let mut front = "";
-    for entry in journal.entries() {
+    for entry in entries.lines() {
         told.add(front);
         front = ", ";
-        told.add_shown(entry);
+        told.add(entry);
     }
 }

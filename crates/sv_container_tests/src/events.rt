@@ -1,7 +1,8 @@
 //! The events of connections, edits, and explanations.
 
 use crate::containers::{Does, TestContainer, answer_with};
-use crate::results::{Tells, made};
+use crate::happenings::step;
+use crate::results::made;
 use std::alloc::Global;
 use std::fmt::Display;
 use sv_constraints::{Auth, Collection, Methods, Transport};
@@ -16,7 +17,14 @@ use sv_text::{Listed, NoMemory};
 struct Events;
 
 impl Does for Events {
-    fn act(&self, alloc: Global, row: &str, container: &mut TestContainer, told: &mut Draft) {
+    fn act(
+        &self,
+        alloc: Global,
+        row: &str,
+        container: &mut TestContainer,
+        told: &mut Draft,
+        _entries: &mut Draft,
+    ) {
         for event in cell(row, 1).split(", ") {
             if !told.is_empty() {
                 told.add(", ");
@@ -34,8 +42,8 @@ impl Asks for Events {
     }
 }
 
-/// `open`, `piece`, `end`, `lost`, `tick` and `withdraw` with a number; `many` with how many connections are opened, from 1 on, where the last answer
-/// is told; `append`; or `explain`: what would become of a request for `/admin/x` from the user who has the role a.
+/// An event that [`step`] knows; `withdraw` with a number; `many` with how many connections are opened, from 1 on, where the last answer is told;
+/// `append`; or `explain`: what would become of a request for `/admin/x` from the user who has the role a.
 fn take(alloc: Global, event: &str, container: &mut TestContainer, told: &mut Draft) {
     let (name, number) = event.split_once(' ').unwrap_or((event, ""));
     let number = number.parse::<u64>().unwrap_or(0);
@@ -44,7 +52,7 @@ fn take(alloc: Global, event: &str, container: &mut TestContainer, told: &mut Dr
         "append" => append(alloc, container, told),
         "withdraw" => edit_root(&Edit::Withdraw(number), container, told),
         "many" => open_many(number, container, told),
-        _ => tell_either(container.step(happening(name, number)), told),
+        _ => tell_either(step(alloc, event, container), told),
     }
 }
 
@@ -91,18 +99,10 @@ fn open_many(number: u64, container: &mut TestContainer, told: &mut Draft) {
 
 fn let_go<T: Drop>(_value: T) {}
 
-fn happening(name: &str, connection: u64) -> Happening<'_> {
-    match name {
-        "open" => Happening::Opened { connection },
-        "end" => Happening::Ended { connection },
-        "lost" => Happening::Lost { connection },
-        "tick" => Happening::Tick { moment: connection },
-        _ => Happening::Piece {
-            connection,
-            bytes: b"x",
-            moment: 0,
-        },
-    }
+/// What can be told.
+trait Tells {
+    /// Tells it.
+    fn tell(&self, told: &mut Draft);
 }
 
 /// Tells a value, or why there is none, and lets it go.
@@ -132,18 +132,18 @@ impl Tells for Explanation {
 /// The deployments, the events; what each brings, and how many contexts have their components handed back.
 const ROWS: &str = r#"
 -- a connection is known from when it is opened until it has ended or is lost
-who@ | open 1, piece 1, end 1, end 1             | goes on, goes on, closes, BadConnection        | 1
+who@ | open 1, send 1 x, end 1, end 1            | goes on, goes on, closes, BadConnection        | 1
 who@ | open 1, lost 1, lost 1                    | goes on, goes on, BadConnection                | 1
 who@ | open 1, end 1, open 1, lost 1, open 1     | goes on, closes, goes on, goes on, goes on     | 1
 -- a number that is known is not opened
 who@ | open 1, open 1, end 1                     | goes on, BadConnection, closes                 | 1
 ""   | open 0, open 18446744073709551615, open 0 | goes on, goes on, BadConnection                | 0
 -- one that is not known has no events
-who@ | piece 1, end 1, lost 1, tick 1            | BadConnection, BadConnection, BadConnection, goes on | 1
-who@ | open 1, piece 2, end 2, lost 2, piece 1   | goes on, BadConnection, BadConnection, BadConnection, goes on | 1
+who@ | send 1 x, end 1, lost 1, tick 1           | BadConnection, BadConnection, BadConnection, goes on | 1
+who@ | open 1, send 2 x, end 2, lost 2, send 1 x | goes on, BadConnection, BadConnection, BadConnection, goes on | 1
 -- 1,024 may be known at a time
 who@ | many 1024, open 1025                      | goes on, TooManyConnections                    | 1
-who@ | many 1025, piece 1024, piece 1025         | TooManyConnections, goes on, BadConnection     | 1
+who@ | many 1025, send 1024 x, send 1025 x       | TooManyConnections, goes on, BadConnection     | 1
 who@ | many 1024, open 7, end 7, open 1025, open 7 | goes on, BadConnection, closes, goes on, TooManyConnections | 1
 -- Jakarta Servlet 6.0, section 13.8: an explanation is that of the constraints as they stand
 edited@ | explain, withdraw 1, explain, withdraw 1 | open context=/ path=/admin/x pattern=/admin/* constraint=1 cause=Role, 1, open context=/ path=/admin/x pattern=- constraint=- cause=NoPattern, NoSuch | 1

@@ -3,6 +3,8 @@
 #![tactic(auto)]
 
 #[cfg(test)]
+mod calls;
+#[cfg(test)]
 mod containers;
 #[cfg(test)]
 mod counted;
@@ -13,8 +15,8 @@ mod descriptors;
 #[cfg(test)]
 mod events;
 #[cfg(test)]
-mod results;
+mod happenings;
 #[cfg(test)]
-mod scripts;
+mod results;
 #[cfg(test)]
 mod starts;

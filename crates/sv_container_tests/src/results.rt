@@ -1,6 +1,5 @@
 //! Results that are put together. Each function is general, so that what calls it proves nothing of how large values are let go.
 
-use sv_rows::Draft;
 use sv_text::NoMemory;
 
 /// Both values, where there was memory for both.
@@ -28,15 +27,4 @@ pub fn made<A: Drop, E: Drop>(value: Result<A, E>) -> Result<A, NoMemory> {
 pub fn push<A: Drop>(values: &mut Vec<A>, value: Result<A, NoMemory>) -> Result<(), NoMemory> {
     values.push(value?)?;
     Ok(())
-}
-
-/// What can be told.
-pub trait Tells {
-    /// Tells it.
-    fn tell(&self, told: &mut Draft);
-}
-
-/// Tells a value, and lets it go.
-pub fn tell<T: Tells + Drop>(value: T, told: &mut Draft) {
-    value.tell(told);
 }

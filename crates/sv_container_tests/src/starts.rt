@@ -9,7 +9,14 @@ use sv_text::NoMemory;
 struct Starts;
 
 impl Does for Starts {
-    fn act(&self, _alloc: Global, _row: &str, _container: &mut TestContainer, told: &mut Draft) {
+    fn act(
+        &self,
+        _alloc: Global,
+        _row: &str,
+        _container: &mut TestContainer,
+        told: &mut Draft,
+        _entries: &mut Draft,
+    ) {
         told.add("started");
     }
 }
