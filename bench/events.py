@@ -25,10 +25,12 @@ class Events:
     names_a_session: bool = False
     # the static file /page.html of each context, where it has one
     page: str = ""
+    # beside it so many other static files /fN.html
+    files: int = 0
 
 
-def get(path: str, fields: str = "") -> str:
-    return f"send 1 GET {path} HTTP/1.1\\r\\nHost: h\\r\\n{fields}\\r\\n\n"
+def get(path: str, fields: str = "", connection: int = 1) -> str:
+    return f"send {connection} GET {path} HTTP/1.1\\r\\nHost: h\\r\\n{fields}\\r\\n\n"
 
 
 def last_id(program: str, room: str, script: str) -> str:
@@ -53,7 +55,10 @@ def nanoseconds(program: str, events: Events) -> float:
     listed = "".join(f'[[context]]\npath = "{it}"\ndescriptor = "d.toml"\nfiles = "{folder}"\n' for it in events.contexts)
     with tempfile.TemporaryDirectory(prefix="sv-bench-") as room:
         os.mkdir(f"{room}/files")
-        for name, text in (("server.toml", f'port = 0\nseed = "{"0" * 64}"\n{listed}'), ("d.toml", events.descriptor), ("files/page.html", events.page)):
+        written = {"server.toml": f'port = 0\nseed = "{"0" * 64}"\n{listed}', "d.toml": events.descriptor}
+        if events.page:
+            written |= {f"files/{it}.html": events.page for it in ("page", *(f"f{it}" for it in range(events.files)))}
+        for name, text in written.items():
             with open(f"{room}/{name}", "w") as file:
                 file.write(text)
         timed = events.timed.replace("ID\\r", last_id(program, room, events.front) + "\\r") if events.names_a_session else events.timed
