@@ -1,4 +1,4 @@
-use Rattle.std.proofs.Common.{sym, subst, ◌∙◌}
+use Rattle.std.proofs.Common.{inr, sym, subst, ◌∙◌}
 use Rattle.sv_container.specs.Paths.{ArePermitted}
 use Rattle.sv_context.proofs.Succession.{contexts_count, paths_stay}
 use Rattle.sv_context.specs.Room.{HasRoomToStop}
@@ -19,3 +19,15 @@ pub container_of-requires-clause-indexed : goal.container_of-requires-clause-ind
 container_of-requires-clause-indexed g c =
     c.requires.indexed ∙ sym (paths_stay (steps_of g.S.Servlet.servlet_step g.F.Filter.filter_step g.L.Listener.listener_step) c.args.deployments.items
     c.args.journal.now c.deploy_all.new.journal c.in-Ok.contexts.items c.in-Ok.ensures.0)
+
+pub returns-in-Err : goal.returns-in-Err
+returns-in-Err g c = inr (
+  c.requires.permitted,
+  record {
+    failure = c.in-Err.fault;
+    fails = c.in-Err.ensures;
+    code = c.fault_of.ensures.code;
+    context = c.fault_of.ensures.context;
+    back = c.fault_of.ensures.deployments;
+  },
+)
