@@ -144,10 +144,10 @@ pub fn tell_cause(code: NewCode, context: &str, told: &mut Draft) {
 /// Tells entries, which are a line each, with `, ` between.
 fn tell_entries(entries: &str, told: &mut Draft) {
     told.add(" | ");
-    let mut front = "";
-    for entry in entries.lines() {
-        told.add(front);
-        front = ", ";
+    for (place, entry) in entries.lines().enumerate() {
+        if place > 0 {
+            told.add(", ");
+        }
         told.add(entry);
     }
 }
