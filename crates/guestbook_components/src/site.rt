@@ -1,8 +1,17 @@
-//! Who may ask for what on the site, and its users.
+//! Who may ask for what on the site, its users, and what it is deployed with.
+
+use crate::book::Book;
+use crate::files::{LOGIN, LOGIN_FAILED, STYLE};
+use crate::guestbook::Guestbook;
+use crate::shield::Shield;
+use crate::visits::Visits;
+use sqlite::Alter;
+use std::alloc::Global;
+use sv_web::{Deployment, NoMemory};
 
 /// Who may ask for what, how users log in, and that the fields of the filter stand on the pages of the login as well (Jakarta Servlet 6.0,
 /// sections 6.2.5, 13.4 and 13.6.3): elements of a `web.xml` as TOML.
-pub const DESCRIPTOR: &str = r#"
+const DESCRIPTOR: &str = r#"
 version = 2
 
 [session-config]
@@ -33,7 +42,7 @@ form-login-config = { form-login-page = "/login.html", form-error-page = "/login
 "#;
 
 /// The users of the example: the passwords of ann, ben and eve are `violet`, `harbor` and `lantern`. `tools/new-user` makes an entry.
-pub const USERS: &str = r#"
+const USERS: &str = r#"
 [[user]]
 name = "ann"
 salt = "48ba2ada87e2708b4838c28924ca0c0c"
@@ -52,3 +61,28 @@ salt = "27ef721078f1c2c58339cfccd7910e55"
 digest = "46a6ec95492c6f50c913985ede0e4a7a3c2e4def7a9b509f29a2f24d8d6b5009"
 roles = ["member", "administrator"]
 "#;
+
+/// The site over a book: its one context, which is the root.
+///
+/// # Errors
+/// [`NoMemory`].
+pub fn site_of<S: Alter + Drop>(
+    alloc: Global,
+    book: Book<S>,
+) -> Result<Vec<Deployment<Guestbook<S>, Shield, Visits>>, NoMemory> {
+    let visits = Visits::new(alloc)?;
+    let guestbook = Guestbook {
+        book,
+        visits: visits.shared()?,
+    };
+    Deployment::at(alloc, "/")?
+        .describe(DESCRIPTOR)?
+        .servlet("guestbook", &["", "/write", "/remove", "/leave"], guestbook)?
+        .filter("shield", &["/*"], Shield {})?
+        .listener(visits)?
+        .file("/login.html", LOGIN.as_bytes())?
+        .file("/login-failed.html", LOGIN_FAILED.as_bytes())?
+        .file("/style.css", STYLE.as_bytes())?
+        .users(USERS)?
+        .alone()
+}

@@ -5,7 +5,7 @@ use crate::paragraph::push_paragraph;
 use httpdate::HttpDate;
 use std::alloc::Global;
 use std::str;
-use sv_servlet::{NoMemory, escape_html};
+use sv_web::{NoMemory, escape_html};
 
 /// Who reads the page, where a user is logged in.
 #[derive(Clone, Copy)]

@@ -10,10 +10,10 @@ use Rattle.sv_exchange.specs.Sessions.{is_in_role}
 use Rattle.sv_exchange.specs.State.{State}
 use Rattle.sv_web.specs.Methods.{asked_for}
 use Rattle.sv_web.specs.declared.methods.Verb.TheVariants.{Get, Post}
-use Rattle.guestbook.specs.Book.{HasRun, entry_values}
-use Rattle.guestbook.specs.declared.book.TheConstants.{DELETE, INSERT}
-use Rattle.guestbook.specs.declared.guestbook.TheConstants.{ADMINISTRATOR}
-use Rattle.guestbook.specs.declared.pages.Member.{Member}
+use Rattle.guestbook_components.specs.Book.{HasRun, entry_values}
+use Rattle.guestbook_components.specs.declared.book.TheConstants.{DELETE, INSERT}
+use Rattle.guestbook_components.specs.declared.guestbook.TheConstants.{ADMINISTRATOR}
+use Rattle.guestbook_components.specs.declared.pages.Member.{Member}
 
 -- a form is sent by POST; by GET it is asked for
 abbrev pub IsSent : State → Type 0

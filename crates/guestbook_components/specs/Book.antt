@@ -5,7 +5,7 @@ use Rattle.sqlite.specs.Order.{Row, column}
 use Rattle.sqlite.specs.State.{Executes, HasCleanDisk}
 use Rattle.sqlite.specs.Store.{Ghosts}
 use Rattle.sqlite.specs.declared.types.Value.TheVariants.{Int, Text}
-use Rattle.guestbook.specs.declared.book.Entry.{Entry}
+use Rattle.guestbook_components.specs.declared.book.Entry.{Entry}
 
 -- the statement ran with these values and did what it says; a disk that lost what it was given is no matter of the book
 abbrev pub HasRun : {S : Type 0} → Ghosts S → List ℕ → Row → Held S → Held S → Type 0

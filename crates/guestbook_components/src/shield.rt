@@ -1,11 +1,11 @@
 //! Fields that tell browsers what a page of this site may do.
 
 ghost use Rattle.std.specs.Prelude.{◌≡◌, OnOk};
-ghost use Rattle.sv_servlet.specs.Changing.{Reaches, after_all};
-ghost use Rattle.guestbook.specs.Shielding.{security_fields};
+ghost use Rattle.sv_exchange.specs.Changing.{Reaches, after_all};
+ghost use Rattle.guestbook_components.specs.Shielding.{security_fields};
 
 use std::alloc::Global;
-use sv_servlet::{Config, Exchange, ExchangeFault, Fault, Filter, Gate, Init, NoMemory, gate_of};
+use sv_web::{Config, Exchange, ExchangeFault, Fault, Filter, Gate, Init, NoMemory, gate_of};
 
 /// Only this site's own style sheet and forms, in no frame.
 const POLICY: &str =
@@ -16,7 +16,7 @@ const POLICY: &str =
 pub struct Shield {}
 
 impl Filter for Shield {
-    ghost use Rattle.guestbook.specs.Shielding.{Shields};
+    ghost use Rattle.guestbook_components.specs.Shielding.{Shields};
 
     ghost filter_step = { λ _ call _. Shields call };
 

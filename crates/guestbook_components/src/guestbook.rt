@@ -2,9 +2,9 @@
 
 ghost use Rattle.std.specs.Prelude.{◌≡◌, IfOk, IfSome, Ok, OnOk, false, true};
 ghost use Rattle.sv_exchange.specs.Sessions.{is_in_role};
-ghost use Rattle.sv_servlet.specs.Changing.{Reaches};
-ghost use Rattle.guestbook.specs.Forms.{IsOfMember, IsSent, Removes, Writes, caller_name, value_of};
-ghost use Rattle.guestbook.specs.Token.{is_own_form};
+ghost use Rattle.sv_exchange.specs.Changing.{Reaches};
+ghost use Rattle.guestbook_components.specs.Forms.{IsOfMember, IsSent, Removes, Writes, caller_name, value_of};
+ghost use Rattle.guestbook_components.specs.Token.{is_own_form};
 
 use crate::book::{Book, BookFault};
 use crate::pages::{Member, book_page};
@@ -12,7 +12,7 @@ use crate::token::{is_own_form, token_of};
 use crate::visits::Visits;
 use sqlite::Alter;
 use std::alloc::Global;
-use sv_servlet::{
+use sv_web::{
     Config, Exchange, Fault, Init, NoMemory, RedirectKind, Servlet, Step, Text, Verb, asked_verb,
     redirect, send_html, step_of,
 };

@@ -3,7 +3,7 @@
 use std::alloc::{AllocError, Global};
 use std::cell::Cell;
 use std::rc::Rc;
-use sv_servlet::{Event, Listener};
+use sv_web::{Event, Listener};
 
 /// A count that a listener and a servlet share.
 #[derive(Drop)]

@@ -2,11 +2,11 @@
 
 ghost use Rattle.std.specs.Prelude.{◌≡◌, ◌++◌, IfOk};
 ghost use Rattle.sha2.specs.Sha256.{sha256};
-ghost use Rattle.guestbook.specs.Token.{is_own_form, token_for, token_of};
+ghost use Rattle.guestbook_components.specs.Token.{is_own_form, token_for, token_of};
 
 use sha2::{Digest, Sha256};
 use std::alloc::Global;
-use sv_servlet::{Exchange, Fault, NoMemory, Text};
+use sv_web::{Exchange, Fault, NoMemory, Text};
 
 /// What the digests are for, so that they are of no use elsewhere.
 const PURPOSE: &[u8] = b"guestbook form ";

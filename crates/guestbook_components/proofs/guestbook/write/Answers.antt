@@ -1,5 +1,5 @@
-use Rattle.guestbook.proofs.Stored.{passes}
-use Rattle.guestbook.proofs.guestbook.write.Goals as goal
+use Rattle.guestbook_components.proofs.Stored.{passes}
+use Rattle.guestbook_components.proofs.guestbook.write.Goals as goal
 
 pub returns : goal.returns
 returns g c =

@@ -6,7 +6,7 @@ use Rattle.sha2.specs.Sha256.{sha256}
 use Rattle.sv_exchange.specs.Parameters.{parameter_of}
 use Rattle.sv_exchange.specs.Sessions.{session_id_of}
 use Rattle.sv_exchange.specs.State.{State}
-use Rattle.guestbook.specs.declared.token.TheConstants.{PURPOSE}
+use Rattle.guestbook_components.specs.declared.token.TheConstants.{PURPOSE}
 
 -- a digest of the session's id, in hexadecimal digits
 abbrev pub token_for : List ℕ → List ℕ

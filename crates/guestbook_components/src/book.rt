@@ -4,7 +4,7 @@ ghost use Rattle.std.specs.Prelude.{◌≡◌, [], ◌∷◌, IfOk, OnOk, pos};
 ghost use Rattle.sqlite.specs.Held.{state};
 ghost use Rattle.sqlite.specs.State.{Executes, HasCleanDisk};
 ghost use Rattle.sqlite.specs.declared.types.Value.TheVariants.{Int, Text};
-ghost use Rattle.guestbook.specs.Book.{HasRun, IsEntryOf, entry_values};
+ghost use Rattle.guestbook_components.specs.Book.{HasRun, IsEntryOf, entry_values};
 
 use sqlite::{Alter, Connection, Error, Row, params};
 use std::alloc::Global;

@@ -1,9 +1,9 @@
 -- The fields by which browsers are told what a page may do (Content Security Policy Level 3, section 3.1; Fetch, section 3.6).
 use Rattle.std.specs.Prelude.{◌≡◌, List, [], ◌∷◌, codes}
 use Rattle.sv_component.specs.declared.answers.Gate.TheVariants.{Pass}
-use Rattle.sv_servlet.specs.Call.{Call, Entered}
-use Rattle.sv_servlet.specs.Changing.{Change, SetHeader, after_all}
-use Rattle.guestbook.specs.declared.shield.TheConstants.{POLICY}
+use Rattle.sv_component.specs.Call.{Call, Entered}
+use Rattle.sv_exchange.specs.Changing.{Change, SetHeader, after_all}
+use Rattle.guestbook_components.specs.declared.shield.TheConstants.{POLICY}
 
 abbrev pub security_fields : List Change
 security_fields =

@@ -1,8 +1,8 @@
 use Rattle.std.proofs.Common.{codes}
 use Rattle.std.specs.String.{string_bytes}
-use Rattle.guestbook.specs.Paragraph.{opening}
-use Rattle.guestbook.proofs.Pushes.{three}
-use Rattle.guestbook.proofs.paragraph.push_opening.Goals as goal
+use Rattle.guestbook_components.specs.Paragraph.{opening}
+use Rattle.guestbook_components.proofs.Pushes.{three}
+use Rattle.guestbook_components.proofs.paragraph.push_opening.Goals as goal
 
 pub returns : goal.returns
 unfolding opening

@@ -1,10 +1,10 @@
 //! A text in a page.
 
 ghost use Rattle.std.specs.Prelude.{◌≡◌, ◌++◌, OnOk, string_bytes};
-ghost use Rattle.guestbook.specs.Paragraph.{opening, paragraph};
+ghost use Rattle.guestbook_components.specs.Paragraph.{opening, paragraph};
 
 use std::alloc::Global;
-use sv_servlet::{NoMemory, escape_html};
+use sv_web::{NoMemory, escape_html};
 
 /// Adds a paragraph of that class with a text, which is shown as it was written, whatever it is.
 ///
