@@ -4,8 +4,6 @@ pub mod Ended
 pub mod Policy
 pub mod Printed
 pub mod ProgramFault
-pub mod Question
 pub mod Replay
-pub mod Service
 pub mod Serving
 pub mod Site

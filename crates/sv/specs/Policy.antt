@@ -15,6 +15,7 @@ use Rattle.sv_explain.specs.Explanation as explained
 use Rattle.sv_explain.specs.Text.{explanation_text}
 use Rattle.sv_explain.specs.declared.fault.ExplainFault.{ExplainFault}
 use Rattle.sv_explain.specs.declared.fault.ExplainFault.TheVariants as explain
+use Rattle.sv_options.specs.declared.question.Question.{Question}
 use Rattle.sv_program.specs.CommandFault.{UnlessNoMemory}
 use Rattle.sv_program.specs.Configuration.{Step}
 use Rattle.sv_program.specs.FileStore.{Giving}
@@ -23,7 +24,6 @@ use Rattle.sv_program.specs.declared.command_fault.CommandFault.TheVariants as f
 use Rattle.sv_starting.specs.Starting.{StartsWith}
 use Rattle.sv_words.specs.declared.seeded_words.SeededWords.{SeededWords}
 use Rattle.sv.specs.Printed.{Shows}
-use Rattle.sv.specs.declared.question.Question.{Question}
 
 -- the command's fault where there is no explanation
 abbrev pub fault_of : ExplainFault → CommandFault

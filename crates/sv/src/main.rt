@@ -3,21 +3,18 @@
 
 mod asked_container;
 mod command;
-mod count;
 mod ended;
 mod policy_command;
 mod program_fault;
-mod question;
 mod replay_command;
 mod run_command;
 mod self_test_command;
 mod serve_command;
-mod service;
 mod site;
 mod standing;
 mod texts;
 
-use command::Command;
+use command::carry_out;
 use ended::Ended;
 use program_fault::ProgramFault;
 use std::net::Net;
@@ -26,6 +23,7 @@ use std::random::RandomSource;
 use std::rt::{Env, Files};
 use std::time::Clock;
 use std::{env, io};
+use sv_options::Command;
 use sv_program::{CommandFault, Disk};
 
 fn main(rt: HostRuntime) -> ExitCode {
@@ -62,7 +60,8 @@ fn run<
         .collect(rt.alloc())
         .map_err(CommandFault::from)?;
     let command = Command::parse(arguments.as_slice()).ok_or(ProgramFault::Usage)?;
-    let ran = command.run(
+    let ran = carry_out(
+        command,
         rt.alloc(),
         &mut Disk::new(rt),
         rt,

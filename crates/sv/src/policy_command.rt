@@ -10,13 +10,13 @@ ghost use Rattle.sv_program.specs.CommandFault.{UnlessNoMemory};
 ghost use Rattle.sv.specs.Policy as spec;
 ghost use Rattle.sv.specs.Printed.{Shows};
 
-use crate::question::Question;
 use std::alloc::Global;
 use std::io::Write;
 use sv_application::{ProgramFilter, ProgramListener, ProgramServlet};
 use sv_component::{Filter, Listener, Servlet};
 use sv_container::{Container, ExplainFault, Explanation, containers_explain_what_was_deployed};
 use sv_deployments::{Configuration, FolderStore, read_deployments};
+use sv_options::Question;
 use sv_program::{CommandFault, FileStore, print_line};
 use sv_starting::start;
 

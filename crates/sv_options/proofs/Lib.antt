@@ -1,5 +1,7 @@
+pub mod Counts
 pub mod Decoding
 pub mod Going
+pub mod Naming
 pub mod Numbers
 pub mod One
 pub mod Saying

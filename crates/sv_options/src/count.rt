@@ -21,7 +21,8 @@ pub(crate) fn count_in(text: &str, limit: u32) -> Option<u32>
     }
 }
 
-fn has_digits_alone(text: &[u8]) -> bool
+/// Whether a text is decimal digits alone.
+pub(crate) fn has_digits_alone(text: &[u8]) -> bool
     ensures { result ≡ list_all is_ascii_digit text.now }
 {
     text.iter().all(|byte| byte.is_ascii_digit())

@@ -1,12 +1,18 @@
-//! The options of the command `run`, in any order, each once at most.
+//! The command that the program's arguments name, with what it is asked.
 #![tactic(auto)]
 
+mod command;
 mod count;
 mod key;
 mod laws;
+mod question;
 mod run_options;
+mod service;
 mod taking;
 
+pub use command::Command;
 pub use key::Key;
 pub use laws::arguments_ask_for_one_thing;
+pub use question::Question;
 pub use run_options::RunOptions;
+pub use service::{Count, Service};

@@ -1,8 +1,8 @@
 //! What the command `policy` is asked.
 
 ghost use Rattle.std.specs.Prelude.{map, string_bytes};
+ghost use Rattle.sv_options.specs.Question.{question_words};
 ghost use Rattle.sv_program.specs.Arguments.{Names, optional_words};
-ghost use Rattle.sv.specs.Question.{question_words};
 
 /// A request and who sends it, and the server that it is for.
 #[derive(Clone, Copy)]

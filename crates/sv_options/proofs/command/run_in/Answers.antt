@@ -1,6 +1,6 @@
 use Rattle.std.specs.Prelude.{map, string_bytes}
-use Rattle.sv.proofs.Naming.{none_named, run_named}
-use Rattle.sv.proofs.command.run_in.Goals as goal
+use Rattle.sv_options.proofs.Naming.{none_named, run_named}
+use Rattle.sv_options.proofs.command.run_in.Goals as goal
 
 pub returns-in-Some : goal.returns-in-Some
 returns-in-Some c = run_named (map string_bytes c.args.arguments.now) c.in-Some.options c.in-Some.ensures

@@ -1,8 +1,8 @@
 -- Arguments that name the command `run`.
 use Rattle.std.proofs.Common.{ℕ, List, ◌∷◌, Some, None, codes, refl, sym, ap, subst, drop, true≢false}
-use Rattle.sv.specs.Command.{IsNamed}
-use Rattle.sv.specs.declared.command.Command.{Command}
-use Rattle.sv.specs.declared.command.Command.TheVariants.{First, Policy, Uncovered, Replay, Serve, Run, SelfTest, Help, Version}
+use Rattle.sv_options.specs.Command.{IsNamed}
+use Rattle.sv_options.specs.declared.command.Command.{Command}
+use Rattle.sv_options.specs.declared.command.Command.TheVariants.{First, Policy, Uncovered, Replay, Serve, Run, SelfTest, Help, Version}
 use Rattle.sv_options.specs.Asked.{IsAsked}
 use Rattle.sv_options.specs.Values.{Finds}
 use Rattle.sv_options.specs.declared.run_options.RunOptions.{RunOptions}

@@ -1,7 +1,7 @@
 -- What the command `serve` is asked.
 use Rattle.std.specs.Prelude.{ℕ, List, [], ◌∷◌}
-use Rattle.sv.specs.declared.count.Count.{Count}
-use Rattle.sv.specs.declared.service.Service.{Service}
+use Rattle.sv_options.specs.declared.service.Count.{Count}
+use Rattle.sv_options.specs.declared.service.Service.{Service}
 
 abbrev pub count_words : Count → List (List ℕ)
 count_words count = count.text.now ∷ []

@@ -1,13 +1,30 @@
 //! What the command `serve` is asked.
 
-ghost use Rattle.std.specs.Prelude.{◌≡◌, true, map, string_bytes};
+ghost use Rattle.std.specs.Prelude.{◌≡◌, true, Some, map, string_bytes};
 ghost use Rattle.std.specs.Char.{is_ascii_digit};
 ghost use Rattle.std.specs.List.{list_all};
+ghost use Rattle.sv_options.specs.Service.{count_words, service_words};
 ghost use Rattle.sv_program.specs.Arguments.{Names};
 ghost use Rattle.sv_script.specs.Fields.{number};
-ghost use Rattle.sv.specs.Service.{count_words, service_words};
 
-use crate::count::Count;
+use crate::count::has_digits_alone;
+
+/// A text of decimal digits, and the number that it is.
+#[derive(Clone, Copy)]
+pub struct Count<'a> {
+    text: &'a str,
+    value: u64,
+    ghost counts: { number text.now ≡ Some value },
+}
+
+impl Count<'_> {
+    /// The number.
+    pub fn value(&self) -> u64
+        ensures { result ≡ self.now.value }
+    {
+        self.value
+    }
+}
 
 /// A server, and how many connections it serves.
 #[derive(Clone, Copy)]
@@ -57,12 +74,6 @@ fn number_in(text: &str) -> Option<u64>
     } else {
         None
     }
-}
-
-fn has_digits_alone(text: &[u8]) -> bool
-    ensures { result ≡ list_all is_ascii_digit text.now }
-{
-    text.iter().all(|byte| byte.is_ascii_digit())
 }
 
 fn number_of_digits(text: &str) -> Option<u64>

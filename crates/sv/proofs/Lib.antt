@@ -1,2 +1,0 @@
-mod Naming
-mod Numbers
