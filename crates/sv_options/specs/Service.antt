@@ -1,6 +1,6 @@
 -- What the command `serve` is asked.
 use Rattle.std.specs.Prelude.{ℕ, List, [], ◌∷◌}
-use Rattle.sv_options.specs.declared.service.Count.{Count}
+use Rattle.sv_options.specs.declared.counted.Count.{Count}
 use Rattle.sv_options.specs.declared.service.Service.{Service}
 
 abbrev pub count_words : Count → List (List ℕ)

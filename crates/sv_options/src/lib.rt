@@ -3,6 +3,7 @@
 
 mod command;
 mod count;
+mod counted;
 mod key;
 mod laws;
 mod question;
@@ -11,8 +12,9 @@ mod service;
 mod taking;
 
 pub use command::Command;
+pub use counted::Count;
 pub use key::Key;
 pub use laws::arguments_ask_for_one_thing;
 pub use question::Question;
 pub use run_options::RunOptions;
-pub use service::{Count, Service};
+pub use service::Service;

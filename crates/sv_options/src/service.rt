@@ -1,6 +1,6 @@
 //! What the command `serve` is asked.
 
-ghost use Rattle.std.specs.Prelude.{◌≡◌, true, Some, map, string_bytes};
+ghost use Rattle.std.specs.Prelude.{◌≡◌, true, map, string_bytes};
 ghost use Rattle.std.specs.Char.{is_ascii_digit};
 ghost use Rattle.std.specs.List.{list_all};
 ghost use Rattle.sv_options.specs.Service.{count_words, service_words};
@@ -8,23 +8,7 @@ ghost use Rattle.sv_program.specs.Arguments.{Names};
 ghost use Rattle.sv_script.specs.Fields.{number};
 
 use crate::count::has_digits_alone;
-
-/// A text of decimal digits, and the number that it is.
-#[derive(Clone, Copy)]
-pub struct Count<'a> {
-    text: &'a str,
-    value: u64,
-    ghost counts: { number text.now ≡ Some value },
-}
-
-impl Count<'_> {
-    /// The number.
-    pub fn value(&self) -> u64
-        ensures { result ≡ self.now.value }
-    {
-        self.value
-    }
-}
+use crate::counted::Count;
 
 /// A server, and how many connections it serves.
 #[derive(Clone, Copy)]
