@@ -1,40 +1,14 @@
 -- How a fault of a part is the fault of the whole.
-use Rattle.std.proofs.Common.{◌≡◌, ℕ, List, Option, Some, None, MatchOption, Result, Ok, Err, IsErrAnd, refl}
-use Rattle.sv_text.specs.Gives.{Gives}
-use Rattle.sv_files.specs.Fault.{files_of}
-use Rattle.sv_files.specs.declared.fault.FilesFault.{FilesFault}
-use Rattle.sv_files.specs.declared.file.File.{File}
-use Rattle.sv_application.specs.Parts.{seen}
-use Rattle.sv_program.specs.CommandFault.{command_fault}
-use Rattle.sv_program.specs.Configuration.{Step, descriptor_in, users_in}
-use Rattle.sv_program.specs.declared.command_fault.CommandFault.{CommandFault}
-use Rattle.sv_program.specs.declared.command_fault.CommandFault.TheVariants as fault
-use Rattle.sv_deployments.specs.Files.{files_fault, told}
+use Rattle.std.proofs.Common.{◌≡◌, ℕ, List, Ok, Err, refl}
+use Rattle.sv_author_deployments.specs.Deployments.{deployment_of, texts_of}
+use Rattle.sv_deployments.specs.Files.{told}
 use Rattle.sv_descriptor.specs.declared.web_app.WebApp.{WebApp}
+use Rattle.sv_files.specs.Fault.{files_of}
+use Rattle.sv_program.specs.Configuration.{descriptor_in, users_in}
+use Rattle.sv_program.specs.declared.command_fault.CommandFault.{CommandFault}
 use Rattle.sv_program.specs.declared.configuration.ContextTexts.{ContextTexts}
 use Rattle.sv_realm.specs.declared.user.User.{User}
-use Rattle.sv_author_deployments.specs.Deployments.{deployment_of, texts_of}
 use Rattle.sv_web.specs.declared.content.Content.{Content}
-
--- a fault of a step that was come to is the fault of the whole
-pub ends : {A B X : Type 0} (view : A → B) (fault : CommandFault) (result : Result A CommandFault) (part : Step X) (whole : Step B)
-    → ((found : CommandFault) → part ≡ Err found → whole ≡ Err found)
-    → MatchOption (command_fault fault) (Unit {0}) (λ found. part ≡ Err found) → IsErrAnd result (λ e. e ≡ fault)
-    → Gives command_fault (seen view result) whole
-ends view fault (Ok done) part whole comes failed same = absurd same
-ends {B = B} {X = X} view fault (Err e) part whole comes failed same = rw same (at (command_fault fault) failed)
-  where
-    at : (found : Option CommandFault) → MatchOption found (Unit {0}) (λ f. part ≡ Err f) → MatchOption found (Unit {0}) (λ f. whole ≡ Err f)
-    at None h = tt
-    at (Some f) h = comes f h
-
--- files that are refused
-pub refused_files : (path : List ℕ) (listed : List File) (found : Option FilesFault) (result : Step (List File))
-    → MatchOption found (Unit {0}) (λ f. files_of listed ≡ Err f)
-    → MatchOption found (result ≡ Err fault.NoMemory) (λ f. Gives command_fault result (Err (files_fault path f)))
-    → Gives command_fault result (told path (files_of listed))
-refused_files path listed None result h said = rw said tt
-refused_files path listed (Some f) result h said = rw h said
 
 -- a fault of the users ends it
 pub users_end : {S F L : Type 0} (content : Content S F L) (path : List ℕ) (texts : ContextTexts) (descriptor : WebApp)

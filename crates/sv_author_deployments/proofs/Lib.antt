@@ -1,2 +1,1 @@
 mod Ending
-mod Steps

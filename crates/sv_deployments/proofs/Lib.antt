@@ -1,4 +1,4 @@
-mod Ending
+pub mod Ending
 mod Finding
 mod FolderReadings
-mod Steps
+pub mod Steps
