@@ -1,11 +1,9 @@
 //! The ends of the sessions of a context.
 
 ghost use Rattle.sv_component.specs.Steps.{steps_of};
-ghost use Rattle.std.specs.Prelude.{◌≡◌, [], drop, length, slice_get};
-ghost use Rattle.std.specs.Option.{option_map};
+ghost use Rattle.std.specs.Prelude.{◌≡◌, [], length};
 ghost use Rattle.sv_component.specs.Runs.{Runs};
-ghost use Rattle.sv_session.specs.Calls.{ended};
-ghost use Rattle.sv_lifecycle.specs.SessionEnds.{all_told, by_number, end_events, ends_told};
+ghost use Rattle.sv_lifecycle.specs.SessionEnds.{all_told, end_events, ends_told};
 ghost use Rattle.sv_lifecycle.specs.Calling.{StandsAsBefore};
 ghost use Rattle.sv_lifecycle.specs.Standing.{live_world};
 ghost use Rattle.sv_lifecycle.specs.World.{HasSameCounts, world};
@@ -48,20 +46,9 @@ pub(crate) fn end_sessions<S: Servlet, F: Filter, L: Listener>(
     ensures left { sessions.new ≡ record sessions.old { sessions = [] } }
     ensures counts { HasSameCounts parts.old parts.new }
 {
-    while let Some(session) = end_least(sessions) {
+    let mut ended = sessions.end_all();
+    while let Some(session) = ended.next() {
         tell_end(alloc, context, parts, session, journal);
-    }
-}
-
-// Ends the session of the least number.
-fn end_least(sessions: &mut Sessions) -> Option<EndedSession>
-    ensures ended { result ≡ option_map ended (slice_get (by_number sessions.old.sessions) 0) }
-    ensures left { by_number sessions.new.sessions ≡ drop 1 (by_number sessions.old.sessions) }
-    ensures rest { sessions.new ≡ record sessions.old { sessions = sessions.new.sessions } }
-{
-    match sessions.least() {
-        Some(number) => sessions.end(number),
-        None => None,
     }
 }
 

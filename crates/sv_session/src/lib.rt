@@ -4,6 +4,7 @@
 mod attribute;
 mod counted;
 mod ended_session;
+mod ended_sessions;
 mod id;
 mod ids;
 mod kept;
@@ -16,6 +17,7 @@ mod slot;
 pub use attribute::Attribute;
 pub use counted::Counted;
 pub use ended_session::EndedSession;
+pub use ended_sessions::EndedSessions;
 pub use laws::{
     an_accessed_session_has_not_expired, an_id_names_its_session, callers_are_entered,
     components_keep_the_sessions, expiry_ends_exactly_the_expired_sessions,

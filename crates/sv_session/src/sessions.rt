@@ -1,19 +1,21 @@
 //! The sessions of a context.
 
-ghost use Rattle.std.specs.Prelude.{◌≡◌, ◌+◌, ◌<◌, ◌++◌, ◌∷◌, [], ℕ, MatchResult, None, OnErr, OnOk, Some, is_some, length, slice_get};
+ghost use Rattle.std.specs.Prelude.{◌≡◌, ◌+◌, ◌<◌, ◌++◌, ◌∷◌, [], ℕ, MatchResult, None, OnErr, OnOk, Some, is_some, length, map, slice_get};
 ghost use Rattle.std.specs.Option.{option_copied};
 
 use crate::attribute::Attribute;
 use crate::counted::Counted;
 use crate::ended_session::EndedSession;
+use crate::ended_sessions::EndedSessions;
 use crate::id::{ID_BYTES, id_of};
 use crate::ids::Ids;
 use crate::kept::Kept;
 use crate::limits::{GREATEST_SERIAL, MAX_ATTRIBUTES, MAX_NAME_BYTES, MAX_VALUE_BYTES};
 use crate::session_fault::SessionFault;
-use crate::slot::{Slot, first_living, gathered, place_of, push};
+use crate::slot::{Slot, gathered, place_of, push};
 use std::alloc::Global;
 use std::marker::Model;
+use std::mem;
 use sv_expiry_queue::{Due, Queue};
 use sv_text::{NoMemory, Text};
 
@@ -47,8 +49,8 @@ impl Model for Sessions {
 impl Sessions {
     ghost use Rattle.sv_session.specs.Calls as calls;
     ghost use Rattle.sv_session.specs.Id.{id_text};
-    ghost use Rattle.sv_session.specs.Calls.{RefusesCall};
-    ghost use Rattle.sv_session.specs.Store.{attributes_of, empty_store, is_numbered, number_of, numbered};
+    ghost use Rattle.sv_session.specs.Calls.{RefusesCall, ended};
+    ghost use Rattle.sv_session.specs.Store.{IsOrderly, attributes_of, empty_store, is_numbered, number_of, numbered};
 
     /// No sessions yet, at most `limit` of them at a time. A session ends `interval` seconds after its last access, or never where that is 0. It takes no
     /// memory.
@@ -131,14 +133,6 @@ impl Sessions {
         Ok(id)
     }
 
-    /// The least number of a session.
-    pub fn least(&self) -> Option<u64>
-        ensures { result ≡ calls.least_number self.now }
-    {
-        let slot = first_living(self.slots.as_slice())?;
-        Some(slot.kept.number())
-    }
-
     /// Notes an access to a session at a moment. `false` where no such session lives.
     pub fn touch(&mut self, number: u64, now: u64) -> bool
         ensures found { result ≡ is_some (numbered number self.old) }
@@ -200,6 +194,19 @@ impl Sessions {
         self.queue.put(place, None);
         self.count -= 1;
         Some(self.slots[place].end(self.alloc))
+    }
+
+    /// Ends all sessions, and gives them in the order of their numbers, in which they stand.
+    pub fn end_all(&mut self) -> EndedSessions
+        ensures ended { result ≡ map ended self.old.sessions }
+        ensures order { IsOrderly self.old }
+        ensures left { self.new ≡ record self.old { sessions = [] } }
+    {
+        self.count = 0;
+        self.ids = Ids::new(self.alloc);
+        self.queue = Queue::new(self.alloc);
+        let slots = mem::replace(&mut self.slots, Vec::new(self.alloc));
+        EndedSessions::of(self.alloc, slots)
     }
 
     /// Gives a session another id, of two random words and the next serial. Its number stays.

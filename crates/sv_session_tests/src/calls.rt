@@ -30,14 +30,15 @@ pub fn answer(alloc: Global, sessions: &mut Sessions, call: &str) -> Result<Stri
         "set" => set(alloc, sessions, call),
         "save" => saved(alloc, sessions, call),
         "get" | "remove" | "find" => named(alloc, sessions, call),
-        "open" | "rename" | "id" | "least" | "judged" => identity(alloc, sessions, call),
+        "open" | "rename" | "id" | "judged" => identity(alloc, sessions, call),
         "touch" | "expire" | "end" => ending(alloc, sessions, call),
         "count" => counted(alloc, sessions, call),
+        "ends" => all_ended(alloc, sessions),
         _ => login(alloc, sessions, call),
     }
 }
 
-/// `open MOMENT [WORD WORD]`, `rename NUMBER [WORD WORD]`, `id NUMBER`, `least`, `judged`.
+/// `open MOMENT [WORD WORD]`, `rename NUMBER [WORD WORD]`, `id NUMBER`, `judged`.
 fn identity(alloc: Global, sessions: &mut Sessions, call: &str) -> Result<String, NoMemory> {
     let words = (number(call, 2), number(call, 3));
     match word(call, 0) {
@@ -47,8 +48,7 @@ fn identity(alloc: Global, sessions: &mut Sessions, call: &str) -> Result<String
             Err(fault) => told_fault(alloc, fault),
         },
         "id" => told_text(alloc, sessions.id(number(call, 1))),
-        "judged" => told_some(alloc, Some(sessions.judged())),
-        _ => told_some(alloc, sessions.least()),
+        _ => told_some(alloc, Some(sessions.judged())),
     }
 }
 
@@ -59,6 +59,19 @@ fn ending(alloc: Global, sessions: &mut Sessions, call: &str) -> Result<String, 
         "expire" => told_ended(alloc, sessions.expire(number(call, 1))),
         _ => told_ended(alloc, sessions.end(number(call, 1))),
     }
+}
+
+/// `ends`: each session that ends with all others, and the `-` behind them.
+fn all_ended(alloc: Global, sessions: &mut Sessions) -> Result<String, NoMemory> {
+    let count = sessions.count();
+    let mut ended = sessions.end_all();
+    let mut told = String::new(alloc);
+    for _ in 0..count {
+        told.push_str(told_ended(alloc, ended.next())?.as_str())?;
+        told.push_str(", ")?;
+    }
+    told.push_str(told_ended(alloc, ended.next())?.as_str())?;
+    Ok(told)
 }
 
 /// `count MOMENT JUDGED`: an expiry before which so many records have been judged. The answer has the number with it last.

@@ -1,7 +1,6 @@
-use Rattle.std.proofs.Common.{◌≡◌, length}
-use Rattle.sv_lifecycle.specs.SessionEnds.{by_number, ends_told}
+use Rattle.std.proofs.Common.{length}
 use Rattle.sv_lifecycle.specs.World.{HasSameCounts, world}
-use Rattle.sv_lifecycle.proofs.SessionEnds.{Doing}
+use Rattle.sv_lifecycle.proofs.SessionEnds.{Doing, told_of}
 use Rattle.sv_lifecycle.proofs.session_ends.end_sessions.Given as goal
 use Rattle.sv_component.specs.Steps.{steps_of}
 
@@ -10,10 +9,9 @@ invariant-loop-session g l =
     let count = length l.initial.parts.listeners.items in
     record {
       counts : HasSameCounts l.initial.parts l.parts;
-      store : l.sessions ≡ record l.initial.sessions { sessions = l.sessions.sessions };
       made : Doing (steps_of g.S.Servlet.servlet_step g.F.Filter.filter_step g.L.Listener.listener_step) (world l.context l.initial.parts l.initial.journal)
-          (ends_told l.initial.sessions.sessions count) (ends_told l.sessions.sessions count) (world l.context l.parts l.journal);
+          (told_of l.initial.ended count) (told_of l.ended count) (world l.context l.parts l.journal);
     }
 
 abbrev pub decreases-loop-session : goal.decreases-loop-session
-decreases-loop-session g l = length (by_number l.sessions.sessions)
+decreases-loop-session g l = length l.ended

@@ -1,0 +1,65 @@
+//! The ends of all sessions of a context.
+
+ghost use Rattle.std.specs.Prelude.{◌≡◌, List, drop, length, map, slice_get};
+ghost use Rattle.std.specs.Option.{option_map};
+ghost use Rattle.std.specs.Vec.Iter.{into_iter_items, into_iter_len};
+ghost use Rattle.sv_session.specs.Calls.{ended};
+ghost use Rattle.sv_session.specs.Slots.{living};
+ghost use Rattle.sv_session.specs.declared.ended_session.EndedSession.{EndedSession};
+
+use crate::ended_session::EndedSession;
+use crate::slot::Slot;
+use std::alloc::Global;
+use std::marker::Model;
+use std::vec::IntoIter;
+
+/// Sessions that have ended together, as their listeners are told of it, one after another.
+#[derive(Drop)]
+pub struct EndedSessions {
+    alloc: Global,
+    slots: IntoIter<Slot, Global>,
+}
+
+impl Model for EndedSessions {
+    ghost Value = { List EndedSession };
+
+    ghost view = { λ s. map ended (living (into_iter_items s.slots)) };
+
+    ghost invariant = { λ s. into_iter_len s.slots ≡ length (into_iter_items s.slots) };
+}
+
+impl EndedSessions {
+    /// Ends the sessions of the slots.
+    pub(crate) fn of(alloc: Global, slots: Vec<Slot>) -> EndedSessions
+        ensures { result ≡ map ended (living slots.items) }
+    {
+        EndedSessions {
+            alloc,
+            slots: slots.into_iter(),
+        }
+    }
+
+    /// The next of them, if there is one.
+    pub fn next(&mut self) -> Option<EndedSession>
+        ensures next { result ≡ slice_get self.old 0 }
+        ensures left { self.new ≡ drop 1 self.old }
+    {
+        let mut slot = next_living(&mut self.slots)?;
+        Some(slot.kept.end(self.alloc))
+    }
+}
+
+// The next slot of a session that lives.
+fn next_living(slots: &mut IntoIter<Slot, Global>) -> Option<Slot>
+    requires { into_iter_len slots.old ≡ length (into_iter_items slots.old) }
+    ensures whole { into_iter_len slots.new ≡ length (into_iter_items slots.new) }
+    ensures next { option_map (λ slot. slot.kept) result ≡ slice_get (living (into_iter_items slots.old)) 0 }
+    ensures left { living (into_iter_items slots.new) ≡ drop 1 (living (into_iter_items slots.old)) }
+{
+    while let Some(slot) = slots.next() {
+        if slot.live {
+            return Some(slot);
+        }
+    }
+    None
+}
