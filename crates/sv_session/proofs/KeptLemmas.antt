@@ -1,6 +1,7 @@
 -- What stands beside the slots, behind each call.
-use Rattle.std.proofs.Common.{◌≡◌, ◌≢◌, ℕ, zero, suc, ◌+◌, ◌≤◌, Bool, true, false, cond, inl, inr, List, [], ◌∷◌, ◌++◌, length, map, set, get_or, None, Some, refl, sym, ◌∙◌, ap, subst, arith}
-use Rattle.std.specs.List.{filter, find}
+use Rattle.std.proofs.Common.{◌≡◌, ◌≢◌, ℕ, zero, suc, ◌+◌, ◌≤◌, Bool, true, false, cond, inl, inr, List, [], ◌∷◌, ◌++◌, length, map, set, get_or, Option, None, Some, refl, sym, ◌∙◌, ap, subst, min, arith}
+use Rattle.std.specs.List.{filter, find, fold, reduce}
+use Rattle.std.specs.Option.{option_map}
 use Rattle.std.specs.Str.{bytes_eq}
 use Rattle.std.proofs.lemmas.Bool.{cases_Bool, cond-false, cond-true, eqb-true}
 use Rattle.std.proofs.lemmas.Option.{none-some, same_Some}
@@ -10,7 +11,7 @@ use Rattle.sv_expiry_queue.specs.Order.{Waiting}
 use Rattle.sv_session.specs.declared.ids.Ids.{Ids}
 use Rattle.sv_session.specs.declared.slot.Slot.{Slot}
 use Rattle.sv_session.specs.declared.limits.TheConstants.{GREATEST_SERIAL}
-use Rattle.sv_session.specs.Calls.{session_opened}
+use Rattle.sv_session.specs.Calls.{least_number, session_opened}
 use Rattle.sv_session.specs.Id.{id_text}
 use Rattle.sv_session.specs.Ids.{IdsDiffer, NoneHas, number_in}
 use Rattle.sv_session.specs.Lists.{on_first, without_first}
@@ -319,6 +320,24 @@ kept_gathered serial count slots after ids queue waiting kept is waits =
       counted = kept.counted ∙ ap length (sym gone);
     })
 
+-- ---- the least number
+fold_least : (n high : ℕ) (slots : List Slot) → SlotsRise n high slots → fold min n (map (λ (s : Session). s.number) (living slots)) ≡ n
+fold_least n high [] rise = refl
+fold_least n high (x ∷ xs) rise = elim (cases_Bool x.live) [
+  | inl lives ↦
+      let least : min n x.kept.number ≡ n = omega (arith, rise.0) in
+      rw lives (ap (λ m. fold min m (map (λ (s : Session). s.number) (living xs))) least ∙ fold_least n high xs (slots_below n x.kept.number high xs (omega (arith, rise.0)) rise.1))
+  | inr dead ↦ rw dead (fold_least n high xs (slots_below n x.kept.number high xs (omega (arith, rise.0)) rise.1))
+]
+
+pub least_first : (low high : ℕ) (slots : List Slot) → SlotsRise low high slots
+    → option_map (λ (s : Slot). s.kept.number) (find (λ (s : Slot). s.live) slots) ≡ reduce min (map (λ (s : Session). s.number) (living slots))
+least_first low high [] rise = refl
+least_first low high (x ∷ xs) rise = elim (cases_Bool x.live) [
+  | inl lives ↦ rw lives (ap Some (sym (fold_least x.kept.number high xs rise.1)))
+  | inr dead ↦ rw dead (least_first x.kept.number high xs rise.1)
+]
+
 -- ---- all sessions
 living_rise : (low high : ℕ) (slots : List Slot) → SlotsRise low high slots → NumbersRise low high (living slots)
 living_rise low high [] rise = rise
@@ -361,3 +380,10 @@ pub some_counted : (serial count number k : ℕ) (slots : List Slot) (ids : Ids)
     → IsAt number slots k slot → 1 ≤ count
 some_counted serial count number k slots ids queue slot kept at =
     let one_less = length_left number (living slots) slot.kept at.finds in omega (arith, kept.counted, one_less)
+
+pub least_at : (limit interval serial : ℕ) (slots seen : List Slot) (store : Store) → seen ≡ slots
+    → record { limit = limit; interval = interval; serial = serial; sessions = living slots } ≡ store → SlotsRise 0 serial slots
+    → (found : Option Slot) → found ≡ find (λ (s : Slot). s.live) seen → option_map (λ (s : Slot). s.kept.number) found ≡ least_number store
+least_at limit interval serial slots seen store same view rise found is =
+    ap (option_map (λ (s : Slot). s.kept.number)) (is ∙ ap (find (λ (s : Slot). s.live)) same)
+    ∙ (least_first 0 serial slots rise ∙ ap least_number view)

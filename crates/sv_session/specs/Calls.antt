@@ -1,6 +1,6 @@
 -- Jakarta Servlet 6.0, chapter 7: what each call on the sessions of a context answers and leaves.
-use Rattle.std.specs.Prelude.{◌≡◌, ℕ, ◌+◌, ◌∷◌, Bool, true, false, ◌||◌, ◌&&◌, not, ◌==◌, nat_lt, nat_le, List, [], ◌++◌, length, min, Option, None, Some, is_none, slice_get}
-use Rattle.std.specs.List.{list_any}
+use Rattle.std.specs.Prelude.{◌≡◌, ℕ, ◌+◌, ◌∷◌, Bool, true, false, ◌||◌, ◌&&◌, not, ◌==◌, nat_lt, nat_le, List, [], ◌++◌, length, map, min, Option, None, Some, is_none, slice_get}
+use Rattle.std.specs.List.{list_any, reduce}
 use Rattle.std.specs.Option.{option_map, option_map_or, option_and_then}
 use Rattle.sv_text.specs.Faults.{when}
 use Rattle.sv_session.specs.declared.attribute.Attribute.{Attribute}
@@ -119,3 +119,7 @@ judged_among (session ∷ sessions) judged = min (judged + 1) 184467440737095516
 
 abbrev pub judged_by_expiry : Store → ℕ → ℕ
 judged_by_expiry store judged = judged_among store.sessions judged
+
+-- the least number of a session
+abbrev pub least_number : Store → Option ℕ
+least_number store = reduce min (map (λ session. session.number) store.sessions)

@@ -12,7 +12,7 @@ use crate::ids::Ids;
 use crate::kept::Kept;
 use crate::limits::{GREATEST_SERIAL, MAX_ATTRIBUTES, MAX_NAME_BYTES, MAX_VALUE_BYTES};
 use crate::session_fault::SessionFault;
-use crate::slot::{Slot, gathered, place_of, push};
+use crate::slot::{Slot, first_living, gathered, place_of, push};
 use std::alloc::Global;
 use std::marker::Model;
 use std::mem;
@@ -131,6 +131,14 @@ impl Sessions {
             return Err(SessionFault::NoMemory);
         };
         Ok(id)
+    }
+
+    /// The least number of a session.
+    pub fn least(&self) -> Option<u64>
+        ensures { result ≡ calls.least_number self.now }
+    {
+        let slot = first_living(self.slots.as_slice())?;
+        Some(slot.kept.number())
     }
 
     /// Notes an access to a session at a moment. `false` where no such session lives.

@@ -68,6 +68,13 @@ fn first_from(slots: &[Slot], number: u64) -> usize
     low
 }
 
+/// The first slot of a session that lives.
+pub(crate) fn first_living(slots: &[Slot]) -> Option<&Slot>
+    ensures { option_copied result ≡ find (λ slot. slot.live) slots.now }
+{
+    slots.iter().find(|slot| slot.live)
+}
+
 /// Adds a slot behind the others, for which there is room.
 pub(crate) fn push(slots: &mut Vec<Slot>, slot: Slot)
     requires { vec_len slots.old < vec_capacity slots.old }

@@ -30,7 +30,7 @@ pub fn answer(alloc: Global, sessions: &mut Sessions, call: &str) -> Result<Stri
         "set" => set(alloc, sessions, call),
         "save" => saved(alloc, sessions, call),
         "get" | "remove" | "find" => named(alloc, sessions, call),
-        "open" | "rename" | "id" | "judged" => identity(alloc, sessions, call),
+        "open" | "rename" | "id" | "least" | "judged" => identity(alloc, sessions, call),
         "touch" | "expire" | "end" => ending(alloc, sessions, call),
         "count" => counted(alloc, sessions, call),
         "ends" => all_ended(alloc, sessions),
@@ -38,7 +38,7 @@ pub fn answer(alloc: Global, sessions: &mut Sessions, call: &str) -> Result<Stri
     }
 }
 
-/// `open MOMENT [WORD WORD]`, `rename NUMBER [WORD WORD]`, `id NUMBER`, `judged`.
+/// `open MOMENT [WORD WORD]`, `rename NUMBER [WORD WORD]`, `id NUMBER`, `least`, `judged`.
 fn identity(alloc: Global, sessions: &mut Sessions, call: &str) -> Result<String, NoMemory> {
     let words = (number(call, 2), number(call, 3));
     match word(call, 0) {
@@ -48,7 +48,8 @@ fn identity(alloc: Global, sessions: &mut Sessions, call: &str) -> Result<String
             Err(fault) => told_fault(alloc, fault),
         },
         "id" => told_text(alloc, sessions.id(number(call, 1))),
-        _ => told_some(alloc, Some(sessions.judged())),
+        "judged" => told_some(alloc, Some(sessions.judged())),
+        _ => told_some(alloc, sessions.least()),
     }
 }
 
