@@ -68,16 +68,17 @@ module _ {R C S : Type 0} (steps : Reacting R) (tells : C → ℕ → C → Type
     sent_on Rests comes = rested comes
     sent_on (IsOver cause) causes = (refl, refl, causes)
 
-  pub handed_on : (before : R) (clock : C) (at at_after : Standing S) (left : Allowance) (after : R) (clock_after : C)
+  pub handed_on : (before : R) (clock : C) (at at_after : Standing S) (left left_after : Allowance) (after : R) (clock_after : C)
+      → left_after.calls ≤ left.calls → left_after.bytes ≤ left.bytes
       → HandsOn ways steps tells number before clock at (Ok tt) after clock_after at_after
-      → StepsOnce ways steps tells number before clock at left (Ok GoesOn) after clock_after at_after left
-  handed_on before clock at at_after left after clock_after (bytes, moment, reaction, told, step, leads) = (
+      → StepsOnce ways steps tells number before clock at left (Ok GoesOn) after clock_after at_after left_after
+  handed_on before clock at at_after left left_after after clock_after calls bytes_left (bytes, moment, reaction, told, step, leads) = (
     Hands bytes moment reaction,
     record {
       went = record { reacts = (after, step, refl); told = (clock_after, told, refl) };
       along = (Open at_after, leads, refl);
     },
-    (omega arith, omega arith),
+    (omega (arith, calls), omega (arith, bytes_left)),
   )
 
   -- what was done since it began to be driven, and what may still be

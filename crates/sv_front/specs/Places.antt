@@ -1,10 +1,11 @@
 -- Where a connection stands, and what may come next.
-use Rattle.std.specs.Prelude.{◌≡◌, ◌⊎◌, ℕ, ◌+◌, ◌-◌, ◌<◌, ◌^◌, Bool, false, true, cond, List, [], ◌++◌, length, min}
+use Rattle.std.specs.Prelude.{◌≡◌, ◌⊎◌, ℕ, ◌+◌, ◌<◌, Bool, false, true, cond, List, [], ◌++◌, length, min}
 use Rattle.sv_front.specs.Ending.{ends_message}
 use Rattle.sv_front.specs.Pieces.{IsPiece}
 use Rattle.sv_front.specs.Ways.{Ways}
 use Rattle.sv_front.specs.declared.cause.Cause.{Cause}
 use Rattle.sv_front.specs.declared.cause.Cause.TheVariants.{AnswerCloses, GivenUp, PeerEnded, ReadFails, WriteFails}
+use Rattle.sv_front.specs.declared.limits.TheConstants.{MAX_UNDER_WAY}
 use Rattle.sv_run.specs.declared.reaction.Reaction.{Reaction}
 use Rattle.sv_streams.specs.Calls.{Gave, ReadFailed, Took, WriteFailed}
 
@@ -41,9 +42,9 @@ pub data Deed : Type 0 where
   -- it was told to be over
   Ends : Cause → Reaction → Deed
 
--- how many bytes of a message are under way behind a piece, counted up to 2^64 - 1: none, where what it brought ends the message
+-- how many bytes of a message are under way behind a piece, counted up to the most that is kept of one: none, where what it brought ends the message
 abbrev pub under_way_behind : ℕ → ℕ → Reaction → ℕ
-under_way_behind before count reaction = cond (ends_message reaction.journal.entries reaction.sends) 0 (min (before + count) (2 ^ 64 - 1))
+under_way_behind before count reaction = cond (ends_message reaction.journal.entries reaction.sends) 0 (min (before + count) MAX_UNDER_WAY)
 
 module _ {S : Type 0} where
   -- a connection that was opened

@@ -8,7 +8,7 @@ ghost use Rattle.sv_front.specs.Steps.{Drives, HandsOn, IsArmed, SendsOn, StepsO
 use crate::allowance::Allowance;
 use crate::cause::Cause;
 use crate::ending::ends_message;
-use crate::limits::{BYTES_A_WINDOW, FIRST_READ_BYTES, READ_BYTES, WINDOW_SECONDS};
+use crate::limits::{BYTES_A_WINDOW, FIRST_READ_BYTES, MAX_UNDER_WAY, READ_BYTES, WINDOW_SECONDS};
 use crate::peer::{Peer, Tried};
 use crate::pending::Pending;
 use crate::pieces::piece_len;
@@ -220,7 +220,10 @@ impl<P: Peer> Connection<P> {
             };
         }
         match self.hand_on(number, reactor, clock) {
-            Ok(()) => Ok(Step::GoesOn),
+            Ok(()) => {
+                left.take_piece();
+                Ok(Step::GoesOn)
+            }
             Err(fault) => Err(fault),
         }
     }
@@ -242,12 +245,13 @@ impl<P: Peer> Connection<P> {
         FIRST_READ_BYTES
     }
 
-    // Reads once, unless others have their turn.
+    // Reads once, unless others have their turn: behind many pieces the next read is a short one, so that they have it soon again.
     fn take_in(&mut self, left: &mut Allowance) -> Result<Step, NoMemory>
         requires { IsIdle self.old }
         ensures { TakesIn P.ways self.old left.old result self.new left.new }
     {
         if left.is_spent() {
+            self.flows = self.flows && left.bytes > 0;
             return Ok(self.arm());
         }
         left.calls -= 1;
@@ -344,7 +348,9 @@ impl<P: Peer> Connection<P> {
         self.under_way = if is_over {
             0
         } else {
-            self.under_way.saturating_add(count as u64)
+            self.under_way
+                .saturating_add(count as u64)
+                .min(MAX_UNDER_WAY)
         };
         self.unsent = Pending::of(sends);
         self.closes = closes;

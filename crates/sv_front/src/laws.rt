@@ -6,8 +6,8 @@ ghost use Rattle.sv_front.specs.Fronts.{RoundsAreOne};
 ghost use Rattle.sv_front.specs.Laws.{BytesAreKept, EndsHaveACause, NumbersAreNotUsedAgain, RestIsForSomething};
 
 use crate::limits::{
-    ACCEPTED_AT_ONCE, BYTES_A_WINDOW, BYTES_AT_ONCE, CALLS_AT_ONCE, FINISH_SECONDS,
-    FIRST_READ_BYTES, MAX_CONNECTIONS, MAX_HELD_BYTES, MAX_IDLE_SECONDS, READ_BYTES,
+    ACCEPTED_AT_ONCE, BYTES_A_PIECE, BYTES_A_WINDOW, BYTES_AT_ONCE, CALLS_AT_ONCE, FINISH_SECONDS,
+    FIRST_READ_BYTES, MAX_CONNECTIONS, MAX_HELD_BYTES, MAX_IDLE_SECONDS, MAX_UNDER_WAY, READ_BYTES,
     WINDOW_SECONDS,
 };
 use crate::peer::Peer;
@@ -22,6 +22,8 @@ pub fn limits_are_as_stated()
     ensures first_read { FIRST_READ_BYTES ≡ 1024 }
     ensures calls { CALLS_AT_ONCE ≡ 8 }
     ensures written { BYTES_AT_ONCE ≡ 65536 }
+    ensures piece { BYTES_A_PIECE ≡ 1024 }
+    ensures under_way { MAX_UNDER_WAY ≡ 1122560 }
     ensures idle { MAX_IDLE_SECONDS ≡ 60 }
     ensures window { WINDOW_SECONDS ≡ 10 }
     ensures bytes { BYTES_A_WINDOW ≡ 10240 }

@@ -30,9 +30,9 @@ pub use laws::{
     numbers_are_not_used_again, rest_is_for_something, rounds_are_one,
 };
 pub use limits::{
-    ACCEPTED_AT_ONCE, BYTES_A_WINDOW, BYTES_AT_ONCE, CALLS_AT_ONCE, FINISH_SECONDS,
-    FIRST_READ_BYTES, Limits, MAX_CONNECTIONS, MAX_HELD_BYTES, MAX_IDLE_SECONDS, READ_BYTES,
-    WINDOW_SECONDS,
+    ACCEPTED_AT_ONCE, BYTES_A_PIECE, BYTES_A_WINDOW, BYTES_AT_ONCE, CALLS_AT_ONCE, FINISH_SECONDS,
+    FIRST_READ_BYTES, Limits, MAX_CONNECTIONS, MAX_HELD_BYTES, MAX_IDLE_SECONDS, MAX_UNDER_WAY,
+    READ_BYTES, WINDOW_SECONDS,
 };
 pub use network::{Network, Told};
 pub use peer::{Peer, Tried};

@@ -18,6 +18,13 @@ pub const CALLS_AT_ONCE: u32 = 8;
 /// How many bytes such writes hand over at most, all of them together.
 pub const BYTES_AT_ONCE: usize = 65_536;
 
+/// A piece that is handed on takes as many of them, since it is an event: behind 64 pieces, and those that were read with them, others have their turn.
+pub const BYTES_A_PIECE: usize = 1024;
+
+/// A message that is not over counts for so many bytes at most: a head of 65,536, a body of 1,048,576, the size line of a chunk of 256 and trailers of 8,192 are all
+/// that is kept of one, however many empty lines and extensions of chunks come with it.
+pub const MAX_UNDER_WAY: u64 = 1_122_560;
+
 /// A connection that stands between requests is given up after so many seconds, unless a site sets another number.
 pub const MAX_IDLE_SECONDS: u64 = 60;
 

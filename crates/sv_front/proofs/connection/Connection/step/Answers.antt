@@ -1,3 +1,4 @@
+use Rattle.std.proofs.Common.{arith}
 use Rattle.sv_front.proofs.Stepping.{handed_on, sent_on, took_in}
 use Rattle.sv_front.proofs.connection.Connection.step.Goals as goal
 
@@ -13,5 +14,5 @@ returns-in-Ok g c =
 
 pub returns-in-Ok-hand_on : goal.returns-in-Ok-hand_on
 returns-in-Ok-hand_on g c =
-    handed_on g.R.Reactor.steps g.C.Clock.tells g.P.Peer.ways c.args.number c.args.reactor.now c.args.clock.now c.args.self.now c.hand_on.new.self c.args.left.now
-    c.hand_on.new.reactor c.hand_on.new.clock c.in-Ok-hand_on.ensures
+    handed_on g.R.Reactor.steps g.C.Clock.tells g.P.Peer.ways c.args.number c.args.reactor.now c.args.clock.now c.args.self.now c.hand_on.new.self c.args.left.now c.take_piece.new.self
+    c.hand_on.new.reactor c.hand_on.new.clock (omega (arith, c.take_piece.ensures.calls)) (omega (arith, c.take_piece.ensures.bytes)) c.in-Ok-hand_on.ensures
