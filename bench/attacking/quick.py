@@ -11,6 +11,8 @@ from attacking.site import LARGE, PAGES, page
 
 PIPELINE = 10_000
 CONNECTS = 2000
+LINES = 100_000
+FLOODS = 64
 # docs/OPERATION.md
 ROOM = 1024
 AGAIN = 20
@@ -65,6 +67,22 @@ def check_pipeline(tally, wanted, data):
     except Wrong as wrong:
         tally.miss(str(wrong))
     tally.hold(not source.more(), f"{len(data) - source.place} bytes more than the answers")
+
+
+async def empty_lines(port):
+    """Each line is an event of the container's."""
+    tally = Tally(f"{LINES:,} empty lines before a request, {FLOODS} times at once", "200")
+    text = b"\n" * LINES + asked(b"GET", b"/who")
+
+    async def attack(_):
+        data, ended = await asked_once(port, text, FLOODS)
+        tally.sent += 1
+        tally.closed += ended
+        tally.back[data[9:12].decode() or "nothing"] += 1
+        tally.hold(data.startswith(b"HTTP/1.1 200 "), f"{data[:60]!r}")
+
+    await together(FLOODS, attack)
+    return tally
 
 
 async def half_closed(port, cookie):
@@ -246,5 +264,5 @@ async def closing(port):
 
 
 async def all_quick(port, _seed, _seconds, cookie):
-    attacks = [pipelines(port), half_closed(port, cookie), resets(port), closing(port), quick_connects(port), other_protocols(port)]
+    attacks = [pipelines(port), empty_lines(port), half_closed(port, cookie), resets(port), closing(port), quick_connects(port), other_protocols(port)]
     return [await it for it in attacks]
