@@ -71,7 +71,7 @@ impl<P: Peer> Connection<P> {
             moved: 0,
             stirred: false,
             idle_seconds,
-            until: now.saturating_add(idle_seconds),
+            until: behind(now, idle_seconds),
             rested: turn,
         }
     }
@@ -160,7 +160,7 @@ impl<P: Peer> Connection<P> {
         } else if !self.waits || self.moved >= BYTES_A_WINDOW {
             self.waits = true;
             self.moved = 0;
-            self.until = now.saturating_add(WINDOW_SECONDS);
+            self.until = behind(now, WINDOW_SECONDS);
         }
         self.stirred = false;
     }
@@ -171,7 +171,7 @@ impl<P: Peer> Connection<P> {
     {
         if self.stirred {
             self.waits = false;
-            self.until = now.saturating_add(self.idle_seconds);
+            self.until = behind(now, self.idle_seconds);
             self.rested = turn;
         }
     }
@@ -368,4 +368,9 @@ impl<P: Peer> Connection<P> {
         }
         Step::IsOver(Cause::GivenUp)
     }
+}
+
+// The first second in which as many have gone by whole: a moment is a second that has begun.
+fn behind(now: u64, seconds: u64) -> u64 {
+    now.saturating_add(seconds).saturating_add(1)
 }

@@ -1,5 +1,5 @@
 -- Names with commas between them.
-use Rattle.std.specs.Prelude.{ℕ, Bool, ◌==◌, ◌&&◌, nat_le, List, [], length, Option, Some, None, if◌then◌else◌}
+use Rattle.std.specs.Prelude.{ℕ, Bool, ◌==◌, ◌&&◌, not, nat_le, List, [], length, Option, Some, None, if◌then◌else◌}
 use Rattle.std.specs.List.{list_all, slice_split}
 use Rattle.std.specs.Str.{byte, is_utf8}
 use Rattle.http_header.specs.Token.{is_token_byte}
@@ -10,10 +10,14 @@ use Rattle.sv_script.specs.declared.names.NameKind.TheVariants.{Method, Role}
 abbrev pub is_comma : ℕ → Bool
 is_comma b = b == byte ","
 
--- one byte or more, up to the limit; a method is a token
+-- no control character of US-ASCII
+abbrev pub is_shown : ℕ → Bool
+is_shown b = nat_le 32 b && not (b == 127)
+
+-- one byte or more, up to the limit; a method is a token, and a role has no control characters
 abbrev pub has_form : NameKind → List ℕ → Bool
 has_form Method name = nat_le 1 (length name) && nat_le (length name) MAX_METHOD_BYTES && list_all is_token_byte name
-has_form Role name = nat_le 1 (length name) && nat_le (length name) MAX_ROLE_BYTES
+has_form Role name = nat_le 1 (length name) && nat_le (length name) MAX_ROLE_BYTES && list_all is_shown name
 
 abbrev pub is_name : NameKind → List ℕ → Bool
 is_name kind text = is_utf8 text && has_form kind text

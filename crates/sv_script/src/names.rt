@@ -18,7 +18,7 @@ use sv_text::{Listed, NoMemory, Text};
 pub enum NameKind {
     /// A method, whose name is a token (RFC 9110, section 5.6.2).
     Method,
-    /// A role.
+    /// A role, whose name has no control characters.
     Role,
 }
 
@@ -77,7 +77,7 @@ fn has_form(kind: NameKind, name: &str) -> bool
 {
     match kind {
         NameKind::Method => is_within(name, MAX_METHOD_BYTES) && has_token_bytes(name.as_bytes()),
-        NameKind::Role => is_within(name, MAX_ROLE_BYTES),
+        NameKind::Role => is_within(name, MAX_ROLE_BYTES) && has_shown_bytes(name.as_bytes()),
     }
 }
 
@@ -85,6 +85,18 @@ fn is_within(name: &str, most: usize) -> bool
     ensures { result ≡ (nat_le 1 (length name.now) && nat_le (length name.now) most) }
 {
     name.len() >= 1 && name.len() <= most
+}
+
+fn has_shown_bytes(name: &[u8]) -> bool
+    ensures { result ≡ list_all spec.is_shown name.now }
+{
+    name.iter().all(|b| is_shown(*b))
+}
+
+fn is_shown(b: u8) -> bool
+    ensures { result ≡ spec.is_shown b }
+{
+    b >= 32 && b != 127
 }
 
 fn has_token_bytes(name: &[u8]) -> bool

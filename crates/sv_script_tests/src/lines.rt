@@ -238,6 +238,12 @@ withdraw / 18446744073709551615 | edit <> withdraw 18446744073709551615
 append / /q \{15*A} \{64*a}    | edit <> append </q> only <\{15*A}> roles <\{64*a}>
 append / /q \{16*A} a         | unreadable
 append / /q * \{65*a}         | unreadable
+-- a control character is in no role, so that a line that ends in CR LF is no other line
+append / /q * nobody\x0D       | unreadable
+append / /q * a,open\x0D       | unreadable
+append / /q * \x00             | unreadable
+append / /q * a\x1F,b          | unreadable
+append / /q * \x7F             | unreadable
 append / /q ! a               | unreadable
 append / /q GET, a            | unreadable
 append / /q * a,              | unreadable
