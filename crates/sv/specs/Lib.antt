@@ -6,4 +6,5 @@ pub mod Printed
 pub mod ProgramFault
 pub mod Replay
 pub mod Serving
+pub mod ServerStart
 pub mod Site

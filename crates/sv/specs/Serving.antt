@@ -7,10 +7,9 @@ use Rattle.sv_application.specs.declared.program_servlet.ProgramServlet.{Program
 use Rattle.sv_deployments.specs.Folders.{FolderGiving}
 use Rattle.sv_program.specs.FileStore.{Giving}
 use Rattle.sv_program.specs.declared.command_fault.CommandFault.{CommandFault}
-use Rattle.sv_starting.specs.Seeded.{StartsSeeded}
-use Rattle.sv_starting.specs.Starting.{StartsServer}
 use Rattle.sv_starting.specs.declared.seeding.Seeding.{Seeding}
-use Rattle.sv_starting.specs.declared.starting.StartedServer.{StartedServer}
+use Rattle.sv.specs.ServerStart.{StartsSeeded, StartsServer}
+use Rattle.sv.specs.declared.server_start.StartedServer.{StartedServer}
 
 -- where the server did not start, its fault is the command's, and nothing was written
 abbrev pub UnlessStarted : {W : Type 0} → Result StartedServer CommandFault → Result (Unit {0}) CommandFault → W → W → Type 0

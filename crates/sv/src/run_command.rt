@@ -4,6 +4,8 @@ ghost use Rattle.sv_component.specs.Steps.{steps_of};
 ghost use Rattle.sv.specs.Serving.{BeginsRun};
 
 use crate::asked_container::AskedContainer;
+use crate::seeded_start::start_seeded;
+use crate::server_start::StartedServer;
 use std::alloc::Global;
 use std::io::Write;
 use std::net::{IpAddr, Ipv4Addr, Net, SocketAddr};
@@ -16,7 +18,7 @@ use sv_deployments::FolderStore;
 use sv_front::Limits;
 use sv_listening::{run_plainly, run_recorded};
 use sv_program::{CommandFault, FileStore};
-use sv_starting::{Seeding, StartedServer, start_seeded};
+use sv_starting::Seeding;
 
 /// Starts the container of the server file with the random words of that seeding, listens at the address, or at the server file's port on this
 /// machine where none is given, writes the line `listening ADDRESS:PORT`, serves all connections that come within these limits, none waiting for

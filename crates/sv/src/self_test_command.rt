@@ -3,6 +3,7 @@
 ghost use Rattle.sv_component.specs.Steps.{steps_of};
 ghost use Rattle.sv.specs.Serving.{BeginsWith};
 
+use crate::server_start::{StartedServer, start_server};
 use std::alloc::Global;
 use std::io;
 use std::io::Write;
@@ -13,7 +14,6 @@ use sv_component::{Filter, Listener, Servlet};
 use sv_deployments::FolderStore;
 use sv_listening::own_answer;
 use sv_program::{CommandFault, FileStore};
-use sv_starting::{StartedServer, start_server};
 
 /// Starts the container of the server file, listens at its port on this machine, connects to it, asks for the root path by `HEAD`, serves that
 /// connection and no other, shuts the container down, and writes the line `selftest ` with the first line of the answer behind it. No call waits for

@@ -3,6 +3,7 @@
 ghost use Rattle.sv_component.specs.Steps.{steps_of};
 ghost use Rattle.sv.specs.Serving.{BeginsWith};
 
+use crate::server_start::{StartedServer, start_server};
 use std::alloc::Global;
 use std::io::Write;
 use std::net::Net;
@@ -12,7 +13,6 @@ use sv_component::{Filter, Listener, Servlet};
 use sv_deployments::FolderStore;
 use sv_listening::listen_and_serve;
 use sv_program::{CommandFault, FileStore};
-use sv_starting::{StartedServer, start_server};
 
 /// Starts the container of the server file, listens at its port on this machine, writes the line `listening PORT`, serves so many connections one
 /// after another, writes the line `served COUNT`, and shuts the container down, also where something failed before.

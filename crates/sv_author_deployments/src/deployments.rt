@@ -1,21 +1,19 @@
 //! What the contexts of an application are deployed with.
 
-ghost use Rattle.std.specs.Prelude.{◌≡◌, Err, MatchOption, map};
+ghost use Rattle.std.specs.Prelude.{◌≡◌, map};
 ghost use Rattle.sv_text.specs.Gives.{Gives, GivesAnswer};
 ghost use Rattle.sv_application.specs.Parts.{seen};
-ghost use Rattle.sv_deployments.specs.Files.{files_fault, told};
-ghost use Rattle.sv_files.specs.Fault.{files_of, list_fault};
 ghost use Rattle.sv_program.specs.CommandFault.{command_fault};
 ghost use Rattle.sv_author_deployments.specs.Deployments as spec;
 
 use std::alloc::Global;
 use sv_component::{Filter, Listener, Servlet};
 use sv_context::Deployment;
-use sv_files::{File, Files, FilesFault};
+use sv_deploying::files_of;
 use sv_lifecycle::Parts;
 use sv_program::{CommandFault, ContextTexts, descriptor_in, realm_in};
 use sv_settings::ContextEntry;
-use sv_text::{Listed, NoMemory, Text};
+use sv_text::{NoMemory, Text};
 use sv_web::Content;
 
 /// What the contexts of an application are deployed with, in their order: their descriptors and users as their texts are read, and their
@@ -56,7 +54,7 @@ fn deployment_of<S: Servlet, F: Filter, L: Listener>(
     let texts = texts_of(alloc, path.as_str(), descriptor, users)?;
     let descriptor = descriptor_in(alloc, &texts)?;
     let users = realm_in(alloc, &texts)?;
-    let files = files_in(alloc, path.as_str(), files)?;
+    let files = files_of(alloc, path.as_str(), files)?;
     Ok(Deployment {
         path,
         descriptor,
@@ -100,28 +98,4 @@ fn users_name(alloc: Global, users: &str) -> Result<Option<Text>, NoMemory>
         return Ok(None);
     }
     Ok(Some(Text::copy_of(alloc, "users")?))
-}
-
-// The static files of a context.
-fn files_in(alloc: Global, path: &str, files: Listed<File>) -> Result<Files, CommandFault>
-    ensures { Gives command_fault result (told path.now (files_of files)) }
-{
-    match Files::from_list(alloc, files.into_vec()) {
-        Ok(files) => Ok(files),
-        Err(fault) => refused(alloc, path, fault),
-    }
-}
-
-// Files that are refused, or that there is no memory for.
-fn refused<T>(alloc: Global, path: &str, fault: FilesFault) -> Result<T, CommandFault>
-    ensures { MatchOption (list_fault fault) (result ≡ Err CommandFault.NoMemory)
-        (λ found. Gives command_fault result (Err (files_fault path.now found))) }
-{
-    if fault == FilesFault::NoMemory {
-        return Err(CommandFault::NoMemory);
-    }
-    Err(CommandFault::Files {
-        context: Text::copy_of(alloc, path)?,
-        code: fault as u8,
-    })
 }

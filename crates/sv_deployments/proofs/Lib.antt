@@ -1,4 +1,2 @@
-pub mod Ending
 mod Finding
 mod FolderReadings
-pub mod Steps

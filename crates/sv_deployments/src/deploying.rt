@@ -1,20 +1,19 @@
 //! What each context of a server is deployed with.
 
-ghost use Rattle.std.specs.Prelude.{◌≡◌, Err, MatchOption};
 ghost use Rattle.sv_text.specs.Gives.{Gives};
-ghost use Rattle.sv_files.specs.Fault.{list_fault};
 ghost use Rattle.sv_application.specs.Parts.{components, seen};
 ghost use Rattle.sv_program.specs.CommandFault.{command_fault};
 ghost use Rattle.sv_program.specs.Configuration.{each};
 ghost use Rattle.sv_deployments.specs.Deployments as spec;
-ghost use Rattle.sv_deployments.specs.Files.{files_fault, files_in, listed_files};
+ghost use Rattle.sv_deployments.specs.Files.{files_in, listed_files};
 
 use crate::folders::FoundContext;
 use std::alloc::Global;
 use sv_application::{ClassFault, ProgramFilter, ProgramListener, ProgramServlet, parts_of};
 use sv_context::Deployment;
+use sv_deploying::files_of;
 use sv_descriptor::Descriptor;
-use sv_files::{File, Files, FilesFault};
+use sv_files::{File, Files};
 use sv_lifecycle::Parts;
 use sv_program::{CommandFault, ContextTexts, descriptor_in, realm_in};
 use sv_settings::ContextEntry;
@@ -78,10 +77,7 @@ fn files_in(
     ensures { Gives command_fault result (files_in context.now files) }
 {
     let files = listed_files(alloc, context.files.as_str(), files)?;
-    match Files::from_list(alloc, files.into_vec()) {
-        Ok(files) => Ok(files),
-        Err(fault) => refused(alloc, context, fault),
-    }
+    files_of(alloc, context.path.as_str(), files)
 }
 
 // The files in the folder of that name, none where there is no name.
@@ -99,20 +95,6 @@ fn listed_files(
         Some(files) => Ok(files),
         None => Err(CommandFault::File(Text::copy_of(alloc, name)?)),
     }
-}
-
-// Files that are refused, or that there is no memory for.
-fn refused<T>(alloc: Global, context: &ContextEntry, fault: FilesFault) -> Result<T, CommandFault>
-    ensures { MatchOption (list_fault fault) (result ≡ Err CommandFault.NoMemory)
-        (λ found. Gives command_fault result (Err (files_fault context.now.path found))) }
-{
-    if fault == FilesFault::NoMemory {
-        return Err(CommandFault::NoMemory);
-    }
-    Err(CommandFault::Files {
-        context: Text::copy_of(alloc, context.path.as_str())?,
-        code: fault as u8,
-    })
 }
 
 // The components of a context.

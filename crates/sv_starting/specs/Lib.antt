@@ -1,3 +1,2 @@
-pub mod Seeded
 pub mod Seeding
 pub mod Starting

@@ -1,10 +1,7 @@
--- The start of a server's container.
+-- The start of a container.
 use Rattle.std.specs.Prelude.{◌≡◌, ℕ, List, Result, Ok, Err}
 use Rattle.rand_chacha.specs.ChaCha.{of_seed}
 use Rattle.sv_component.specs.Steps.{ComponentSteps}
-use Rattle.sv_application.specs.declared.program_filter.ProgramFilter.{ProgramFilter}
-use Rattle.sv_application.specs.declared.program_listener.ProgramListener.{ProgramListener}
-use Rattle.sv_application.specs.declared.program_servlet.ProgramServlet.{ProgramServlet}
 use Rattle.sv_container.specs.NewCode.{code_number}
 use Rattle.sv_container.specs.Starting.{Starts}
 use Rattle.sv_container.specs.declared.container.Container.{Container}
@@ -12,15 +9,10 @@ use Rattle.sv_container.specs.declared.new_fault.NewCode.{NewCode}
 use Rattle.sv_container.specs.declared.new_fault.NewCode.TheVariants as code
 use Rattle.sv_container.specs.declared.new_fault.NewFault.{NewFault}
 use Rattle.sv_context.specs.declared.deployment.Deployment.{Deployment}
-use Rattle.sv_deployments.specs.Configuration.{FindsConfiguration}
-use Rattle.sv_deployments.specs.Folders.{FolderGiving}
-use Rattle.sv_deployments.specs.declared.configuration.Configuration.{Configuration}
 use Rattle.sv_journal.specs.Journal.{JournalState, new_journal}
-use Rattle.sv_program.specs.FileStore.{Giving}
 use Rattle.sv_program.specs.declared.command_fault.CommandFault.{CommandFault}
 use Rattle.sv_program.specs.declared.command_fault.CommandFault.TheVariants as fault
 use Rattle.sv_words.specs.declared.seeded_words.SeededWords.{SeededWords}
-use Rattle.sv_starting.specs.declared.starting.StartedServer.{StartedServer}
 
 -- the fault of a container that did not start, by its code and the context that goes with it
 abbrev pub start_fault : NewCode → List ℕ → CommandFault
@@ -45,20 +37,3 @@ module _ {S F L : Type 0} (moving : ComponentSteps S F L) where
       × ((journal : JournalState) × (refusal : NewFault S F L)
       × Starts moving deployments words new_journal (Err refusal) journal
       × (fault ≡ start_fault refusal.code refusal.context))
-
-module _ (moving : ComponentSteps ProgramServlet ProgramFilter ProgramListener) where
-  -- what is configured starts, or its fault is told
-  abbrev pub Begins : Configuration → Result StartedServer CommandFault → Type 0
-  Begins configuration (Ok started) =
-      StartsWith moving configuration.deployments.items configuration.seed (Ok started.container) × (started.port ≡ configuration.port)
-  Begins configuration (Err fault) = StartsWith moving configuration.deployments.items configuration.seed (Err fault)
-
-  -- a fault of the files is told; without one, what they configure starts
-  abbrev pub GoesOn : Result Configuration CommandFault → Result StartedServer CommandFault → Type 0
-  GoesOn (Ok configuration) result = Begins configuration result
-  GoesOn (Err fault) result = result ≡ Err fault
-
-  -- the server starts by what the store gives
-  abbrev pub StartsServer : {S : Type 0} → Giving S → FolderGiving S → List ℕ → S → Result StartedServer CommandFault → S → Type 0
-  StartsServer gives_text gives_files config before result after =
-      (found : Result Configuration CommandFault) × FindsConfiguration gives_text gives_files config found before after × GoesOn found result

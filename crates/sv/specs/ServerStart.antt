@@ -1,4 +1,4 @@
--- The start of a server's container with random words of its own.
+-- The start of a server's container, by the files of its configuration.
 use Rattle.std.specs.Prelude.{◌≡◌, ℕ, List, Result, Ok, Err}
 use Rattle.sv_component.specs.Steps.{ComponentSteps}
 use Rattle.sv_application.specs.declared.program_filter.ProgramFilter.{ProgramFilter}
@@ -12,9 +12,25 @@ use Rattle.sv_program.specs.declared.command_fault.CommandFault.{CommandFault}
 use Rattle.sv_starting.specs.Seeding.{GivesSeed}
 use Rattle.sv_starting.specs.Starting.{StartsWith}
 use Rattle.sv_starting.specs.declared.seeding.Seeding.{Seeding}
-use Rattle.sv_starting.specs.declared.starting.StartedServer.{StartedServer}
+use Rattle.sv.specs.declared.server_start.StartedServer.{StartedServer}
 
 module _ (moving : ComponentSteps ProgramServlet ProgramFilter ProgramListener) where
+  -- what is configured starts, or its fault is told
+  abbrev pub Begins : Configuration → Result StartedServer CommandFault → Type 0
+  Begins configuration (Ok started) =
+      StartsWith moving configuration.deployments.items configuration.seed (Ok started.container) × (started.port ≡ configuration.port)
+  Begins configuration (Err fault) = StartsWith moving configuration.deployments.items configuration.seed (Err fault)
+
+  -- a fault of the files is told; without one, what they configure starts
+  abbrev pub GoesOn : Result Configuration CommandFault → Result StartedServer CommandFault → Type 0
+  GoesOn (Ok configuration) result = Begins configuration result
+  GoesOn (Err fault) result = result ≡ Err fault
+
+  -- the server starts by what the store gives
+  abbrev pub StartsServer : {S : Type 0} → Giving S → FolderGiving S → List ℕ → S → Result StartedServer CommandFault → S → Type 0
+  StartsServer gives_text gives_files config before result after =
+      (found : Result Configuration CommandFault) × FindsConfiguration gives_text gives_files config found before after × GoesOn found result
+
   -- what is configured starts with this seed, or its fault is told
   abbrev pub BeginsFrom : List ℕ → Configuration → Result StartedServer CommandFault → Type 0
   BeginsFrom seed configuration (Ok started) =

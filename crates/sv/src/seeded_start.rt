@@ -1,10 +1,9 @@
 //! The start of a server's container with random words of its own.
 
 ghost use Rattle.sv_component.specs.Steps.{steps_of};
-ghost use Rattle.sv_starting.specs.Seeded.{StartsSeeded};
+ghost use Rattle.sv.specs.ServerStart.{StartsSeeded};
 
-use crate::seeding::{Seeding, seed_for};
-use crate::starting::{StartedServer, start};
+use crate::server_start::StartedServer;
 use std::alloc::Global;
 use std::random::RandomSource;
 use sv_application::{ProgramFilter, ProgramListener, ProgramServlet};
@@ -12,13 +11,14 @@ use sv_component::{Filter, Listener, Servlet};
 use sv_context::let_go;
 use sv_deployments::{Configuration, FolderStore, read_deployments};
 use sv_program::{CommandFault, FileStore};
+use sv_starting::{Seeding, seed_for, start};
 
 /// Reads the server file of this name and all that it names, and starts a container with it and the random words of that seeding.
 ///
 /// # Errors
 /// The first fault: those of [`read_deployments`]; then those of [`seed_for`]; then [`CommandFault::Start`], where the contexts that had started are
 /// stopped; or [`CommandFault::NoMemory`].
-pub fn start_seeded<S: FileStore + FolderStore, H: RandomSource>(
+pub(crate) fn start_seeded<S: FileStore + FolderStore, H: RandomSource>(
     alloc: Global,
     store: &mut S,
     host: &H,

@@ -1,0 +1,56 @@
+//! The start of a server's container, by the files of its configuration.
+
+ghost use Rattle.sv_component.specs.Steps.{steps_of};
+ghost use Rattle.sv.specs.ServerStart as spec;
+
+use std::alloc::Global;
+use sv_application::{ProgramFilter, ProgramListener, ProgramServlet};
+use sv_component::{Filter, Listener, Servlet};
+use sv_container::Container;
+use sv_deployments::{Configuration, FolderStore, read_deployments};
+use sv_program::{CommandFault, FileStore};
+use sv_starting::start;
+use sv_words::SeededWords;
+
+/// A container whose components are of the program's own classes, and whose random words are those of a seed.
+pub(crate) type ProgramContainer = Container<
+    ProgramServlet,
+    ProgramFilter,
+    ProgramListener,
+    SeededWords,
+>;
+
+/// A server's container, which has started. Who has one stops it.
+pub(crate) struct StartedServer {
+    /// The port, 0 for any that is free.
+    pub port: u16,
+    /// The container.
+    pub container: ProgramContainer,
+}
+
+/// Reads the server file of this name and all that it names, and starts a container with it.
+///
+/// # Errors
+/// The first fault: those of [`read_deployments`]; then [`CommandFault::Start`], where the contexts that had started are stopped; or
+/// [`CommandFault::NoMemory`].
+pub(crate) fn start_server<S: FileStore + FolderStore>(
+    alloc: Global,
+    store: &mut S,
+    config: &str,
+) -> Result<StartedServer, CommandFault>
+    ensures { spec.StartsServer (steps_of ⟦<ProgramServlet as Servlet>⟧.servlet_step ⟦<ProgramFilter as Filter>⟧.filter_step ⟦<ProgramListener as Listener>⟧.listener_step)
+        S.gives_text S.gives_files config.now store.old result store.new }
+{
+    let Configuration {
+        port,
+        seed,
+        deployments,
+    } = match read_deployments(alloc, store, config) {
+        Ok(configuration) => configuration,
+        Err(fault) => return Err(fault),
+    };
+    match start(alloc, deployments, seed.as_slice()) {
+        Ok(container) => Ok(StartedServer { port, container }),
+        Err(fault) => Err(fault),
+    }
+}

@@ -1,8 +1,0 @@
-use Rattle.sv_files.specs.Fault.{list_fault}
-use Rattle.sv_deployments.proofs.Ending.{refused_files}
-use Rattle.sv_deployments.proofs.deploying.files_in.Goals as goal
-
-pub returns-in-Err : goal.returns-in-Err
-returns-in-Err c =
-    rw (← c.as_str.ensures, c.in_ok-files.ensures, ← c.into_vec.ensures)
-    (refused_files c.args.context.now.path c.into_vec.result.items (list_fault c.in-Err.fault) c.refused.result c.in-Err.ensures c.refused.ensures)
