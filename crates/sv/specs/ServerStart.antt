@@ -15,40 +15,24 @@ use Rattle.sv_starting.specs.declared.seeding.Seeding.{Seeding}
 use Rattle.sv.specs.declared.server_start.StartedServer.{StartedServer}
 
 module _ (moving : ComponentSteps ProgramServlet ProgramFilter ProgramListener) where
-  -- what is configured starts, or its fault is told
-  abbrev pub Begins : Configuration → Result StartedServer CommandFault → Type 0
-  Begins configuration (Ok started) =
-      StartsWith moving configuration.deployments.items configuration.seed (Ok started.container) × (started.port ≡ configuration.port)
-  Begins configuration (Err fault) = StartsWith moving configuration.deployments.items configuration.seed (Err fault)
-
-  -- a fault of the files is told; without one, what they configure starts
-  abbrev pub GoesOn : Result Configuration CommandFault → Result StartedServer CommandFault → Type 0
-  GoesOn (Ok configuration) result = Begins configuration result
-  GoesOn (Err fault) result = result ≡ Err fault
-
-  -- the server starts by what the store gives
-  abbrev pub StartsServer : {S : Type 0} → Giving S → FolderGiving S → List ℕ → S → Result StartedServer CommandFault → S → Type 0
-  StartsServer gives_text gives_files config before result after =
-      (found : Result Configuration CommandFault) × FindsConfiguration gives_text gives_files config found before after × GoesOn found result
-
   -- what is configured starts with this seed, or its fault is told
-  abbrev pub BeginsFrom : List ℕ → Configuration → Result StartedServer CommandFault → Type 0
-  BeginsFrom seed configuration (Ok started) =
+  abbrev pub Begins : List ℕ → Configuration → Result StartedServer CommandFault → Type 0
+  Begins seed configuration (Ok started) =
       StartsWith moving configuration.deployments.items seed (Ok started.container) × (started.port ≡ configuration.port)
-  BeginsFrom seed configuration (Err fault) = StartsWith moving configuration.deployments.items seed (Err fault)
+  Begins seed configuration (Err fault) = StartsWith moving configuration.deployments.items seed (Err fault)
 
   -- a fault of the seed is told; without one, what is configured starts with it
   abbrev pub BeginsBySeed : Result (List ℕ) CommandFault → Configuration → Result StartedServer CommandFault → Type 0
-  BeginsBySeed (Ok seed) configuration result = BeginsFrom seed configuration result
+  BeginsBySeed (Ok seed) configuration result = Begins seed configuration result
   BeginsBySeed (Err fault) configuration result = result ≡ Err fault
 
   -- a fault of the files is told; without one, what they configure starts with the seed of that seeding
-  abbrev pub GoesOnSeeded : Seeding → Result Configuration CommandFault → Result StartedServer CommandFault → Type 0
-  GoesOnSeeded seeding (Ok configuration) result =
+  abbrev pub GoesOn : Seeding → Result Configuration CommandFault → Result StartedServer CommandFault → Type 0
+  GoesOn seeding (Ok configuration) result =
       (seed : Result (List ℕ) CommandFault) × GivesSeed seeding configuration.seed seed × BeginsBySeed seed configuration result
-  GoesOnSeeded seeding (Err fault) result = result ≡ Err fault
+  GoesOn seeding (Err fault) result = result ≡ Err fault
 
   -- the server starts by what the store gives
-  abbrev pub StartsSeeded : {S : Type 0} → Giving S → FolderGiving S → Seeding → List ℕ → S → Result StartedServer CommandFault → S → Type 0
-  StartsSeeded gives_text gives_files seeding config before result after =
-      (found : Result Configuration CommandFault) × FindsConfiguration gives_text gives_files config found before after × GoesOnSeeded seeding found result
+  abbrev pub StartsServer : {S : Type 0} → Giving S → FolderGiving S → Seeding → List ℕ → S → Result StartedServer CommandFault → S → Type 0
+  StartsServer gives_text gives_files seeding config before result after =
+      (found : Result Configuration CommandFault) × FindsConfiguration gives_text gives_files config found before after × GoesOn seeding found result

@@ -8,7 +8,7 @@ use Rattle.sv_deployments.specs.Folders.{FolderGiving}
 use Rattle.sv_program.specs.FileStore.{Giving}
 use Rattle.sv_program.specs.declared.command_fault.CommandFault.{CommandFault}
 use Rattle.sv_starting.specs.declared.seeding.Seeding.{Seeding}
-use Rattle.sv.specs.ServerStart.{StartsSeeded, StartsServer}
+use Rattle.sv.specs.ServerStart.{StartsServer}
 use Rattle.sv.specs.declared.server_start.StartedServer.{StartedServer}
 
 -- where the server did not start, its fault is the command's, and nothing was written
@@ -17,14 +17,8 @@ UnlessStarted (Ok started) result writer writer_after = Unit {0}
 UnlessStarted (Err fault) result writer writer_after = (result ≡ Err fault) × (writer_after ≡ writer)
 
 module _ (moving : ComponentSteps ProgramServlet ProgramFilter ProgramListener) where
-  -- a command begins with the start of the server
-  abbrev pub BeginsWith : {S W : Type 0} → Giving S → FolderGiving S → List ℕ → S → W → Result (Unit {0}) CommandFault → S → W → Type 0
-  BeginsWith gives_text gives_files config before writer result after writer_after =
-      (begun : Result StartedServer CommandFault) × StartsServer moving gives_text gives_files config before begun after
-      × UnlessStarted begun result writer writer_after
-
-  -- the command `run` begins with the start of the server, with the random words of that seeding
-  abbrev pub BeginsRun : {S W : Type 0} → Giving S → FolderGiving S → Seeding → List ℕ → S → W → Result (Unit {0}) CommandFault → S → W → Type 0
-  BeginsRun gives_text gives_files seeding config before writer result after writer_after =
-      (begun : Result StartedServer CommandFault) × StartsSeeded moving gives_text gives_files seeding config before begun after
+  -- a command begins with the start of the server, with the random words of that seeding
+  abbrev pub BeginsWith : {S W : Type 0} → Giving S → FolderGiving S → Seeding → List ℕ → S → W → Result (Unit {0}) CommandFault → S → W → Type 0
+  BeginsWith gives_text gives_files seeding config before writer result after writer_after =
+      (begun : Result StartedServer CommandFault) × StartsServer moving gives_text gives_files seeding config before begun after
       × UnlessStarted begun result writer writer_after

@@ -8,7 +8,6 @@ mod policy_command;
 mod program_fault;
 mod replay_command;
 mod run_command;
-mod seeded_start;
 mod self_test_command;
 mod serve_command;
 mod server_start;

@@ -1,11 +1,10 @@
 //! The command `run`: a server's container over many connections at once.
 
 ghost use Rattle.sv_component.specs.Steps.{steps_of};
-ghost use Rattle.sv.specs.Serving.{BeginsRun};
+ghost use Rattle.sv.specs.Serving.{BeginsWith};
 
 use crate::asked_container::AskedContainer;
-use crate::seeded_start::start_seeded;
-use crate::server_start::StartedServer;
+use crate::server_start::{StartedServer, start_server};
 use std::alloc::Global;
 use std::io::Write;
 use std::net::{IpAddr, Ipv4Addr, Net, SocketAddr};
@@ -26,7 +25,7 @@ use sv_starting::Seeding;
 /// something failed before. Where a journal is named, what the events bring is appended to that file.
 ///
 /// # Errors
-/// The first fault: those of [`start_seeded`], when nothing was written; then [`CommandFault::File`] for a journal or a socket file that cannot be had; then
+/// The first fault: those of [`start_server`], when nothing was written; then [`CommandFault::File`] for a journal or a socket file that cannot be had; then
 /// [`CommandFault::Socket`], [`CommandFault::Output`] or [`CommandFault::NoMemory`] as the run meets them.
 pub fn run<S: FileStore + FolderStore, H: Net + Clock + RandomSource + Files + Eprint, W: Write>(
     alloc: Global,
@@ -40,10 +39,10 @@ pub fn run<S: FileStore + FolderStore, H: Net + Clock + RandomSource + Files + E
     control: Option<&str>,
     journal: Option<&str>,
 ) -> Result<(), CommandFault>
-    ensures { BeginsRun (steps_of ⟦<ProgramServlet as Servlet>⟧.servlet_step ⟦<ProgramFilter as Filter>⟧.filter_step ⟦<ProgramListener as Listener>⟧.listener_step)
+    ensures { BeginsWith (steps_of ⟦<ProgramServlet as Servlet>⟧.servlet_step ⟦<ProgramFilter as Filter>⟧.filter_step ⟦<ProgramListener as Listener>⟧.listener_step)
         S.gives_text S.gives_files seeding config.now store.old writer.old result store.new writer.new }
 {
-    let StartedServer { port, container } = match start_seeded(
+    let StartedServer { port, container } = match start_server(
         alloc, store, host, config, seeding,
     ) {
         Ok(started) => started,

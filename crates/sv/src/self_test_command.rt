@@ -2,18 +2,21 @@
 
 ghost use Rattle.sv_component.specs.Steps.{steps_of};
 ghost use Rattle.sv.specs.Serving.{BeginsWith};
+ghost use Rattle.sv_starting.specs.declared.seeding.Seeding.TheVariants.{Configured};
 
 use crate::server_start::{StartedServer, start_server};
 use std::alloc::Global;
 use std::io;
 use std::io::Write;
 use std::net::Net;
+use std::random::RandomSource;
 use std::time::Clock;
 use sv_application::{ProgramFilter, ProgramListener, ProgramServlet};
 use sv_component::{Filter, Listener, Servlet};
 use sv_deployments::FolderStore;
 use sv_listening::own_answer;
 use sv_program::{CommandFault, FileStore};
+use sv_starting::Seeding;
 
 /// Starts the container of the server file, listens at its port on this machine, connects to it, asks for the root path by `HEAD`, serves that
 /// connection and no other, shuts the container down, and writes the line `selftest ` with the first line of the answer behind it. No call waits for
@@ -22,7 +25,7 @@ use sv_program::{CommandFault, FileStore};
 /// # Errors
 /// The first fault: those of [`start_server`]; then [`CommandFault::Socket`] or [`CommandFault::NoMemory`], when nothing was written; then
 /// [`CommandFault::Output`].
-pub fn self_test<S: FileStore + FolderStore, H: Net + Clock, W: Write>(
+pub fn self_test<S: FileStore + FolderStore, H: Net + Clock + RandomSource, W: Write>(
     alloc: Global,
     store: &mut S,
     host: &H,
@@ -30,12 +33,12 @@ pub fn self_test<S: FileStore + FolderStore, H: Net + Clock, W: Write>(
     config: &str,
 ) -> Result<(), CommandFault>
     ensures { BeginsWith (steps_of ⟦<ProgramServlet as Servlet>⟧.servlet_step ⟦<ProgramFilter as Filter>⟧.filter_step ⟦<ProgramListener as Listener>⟧.listener_step)
-        S.gives_text S.gives_files config.now store.old writer.old result store.new writer.new }
+        S.gives_text S.gives_files Configured config.now store.old writer.old result store.new writer.new }
 {
     let StartedServer {
         port,
         mut container,
-    } = match start_server(alloc, store, config) {
+    } = match start_server(alloc, store, host, config, Seeding::Configured) {
         Ok(started) => started,
         Err(fault) => return Err(fault),
     };

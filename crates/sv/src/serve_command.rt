@@ -2,17 +2,20 @@
 
 ghost use Rattle.sv_component.specs.Steps.{steps_of};
 ghost use Rattle.sv.specs.Serving.{BeginsWith};
+ghost use Rattle.sv_starting.specs.declared.seeding.Seeding.TheVariants.{Configured};
 
 use crate::server_start::{StartedServer, start_server};
 use std::alloc::Global;
 use std::io::Write;
 use std::net::Net;
+use std::random::RandomSource;
 use std::time::Clock;
 use sv_application::{ProgramFilter, ProgramListener, ProgramServlet};
 use sv_component::{Filter, Listener, Servlet};
 use sv_deployments::FolderStore;
 use sv_listening::listen_and_serve;
 use sv_program::{CommandFault, FileStore};
+use sv_starting::Seeding;
 
 /// Starts the container of the server file, listens at its port on this machine, writes the line `listening PORT`, serves so many connections one
 /// after another, writes the line `served COUNT`, and shuts the container down, also where something failed before.
@@ -20,7 +23,7 @@ use sv_program::{CommandFault, FileStore};
 /// # Errors
 /// The first fault: those of [`start_server`], when nothing was written; then [`CommandFault::Socket`], [`CommandFault::Output`] or
 /// [`CommandFault::NoMemory`] as the run meets them.
-pub fn serve<S: FileStore + FolderStore, H: Net + Clock, W: Write>(
+pub fn serve<S: FileStore + FolderStore, H: Net + Clock + RandomSource, W: Write>(
     alloc: Global,
     store: &mut S,
     host: &H,
@@ -29,12 +32,12 @@ pub fn serve<S: FileStore + FolderStore, H: Net + Clock, W: Write>(
     count: u64,
 ) -> Result<(), CommandFault>
     ensures { BeginsWith (steps_of ⟦<ProgramServlet as Servlet>⟧.servlet_step ⟦<ProgramFilter as Filter>⟧.filter_step ⟦<ProgramListener as Listener>⟧.listener_step)
-        S.gives_text S.gives_files config.now store.old writer.old result store.new writer.new }
+        S.gives_text S.gives_files Configured config.now store.old writer.old result store.new writer.new }
 {
     let StartedServer {
         port,
         mut container,
-    } = match start_server(alloc, store, config) {
+    } = match start_server(alloc, store, host, config, Seeding::Configured) {
         Ok(started) => started,
         Err(fault) => return Err(fault),
     };

@@ -4,12 +4,14 @@ ghost use Rattle.sv_component.specs.Steps.{steps_of};
 ghost use Rattle.sv.specs.ServerStart as spec;
 
 use std::alloc::Global;
+use std::random::RandomSource;
 use sv_application::{ProgramFilter, ProgramListener, ProgramServlet};
 use sv_component::{Filter, Listener, Servlet};
 use sv_container::Container;
+use sv_context::let_go;
 use sv_deployments::{Configuration, FolderStore, read_deployments};
 use sv_program::{CommandFault, FileStore};
-use sv_starting::start;
+use sv_starting::{Seeding, seed_for, start};
 use sv_words::SeededWords;
 
 /// A container whose components are of the program's own classes, and whose random words are those of a seed.
@@ -28,18 +30,20 @@ pub(crate) struct StartedServer {
     pub container: ProgramContainer,
 }
 
-/// Reads the server file of this name and all that it names, and starts a container with it.
+/// Reads the server file of this name and all that it names, and starts a container with it and the random words of that seeding.
 ///
 /// # Errors
-/// The first fault: those of [`read_deployments`]; then [`CommandFault::Start`], where the contexts that had started are stopped; or
-/// [`CommandFault::NoMemory`].
-pub(crate) fn start_server<S: FileStore + FolderStore>(
+/// The first fault: those of [`read_deployments`]; then those of [`seed_for`]; then [`CommandFault::Start`], where the contexts that had started are
+/// stopped; or [`CommandFault::NoMemory`].
+pub(crate) fn start_server<S: FileStore + FolderStore, H: RandomSource>(
     alloc: Global,
     store: &mut S,
+    host: &H,
     config: &str,
+    seeding: Seeding,
 ) -> Result<StartedServer, CommandFault>
     ensures { spec.StartsServer (steps_of ⟦<ProgramServlet as Servlet>⟧.servlet_step ⟦<ProgramFilter as Filter>⟧.filter_step ⟦<ProgramListener as Listener>⟧.listener_step)
-        S.gives_text S.gives_files config.now store.old result store.new }
+        S.gives_text S.gives_files seeding config.now store.old result store.new }
 {
     let Configuration {
         port,
@@ -49,7 +53,14 @@ pub(crate) fn start_server<S: FileStore + FolderStore>(
         Ok(configuration) => configuration,
         Err(fault) => return Err(fault),
     };
-    match start(alloc, deployments, seed.as_slice()) {
+    let key = match seed_for(alloc, host, seeding, seed.as_slice()) {
+        Ok(key) => key,
+        Err(fault) => {
+            let_go(deployments);
+            return Err(fault);
+        }
+    };
+    match start(alloc, deployments, &key) {
         Ok(container) => Ok(StartedServer { port, container }),
         Err(fault) => Err(fault),
     }
