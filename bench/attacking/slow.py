@@ -94,4 +94,9 @@ async def stopped_readers(port):
 
 
 async def all_slow(port, _seed, _seconds, _cookie):
-    return await asyncio.gather(slow_heads(port), slow_bodies(port), brisk_bodies(port), stopped_readers(port))
+    return await asyncio.gather(slow_heads(port), slow_bodies(port), brisk_bodies(port))
+
+
+async def readers(port, _seed, _seconds, _cookie):
+    """Their answers are more than all connections may hold: slower peers beside them would be closed for room."""
+    return [await stopped_readers(port)]
