@@ -1,23 +1,36 @@
 //! Whether a password is the one whose digest an account keeps.
 
-ghost use Rattle.std.specs.Prelude.{◌≡◌, bit_or, bit_xor, fold};
+ghost use Rattle.std.specs.Prelude.{◌≡◌, ◌++◌, bit_or, bit_xor, fold};
 ghost use Rattle.std.specs.List.{zip};
+ghost use Rattle.std.specs.Option.{option_copied};
 ghost use Rattle.std.specs.Str.{bytes_eq};
-ghost use Rattle.sv_realm.specs.Account.{user_of};
-ghost use Rattle.sv_realm.specs.User.{fits as digest_fits};
+ghost use Rattle.sha2.specs.Sha256.{sha256};
+ghost use Rattle.sv_realm.specs.Account.{account_fits};
 
 use crate::account::Account;
 use sha2::{Digest, Sha256};
 
-/// Whether the account's digest is SHA-256 of its salt's bytes followed by the password's.
-pub fn fits(account: &Account, password: &[u8]) -> bool
-    ensures { result ≡ digest_fits (user_of account.now) password.now }
+/// The salt that is hashed where there is no account: as long as the README has users' salts.
+const NO_SALT: [u8; 16] = [0; 16];
+
+/// Whether there is an account, and its digest is SHA-256 of its salt's bytes followed by the password's. A digest is made where there is none as
+/// well, so that the time taken does not tell which names users have; that is a property of the code, and no contract says it.
+pub fn fits(account: Option<&Account>, password: &[u8]) -> bool
+    ensures { result ≡ account_fits (option_copied account.entry) password.now }
+{
+    let salt = account.map_or(NO_SALT.as_slice(), |account| account.salt.as_slice());
+    let digest = digest_of(salt, password);
+    account.is_some_and(|account| same_bytes(&digest, account.digest.as_slice()))
+}
+
+/// SHA-256 of a salt followed by a password.
+fn digest_of(salt: &[u8], password: &[u8]) -> [u8; 32]
+    ensures { result ≡ sha256 (salt.now ++ password.now) }
 {
     let mut hasher = Sha256::new();
-    hasher.update(account.salt.as_slice());
+    hasher.update(salt);
     hasher.update(password);
-    let digest = hasher.finalize();
-    same_bytes(&digest, account.digest.as_slice())
+    hasher.finalize()
 }
 
 /// Whether two byte strings are equal. Strings of one length are read to their ends wherever they first differ, so that

@@ -51,17 +51,15 @@ impl Realm {
     /// user's salt followed by the password is the user's digest. `None` where no user has the name, or the password
     /// does not fit that user.
     ///
-    /// It takes no memory. Digests are compared to their last byte also where an earlier one differs, which is a property
-    /// of the code and not of the contract; a name that no user has is answered without a digest.
+    /// It takes no memory. Digests are compared to their last byte also where an earlier one differs, and a digest is made for a name that no user
+    /// has as well, so that the time taken tells neither; that is a property of the code and not of the contract.
     pub fn check(&self, name: &str, password: &[u8]) -> Option<&Caller>
         ensures { option_copied result ≡ caller_checked self.now name.now password.now }
     {
-        let account = account_named(self.accounts.as_slice(), name)?;
-        if fits(account, password) {
-            Some(&account.caller)
-        } else {
-            None
-        }
+        let named = account_named(self.accounts.as_slice(), name);
+        let fitting = fits(named, password);
+        let account = named?;
+        if fitting { Some(&account.caller) } else { None }
     }
 
     /// The caller of the first user of a name. `None` where no user has the name. It takes no memory.

@@ -1,5 +1,7 @@
 use Rattle.std.proofs.Common.{None, Some, ap, ◌∙◌}
 use Rattle.std.specs.Bool.{then_some}
+use Rattle.std.specs.Option.{option_copied}
+use Rattle.sv_realm.specs.Account.{account_fits}
 use Rattle.sv_realm.proofs.Found.{checked_caller}
 use Rattle.sv_realm.proofs.realm.Realm.check.Goals as goal
 
@@ -8,16 +10,18 @@ returns-in_err-account c =
     rw c.from_residual.ensures (checked_caller c.self.inside.accounts.items c.as_slice.result.now c.args.self.now c.args.name.now
     c.args.password.now None c.self.invariant c.self.view_is c.as_slice.ensures.value c.in_err-account.ensures)
 
-pub returns-then-fits : goal.returns-then-fits
-returns-then-fits c =
+pub returns-then-fitting : goal.returns-then-fitting
+returns-then-fitting c =
     let account = c.in_ok-account.account.now in
-    ap (λ passed. then_some passed account.caller) c.if-fits.ensures
+    ap (λ passed. then_some passed account.caller)
+    (c.if-fitting.ensures ∙ ap (λ named. account_fits (option_copied named) c.args.password.now) c.in_ok-account.was)
     ∙ checked_caller c.self.inside.accounts.items c.as_slice.result.now c.args.self.now c.args.name.now c.args.password.now
     (Some account) c.self.invariant c.self.view_is c.as_slice.ensures.value c.in_ok-account.ensures
 
-pub returns-else-fits : goal.returns-else-fits
-returns-else-fits c =
+pub returns-else-fitting : goal.returns-else-fitting
+returns-else-fitting c =
     let account = c.in_ok-account.account.now in
-    ap (λ passed. then_some passed account.caller) c.if-fits.ensures
+    ap (λ passed. then_some passed account.caller)
+    (c.if-fitting.ensures ∙ ap (λ named. account_fits (option_copied named) c.args.password.now) c.in_ok-account.was)
     ∙ checked_caller c.self.inside.accounts.items c.as_slice.result.now c.args.self.now c.args.name.now c.args.password.now
     (Some account) c.self.invariant c.self.view_is c.as_slice.ensures.value c.in_ok-account.ensures
