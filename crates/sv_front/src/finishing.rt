@@ -36,7 +36,7 @@ fn take<N: Network>(front: &mut Front<N::Peer>, told: Told, network: &mut N)
     match told {
         Told::Ready(number) => front.send_out(number, network),
         Told::Asked => network.tell(front.figures()),
-        Told::Incoming | Told::Second | Told::Stop => {}
+        Told::Incoming | Told::Crowded | Told::Second | Told::Stop => {}
     }
 }
 

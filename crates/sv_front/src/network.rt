@@ -15,6 +15,8 @@ pub enum Told {
     Ready(u64),
     /// A connection may have come. Where one was accepted since, another may have, too: that is told then.
     Incoming,
+    /// A connection may have come, and the system has no room for it, or for who else came: one that stands between requests is to make some.
+    Crowded,
     /// A second has passed, or more.
     Second,
     /// Something is asked: how things stand, what the reactor answers, or that it takes an edit.

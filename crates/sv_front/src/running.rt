@@ -64,6 +64,7 @@ fn take<R: Reactor + Consulted, N: Network, C: Clock>(
     match told {
         Told::Ready(number) => front.serve(number, reactor, clock, network),
         Told::Incoming => accept_some(front, reactor, clock, network),
+        Told::Crowded => make_way(front, reactor, clock, network),
         Told::Second => pass_second(front, reactor, clock, network),
         Told::Asked => network.consult(front.figures(), reactor),
         Told::Stop => Ok(()),
@@ -240,6 +241,21 @@ fn make_room<R: Reactor, N: Network, C: Clock>(
         }
     }
     Ok(())
+}
+
+// Gives up the connection that has stood between requests longest, if any does: the system has no room for another beside it.
+fn make_way<R: Reactor, N: Network, C: Clock>(
+    front: &mut Front<N::Peer>,
+    reactor: &mut R,
+    clock: &mut C,
+    network: &mut N,
+) -> Result<(), StepFault>
+    ensures { Moves N.Peer.ways R.steps C.tells reactor.old clock.old front.old result reactor.new clock.new front.new }
+{
+    match front.longest_idle() {
+        Some(number) => give_up_idle(front, number, reactor, clock, network),
+        None => Ok(()),
+    }
 }
 
 // Gives up a connection that stands between requests, unless something has come of it that was not read yet: then it is served.

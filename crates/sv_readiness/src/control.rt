@@ -5,6 +5,7 @@ ghost use Rattle.sv_front.specs.Asking.{EditsOnce};
 
 use crate::asking::{asks_to_stop, line_end};
 use crate::calls::{try_read, try_write};
+use crate::crowd::lacks_room;
 use crate::limits::{ASKED_AT_ONCE, MAX_ASKING_SECONDS, MAX_LINE_BYTES};
 use crate::replying::{last_text, reply};
 use mio::net::{UnixListener, UnixStream};
@@ -37,6 +38,8 @@ pub(crate) struct Control<'a> {
     line: Vec<u8>,
     answer: Vec<u8>,
     until: u64,
+    has_come: bool,
+    has_refused: bool,
     stopper: Option<UnixStream>,
 }
 
@@ -51,21 +54,56 @@ impl<'a> Control<'a> {
             line: Vec::new(alloc),
             answer: Vec::new(alloc),
             until: 0,
+            has_come: false,
+            has_refused: false,
             stopper: None,
         }
     }
 
     /// Takes who connected first, where nobody asks.
     pub fn welcome(&mut self, now: u64) {
+        self.has_refused = false;
         for _ in 0..u64::MAX {
             if self.asker.is_some() {
                 return;
             }
             match self.listener.accept() {
-                Ok((stream, _)) => self.take(stream, now),
-                Err(_) => return,
+                Ok((stream, _)) => {
+                    self.has_come = false;
+                    self.take(stream, now);
+                }
+                Err(error) if lacks_room(&error) => {
+                    self.note_refusal();
+                    return;
+                }
+                Err(_) => {
+                    self.has_come = false;
+                    return;
+                }
             }
         }
+    }
+
+    /// Takes who connected first, where nobody asks, behind the report that someone connected.
+    pub fn welcome_told(&mut self, now: u64) {
+        self.has_come = true;
+        self.welcome(now);
+    }
+
+    // Notes that the system has no room for another. It says so also where none has come; then one who has, or comes, is to be reported anew.
+    fn note_refusal(&mut self) {
+        self.has_refused = self.has_come;
+        if !self.has_come {
+            // Where that fails, one who comes is reported all the same.
+            let _ = self
+                .registry
+                .reregister(&mut self.listener, Token(CONTROL), Interest::READABLE);
+        }
+    }
+
+    /// Whether the system had no room for who connected.
+    pub fn has_refused(&self) -> bool {
+        self.has_refused
     }
 
     // Takes who has connected, where what is sent there can be reported.

@@ -5,6 +5,7 @@
 mod asking;
 mod calls;
 mod control;
+mod crowd;
 mod dropping;
 mod laws;
 mod limits;

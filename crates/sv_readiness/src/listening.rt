@@ -12,7 +12,7 @@ use std::os::unix::fs::{FileTypeExt, PermissionsExt};
 use std::os::unix::net::UnixStream;
 
 // The token of the listener. No connection has it as its number.
-const LISTENER: Token = Token(usize::MAX);
+pub(crate) const LISTENER: Token = Token(usize::MAX);
 
 // Who may write to a file, as the system's mode has it: its owner alone.
 const OWNER_ALONE: u32 = 0o600;

@@ -1,9 +1,10 @@
 //! A listener and its connections as a network.
 
 use crate::control::{ASKER, CONTROL, Control};
+use crate::crowd::{Crowd, lacks_room};
 use crate::limits::{EVENTS_AT_ONCE, MAX_READY_BEFORE_ACCEPT};
 use crate::lingering::Lingering;
-use crate::listening::Listening;
+use crate::listening::{LISTENER, Listening};
 use crate::ready::Ready;
 use crate::stream_peer::StreamPeer;
 use mio::net::{TcpListener, TcpStream, UnixListener};
@@ -29,7 +30,9 @@ pub struct Sockets<'a, C> {
     control: Option<Control<'a>>,
     second: u64,
     told: u32,
+    crowd: Crowd,
     may_come: bool,
+    has_come: bool,
     has_reported: bool,
     has_failed: bool,
 }
@@ -62,7 +65,9 @@ impl<'a, C: Clock> Sockets<'a, C> {
             control: control_of(alloc, registry, control),
             second: 0,
             told: 0,
+            crowd: Crowd::None,
             may_come: false,
+            has_come: false,
             has_reported: false,
             has_failed: false,
         })
@@ -91,6 +96,7 @@ impl<'a, C: Clock> Sockets<'a, C> {
         if self.lingers(token) {
             return None;
         }
+        self.has_come = self.has_come || token == usize::MAX;
         self.told = self.told.saturating_add(1);
         Some(told_by(token))
     }
@@ -102,7 +108,7 @@ impl<'a, C: Clock> Sockets<'a, C> {
             return None;
         };
         if token == CONTROL {
-            control.welcome(now);
+            control.welcome_told(now);
         }
         control.hear(now)
     }
@@ -172,8 +178,57 @@ impl<'a, C: Clock> Sockets<'a, C> {
     fn has_second_passed(&mut self) -> bool {
         let second = self.seconds();
         let has_passed = second != self.second;
+        if has_passed {
+            self.crowd = self.crowd.second();
+        }
         self.second = second;
         has_passed
+    }
+
+    // Whether it is to be told that the system has no room for one who came. Behind that all who came are taken anew, those at the socket file first.
+    fn tells_crowd(&mut self) -> bool {
+        match self.crowd {
+            Crowd::Found => {
+                self.crowd = Crowd::Told;
+                true
+            }
+            Crowd::Told => {
+                self.crowd = Crowd::Past;
+                self.may_come = true;
+                self.welcome();
+                false
+            }
+            Crowd::None | Crowd::Past => false,
+        }
+    }
+
+    // Notes that the system has no room for another. It says so also where none has come; then one who has, or comes, is to be reported anew.
+    fn note_refusal(&mut self) {
+        if self.has_come {
+            self.crowd = self.crowd.refused();
+            return;
+        }
+        // Where that fails, one who comes is reported all the same, and one who has come is looked for each second.
+        let _ = self
+            .registry
+            .reregister(&mut self.listener, LISTENER, Interest::READABLE);
+    }
+
+    // Takes who came to the socket file, where nobody asks there.
+    fn welcome(&mut self) {
+        let now = self.seconds();
+        if let Some(control) = &mut self.control {
+            control.welcome(now);
+        }
+    }
+
+    // Notes where the system had no room for who came to the socket file.
+    fn note_refused_asker(&mut self) {
+        if let Some(control) = &self.control
+            && control.has_refused()
+        {
+            self.crowd = self.crowd.refused();
+        }
     }
 
     // The peer of a connection that was accepted, where its readiness can be reported. The last numbers are tokens of what is no connection.
@@ -192,6 +247,10 @@ impl<'a, C: Clock> Network for Sockets<'a, C> {
     type Peer = StreamPeer<'a, TcpStream>;
 
     fn wait(&mut self) -> Told {
+        self.note_refused_asker();
+        if self.tells_crowd() {
+            return Told::Crowded;
+        }
         for _ in 0..u64::MAX {
             if self.is_turn_to_accept() {
                 self.told = 0;
@@ -221,10 +280,19 @@ impl<'a, C: Clock> Network for Sockets<'a, C> {
             match self.listener.accept() {
                 Ok((stream, _)) => {
                     self.may_come = true;
+                    self.has_come = false;
+                    self.crowd = Crowd::None;
                     return self.peer_of(stream, number);
                 }
                 Err(error) if is_passing(error.kind()) => {}
-                Err(_) => return None,
+                Err(error) if lacks_room(&error) => {
+                    self.note_refusal();
+                    return None;
+                }
+                Err(_) => {
+                    self.has_come = false;
+                    return None;
+                }
             }
         }
         None
@@ -232,8 +300,9 @@ impl<'a, C: Clock> Network for Sockets<'a, C> {
 
     fn part(&mut self, number: u64, peer: StreamPeer<'a, TcpStream>, closing: Closing) {
         let stream = peer.into_stream();
-        // What is dropped is closed. A peer that is gone is sent no end.
-        if closing == Closing::InStages && stream.shutdown(Shutdown::Write).is_ok() {
+        // What is dropped is closed: so is what makes room. A peer that is gone is sent no end.
+        let lingers = closing == Closing::InStages && self.crowd != Crowd::Told;
+        if lingers && stream.shutdown(Shutdown::Write).is_ok() {
             let now = self.seconds();
             self.lingering.take(number, stream, now, self.registry);
         }
