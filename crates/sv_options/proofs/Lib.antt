@@ -1,4 +1,3 @@
-pub mod Counts
 pub mod Decoding
 pub mod Going
 pub mod Naming

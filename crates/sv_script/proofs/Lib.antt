@@ -1,4 +1,4 @@
 mod EscapeLemmas
-mod FieldLemmas
+pub mod FieldLemmas
 mod NameLemmas
 mod ReadBackLemmas

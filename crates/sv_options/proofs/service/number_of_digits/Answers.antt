@@ -1,5 +1,5 @@
 use Rattle.std.proofs.Common.{◌∙◌}
-use Rattle.sv_options.proofs.Counts.{number_parsed}
+use Rattle.sv_script.proofs.FieldLemmas.{number_parsed}
 use Rattle.sv_options.proofs.service.number_of_digits.Goals as goal
 
 pub returns : goal.returns
