@@ -8,7 +8,7 @@ use std::random::RandomSource;
 use sv_application::{ProgramFilter, ProgramListener, ProgramServlet};
 use sv_component::{Filter, Listener, Servlet};
 use sv_container::Container;
-use sv_context::let_go;
+use sv_deployment::let_go;
 use sv_deployments::{Configuration, FolderStore, read_deployments};
 use sv_program::{CommandFault, FileStore};
 use sv_starting::{Seeding, seed_for, start};

@@ -8,8 +8,8 @@ ghost use Rattle.sv_author_deployments.specs.Deployments as spec;
 
 use std::alloc::Global;
 use sv_component::{Filter, Listener, Servlet};
-use sv_context::Deployment;
 use sv_deploying::files_of;
+use sv_deployment::Deployment;
 use sv_lifecycle::Parts;
 use sv_program::{CommandFault, ContextTexts, descriptor_in, realm_in};
 use sv_settings::ContextEntry;

@@ -12,7 +12,7 @@ use Rattle.sv_context.specs.Deployment.{deployed, no_sessions}
 use Rattle.sv_context.specs.Handled.{GivesResponse, admitted, exchange_begun, state_in}
 use Rattle.sv_context.specs.Laws.{ExpiryLeavesNone, ExpiryOfNoneIsNothing}
 use Rattle.sv_context.specs.State.{ContextState, world_of}
-use Rattle.sv_context.specs.declared.deployment.Deployment.{Deployment}
+use Rattle.sv_deployment.specs.declared.deployment.Deployment.{Deployment}
 use Rattle.sv_context.specs.declared.limits.TheConstants.{SECONDS_OF_MINUTE}
 use Rattle.sv_descriptor.specs.Version.{max_sessions}
 use Rattle.sv_journal.specs.Journal.{JournalState, new_journal, with_entry}

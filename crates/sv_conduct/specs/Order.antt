@@ -4,7 +4,7 @@ use Rattle.sv_component.specs.Steps.{ComponentSteps}
 use Rattle.sv_context.specs.Conduct.{conduct}
 use Rattle.sv_context.specs.Deployment.{Deploys}
 use Rattle.sv_context.specs.State.{ContextState}
-use Rattle.sv_context.specs.declared.deployment.Deployment.{Deployment}
+use Rattle.sv_deployment.specs.declared.deployment.Deployment.{Deployment}
 use Rattle.sv_journal.specs.Journal.{JournalState}
 use Rattle.sv_journal.specs.declared.entry.Entry.{Entry}
 use Rattle.sv_run.specs.Contexts.{Handling}

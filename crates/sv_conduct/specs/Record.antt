@@ -52,7 +52,7 @@ use Rattle.sv_tree.specs.Served.{Served, ShowsError}
 use Rattle.sv_tree.specs.Site.{Site}
 use Rattle.sv_message.specs.declared.message.Target.{Target}
 use Rattle.sv_message.specs.declared.response.Response.{Response}
-use Rattle.sv_message.specs.declared.wire_fault.WireFault.{WireFault}
+use Rattle.sv_wire_fault.specs.declared.wire_fault.WireFault.{WireFault}
 
 module _ {S F L : Type 0} (context : ContextState S F L) (request : Request) where
   abbrev pub path_in : List ℕ

@@ -4,8 +4,8 @@ use Rattle.sv_component.specs.Steps.{ComponentSteps}
 use Rattle.sv_container.specs.Explaining.{ExplainsWhatWasDeployed, policies_of_contexts}
 use Rattle.sv_context.specs.Deployment.{declared_policy, deployed}
 use Rattle.sv_context.specs.State.{ContextState}
-use Rattle.sv_context.specs.declared.deployment.DeployFault.{DeployFault}
-use Rattle.sv_context.specs.declared.deployment.Deployment.{Deployment}
+use Rattle.sv_context.specs.declared.deploy_fault.DeployFault.{DeployFault}
+use Rattle.sv_deployment.specs.declared.deployment.Deployment.{Deployment}
 use Rattle.sv_explain.specs.Context.{policy}
 use Rattle.sv_explain.specs.declared.context.ContextPolicy.{ContextPolicy}
 use Rattle.sv_lifecycle.specs.Standing.{LiveState}

@@ -5,7 +5,7 @@ ghost use Rattle.sv_container.specs.NewCode.{code_name, code_number, code_of};
 
 use std::fmt;
 use sv_component::{Filter, Listener, Servlet};
-use sv_context::{Deployment, let_go};
+use sv_deployment::{Deployment, let_go};
 use sv_lifecycle::StartCode;
 use sv_text::Text;
 

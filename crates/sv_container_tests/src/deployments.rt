@@ -6,7 +6,7 @@ use crate::results::{beside, both, made, push};
 use std::alloc::Global;
 use sv_application::{ProgramFilter, ProgramListener, ProgramServlet, parts_of};
 use sv_component::Named;
-use sv_context::Deployment;
+use sv_deployment::Deployment;
 use sv_descriptor::{Descriptor, read_descriptor};
 use sv_files::Files;
 use sv_lifecycle::Parts;

@@ -3,9 +3,9 @@ use Rattle.std.specs.Prelude.{◌≡◌, ℕ, List, [], ◌∷◌, ◌++◌, map
 use Rattle.sv_component.specs.Steps.{ComponentSteps}
 use Rattle.sv_context.specs.Deployment.{Deploys, Undeploys}
 use Rattle.sv_context.specs.State.{ContextState}
-use Rattle.sv_context.specs.declared.deployment.DeployAllFault.{DeployAllFault}
-use Rattle.sv_context.specs.declared.deployment.DeployFault.{DeployFault}
-use Rattle.sv_context.specs.declared.deployment.Deployment.{Deployment}
+use Rattle.sv_context.specs.declared.deploy_fault.DeployAllFault.{DeployAllFault}
+use Rattle.sv_context.specs.declared.deploy_fault.DeployFault.{DeployFault}
+use Rattle.sv_deployment.specs.declared.deployment.Deployment.{Deployment}
 use Rattle.sv_journal.specs.Journal.{JournalState}
 use Rattle.sv_lifecycle.specs.declared.parts.Parts.{Parts}
 

@@ -8,11 +8,12 @@ ghost use Rattle.sv_site.specs.ServletMappings.{mappings_of};
 ghost use Rattle.sv_context.specs.Deployment.{Deploys, Undeploys, declared_policy, no_sessions};
 
 use crate::context::Context;
-use crate::deployment::{DeployFault, Deployment};
+use crate::deploy_fault::DeployFault;
 use crate::limits::SECONDS_OF_MINUTE;
 use std::alloc::Global;
 use sv_chain::Chains;
 use sv_component::{Filter, Listener, Servlet};
+use sv_deployment::Deployment;
 use sv_descriptor::Descriptor;
 use sv_journal::Journal;
 use sv_lifecycle::{Live, StartCode, StartFault, fits};

@@ -4,15 +4,14 @@
 
 mod answering;
 mod context;
+mod deploy_fault;
 mod deploying;
-mod deployment;
 mod editing;
 mod expiring;
 mod forgetting;
 mod handling;
 mod hosted;
 mod laws;
-mod letting_go;
 mod limits;
 mod policy;
 mod pushing;
@@ -21,9 +20,8 @@ mod several;
 mod shutdown;
 
 pub use context::Context;
-pub use deployment::{DeployAllFault, DeployFault, Deployment};
+pub use deploy_fault::{DeployAllFault, DeployFault};
 pub use laws::{an_expiry_leaves_none_expired, an_expiry_of_none_is_nothing, limits_are_as_stated};
-pub use letting_go::let_go;
 pub use limits::SECONDS_OF_MINUTE;
 pub use room::{Room, StopRoom};
 pub use several::{deploy_all, undeploy_all};

@@ -5,9 +5,9 @@ ghost use Rattle.sv_context.specs.Room.{IsReady};
 ghost use Rattle.sv_context.specs.Several.{paths_of};
 
 use crate::context::Context;
-use crate::deployment::Deployment;
 use std::alloc::Global;
 use sv_component::{Filter, Listener, Servlet};
+use sv_deployment::Deployment;
 use sv_lifecycle::Parts;
 use sv_text::{NoMemory, Text};
 

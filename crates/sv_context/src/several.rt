@@ -6,10 +6,10 @@ ghost use Rattle.sv_context.specs.Deployment.{Deploys};
 ghost use Rattle.sv_context.specs.Room.{HasRoomToStop, IsReady};
 ghost use Rattle.sv_context.specs.Several.{DeploysAll, FailsAll, GivesBackParts, UndeploysAll};
 ghost use Rattle.sv_context.specs.State.{ContextState};
-ghost use Rattle.sv_context.specs.declared.deployment.Deployment.{Deployment as DeploymentData};
+ghost use Rattle.sv_deployment.specs.declared.deployment.Deployment.{Deployment as DeploymentData};
 
 use crate::context::Context;
-use crate::deployment::{DeployAllFault, DeployFault, Deployment};
+use crate::deploy_fault::{DeployAllFault, DeployFault};
 use crate::pushing::{push, push_all};
 use crate::room::{Room, StopRoom};
 use crate::shutdown::Shutdown;
@@ -17,6 +17,7 @@ use std::alloc::Global;
 use std::collections::VecDeque;
 use std::mem;
 use sv_component::{Filter, Listener, Servlet};
+use sv_deployment::Deployment;
 use sv_journal::Journal;
 use sv_lifecycle::Parts;
 

@@ -8,7 +8,7 @@ use Rattle.sv_container.specs.declared.new_fault.NewCode.{NewCode}
 use Rattle.sv_container.specs.declared.new_fault.NewCode.TheVariants as code
 use Rattle.sv_container.specs.declared.new_fault.NewFault.{NewFault}
 use Rattle.sv_context.specs.Theory.{theory}
-use Rattle.sv_context.specs.declared.deployment.Deployment.{Deployment}
+use Rattle.sv_deployment.specs.declared.deployment.Deployment.{Deployment}
 use Rattle.sv_headline.proofs.Starting.{runs_lawfully}
 use Rattle.sv_headline.specs.Callers.{CallersOfAStartedContainerHaveLoggedIn}
 use Rattle.sv_headline.specs.Cut.{PrintsACutRun, WhatARefusedScriptPrintsBeginsTheWhole, WhatARefusedScriptPrintsIsCut}

@@ -6,7 +6,7 @@ use Rattle.sv_container.specs.Container.{state_of}
 use Rattle.sv_container.specs.Starting.{Starts}
 use Rattle.sv_container.specs.declared.container.Container.{Container}
 use Rattle.sv_context.specs.Theory.{theory}
-use Rattle.sv_context.specs.declared.deployment.Deployment.{Deployment}
+use Rattle.sv_deployment.specs.declared.deployment.Deployment.{Deployment}
 use Rattle.sv_headline.specs.Callers.{CallersHaveLoggedIn}
 use Rattle.sv_journal.specs.Journal.{JournalState, new_journal}
 use Rattle.sv_replay.specs.Replay.{Played}

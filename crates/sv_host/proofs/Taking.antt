@@ -12,10 +12,10 @@ use Rattle.sv_run.specs.Items.{IsTextAt, Takes, TakesItem, continue_text}
 use Rattle.sv_run.specs.Messages.{plain_response}
 use Rattle.sv_run.specs.State.{World}
 use Rattle.sv_run.specs.declared.reaction.Reaction.{Reaction}
-use Rattle.sv_message.specs.WireFault.{fault_status}
+use Rattle.sv_wire_fault.specs.WireFault.{fault_status}
 use Rattle.sv_wire.specs.declared.item.Item.{Item}
 use Rattle.sv_wire.specs.declared.item.Item.TheVariants.{Continue, Refuse}
-use Rattle.sv_message.specs.declared.wire_fault.WireFault.{WireFault}
+use Rattle.sv_wire_fault.specs.declared.wire_fault.WireFault.{WireFault}
 
 module _ {C W : Type 0} (theory : Theory C W) (moment : ℕ) (all : List Item) where
   -- whatever handles the rest handles all

@@ -11,16 +11,17 @@ ghost use Rattle.sv_run.specs.Items.{IsAnswerTo, IsTextAt, closes_behind, contin
 ghost use Rattle.sv_run.specs.Messages.{empty_response, plain_response, plain_text};
 ghost use Rattle.sv_text.specs.Gives.{GivesAnswer};
 ghost use Rattle.sv_message.specs.Phrases.{phrase_of};
-ghost use Rattle.sv_message.specs.WireFault.{fault_status};
+ghost use Rattle.sv_wire_fault.specs.WireFault.{fault_status};
 
 use crate::output::Output;
 use http::StatusCode;
 use std::alloc::Global;
 use sv_head::Field;
 use sv_journal::{Entry, RefusalCause};
-use sv_message::{Body, Message, Response, WireFault};
+use sv_message::{Body, Message, Response};
 use sv_text::{Bytes, Listed, NoMemory};
 use sv_wire::write_response;
+use sv_wire_fault::WireFault;
 
 const CONTINUE: &[u8] = b"HTTP/1.1 100 Continue\r\n\r\n";
 

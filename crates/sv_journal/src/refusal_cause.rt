@@ -5,8 +5,8 @@ ghost use Rattle.sv_journal.specs.RefusalCause.{cause_number, cause_text, path_n
 
 use std::fmt;
 use sv_constraints::OwnedWhy;
-use sv_message::WireFault;
 use sv_uri::fault::PathFault;
+use sv_wire_fault::WireFault;
 
 /// Why a message is answered by the container itself, with no dispatch to the path that it asks for. Two of the causes are no faults.
 /// It is printed as its name; `Denied` and `NoLogin` have their reason behind it.

@@ -12,8 +12,8 @@ use Rattle.sv_context.specs.Conduct.{unnoted}
 use Rattle.sv_context.specs.Deployment.{content_of, deployed}
 use Rattle.sv_context.specs.Forgetting.{without_sessions}
 use Rattle.sv_context.specs.State.{ContextState, world_of}
-use Rattle.sv_context.specs.declared.deployment.DeployFault.{DeployFault}
-use Rattle.sv_context.specs.declared.deployment.Deployment.{Deployment}
+use Rattle.sv_context.specs.declared.deploy_fault.DeployFault.{DeployFault}
+use Rattle.sv_deployment.specs.declared.deployment.Deployment.{Deployment}
 use Rattle.sv_journal.specs.Journal.{JournalState}
 use Rattle.sv_lifecycle.specs.Calls.{stop_calls}
 use Rattle.sv_lifecycle.specs.Standing.{LiveState, is_in_service}

@@ -12,7 +12,7 @@ use Rattle.sv_container.specs.declared.container.Container.{Container}
 use Rattle.sv_context.specs.Conduct.{conduct, unnoted}
 use Rattle.sv_context.specs.Retiring.{is_destroy}
 use Rattle.sv_context.specs.State.{ContextState, in_service, world_of}
-use Rattle.sv_context.specs.declared.deployment.Deployment.{Deployment}
+use Rattle.sv_deployment.specs.declared.deployment.Deployment.{Deployment}
 use Rattle.sv_journal.specs.Journal.{JournalState}
 use Rattle.sv_lifecycle.specs.Calls.{stop_calls}
 use Rattle.sv_lifecycle.specs.World.{world}

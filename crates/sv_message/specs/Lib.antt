@@ -3,4 +3,3 @@ pub mod Content
 pub mod Cookies
 pub mod Messages
 pub mod Phrases
-pub mod WireFault

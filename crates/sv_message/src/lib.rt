@@ -1,4 +1,4 @@
-//! Messages as values: requests, responses with their bodies and cookies, and why a message is refused.
+//! Messages as values: requests, and responses with their bodies and cookies.
 #![tactic(auto)]
 
 mod body;
@@ -6,11 +6,9 @@ mod cookie_settings;
 mod message;
 mod pieces;
 mod response;
-mod wire_fault;
 
 pub use body::{Body, flushed_content};
 pub use cookie_settings::CookieSettings;
 pub use message::{Message, Target};
 pub use pieces::Pieces;
 pub use response::{Cookie, Response};
-pub use wire_fault::WireFault;

@@ -18,12 +18,12 @@ use Rattle.sv_wire.specs.declared.item.Item.{Item}
 use Rattle.sv_wire.specs.declared.item.Item.TheVariants.{Continue, Message, Refuse}
 use Rattle.sv_wire.specs.declared.limits.TheConstants.{MAX_HEAD_LEN}
 use Rattle.sv_wire.specs.declared.owed_head.OwedHead.{OwedHead}
-use Rattle.sv_message.specs.declared.wire_fault.WireFault.{WireFault}
-use Rattle.sv_message.specs.declared.wire_fault.WireFault.TheVariants.{BadHead, HeadTooLarge}
+use Rattle.sv_wire_fault.specs.declared.wire_fault.WireFault.{WireFault}
+use Rattle.sv_wire_fault.specs.declared.wire_fault.WireFault.TheVariants.{BadHead, HeadTooLarge}
 use Rattle.sv_wire.specs.EmptyLines.{drop_empty_lines, is_of_empty_line}
 use Rattle.sv_wire.specs.Head.{ends_head, judgement_of}
 use Rattle.sv_wire.specs.Items.{is_last}
-use Rattle.sv_message.specs.WireFault.{fault_of}
+use Rattle.sv_wire_fault.specs.WireFault.{fault_of}
 use Rattle.sv_message.specs.declared.message.Message.{Message as MessageRecord}
 use Rattle.sv_wire.specs.Next.{HoldsText}
 use Rattle.sv_message.specs.Messages.{with_body}

@@ -22,7 +22,7 @@ use Rattle.sv_head.specs.Fields.{has_field, is_named, parts_of, values_of}
 use Rattle.sv_head.specs.Length.{content_length, is_length, the_length}
 use Rattle.sv_message.specs.declared.body.Body.TheVariants.{Flushed, Whole}
 use Rattle.sv_wire.specs.Head.{faults_by_kind, number_or_0}
-use Rattle.sv_message.specs.declared.wire_fault.WireFault.TheVariants.{BadFraming}
+use Rattle.sv_wire_fault.specs.declared.wire_fault.WireFault.TheVariants.{BadFraming}
 use Rattle.sv_wire.specs.ResponseText.{framing_line}
 use Rattle.sv_text.specs.Faults.{when}
 use Rattle.sv_read_back.specs.FramingFields.{SaysNoEnd, field}

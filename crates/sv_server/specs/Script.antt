@@ -6,7 +6,7 @@ use Rattle.sv_container.specs.declared.container.Container.{Container}
 use Rattle.sv_container.specs.declared.new_fault.NewCode.{NewCode}
 use Rattle.sv_container.specs.declared.new_fault.NewCode.TheVariants as codes_of_start
 use Rattle.sv_container.specs.declared.new_fault.NewFault.{NewFault}
-use Rattle.sv_context.specs.declared.deployment.Deployment.{Deployment}
+use Rattle.sv_deployment.specs.declared.deployment.Deployment.{Deployment}
 use Rattle.sv_journal.specs.Journal.{JournalState, new_journal}
 use Rattle.sv_replay.specs.declared.fault.ReplayFault.{ReplayFault}
 use Rattle.sv_script.specs.Printed.{start_text}

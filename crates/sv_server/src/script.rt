@@ -8,7 +8,7 @@ use crate::running::Running;
 use std::alloc::Global;
 use sv_component::{Filter, Listener, Servlet};
 use sv_container::{Container, NewCode};
-use sv_context::Deployment;
+use sv_deployment::Deployment;
 use sv_journal::Journal;
 use sv_script_run::{print_start, run_started};
 use sv_streams::{Sink, Source};

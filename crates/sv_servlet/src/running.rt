@@ -9,7 +9,7 @@ use std::random::RandomSource;
 use std::time::Clock;
 use sv_author_deployments::deployments_of;
 use sv_component::{Filter, Listener, Servlet};
-use sv_context::{Deployment, let_go};
+use sv_deployment::{Deployment, let_go};
 use sv_listening::listen_and_run;
 use sv_program::CommandFault;
 use sv_starting::{Seeding, seed_for, start};

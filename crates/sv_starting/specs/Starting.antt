@@ -8,7 +8,7 @@ use Rattle.sv_container.specs.declared.container.Container.{Container}
 use Rattle.sv_container.specs.declared.new_fault.NewCode.{NewCode}
 use Rattle.sv_container.specs.declared.new_fault.NewCode.TheVariants as code
 use Rattle.sv_container.specs.declared.new_fault.NewFault.{NewFault}
-use Rattle.sv_context.specs.declared.deployment.Deployment.{Deployment}
+use Rattle.sv_deployment.specs.declared.deployment.Deployment.{Deployment}
 use Rattle.sv_journal.specs.Journal.{JournalState, new_journal}
 use Rattle.sv_program.specs.declared.command_fault.CommandFault.{CommandFault}
 use Rattle.sv_program.specs.declared.command_fault.CommandFault.TheVariants as fault

@@ -7,7 +7,7 @@ ghost use Rattle.sv_starting.specs.Starting as spec;
 use std::alloc::Global;
 use sv_component::{Filter, Listener, Servlet};
 use sv_container::{Container, NewCode};
-use sv_context::Deployment;
+use sv_deployment::Deployment;
 use sv_journal::Journal;
 use sv_program::CommandFault;
 use sv_text::Text;
@@ -26,12 +26,14 @@ pub fn start<S: Servlet, F: Filter, L: Listener>(
     ensures { spec.StartsWith (steps_of S.servlet_step F.filter_step L.listener_step) deployments.items seed.now result }
 {
     let mut journal = Journal::new(alloc);
-    match Container::new(
+    let started = Container::new(
         alloc,
         deployments,
         SeededWords::from_seed(seed),
         &mut journal,
-    ) {
+    );
+    journal.let_go();
+    match started {
         Ok(container) => Ok(container),
         Err(fault) => {
             let (code, context) = fault.into_cause();

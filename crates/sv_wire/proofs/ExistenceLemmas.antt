@@ -12,7 +12,7 @@ use Rattle.sv_wire.specs.declared.item.Item.{Item}
 use Rattle.sv_wire.specs.declared.owed_head.OwedHead.{OwedHead}
 use Rattle.sv_wire.specs.declared.owed_head.Judgement.{Judgement}
 use Rattle.sv_wire.specs.declared.owed_head.Judgement.TheVariants.{Refused, Expecting, Accepted}
-use Rattle.sv_message.specs.declared.wire_fault.WireFault.TheVariants.{BadHead, HeadTooLarge}
+use Rattle.sv_wire_fault.specs.declared.wire_fault.WireFault.TheVariants.{BadHead, HeadTooLarge}
 use Rattle.sv_wire.specs.Head.{judge}
 use Rattle.sv_wire.specs.Items.{is_last}
 use Rattle.sv_wire.specs.Laws.{ReadingsExist}

@@ -22,7 +22,7 @@ use Rattle.sv_text.specs.Gives.{GivesAnswer}
 use Rattle.sv_text.specs.declared.NoMemory.{NoMemory}
 use Rattle.sv_wire.specs.declared.owed_head.Judgement.{Judgement}
 use Rattle.sv_wire.specs.declared.owed_head.Judgement.TheVariants.{Refused}
-use Rattle.sv_message.specs.declared.wire_fault.WireFault.TheVariants.{BadHead}
+use Rattle.sv_wire_fault.specs.declared.wire_fault.WireFault.TheVariants.{BadHead}
 use Rattle.sv_wire.specs.Head.{judge}
 use Rattle.sv_wire.specs.Reads.{IsNoHead, has_too_many_lines, ReadsHead}
 use Rattle.sv_wire.specs.Spans.{IsFieldAt, AreHeadSpans, ShowHead}

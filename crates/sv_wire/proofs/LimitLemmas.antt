@@ -23,8 +23,8 @@ use Rattle.sv_wire.specs.declared.limits.TheConstants.{MAX_HEAD_LEN}
 use Rattle.sv_wire.specs.declared.owed_head.OwedHead.{OwedHead}
 use Rattle.sv_wire.specs.declared.owed_head.Judgement.{Judgement}
 use Rattle.sv_wire.specs.declared.owed_head.Judgement.TheVariants.{Refused, Expecting, Accepted}
-use Rattle.sv_message.specs.declared.wire_fault.WireFault.{WireFault}
-use Rattle.sv_message.specs.declared.wire_fault.WireFault.TheVariants.{BadHost, BadFraming, BodyTooLarge, BadExpect, BadTarget, HeadTooLarge}
+use Rattle.sv_wire_fault.specs.declared.wire_fault.WireFault.{WireFault}
+use Rattle.sv_wire_fault.specs.declared.wire_fault.WireFault.TheVariants.{BadHost, BadFraming, BodyTooLarge, BadExpect, BadTarget, HeadTooLarge}
 use Rattle.sv_wire.specs.Head.{accept, body_len, faults_of, framing_faults, framing_of, has_codings, is_unknown, is_unknown_expectation, judge, owed_head, judgement_of}
 use Rattle.sv_wire.specs.Items.{is_last}
 use Rattle.sv_wire.specs.Laws.{IsWithinLimit, OwesWithinLimit, BodiesAreWithinTheLimit}

@@ -24,8 +24,8 @@ use Rattle.sv_wire.specs.declared.owed_head.Judgement.TheVariants.{Refused, Expe
 use Rattle.sv_wire.specs.declared.pending.Pending.{Pending}
 use Rattle.sv_wire.specs.declared.reading.Next.{Next}
 use Rattle.sv_wire.specs.declared.reading.Next.TheVariants.{Found, AwaitsHead, AwaitsBody}
-use Rattle.sv_message.specs.declared.wire_fault.WireFault.{WireFault}
-use Rattle.sv_message.specs.declared.wire_fault.WireFault.TheVariants.{HeadTooLarge}
+use Rattle.sv_wire_fault.specs.declared.wire_fault.WireFault.{WireFault}
+use Rattle.sv_wire_fault.specs.declared.wire_fault.WireFault.TheVariants.{HeadTooLarge}
 use Rattle.sv_wire.specs.EmptyLines.{drop_empty_lines}
 use Rattle.sv_wire.specs.Inbox.{end_within}
 use Rattle.sv_wire.specs.declared.inbox.Ended.TheVariants.{Truncated}

@@ -25,8 +25,8 @@ use Rattle.sv_message.specs.declared.message.Target.TheVariants as targets
 use Rattle.sv_wire.specs.declared.owed_head.OwedHead.{OwedHead}
 use Rattle.sv_wire.specs.declared.owed_head.Judgement.{Judgement}
 use Rattle.sv_wire.specs.declared.owed_head.Judgement.TheVariants.{Refused, Expecting, Accepted}
-use Rattle.sv_message.specs.declared.wire_fault.WireFault.{WireFault}
-use Rattle.sv_message.specs.declared.wire_fault.WireFault.TheVariants.{BadHost, BadFraming, UnknownCoding, BodyTooLarge, BadExpect, BadTarget}
+use Rattle.sv_wire_fault.specs.declared.wire_fault.WireFault.{WireFault}
+use Rattle.sv_wire_fault.specs.declared.wire_fault.WireFault.TheVariants.{BadHost, BadFraming, UnknownCoding, BodyTooLarge, BadExpect, BadTarget}
 
 -- whether a text ends as a head does: an empty line, CRLF or LF, behind a line's LF
 abbrev pub ends_head : List ℕ → Bool

@@ -17,12 +17,12 @@ use Rattle.sv_message.specs.declared.message.Message.{Message as MessageRecord}
 use Rattle.sv_wire.specs.declared.owed_head.OwedHead.{OwedHead}
 use Rattle.sv_wire.specs.declared.owed_head.Judgement.{Judgement}
 use Rattle.sv_wire.specs.declared.owed_head.Judgement.TheVariants.{Refused, Expecting, Accepted}
-use Rattle.sv_message.specs.declared.wire_fault.WireFault.TheVariants.{BadHead, HeadTooLarge}
+use Rattle.sv_wire_fault.specs.declared.wire_fault.WireFault.TheVariants.{BadHead, HeadTooLarge}
 use Rattle.sv_wire.specs.EmptyLines.{drop_empty_lines}
 use Rattle.sv_wire.specs.Head.{ends_head, judge}
 use Rattle.sv_wire.specs.Items.{is_last}
 use Rattle.sv_message.specs.Messages.{with_body}
-use Rattle.sv_message.specs.WireFault.{fault_of}
+use Rattle.sv_wire_fault.specs.WireFault.{fault_of}
 
 -- what a text begins with
 pub data Start : Type 0 where

@@ -23,8 +23,9 @@ use sv_head::{
     Codings, Field, SCHEME_LEN, TargetForm, accepts_hosts, asks_to_continue, coding_kind,
     content_length, has_field, keeps, replace_hosts, target_form,
 };
-use sv_message::{Message, Target, WireFault};
+use sv_message::{Message, Target};
 use sv_text::{Bytes, Listed, NoMemory};
+use sv_wire_fault::WireFault;
 
 /// Reads the whole text of a head, which is no longer than a head may be. Most heads have few lines, and places for few fields are made for these: a
 /// function makes its places where it begins, so each number of them has a function of its own.

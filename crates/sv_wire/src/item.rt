@@ -2,7 +2,8 @@
 
 ghost use Rattle.std.specs.Prelude.{◌≡◌};
 
-use sv_message::{Message, WireFault};
+use sv_message::Message;
+use sv_wire_fault::WireFault;
 
 /// One thing that a stream says.
 #[derive(Drop)]

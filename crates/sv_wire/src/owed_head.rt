@@ -6,8 +6,9 @@ ghost use Rattle.sv_wire.specs.Head.{has_body};
 use crate::item::Item;
 use std::alloc::Global;
 use sv_body::Framing;
-use sv_message::{Message, WireFault};
+use sv_message::Message;
 use sv_text::Bytes;
+use sv_wire_fault::WireFault;
 
 /// A head whose body is awaited: the message without its body, and how its end is found (RFC 9112, section 6).
 #[derive(Drop)]

@@ -8,8 +8,8 @@ use crate::owed_head::OwedHead;
 use std::alloc::Global;
 use std::marker::Model;
 use sv_body::{BodyEnd, BodyReader, History, Piece, Progress};
-use sv_message::WireFault;
 use sv_text::NoMemory;
+use sv_wire_fault::WireFault;
 
 /// A head whose body is being read.
 #[derive(Drop)]

@@ -17,8 +17,8 @@ use crate::owed_head::{Judgement, OwedHead, has_body};
 use crate::pending::PendingBox;
 use std::alloc::Global;
 use sv_body::Progress;
-use sv_message::WireFault;
 use sv_text::{Cut, NoMemory};
+use sv_wire_fault::WireFault;
 
 /// What comes next in a stream.
 #[derive(Drop)]

@@ -2,7 +2,7 @@ use Rattle.std.proofs.Common.{◌++◌, false, refl, sym, ap, ◌∙◌}
 use Rattle.sv_run.specs.Messages.{plain_response}
 use Rattle.sv_run.specs.declared.reaction.Reaction.{Reaction}
 use Rattle.sv_wire.specs.ResponseText.{response_text}
-use Rattle.sv_message.specs.WireFault.{fault_status}
+use Rattle.sv_wire_fault.specs.WireFault.{fault_status}
 use Rattle.sv_host.proofs.Adding.{or-true}
 use Rattle.sv_run.proofs.Effects.{first-at_none}
 use Rattle.sv_host.proofs.answering.refuse.Goals as goal

@@ -1,11 +1,11 @@
 use Rattle.sv_starting.proofs.starting.start.Goals as goal
 
-pub returns : goal.returns
-returns g c = (
+pub returns-in-Err : goal.returns-in-Err
+returns-in-Err g c = (
   c.from_seed.result,
   c.from_seed.ensures,
   (
-    c.new.new.journal,
+    c.new-started.new.journal,
     c.in-Err.fault,
     rw c.new-journal.ensures at c.in-Err.ensures,
     rw (c.into_cause-code.ensures.code, c.into_cause-code.ensures.context) at c.start_fault.ensures,

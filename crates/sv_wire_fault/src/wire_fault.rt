@@ -1,7 +1,7 @@
 //! Why a message is refused.
 
 ghost use Rattle.std.specs.Prelude.{◌≡◌, Some};
-ghost use Rattle.sv_message.specs.WireFault.{fault_name, fault_of, fault_status};
+ghost use Rattle.sv_wire_fault.specs.WireFault.{fault_name, fault_of, fault_status};
 
 use std::error::Error;
 use std::fmt;

@@ -5,7 +5,7 @@ ghost use Rattle.std.specs.Prelude.{◌≡◌};
 use sv_component::{Filter, Listener, Servlet};
 use sv_descriptor::Descriptor;
 use sv_files::Files;
-use sv_lifecycle::{Parts, StartCode};
+use sv_lifecycle::Parts;
 use sv_realm::Realm;
 use sv_text::Text;
 
@@ -25,29 +25,10 @@ pub struct Deployment<S, F, L> {
 }
 
 impl<S: Servlet, F: Filter, L: Listener> Deployment<S, F, L> {
-    // Its components alone.
-    pub(crate) fn into_parts(self) -> Parts<S, F, L>
+    /// Its components alone.
+    pub fn into_parts(self) -> Parts<S, F, L>
         ensures { result ≡ self.parts }
     {
         self.parts
     }
-}
-
-/// A context that was not deployed.
-#[derive(Drop)]
-pub struct DeployFault<S, F, L> {
-    /// Why it did not start.
-    pub fault: StartCode,
-    /// All that was handed in, the components as the calls left them.
-    pub deployment: Deployment<S, F, L>,
-}
-
-/// Contexts that were not deployed: the first of them that does not start ended it.
-pub struct DeployAllFault<S, F, L> {
-    /// Why it did not start.
-    pub code: StartCode,
-    /// Its context path.
-    pub context: Text,
-    /// All that was handed in, in its order, the components as the calls left them.
-    pub deployments: Vec<Deployment<S, F, L>>,
 }

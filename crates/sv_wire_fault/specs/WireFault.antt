@@ -2,8 +2,8 @@
 use Rattle.std.specs.Prelude.{ℕ, List, codes}
 use Rattle.sv_body.specs.declared.body_fault.BodyFault.{BodyFault}
 use Rattle.sv_body.specs.declared.body_fault.BodyFault.TheVariants.{BadChunk, TooLarge, TrailerTooLarge}
-use Rattle.sv_message.specs.declared.wire_fault.WireFault.{WireFault}
-use Rattle.sv_message.specs.declared.wire_fault.WireFault.TheVariants.{BadHead, BadHost, BadFraming, UnknownCoding, HeadTooLarge, BodyTooLarge, BadExpect, BadTarget}
+use Rattle.sv_wire_fault.specs.declared.wire_fault.WireFault.{WireFault}
+use Rattle.sv_wire_fault.specs.declared.wire_fault.WireFault.TheVariants.{BadHead, BadHost, BadFraming, UnknownCoding, HeadTooLarge, BodyTooLarge, BadExpect, BadTarget}
 
 -- the name of a fault
 abbrev pub fault_name : WireFault → List ℕ
