@@ -2,8 +2,8 @@
 use Rattle.std.specs.Prelude.{ℕ, ◌+◌, Bool, true, false, List, Option, None, Some, codes, bytes_eq, if◌then◌else◌}
 use Rattle.std.specs.Option.{option_map}
 use Rattle.sv_exchange.specs.declared.held_session.HeldSession.{HeldSession}
-use Rattle.sv_journal.specs.declared.event.Event.{Event}
-use Rattle.sv_journal.specs.declared.event.Event.TheVariants.{SessionCreated, SessionIdChanged}
+use Rattle.sv_event.specs.declared.event.Event.{Event}
+use Rattle.sv_event.specs.declared.event.Event.TheVariants.{SessionCreated, SessionIdChanged}
 use Rattle.sv_outcome.specs.declared.outcome.Outcome.{Outcome}
 use Rattle.sv_outcome.specs.declared.outcome.Outcome.TheVariants.{Protected, LoggedIn, LoginFailed, NoSession, Entered, SentToLogin, NoLogin, Denied}
 use Rattle.sv_realm.specs.declared.user.User.{User}

@@ -2,7 +2,7 @@
 
 ghost use Rattle.std.specs.Prelude.{◌≡◌, IfOk, None, Option, Some, bytes_eq, codes};
 ghost use Rattle.std.specs.Option.{option_copied};
-ghost use Rattle.sv_journal.specs.declared.event.Event.{Event as EventData};
+ghost use Rattle.sv_event.specs.declared.event.Event.{Event as EventData};
 ghost use Rattle.sv_session.specs.Store.{Store};
 ghost use Rattle.sv_text.specs.Gives.{GivesAnswer};
 ghost use Rattle.sv_admission.specs.Asked.{Asked, asked_by};
@@ -11,8 +11,8 @@ ghost use Rattle.sv_admission.specs.Settled as spec;
 
 use crate::judging::caller_held;
 use std::alloc::Global;
+use sv_event::Event;
 use sv_exchange::HeldSession;
-use sv_journal::Event;
 use sv_message::Message;
 use sv_outcome::Outcome;
 use sv_realm::{Caller, Realm};

@@ -7,7 +7,7 @@ use Rattle.sv_descriptor.specs.declared.filter.FilterEntry.{FilterEntry}
 use Rattle.sv_descriptor.specs.declared.listener.ListenerEntry.{ListenerEntry}
 use Rattle.sv_descriptor.specs.declared.servlet.ServletEntry.{ServletEntry}
 use Rattle.sv_descriptor.specs.declared.web_app.WebApp.{WebApp}
-use Rattle.sv_lifecycle.specs.declared.parts.Parts as lifecycle
+use Rattle.sv_live.specs.declared.parts.Parts as lifecycle
 use Rattle.sv_application.specs.FilterClasses.{new_filter}
 use Rattle.sv_application.specs.ListenerClasses.{new_listener}
 use Rattle.sv_application.specs.ServletClasses.{new_servlet}

@@ -13,7 +13,7 @@ use crate::program_listener::ProgramListener;
 use crate::program_servlet::ProgramServlet;
 use std::alloc::Global;
 use sv_descriptor::Descriptor;
-use sv_lifecycle::Parts;
+use sv_live::Parts;
 
 /// The components that the descriptor declares, in its order and with its names, each a new one of its class. They fit it, so that a start with
 /// them is never refused for other components than it declares (Jakarta Servlet 6.0, section 14.4).

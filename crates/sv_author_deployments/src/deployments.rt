@@ -10,7 +10,7 @@ use std::alloc::Global;
 use sv_component::{Filter, Listener, Servlet};
 use sv_deploying::files_of;
 use sv_deployment::Deployment;
-use sv_lifecycle::Parts;
+use sv_live::Parts;
 use sv_program::{CommandFault, ContextTexts, descriptor_in, realm_in};
 use sv_settings::ContextEntry;
 use sv_text::{NoMemory, Text};

@@ -1,4 +1,6 @@
 pub mod Boxing
+pub mod Growing
 pub mod Journalling
 pub mod Moving
 pub mod Running
+pub mod Tellings

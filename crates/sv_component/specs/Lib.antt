@@ -7,4 +7,5 @@ pub mod Noted
 pub mod Runs
 pub mod Standing
 pub mod Steps
+pub mod Telling
 pub mod World

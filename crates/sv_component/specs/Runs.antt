@@ -8,7 +8,7 @@ use Rattle.sv_component.specs.Steps.{ComponentSteps}
 use Rattle.sv_journal.specs.Entry.{heard}
 use Rattle.sv_journal.specs.Journal.{Takes}
 use Rattle.sv_journal.specs.declared.entry.Entry.{Entry}
-use Rattle.sv_journal.specs.declared.event.Event.{Event}
+use Rattle.sv_event.specs.declared.event.Event.{Event}
 
 -- a call of the servlet or filter at a place, or an event that the listener at a place hears; places are those of the descriptor, from 0
 pub data Record : Type 0 where

@@ -1,4 +1,4 @@
-//! The interfaces of components, and what is said of their calls.
+//! The interfaces of components, what is said of their calls, and how listeners are told what happened.
 #![tactic(auto)]
 
 mod answers;
@@ -9,6 +9,7 @@ mod laws;
 mod named;
 mod noted;
 mod standing;
+mod telling;
 
 pub use answers::{Gate, Init, Step};
 pub use components::{Filter, Listener, Servlet};
@@ -17,5 +18,6 @@ pub use laws::{runs_are_journalled, runs_are_whole, runs_join, runs_move_compone
 pub use named::Named;
 pub use noted::{gate_answer, init_answer, step_answer};
 pub use standing::Standing;
+pub use sv_event::Event;
 pub use sv_exchange::{Exchange, ExchangeFault};
-pub use sv_journal::Event;
+pub use telling::tell;

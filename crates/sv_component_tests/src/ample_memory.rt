@@ -1,7 +1,8 @@
 //! A journal and the answers of calls that may be refused memory, with memory at hand.
 
 use std::alloc::Global;
-use sv_journal::{Answer, CallName, Entry, Event, Journal};
+use sv_event::Event;
+use sv_journal::{Answer, CallName, Entry, Journal};
 use sv_rows::{Asks, Draft, Strays, cell, hold};
 use sv_text::NoMemory;
 

@@ -2,7 +2,8 @@
 
 use std::alloc::Global;
 use sv_constraints::{Cause, OwnedWhy};
-use sv_journal::{Answer, CallName, Entry, Event, RefusalCause};
+use sv_event::Event;
+use sv_journal::{Answer, CallName, Entry, RefusalCause};
 use sv_rows::cell;
 use sv_text::{NoMemory, Text};
 use sv_uri::fault::PathFault;

@@ -16,7 +16,7 @@ use Rattle.sv_deployment.specs.declared.deployment.Deployment.{Deployment}
 use Rattle.sv_context.specs.declared.limits.TheConstants.{SECONDS_OF_MINUTE}
 use Rattle.sv_descriptor.specs.Version.{max_sessions}
 use Rattle.sv_journal.specs.Journal.{JournalState, new_journal, with_entry}
-use Rattle.sv_lifecycle.specs.Standing.{LiveState}
+use Rattle.sv_live.specs.Standing.{LiveState}
 use Rattle.sv_lifecycle.specs.declared.start_fault.StartFault.{StartFault}
 use Rattle.sv_login.specs.Post.{user_sent}
 use Rattle.sv_run.specs.Effect.{whole}

@@ -21,9 +21,9 @@ use Rattle.sv_context.specs.Theory.{theory}
 use Rattle.sv_exchange.specs.Changing.{SetHeader, SetStatus, Write}
 use Rattle.sv_exchange.specs.State as exchanges
 use Rattle.sv_journal.specs.Journal.{JournalState, new_journal, with_entry}
-use Rattle.sv_journal.specs.declared.event.Event.{Event}
-use Rattle.sv_lifecycle.specs.SessionEnds.{end_events}
-use Rattle.sv_listeners.specs.Telling.{told}
+use Rattle.sv_event.specs.declared.event.Event.{Event}
+use Rattle.sv_live.specs.SessionEnds.{end_events}
+use Rattle.sv_component.specs.Telling.{told}
 use Rattle.sv_run.proofs.Breaking.{event_same}
 use Rattle.sv_run.specs.Effect.{whole}
 use Rattle.sv_session.specs.declared.ended_session.EndedSession.{EndedSession}

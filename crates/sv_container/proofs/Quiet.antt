@@ -10,8 +10,8 @@ use Rattle.sv_context.specs.Several.{UndeploysAll}
 use Rattle.sv_context.specs.State.{ContextState, in_service, world_of}
 use Rattle.sv_deployment.specs.declared.deployment.Deployment.{Deployment}
 use Rattle.sv_journal.specs.Journal.{JournalState}
-use Rattle.sv_lifecycle.specs.Calls.{stop_calls}
-use Rattle.sv_lifecycle.specs.World.{world}
+use Rattle.sv_live.specs.Calls.{stop_calls}
+use Rattle.sv_live.specs.World.{world}
 use Rattle.sv_site.specs.Site.{Content}
 
 module _ {S F L : Type 0} (moving : ComponentSteps S F L) where

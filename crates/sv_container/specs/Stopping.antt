@@ -6,9 +6,9 @@ use Rattle.sv_context.specs.Forgetting.{without_sessions}
 use Rattle.sv_context.specs.Several.{GivesBackParts}
 use Rattle.sv_context.specs.State.{ContextState, in_service, world_of}
 use Rattle.sv_journal.specs.Journal.{JournalState, broken, new_journal}
-use Rattle.sv_lifecycle.specs.Calls.{stop_calls}
-use Rattle.sv_lifecycle.specs.World.{world}
-use Rattle.sv_lifecycle.specs.declared.parts.Parts.{Parts}
+use Rattle.sv_live.specs.Calls.{stop_calls}
+use Rattle.sv_live.specs.World.{world}
+use Rattle.sv_live.specs.declared.parts.Parts.{Parts}
 use Rattle.sv_run.specs.State.{State}
 
 -- after an event that wanted memory, nothing is told of sessions

@@ -9,7 +9,7 @@ use sv_component::Named;
 use sv_deployment::Deployment;
 use sv_descriptor::{Descriptor, read_descriptor};
 use sv_files::Files;
-use sv_lifecycle::Parts;
+use sv_live::Parts;
 use sv_realm::{MAX_USERS, Realm};
 use sv_settings::read_users;
 use sv_text::{NoMemory, Text};

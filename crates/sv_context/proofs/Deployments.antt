@@ -6,13 +6,13 @@ use Rattle.sv_component.specs.Steps.{ComponentSteps}
 use Rattle.sv_descriptor.specs.declared.web_app.WebApp.{WebApp}
 use Rattle.sv_files.specs.declared.file.File.{File}
 use Rattle.sv_journal.specs.Journal.{JournalState}
-use Rattle.sv_lifecycle.specs.Calls.{stop_calls}
+use Rattle.sv_live.specs.Calls.{stop_calls}
 use Rattle.sv_lifecycle.specs.Fit.{Fits}
 use Rattle.sv_lifecycle.specs.Starting.{IsResultOf, Outcome, RefusesUntouched, Started, Starts, Undone, Untouched}
-use Rattle.sv_lifecycle.specs.Standing as standing
-use Rattle.sv_lifecycle.specs.Standing.{LiveState, live_world}
-use Rattle.sv_lifecycle.specs.World.{world}
-use Rattle.sv_lifecycle.specs.declared.parts.Parts.{Parts}
+use Rattle.sv_live.specs.Standing as standing
+use Rattle.sv_live.specs.Standing.{LiveState, live_world}
+use Rattle.sv_live.specs.World.{world}
+use Rattle.sv_live.specs.declared.parts.Parts.{Parts}
 use Rattle.sv_lifecycle.specs.declared.start_fault.StartCode.{StartCode}
 use Rattle.sv_lifecycle.specs.declared.start_fault.StartCode.TheVariants.{NoMemory, PartsMismatch}
 use Rattle.sv_lifecycle.specs.declared.start_fault.StartFault.{StartFault}

@@ -7,9 +7,9 @@ use Rattle.sv_component.specs.Runs.{IsRun, Runs}
 use Rattle.sv_component.specs.World.{World}
 use Rattle.sv_component.specs.Steps.{ComponentSteps}
 use Rattle.sv_journal.specs.Journal.{JournalState}
-use Rattle.sv_lifecycle.specs.Calling.{StandsAsBefore}
-use Rattle.sv_lifecycle.specs.Standing.{LiveState, live_world}
-use Rattle.sv_lifecycle.specs.SessionEnds.{all_told, end_events}
+use Rattle.sv_live.specs.Calling.{StandsAsBefore}
+use Rattle.sv_live.specs.Standing.{LiveState, live_world}
+use Rattle.sv_live.specs.SessionEnds.{all_told, end_events}
 use Rattle.sv_session.specs.Calls.{ended, ending, expired_number, expiring, left_by_expiry, without}
 use Rattle.sv_session.specs.Expiry.{HasNoneExpired}
 use Rattle.sv_session.specs.Laws.{ExpiryEndsWhereNoneHasExpired}

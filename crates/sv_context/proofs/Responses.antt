@@ -14,14 +14,14 @@ use Rattle.sv_exchange.specs.Changing.{Change, SetHeader, SetStatus, Write}
 use Rattle.sv_exchange.specs.State as exchanges
 use Rattle.sv_exchange.specs.declared.exchange_fault.ExchangeFault.{ExchangeFault}
 use Rattle.sv_journal.specs.Journal.{JournalState}
-use Rattle.sv_journal.specs.declared.event.Event.{Event}
-use Rattle.sv_journal.specs.declared.event.Event.TheVariants.{RequestDestroyed, RequestInitialized}
-use Rattle.sv_lifecycle.specs.Calling.{StandsAsBefore}
-use Rattle.sv_lifecycle.specs.Standing.{LiveState, live_world}
-use Rattle.sv_listeners.specs.Telling.{told}
-use Rattle.sv_served.proofs.ContextDeeds.{by_alone, by_not, by_then}
-use Rattle.sv_served.proofs.ExchangeDeeds.{alone_makes, alone_not, alone_then}
-use Rattle.sv_served.specs.ServedBy.{Alone, ServedBy}
+use Rattle.sv_event.specs.declared.event.Event.{Event}
+use Rattle.sv_event.specs.declared.event.Event.TheVariants.{RequestDestroyed, RequestInitialized}
+use Rattle.sv_live.specs.Calling.{StandsAsBefore}
+use Rattle.sv_live.specs.Standing.{LiveState, live_world}
+use Rattle.sv_component.specs.Telling.{told}
+use Rattle.sv_dispatch.proofs.ContextDeeds.{by_alone, by_not, by_then}
+use Rattle.sv_dispatch.proofs.ExchangeDeeds.{alone_makes, alone_not, alone_then}
+use Rattle.sv_dispatch.specs.ServedBy.{Alone, ServedBy}
 use Rattle.sv_text.specs.declared.no_memory.NoMemory.{NoMemory}
 use Rattle.sv_tree.proofs.Doing.{chosen_then}
 use Rattle.sv_tree.specs.Does.{Does, ◌>>=◌, ◌>>◌, becomes, gives, makes}

@@ -18,11 +18,11 @@ use Rattle.sv_context.specs.Expiry.{ends_told}
 use Rattle.sv_context.specs.Retiring.{EndsSo, Retires, call_of, calls_of, gone_at, is_destroy, is_destroy_of_filter}
 use Rattle.sv_context.specs.Retirement.{ends_none, retires_join, retires_none}
 use Rattle.sv_exchange.specs.Changing.{SetHeader, SetStatus}
-use Rattle.sv_journal.specs.declared.event.Event.{Event}
-use Rattle.sv_journal.specs.declared.event.Event.TheVariants.{RequestDestroyed, RequestInitialized}
-use Rattle.sv_lifecycle.specs.SessionEnds.{end_events}
-use Rattle.sv_lifecycle.specs.Standing as lifecycle
-use Rattle.sv_listeners.specs.Telling.{told}
+use Rattle.sv_event.specs.declared.event.Event.{Event}
+use Rattle.sv_event.specs.declared.event.Event.TheVariants.{RequestDestroyed, RequestInitialized}
+use Rattle.sv_live.specs.SessionEnds.{end_events}
+use Rattle.sv_live.specs.Standing as lifecycle
+use Rattle.sv_component.specs.Telling.{told}
 use Rattle.sv_mapping.specs.declared.kind.Kind.{Kind}
 use Rattle.sv_mapping.specs.declared.kind.Kind.TheVariants as kinds
 use Rattle.sv_session.specs.declared.ended_session.EndedSession.{EndedSession}

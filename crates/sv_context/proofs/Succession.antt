@@ -8,7 +8,7 @@ use Rattle.sv_context.specs.State.{ContextState}
 use Rattle.sv_context.specs.declared.deploy_fault.DeployFault.{DeployFault}
 use Rattle.sv_deployment.specs.declared.deployment.Deployment.{Deployment}
 use Rattle.sv_journal.specs.Journal.{JournalState}
-use Rattle.sv_lifecycle.specs.Standing.{LiveState}
+use Rattle.sv_live.specs.Standing.{LiveState}
 use Rattle.sv_lifecycle.specs.declared.start_fault.StartFault.{StartFault}
 
 module _ {A B : Type 0} (f : A → B) where

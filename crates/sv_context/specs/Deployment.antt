@@ -5,10 +5,10 @@ use Rattle.sv_component.specs.Steps.{ComponentSteps}
 use Rattle.sv_descriptor.specs.Version.{max_sessions}
 use Rattle.sv_descriptor.specs.declared.web_app.WebApp.{WebApp}
 use Rattle.sv_journal.specs.Journal.{JournalState}
-use Rattle.sv_lifecycle.specs.Calls.{stop_calls}
-use Rattle.sv_lifecycle.specs.Standing.{LiveState}
+use Rattle.sv_live.specs.Calls.{stop_calls}
+use Rattle.sv_live.specs.Standing.{LiveState}
 use Rattle.sv_lifecycle.specs.Starting.{Starts}
-use Rattle.sv_lifecycle.specs.World.{world}
+use Rattle.sv_live.specs.World.{world}
 use Rattle.sv_lifecycle.specs.declared.start_fault.StartFault.{StartFault}
 use Rattle.sv_policy.specs.Compiled.{Standing, compiled}
 use Rattle.sv_session.specs.Store.{Store, empty_store}

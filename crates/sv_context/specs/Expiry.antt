@@ -4,7 +4,7 @@ use Rattle.std.specs.List.{flat_map}
 use Rattle.sv_component.specs.Runs.{Record, Runs}
 use Rattle.sv_component.specs.Steps.{ComponentSteps}
 use Rattle.sv_journal.specs.Journal.{JournalState}
-use Rattle.sv_lifecycle.specs.SessionEnds.{all_told, end_events}
+use Rattle.sv_live.specs.SessionEnds.{all_told, end_events}
 use Rattle.sv_session.specs.Runs as sessions
 use Rattle.sv_session.specs.declared.ended_session.EndedSession.{EndedSession}
 use Rattle.sv_context.specs.State.{ContextState, IsSameDeployment, world_of}

@@ -5,9 +5,9 @@ use Rattle.sv_component.specs.Steps.{ComponentSteps}
 use Rattle.sv_exchange.specs.State as exchanges
 use Rattle.sv_journal.specs.Journal.{JournalState, Takes, with_entry}
 use Rattle.sv_journal.specs.declared.entry.Entry.{Entry}
-use Rattle.sv_journal.specs.declared.event.Event.{Event}
-use Rattle.sv_lifecycle.specs.Standing.{LiveState}
-use Rattle.sv_served.specs.ServedBy.{ServedBy}
+use Rattle.sv_event.specs.declared.event.Event.{Event}
+use Rattle.sv_live.specs.Standing.{LiveState}
+use Rattle.sv_dispatch.specs.ServedBy.{ServedBy}
 use Rattle.sv_tree.specs.Site.{Site}
 use Rattle.sv_uri.specs.declared.path.Canon.{Canon}
 use Rattle.sv_context.specs.Answered.{Answered}

@@ -5,7 +5,7 @@ use Rattle.sv_component.specs.Call.{Call, Destroyed, Entered, Heard, Inited, Lef
 use Rattle.sv_component.specs.Runs.{OfFilter, OfListener, OfServlet, Record}
 use Rattle.sv_component.specs.Standing.{is_gone}
 use Rattle.sv_component.specs.declared.standing.Standing.{Standing}
-use Rattle.sv_lifecycle.specs.Standing.{standing_at}
+use Rattle.sv_live.specs.Standing.{standing_at}
 
 abbrev pub is_destroy : Call → Bool
 is_destroy (Inited config answer) = false

@@ -3,7 +3,7 @@
 ghost use Rattle.std.specs.Prelude.{◌≡◌, length};
 
 use std::marker::Model;
-use sv_lifecycle::Live;
+use sv_live::Live;
 use sv_policy::Policy;
 use sv_realm::Realm;
 use sv_session::Sessions;

@@ -16,7 +16,8 @@ use sv_component::{Filter, Listener, Servlet};
 use sv_deployment::Deployment;
 use sv_descriptor::Descriptor;
 use sv_journal::Journal;
-use sv_lifecycle::{Live, StartCode, StartFault, fits};
+use sv_lifecycle::{StartCode, StartFault, fits};
+use sv_live::Live;
 use sv_policy::Policy;
 use sv_session::Sessions;
 use sv_site::{ServletPatterns, Site};
@@ -95,7 +96,7 @@ fn start<S: Servlet, F: Filter, L: Listener>(
         users,
         parts,
     } = deployment;
-    match Live::start(alloc, path.as_str(), parts, &descriptor, journal) {
+    match sv_lifecycle::start(alloc, path.as_str(), parts, &descriptor, journal) {
         Ok(live) => {
             let sessions = no_sessions(alloc, &descriptor);
             let chains = Chains::compile(alloc, &descriptor);

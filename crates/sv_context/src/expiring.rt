@@ -12,7 +12,7 @@ use crate::context::Context;
 use std::alloc::Global;
 use sv_component::{Filter, Listener, Servlet};
 use sv_journal::Journal;
-use sv_lifecycle::Live;
+use sv_live::Live;
 use sv_session::Sessions;
 
 impl<S: Servlet, F: Filter, L: Listener> Context<S, F, L> {

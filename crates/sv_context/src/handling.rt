@@ -28,7 +28,7 @@ use sv_component::{Event, Exchange, Filter, Listener, Servlet};
 use sv_context_path::path_within;
 use sv_exchange::{BeginFault, HeldSession};
 use sv_journal::{Entry, Journal};
-use sv_lifecycle::Live;
+use sv_live::Live;
 use sv_message::{Message, Response};
 use sv_policy::Policy;
 use sv_realm::Realm;

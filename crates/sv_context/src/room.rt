@@ -8,7 +8,7 @@ use crate::context::Context;
 use std::alloc::Global;
 use sv_component::{Filter, Listener, Servlet};
 use sv_deployment::Deployment;
-use sv_lifecycle::Parts;
+use sv_live::Parts;
 use sv_text::{NoMemory, Text};
 
 /// What the start of several contexts needs memory for, and what their stop needs memory for.

@@ -19,7 +19,7 @@ use std::mem;
 use sv_component::{Filter, Listener, Servlet};
 use sv_deployment::Deployment;
 use sv_journal::Journal;
-use sv_lifecycle::Parts;
+use sv_live::Parts;
 
 /// Deploys contexts in the order of their list, with room for them (Jakarta Servlet 6.0, sections 2.3.1, 6.2.1 and 11.3.3). They come with
 /// room for their stop.

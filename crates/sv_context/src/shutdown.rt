@@ -2,7 +2,7 @@
 
 use sv_component::{Filter, Listener, Servlet};
 use sv_journal::Journal;
-use sv_lifecycle::Parts;
+use sv_live::Parts;
 
 /// What is left of contexts that stopped.
 #[derive(Drop)]

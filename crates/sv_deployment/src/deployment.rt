@@ -5,7 +5,7 @@ ghost use Rattle.std.specs.Prelude.{◌≡◌};
 use sv_component::{Filter, Listener, Servlet};
 use sv_descriptor::Descriptor;
 use sv_files::Files;
-use sv_lifecycle::Parts;
+use sv_live::Parts;
 use sv_realm::Realm;
 use sv_text::Text;
 

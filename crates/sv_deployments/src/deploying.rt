@@ -14,7 +14,7 @@ use sv_deploying::files_of;
 use sv_deployment::Deployment;
 use sv_descriptor::Descriptor;
 use sv_files::{File, Files};
-use sv_lifecycle::Parts;
+use sv_live::Parts;
 use sv_program::{CommandFault, ContextTexts, descriptor_in, realm_in};
 use sv_settings::ContextEntry;
 use sv_text::{Listed, Text};

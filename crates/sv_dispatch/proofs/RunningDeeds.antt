@@ -24,10 +24,10 @@ use Rattle.sv_exchange.specs.State as exchanges
 use Rattle.sv_exchange.specs.declared.exchange_fault.ExchangeFault.{ExchangeFault}
 use Rattle.sv_exchange.specs.declared.exchange_fault.ExchangeFault.TheVariants as faults
 use Rattle.sv_journal.specs.Journal.{JournalState}
-use Rattle.sv_lifecycle.specs.Calling.{CallsOnce, Enters, Leaves, Serves, StandsAsBefore}
-use Rattle.sv_lifecycle.specs.Standing.{LiveState, live_world, standing_at}
-use Rattle.sv_lifecycle.specs.World.{HasSameCounts}
-use Rattle.sv_lifecycle.specs.declared.order.Place.{Place}
+use Rattle.sv_live.specs.Calling.{CallsOnce, Enters, Leaves, Serves, StandsAsBefore}
+use Rattle.sv_live.specs.Standing.{LiveState, live_world, standing_at}
+use Rattle.sv_live.specs.World.{HasSameCounts}
+use Rattle.sv_live.specs.declared.place.Place.{Place}
 use Rattle.sv_text.specs.declared.no_memory.NoMemory.{NoMemory}
 use Rattle.sv_tree.specs.Does as does
 use Rattle.sv_tree.specs.Asking.{asks, without_events}

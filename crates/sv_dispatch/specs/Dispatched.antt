@@ -5,7 +5,7 @@ use Rattle.sv_component.specs.Steps.{ComponentSteps}
 use Rattle.sv_dispatch.specs.Running.{state_of}
 use Rattle.sv_exchange.specs.State as exchanges
 use Rattle.sv_journal.specs.Journal.{JournalState}
-use Rattle.sv_lifecycle.specs.Standing.{LiveState, live_world}
+use Rattle.sv_live.specs.Standing.{LiveState, live_world}
 use Rattle.sv_mapping.specs.declared.kind.Kind.{Kind}
 use Rattle.sv_tree.specs.Site.{Site}
 use Rattle.sv_tree.specs.Tree.{Tree}

@@ -7,7 +7,7 @@ use Rattle.sv_component.specs.declared.answers.Gate.TheVariants as gates
 use Rattle.sv_component.specs.declared.answers.Step.{Step}
 use Rattle.sv_component.specs.declared.answers.Step.TheVariants as steps
 use Rattle.sv_exchange.specs.State as exchanges
-use Rattle.sv_lifecycle.specs.Standing.{LiveState}
+use Rattle.sv_live.specs.Standing.{LiveState}
 use Rattle.sv_text.specs.declared.no_memory.NoMemory.{NoMemory}
 use Rattle.sv_tree.specs.State.{State}
 

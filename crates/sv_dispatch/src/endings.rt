@@ -8,8 +8,8 @@ ghost use Rattle.sv_message.specs.Phrases.{phrase_of};
 
 use crate::error_field::ErrorField;
 use crate::machine::Machine;
+use crate::phrase::phrase_of;
 use crate::tables::Tables;
-use http::StatusCode;
 use std::alloc::Global;
 use sv_text::{NoMemory, Text};
 use sv_tree::{
@@ -46,8 +46,6 @@ fn err_with<M: Machine, T: Tables>(
     status: u16,
     field: ErrorField,
 ) -> Result<Finished, NoMemory>
-    requires least { LEAST_ERROR ≤ status }
-    requires greatest { status ≤ MAX_ERROR }
     ensures { Did M.state M.frame M.ran (errs_with (T.site tables.now) resource status (field_of field)) machine.old machine.new (seen result) }
 {
     if machine.is_within_include() {
@@ -175,16 +173,7 @@ pub(crate) fn lasting(finished: Result<Finished, NoMemory>) -> Result<Option<Fin
 
 // The phrase of the status of an error.
 fn phrase(alloc: Global, status: u16) -> Result<Text, NoMemory>
-    requires least { LEAST_ERROR ≤ status }
-    requires greatest { status ≤ MAX_ERROR }
     ensures { IfOk result (λ text. text ≡ phrase_of status) }
 {
-    let code = StatusCode::from_u16(status).unwrap();
-    Text::copy_of(alloc, phrase_of(code))
-}
-
-fn phrase_of(code: StatusCode) -> &'static str
-    ensures { result.now ≡ phrase_of code }
-{
-    code.canonical_reason().unwrap_or("")
+    Text::copy_of(alloc, phrase_of(status))
 }

@@ -11,7 +11,7 @@ use crate::running::Running;
 use std::alloc::Global;
 use sv_component::{Exchange, Filter, Listener, Servlet};
 use sv_journal::Journal;
-use sv_lifecycle::Live;
+use sv_live::Live;
 use sv_mapping::Kind;
 use sv_site::Site;
 use sv_text::NoMemory;
@@ -21,7 +21,7 @@ use sv_uri::path::Canon;
 /// Dispatches an exchange to a path within the context: the filters, then the servlet or the file servlet, and the dispatches that they
 /// ask for (Jakarta Servlet 6.0, chapters 6 and 9). Each call of a component is noted in the journal, and what it did to the session is
 /// told right behind it (section 11.3). An error or a failure of the dispatch is kept with the exchange. The context has as many
-/// servlets, filters and listeners as the site's descriptor, as it has since [`Live::start`] with it.
+/// servlets, filters and listeners as the site's descriptor, as it has since its start with it.
 ///
 /// # Errors
 /// `NoMemory` where memory ended the dispatch, or the journal broke: the calls made so far were made, and the dispatches that were under

@@ -6,7 +6,7 @@ ghost use Rattle.sv_dispatch.specs.Did.{seen};
 ghost use Rattle.sv_dispatch.specs.Running.{done_seen, gate_seen, made_seen, offer_seen, step_seen};
 ghost use Rattle.sv_dispatch.specs.Seen.{field_of};
 ghost use Rattle.sv_exchange.specs.Keeping.{with_kept};
-ghost use Rattle.sv_lifecycle.specs.Calling.{unless_broken};
+ghost use Rattle.sv_live.specs.Calling.{unless_broken};
 ghost use Rattle.sv_site.specs.Seen.{chosen_seen};
 ghost use Rattle.sv_tree.specs.Files.{emptied};
 ghost use Rattle.sv_tree.specs.Site.{begun_by, emptied_for};

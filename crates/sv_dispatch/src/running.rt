@@ -10,7 +10,7 @@ use crate::telling::tell_events;
 use std::alloc::Global;
 use sv_component::{Exchange, Filter, Gate, Listener, Servlet, Standing, Step};
 use sv_journal::Journal;
-use sv_lifecycle::Live;
+use sv_live::Live;
 use sv_mapping::Kind;
 use sv_site::Chosen;
 use sv_text::NoMemory;
@@ -31,7 +31,7 @@ impl<S: Servlet, F: Filter, L: Listener> Machine for Running<'_, S, F, L> {
     ghost use Rattle.std.specs.Prelude.{length};
     ghost use Rattle.sv_component.specs.Runs.{IsRun};
     ghost use Rattle.sv_dispatch.specs.Running.{state_of};
-    ghost use Rattle.sv_lifecycle.specs.Standing.{live_world};
+    ghost use Rattle.sv_live.specs.Standing.{live_world};
 
     ghost state = { λ m. state_of m.live.now m.exchange.now };
 

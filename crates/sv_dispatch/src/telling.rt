@@ -3,16 +3,16 @@
 ghost use Rattle.sv_component.specs.Steps.{steps_of};
 ghost use Rattle.std.specs.Prelude.{◌≡◌, length};
 ghost use Rattle.sv_component.specs.Runs.{Runs};
-ghost use Rattle.sv_lifecycle.specs.Calling.{StandsAsBefore};
-ghost use Rattle.sv_lifecycle.specs.Standing.{live_world};
-ghost use Rattle.sv_listeners.specs.Telling.{told};
+ghost use Rattle.sv_live.specs.Calling.{StandsAsBefore};
+ghost use Rattle.sv_live.specs.Standing.{live_world};
+ghost use Rattle.sv_component.specs.Telling.{told};
 ghost use Rattle.sv_tree.specs.Asking.{without_events};
 ghost use Rattle.sv_tree.specs.Telling.{all_told};
 
 use std::alloc::Global;
 use sv_component::{Event, Exchange, Filter, Listener, Servlet};
 use sv_journal::Journal;
-use sv_lifecycle::Live;
+use sv_live::Live;
 
 /// Has the listeners hear each event that is still to be told, the oldest first (Jakarta Servlet 6.0, section 11.3). Where an entry finds
 /// no memory the journal breaks, and the listeners are told all the same.

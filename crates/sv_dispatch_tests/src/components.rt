@@ -6,7 +6,7 @@ use crate::words::{first_word, is_nothing};
 use std::alloc::Global;
 use sv_classes::{Bye, ErrorCode, Fail, Go, Gone, Halt, Keep, Log, Mark, Nest, Out, Paths, Who};
 use sv_component::{Filter, Servlet};
-use sv_lifecycle::{Live, Named, Parts};
+use sv_live::{Live, Named, Parts};
 use sv_rows::cell;
 use sv_text::{NoMemory, Text};
 

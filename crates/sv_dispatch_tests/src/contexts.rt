@@ -44,7 +44,7 @@ fn started(alloc: Global, row: &str, descriptor: &Descriptor) -> Option<TestLive
         return None;
     };
     let path = declared(row, "context");
-    TestLive::start(alloc, path, parts, descriptor, &mut Journal::new(alloc)).ok()
+    sv_lifecycle::start(alloc, path, parts, descriptor, &mut Journal::new(alloc)).ok()
 }
 
 /// The context, with the site of its descriptor.

@@ -3,7 +3,7 @@
 -- be told (Jakarta Servlet 6.0, chapters 3, 5, 7, 9, 10 and 11).
 use Rattle.std.specs.Prelude.{ℕ, Bool, List, Option}
 use Rattle.sv_head.specs.declared.field.Field.{Field}
-use Rattle.sv_journal.specs.declared.event.Event.{Event}
+use Rattle.sv_event.specs.declared.event.Event.{Event}
 use Rattle.sv_realm.specs.declared.caller.Caller.{Caller}
 use Rattle.sv_session.specs.Store.{Store}
 use Rattle.sv_message.specs.declared.cookie_settings.CookieSettings.{CookieSettings}

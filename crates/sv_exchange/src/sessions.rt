@@ -8,7 +8,7 @@ use crate::events::{ending_events, push};
 use crate::exchange::Exchange;
 use crate::exchange_fault::ExchangeFault;
 use crate::holding::cookie_of;
-use sv_journal::Event;
+use sv_event::Event;
 use sv_text::Text;
 
 impl Exchange {

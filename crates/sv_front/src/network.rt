@@ -15,7 +15,7 @@ pub enum Told {
     Ready(u64),
     /// A connection may have come. Where one was accepted since, another may have, too: that is told then.
     Incoming,
-    /// A connection may have come, and the system has no room for it, or for who else came: one that stands between requests is to make some.
+    /// Someone may have come for whom the system has no room: the connection that stands longest between requests is to make some.
     Crowded,
     /// A second has passed, or more.
     Second,

@@ -6,11 +6,11 @@ ghost use Rattle.sv_journal.specs.Entry.{called_filter, called_servlet, entry_te
 
 use crate::answer::Answer;
 use crate::called::{CallName, Component};
-use crate::event::Event;
 use crate::refusal_cause::RefusalCause;
 use std::alloc::Global;
 use std::fmt;
 use sv_constraints::OwnedWhy;
+use sv_event::Event;
 use sv_text::{NoMemory, Text};
 use sv_uri::shown_context;
 

@@ -4,13 +4,11 @@
 mod answer;
 mod called;
 mod entry;
-mod event;
 mod journal;
 mod refusal_cause;
 
 pub use answer::Answer;
 pub use called::{CallName, Component};
 pub use entry::Entry;
-pub use event::Event;
 pub use journal::Journal;
 pub use refusal_cause::RefusalCause;

@@ -14,28 +14,29 @@ use Rattle.sv_component.specs.declared.answers.Init.{Init}
 use Rattle.sv_component.specs.declared.answers.Init.TheVariants as init_answers
 use Rattle.sv_descriptor.specs.declared.web_app.WebApp.{WebApp}
 use Rattle.sv_journal.specs.Journal.{JournalState}
-use Rattle.sv_journal.specs.declared.event.Event.TheVariants.{ContextInitialized}
-use Rattle.sv_listeners.specs.Telling.{told}
+use Rattle.sv_event.specs.declared.event.Event.TheVariants.{ContextInitialized}
+use Rattle.sv_component.specs.Telling.{told}
 use Rattle.sv_component.proofs.Journalling.{run_gains}
 use Rattle.sv_component.proofs.Running.{runs_grown}
-use Rattle.sv_listeners.proofs.Growing.{grows_join, grows_none}
+use Rattle.sv_component.proofs.Growing.{grows_join, grows_none}
 use Rattle.sv_lifecycle.specs.Begins.{Begins}
-use Rattle.sv_lifecycle.specs.Calls.{Answered, inited, initialised, is_ready, lets_go_on, places_of, start_calls, stop_calls}
+use Rattle.sv_live.specs.Calls.{stop_calls}
+use Rattle.sv_lifecycle.specs.Calls.{Answered, inited, initialised, is_ready, lets_go_on, places_of, start_calls}
 use Rattle.sv_lifecycle.specs.Fit.{Fits}
 use Rattle.sv_lifecycle.specs.Plan.{IsPlan}
 use Rattle.sv_lifecycle.specs.Starting.{GoesInOrder, Inits, RefusesUndone, RefusesUntouched, Started, Starts, Undone, Untouched, code_of, is_no_memory}
-use Rattle.sv_lifecycle.specs.World.{HasSameCounts, IsPlaceIn, world}
+use Rattle.sv_live.specs.World.{HasSameCounts, IsPlaceIn, world}
 use Rattle.sv_lifecycle.specs.declared.begin.Begun.{Begun}
-use Rattle.sv_lifecycle.specs.declared.order.Place.{Place}
-use Rattle.sv_lifecycle.specs.declared.order.Place.TheVariants as places
-use Rattle.sv_lifecycle.specs.declared.parts.Parts.{Parts}
+use Rattle.sv_live.specs.declared.place.Place.{Place}
+use Rattle.sv_live.specs.declared.place.Place.TheVariants as places
+use Rattle.sv_live.specs.declared.parts.Parts.{Parts}
 use Rattle.sv_lifecycle.specs.declared.plan.Plan.{Plan}
 use Rattle.sv_component.specs.declared.standing.Standing.TheVariants.{Serving}
 use Rattle.sv_component.specs.Steps.{ComponentSteps}
 use Rattle.sv_lifecycle.specs.declared.start_fault.StartCode.{StartCode}
 use Rattle.sv_lifecycle.proofs.Beginning.{initialised_push}
 use Rattle.sv_lifecycle.proofs.Fitting.{same_length}
-use Rattle.sv_lifecycle.proofs.Places.{all_kept}
+use Rattle.sv_live.proofs.Places.{all_kept}
 
 pub all_below : (count : ℕ) → All (λ place. place < count) (range_with_len 0 count)
 all_below count k d within =

@@ -14,16 +14,18 @@ use Rattle.sv_component.specs.declared.config.Config.{Config}
 use Rattle.sv_component.specs.declared.answers.Init.{Init}
 use Rattle.sv_component.specs.declared.answers.Init.TheVariants.{Ready, Unavailable, Failed, NoMemory}
 use Rattle.sv_descriptor.specs.declared.web_app.WebApp.{WebApp}
-use Rattle.sv_listeners.proofs.Growing.{grows_more, grows_none}
+use Rattle.sv_component.proofs.Growing.{grows_more, grows_none}
 use Rattle.sv_lifecycle.specs.Begins.{Begins, HasStanding, with_answer}
-use Rattle.sv_lifecycle.specs.Calls.{Answered, config_at, init_record, inited, initialised, is_ready, lets_go_on, places_of}
-use Rattle.sv_lifecycle.specs.Standing.{is_out, standing_after, standing_at}
-use Rattle.sv_lifecycle.specs.World.{world}
+use Rattle.sv_live.specs.Calls.{init_record}
+use Rattle.sv_lifecycle.specs.Calls.{Answered, config_at, inited, initialised, is_ready, lets_go_on, places_of}
+use Rattle.sv_live.specs.Standing.{standing_at}
+use Rattle.sv_lifecycle.specs.Standing.{is_out, standing_after}
+use Rattle.sv_live.specs.World.{world}
 use Rattle.sv_journal.specs.Journal.{JournalState}
-use Rattle.sv_lifecycle.specs.declared.parts.Parts.{Parts}
+use Rattle.sv_live.specs.declared.parts.Parts.{Parts}
 use Rattle.sv_lifecycle.specs.declared.plan.Plan.{Plan}
-use Rattle.sv_lifecycle.specs.declared.order.Place.{Place}
-use Rattle.sv_lifecycle.specs.declared.order.Place.TheVariants.{Filter, Servlet}
+use Rattle.sv_live.specs.declared.place.Place.{Place}
+use Rattle.sv_live.specs.declared.place.Place.TheVariants.{Filter, Servlet}
 use Rattle.sv_component.specs.declared.standing.Standing.{Standing}
 use Rattle.sv_component.specs.declared.standing.Standing.TheVariants.{Serving, Gone}
 use Rattle.sv_component.specs.Steps.{ComponentSteps}

@@ -1,10 +1,6 @@
 pub mod Attempts
 pub mod Beginning
-pub mod ByPlace
-pub mod Ending
 pub mod Fitting
 pub mod Mirroring
-pub mod Moving
 pub mod Ordering
 pub mod Places
-pub mod SessionEnds

@@ -19,15 +19,17 @@ use Rattle.sv_component.specs.declared.answers.Init.TheVariants.{Ready, Unavaila
 use Rattle.sv_component.specs.declared.standing.Standing.TheVariants.{Serving, Gone}
 use Rattle.sv_descriptor.specs.declared.web_app.WebApp.{WebApp}
 use Rattle.sv_journal.specs.Journal.{JournalState}
-use Rattle.sv_journal.specs.declared.event.Event.TheVariants.{ContextDestroyed, ContextInitialized}
-use Rattle.sv_listeners.specs.Telling.{told}
-use Rattle.sv_lifecycle.specs.Calls.{Answered, destroyed, inited, initialised, places_of, start_calls, stop_calls}
+use Rattle.sv_event.specs.declared.event.Event.TheVariants.{ContextDestroyed, ContextInitialized}
+use Rattle.sv_component.specs.Telling.{told}
+use Rattle.sv_live.specs.Calls.{destroyed, stop_calls}
+use Rattle.sv_lifecycle.specs.Calls.{Answered, inited, initialised, places_of, start_calls}
 use Rattle.sv_lifecycle.specs.Laws.{answered_by, mirrored}
 use Rattle.sv_lifecycle.specs.Order.{init_order}
-use Rattle.sv_lifecycle.specs.Standing.{LiveState, in_service, is_in_service, is_out}
+use Rattle.sv_live.specs.Standing.{LiveState, in_service, is_in_service}
+use Rattle.sv_lifecycle.specs.Standing.{is_out}
 use Rattle.sv_lifecycle.specs.Starting.{Inits, Stands, Started, Undone, called, calls_of}
-use Rattle.sv_lifecycle.specs.declared.order.Place.{Place}
-use Rattle.sv_lifecycle.specs.declared.order.Place.TheVariants.{Filter, Servlet}
+use Rattle.sv_live.specs.declared.place.Place.{Place}
+use Rattle.sv_live.specs.declared.place.Place.TheVariants.{Filter, Servlet}
 use Rattle.sv_lifecycle.proofs.Attempts.{all_below}
 use Rattle.sv_lifecycle.proofs.Places.{not_both}
 

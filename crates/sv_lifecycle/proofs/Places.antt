@@ -7,32 +7,17 @@ use Rattle.std.proofs.lemmas.Option.{unwrap_or-slice_get}
 use Rattle.sv_component.specs.declared.answers.Init.{Init}
 use Rattle.sv_component.specs.declared.answers.Init.TheVariants.{Ready, Unavailable, Failed, NoMemory}
 use Rattle.sv_lifecycle.specs.Begins.{HasStanding, with_answer}
-use Rattle.sv_lifecycle.specs.Calls.{destroyed}
-use Rattle.sv_lifecycle.specs.Standing.{standing_at}
-use Rattle.sv_lifecycle.specs.World.{HasSameCounts, IsPlaceIn}
-use Rattle.sv_lifecycle.specs.declared.order.Place.{Place}
-use Rattle.sv_lifecycle.specs.declared.order.Place.TheVariants.{Filter, Servlet}
-use Rattle.sv_lifecycle.specs.declared.parts.Parts.{Parts}
+use Rattle.sv_live.specs.Calls.{destroyed}
+use Rattle.sv_live.specs.Standing.{standing_at}
+use Rattle.sv_live.specs.World.{HasSameCounts, IsPlaceIn}
+use Rattle.sv_live.specs.declared.place.Place.{Place}
+use Rattle.sv_live.specs.declared.place.Place.TheVariants.{Filter, Servlet}
+use Rattle.sv_live.specs.declared.parts.Parts.{Parts}
 use Rattle.sv_component.specs.declared.standing.Standing.{Standing}
 use Rattle.sv_component.specs.declared.standing.Standing.TheVariants.{Serving, Gone}
 
 pub not_both : {P : Type 0} (b : Bool) → b ≡ true → b ≡ false → P
 not_both b is_true is_false = absurd (cc)
-
--- components stay where they are
-pub place_kept : {S F L : Type 0} (before after : Parts S F L) → HasSameCounts before after → (place : Place) → IsPlaceIn before place → IsPlaceIn after place
-place_kept before after counts (Filter place) there = omega (arith, counts.filters, there)
-place_kept before after counts (Servlet place) there = omega (arith, counts.servlets, there)
-
-pub all_kept : {S F L : Type 0} (before after : Parts S F L) → HasSameCounts before after → (places : List Place) → All (IsPlaceIn before) places → All (IsPlaceIn after) places
-all_kept before after counts places there k d within = place_kept before after counts (get_or places k d) (there k d within)
-
-pub counts_join : {S F L : Type 0} (before middle after : Parts S F L) → HasSameCounts before middle → HasSameCounts middle after → HasSameCounts before after
-counts_join before middle after first second = record {
-  servlets = second.servlets ∙ first.servlets;
-  filters = second.filters ∙ first.filters;
-  listeners = second.listeners ∙ first.listeners;
-}
 
 -- each of so many servlets serves
 pub all_serve : (count : ℕ) (standings : List Standing) → standings ≡ replicate count Serving → (place : ℕ) → place < length standings → standing_at standings place ≡ Serving
@@ -71,13 +56,3 @@ length_answered standings (Filter place) answer = refl
 pub standing_there : {S F L : Type 0} (parts : Parts S F L) (count : ℕ) → count ≡ length parts.servlets.items → (place : Place) → IsPlaceIn parts place → HasStanding count place
 standing_there parts count same (Filter place) there = tt
 standing_there parts count same (Servlet place) there = omega (arith, same, there)
-
--- one component less, from the back
-pub back_more : (places : List Place) (done : ℕ) (place : Place) → done < length places
-    → take (done + 1) (map destroyed (reverse places)) ≡ take done (map destroyed (reverse places)) ++ destroyed (get_or places (length places - 1 - done) place) ∷ []
-back_more places done place within =
-    let len = length-reverse places in
-    let all = length-map (reverse places) destroyed in
-    take_more (map destroyed (reverse places)) done (destroyed place) (omega (arith, within, len, all))
-    ∙ ap (λ made. take done (map destroyed (reverse places)) ++ made ∷ [])
-    (get_or-map destroyed (reverse places) done place (destroyed place) (omega (arith, within, len)) ∙ ap destroyed (get_or-reverse places done place within))

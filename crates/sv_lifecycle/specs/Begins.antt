@@ -8,12 +8,13 @@ use Rattle.sv_component.specs.declared.answers.Init.TheVariants.{Ready, Unavaila
 use Rattle.sv_descriptor.specs.declared.web_app.WebApp.{WebApp}
 use Rattle.sv_journal.specs.Journal.{JournalState}
 use Rattle.sv_lifecycle.specs.Calls.{Answered, inited, initialised, lets_go_on, places_of}
-use Rattle.sv_lifecycle.specs.Standing.{standing_after, standing_at}
-use Rattle.sv_lifecycle.specs.World.{world}
+use Rattle.sv_live.specs.Standing.{standing_at}
+use Rattle.sv_lifecycle.specs.Standing.{standing_after}
+use Rattle.sv_live.specs.World.{world}
 use Rattle.sv_lifecycle.specs.declared.begin.Begun.{Begun}
-use Rattle.sv_lifecycle.specs.declared.order.Place.{Place}
-use Rattle.sv_lifecycle.specs.declared.order.Place.TheVariants.{Filter, Servlet}
-use Rattle.sv_lifecycle.specs.declared.parts.Parts.{Parts}
+use Rattle.sv_live.specs.declared.place.Place.{Place}
+use Rattle.sv_live.specs.declared.place.Place.TheVariants.{Filter, Servlet}
+use Rattle.sv_live.specs.declared.parts.Parts.{Parts}
 use Rattle.sv_lifecycle.specs.declared.plan.Plan.{Plan}
 use Rattle.sv_component.specs.declared.standing.Standing.{Standing}
 use Rattle.sv_component.specs.declared.standing.Standing.TheVariants.{Gone}

@@ -1,8 +1,7 @@
--- The calls and tellings of a start, of a start that is undone, and of a stop (Jakarta Servlet 6.0, sections 2.3, 6.2.1 and 11.3).
-use Rattle.std.specs.Prelude.{ℕ, Bool, true, false, List, [], ◌++◌, length, map, reverse, slice_get, Option, Some, None}
+-- The calls and tellings of a start, and of a start that is undone (Jakarta Servlet 6.0, sections 2.3, 6.2.1 and 11.3).
+use Rattle.std.specs.Prelude.{ℕ, Bool, true, false, List, [], ◌++◌, length, map, slice_get, Option, Some, None}
 use Rattle.std.specs.List.{filter}
-use Rattle.sv_component.specs.Call.{Destroyed, Inited}
-use Rattle.sv_component.specs.Runs.{OfFilter, OfServlet, Record}
+use Rattle.sv_component.specs.Runs.{Record}
 use Rattle.sv_component.specs.declared.answers.Init.{Init}
 use Rattle.sv_component.specs.declared.answers.Init.TheVariants.{Ready, Unavailable, Failed, NoMemory}
 use Rattle.sv_component.specs.declared.config.Config.{Config}
@@ -11,12 +10,11 @@ use Rattle.sv_descriptor.specs.declared.filter.FilterEntry.{FilterEntry}
 use Rattle.sv_descriptor.specs.declared.init_param.InitParam.{InitParam}
 use Rattle.sv_descriptor.specs.declared.servlet.ServletEntry.{ServletEntry}
 use Rattle.sv_descriptor.specs.declared.web_app.WebApp.{WebApp}
-use Rattle.sv_journal.specs.declared.event.Event.TheVariants.{ContextDestroyed, ContextInitialized}
-use Rattle.sv_listeners.specs.Telling.{told}
-use Rattle.sv_session.specs.Store.{Session}
-use Rattle.sv_lifecycle.specs.SessionEnds.{ends_told}
-use Rattle.sv_lifecycle.specs.declared.order.Place.{Place}
-use Rattle.sv_lifecycle.specs.declared.order.Place.TheVariants.{Filter, Servlet}
+use Rattle.sv_event.specs.declared.event.Event.TheVariants.{ContextInitialized}
+use Rattle.sv_component.specs.Telling.{told}
+use Rattle.sv_live.specs.Calls.{init_record, stop_calls}
+use Rattle.sv_live.specs.declared.place.Place.{Place}
+use Rattle.sv_live.specs.declared.place.Place.TheVariants.{Filter, Servlet}
 
 abbrev pub params_of : List InitParam → List Param
 params_of params = map (λ param. record { name = param.name; value = param.value }) params
@@ -39,16 +37,6 @@ abbrev pub config_at : WebApp → Place → Config
 config_at app (Filter place) = filter_config (slice_get app.filters place)
 config_at app (Servlet place) = servlet_config (slice_get app.servlets place)
 
--- the init of a component
-abbrev pub init_record : Place → Config → Init → Record
-init_record (Filter place) config answer = OfFilter place (Inited config answer)
-init_record (Servlet place) config answer = OfServlet place (Inited config answer)
-
--- the end of a component
-abbrev pub destroyed : Place → Record
-destroyed (Filter place) = OfFilter place Destroyed
-destroyed (Servlet place) = OfServlet place Destroyed
-
 -- a component that was begun, with its answer
 pub record Answered : Type 0 where
   pub place : Place
@@ -64,11 +52,6 @@ inited app answered = init_record answered.place (config_at app answered.place) 
 -- the calls of a start as far as it went: each listener hears that the context starts, then those components are begun
 abbrev pub start_calls : WebApp → List Answered → List Record
 start_calls app begun = told ContextInitialized (length app.listeners) ++ map (inited app) begun
-
--- the calls of a stop: the components are destroyed in the reverse of the order in which they were begun, then the sessions end, then each
--- listener hears that the context stops
-abbrev pub stop_calls : ℕ → List Place → List Session → List Record
-stop_calls listeners places sessions = map destroyed (reverse places) ++ (ends_told sessions listeners ++ told ContextDestroyed listeners)
 
 abbrev pub is_ready : Init → Bool
 is_ready Ready = true

@@ -2,7 +2,7 @@
 use Rattle.std.specs.Prelude.{◌≡◌, length, map}
 use Rattle.sv_descriptor.specs.Agreement.{filter_names, servlet_names}
 use Rattle.sv_descriptor.specs.declared.web_app.WebApp.{WebApp}
-use Rattle.sv_lifecycle.specs.declared.parts.Parts.{Parts}
+use Rattle.sv_live.specs.declared.parts.Parts.{Parts}
 
 -- servlets and filters have the descriptor's names in its order, and there are as many listeners as it declares
 pub record Fits {S F L : Type 0} (app : WebApp) (parts : Parts S F L) : Type 0 where

@@ -6,9 +6,10 @@ use Rattle.sv_component.specs.Runs.{OfFilter, OfListener, OfServlet, Record}
 use Rattle.sv_component.specs.declared.answers.Init.TheVariants.{Ready}
 use Rattle.sv_descriptor.specs.declared.web_app.WebApp.{WebApp}
 use Rattle.sv_journal.specs.Journal.{JournalState}
-use Rattle.sv_journal.specs.declared.event.Event.TheVariants.{ContextDestroyed, ContextInitialized}
-use Rattle.sv_lifecycle.specs.Calls.{start_calls, stop_calls}
-use Rattle.sv_lifecycle.specs.Standing.{LiveState, in_service}
+use Rattle.sv_event.specs.declared.event.Event.TheVariants.{ContextDestroyed, ContextInitialized}
+use Rattle.sv_live.specs.Calls.{stop_calls}
+use Rattle.sv_lifecycle.specs.Calls.{start_calls}
+use Rattle.sv_live.specs.Standing.{LiveState, in_service}
 use Rattle.sv_lifecycle.specs.Starting.{Inits, Stands, Started, Undone, called, calls_of}
 
 -- what a stop answers a call of a start with: a component whose init answered that it is ready is destroyed, and a listener that heard

@@ -1,12 +1,9 @@
 pub mod Begins
-pub mod Calling
 pub mod Calls
 pub mod Fit
 pub mod Laws
 pub mod Order
 pub mod Plan
-pub mod SessionEnds
 pub mod Standing
 pub mod StartCode
 pub mod Starting
-pub mod World

@@ -1,37 +1,13 @@
--- How the servlets of a started context stand (Jakarta Servlet 6.0, section 2.3.3.2).
-use Rattle.std.specs.Prelude.{◌≡◌, ℕ, ◌==◌, Bool, true, false, not, List, length, slice_get, unwrap_or, if◌then◌else◌}
-use Rattle.std.specs.List.{All, filter, list_any}
-use Rattle.sv_component.specs.Standing.{is_gone}
-use Rattle.sv_component.specs.World.{World}
+-- How the servlets of a context stand behind the inits of its start (Jakarta Servlet 6.0, section 2.3.3.2).
+use Rattle.std.specs.Prelude.{ℕ, ◌==◌, Bool, false, List, if◌then◌else◌}
+use Rattle.std.specs.List.{list_any}
 use Rattle.sv_component.specs.declared.answers.Init.{Init}
 use Rattle.sv_component.specs.declared.answers.Init.TheVariants.{Ready, Unavailable, Failed, NoMemory}
-use Rattle.sv_journal.specs.Journal.{JournalState}
-use Rattle.sv_lifecycle.specs.Calls.{Answered}
-use Rattle.sv_lifecycle.specs.World.{IsPlaceIn, world}
-use Rattle.sv_lifecycle.specs.declared.order.Place.{Place}
-use Rattle.sv_lifecycle.specs.declared.order.Place.TheVariants.{Filter, Servlet}
-use Rattle.sv_lifecycle.specs.declared.parts.Parts.{Parts}
 use Rattle.sv_component.specs.declared.standing.Standing.{Standing}
 use Rattle.sv_component.specs.declared.standing.Standing.TheVariants.{Serving, Gone}
-
--- a started context: its path, its components, those that were initialised, in order, and how its servlets stand
-pub record LiveState (S F L : Type 0) : Type 0 where
-  pub context : List ℕ
-  pub parts : Parts S F L
-  pub initialised : List Place
-  pub standings : List Standing
-
--- each servlet has a standing, and what was initialised is there
-pub record IsLive {S F L : Type 0} (live : LiveState S F L) : Type 0 where
-  pub standings : length live.standings ≡ length live.parts.servlets.items
-  pub initialised : All (IsPlaceIn live.parts) live.initialised
-
-abbrev pub live_world : {S F L : Type 0} → LiveState S F L → JournalState → World S F L
-live_world live journal = world live.context live.parts journal
-
--- how the servlet at a place stands
-abbrev pub standing_at : List Standing → ℕ → Standing
-standing_at standings place = unwrap_or (slice_get standings place) Gone
+use Rattle.sv_lifecycle.specs.Calls.{Answered}
+use Rattle.sv_live.specs.declared.place.Place.{Place}
+use Rattle.sv_live.specs.declared.place.Place.TheVariants.{Filter, Servlet}
 
 -- whether an answer puts the servlet at a place out of service
 abbrev pub is_out : ℕ → Place → Init → Bool
@@ -44,12 +20,3 @@ is_out place (Filter other) answer = false
 -- how the servlet at a place stands behind the inits: one that answered that it is unavailable is gone
 abbrev pub standing_after : List Answered → ℕ → Standing
 standing_after begun place = if list_any (λ answered. is_out place answered.place answered.answer) begun then Gone else Serving
-
--- a filter always is in service, a servlet while it is not gone
-abbrev pub is_in_service : List Standing → Place → Bool
-is_in_service standings (Filter place) = true
-is_in_service standings (Servlet place) = not (is_gone (standing_at standings place))
-
--- what was initialised and is not gone, in the order of the inits
-abbrev pub in_service : {S F L : Type 0} → LiveState S F L → List Place
-in_service live = filter (is_in_service live.standings) live.initialised

@@ -11,10 +11,11 @@ use Rattle.sv_journal.specs.Journal.{JournalState}
 use Rattle.sv_lifecycle.specs.Calls.{Answered, initialised, lets_go_on, places_of, start_calls, undone_calls}
 use Rattle.sv_lifecycle.specs.Fit.{Fits}
 use Rattle.sv_lifecycle.specs.Order.{IsLoadOrder, init_order}
-use Rattle.sv_lifecycle.specs.Standing.{LiveState, standing_after, standing_at}
-use Rattle.sv_lifecycle.specs.World.{world}
-use Rattle.sv_lifecycle.specs.declared.order.Place.{Place}
-use Rattle.sv_lifecycle.specs.declared.parts.Parts.{Parts}
+use Rattle.sv_live.specs.Standing.{LiveState, standing_at}
+use Rattle.sv_lifecycle.specs.Standing.{standing_after}
+use Rattle.sv_live.specs.World.{world}
+use Rattle.sv_live.specs.declared.place.Place.{Place}
+use Rattle.sv_live.specs.declared.parts.Parts.{Parts}
 use Rattle.sv_lifecycle.specs.declared.start_fault.StartCode.{StartCode}
 use Rattle.sv_lifecycle.specs.declared.start_fault.StartCode.TheVariants.{PartsMismatch, InitFailed, NoMemory}
 use Rattle.sv_lifecycle.specs.declared.start_fault.StartFault.{StartFault}

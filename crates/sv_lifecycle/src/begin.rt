@@ -6,15 +6,14 @@ ghost use Rattle.std.specs.List.{All};
 ghost use Rattle.sv_descriptor.specs.declared.web_app.WebApp.{WebApp};
 ghost use Rattle.sv_lifecycle.specs.Begins.{Begins, HasStanding, with_answer};
 ghost use Rattle.sv_lifecycle.specs.Calls.{config_at, is_ready, lets_go_on};
-ghost use Rattle.sv_lifecycle.specs.World.{HasSameCounts, IsPlaceIn};
+ghost use Rattle.sv_live.specs.World.{HasSameCounts, IsPlaceIn};
 ghost use Rattle.sv_component.specs.declared.standing.Standing.TheVariants as standings;
 
-use crate::order::Place;
-use crate::parts::Parts;
 use crate::plan::Plan;
 use std::alloc::Global;
 use sv_component::{Filter, Init, Listener, Servlet, Standing};
 use sv_journal::Journal;
+use sv_live::{Parts, Place};
 
 /// How far a start went.
 #[derive(Clone, Copy)]

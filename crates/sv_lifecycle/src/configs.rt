@@ -4,10 +4,10 @@ ghost use Rattle.std.specs.Prelude.{◌≡◌, IfOk, map};
 ghost use Rattle.sv_text.specs.Gives.{GivesAnswer};
 ghost use Rattle.sv_lifecycle.specs.Calls.{config_at, config_of, params_of};
 
-use crate::order::Place;
 use std::alloc::Global;
 use sv_component::{Config, Param};
 use sv_descriptor::{InitParam, WebApp};
+use sv_live::Place;
 use sv_text::{Listed, NoMemory, Text};
 
 /// The configurations of the components at those places.

@@ -3,13 +3,13 @@
 ghost use Rattle.std.specs.Prelude.{◌≡◌, map, MatchBool};
 ghost use Rattle.sv_lifecycle.specs.Fit.{Fits};
 
-use crate::parts::Parts;
 use sv_component::Named;
 use sv_descriptor::WebApp;
+use sv_live::Parts;
 use sv_schema::Named as Declared;
 
 /// Whether the servlets and filters have the descriptor's names in its order, and there are as many listeners as it declares. Components
-/// that do not are refused by [`Live::start`](crate::Live::start) before anything else.
+/// that do not are refused by [`start`](crate::start) before anything else.
 pub fn fits<S, F, L>(app: &WebApp, parts: &Parts<S, F, L>) -> bool
     ensures { MatchBool result (Fits app.now parts.now) (Fits app.now parts.now → ⊥) }
 {

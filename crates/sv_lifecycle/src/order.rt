@@ -3,18 +3,12 @@
 ghost use Rattle.std.specs.Prelude.{◌≡◌, ◌++◌, IfOk, map};
 ghost use Rattle.std.specs.List.{range_with_len};
 ghost use Rattle.sv_lifecycle.specs.Order.{IsLoadOrder, init_order, rank_at, rank_of};
-ghost use Rattle.sv_lifecycle.specs.declared.order.Place.TheVariants as places;
+ghost use Rattle.sv_live.specs.declared.place.Place.TheVariants as places;
 
 use std::alloc::Global;
 use sv_descriptor::{ServletEntry, WebApp};
+use sv_live::Place;
 use sv_text::NoMemory;
-
-/// A filter or a servlet, by its place in the descriptor, from 0.
-#[derive(Clone, Copy)]
-pub enum Place {
-    Filter(usize),
-    Servlet(usize),
-}
 
 /// Behind all numbers of 32 bits: the rank of a servlet without a number of its own.
 pub const LAST: u32 = 2147483648;

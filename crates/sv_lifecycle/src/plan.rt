@@ -5,10 +5,11 @@ ghost use Rattle.sv_lifecycle.specs.Plan.{IsPlan};
 ghost use Rattle.sv_component.specs.declared.standing.Standing.TheVariants as standings;
 
 use crate::configs::configs;
-use crate::order::{Place, in_init_order, load_order};
+use crate::order::{in_init_order, load_order};
 use std::alloc::Global;
 use sv_component::{Config, Standing};
 use sv_descriptor::WebApp;
+use sv_live::Place;
 use sv_text::{NoMemory, Text};
 
 /// What a start needs memory for, made before it begins.

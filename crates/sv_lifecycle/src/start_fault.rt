@@ -3,8 +3,8 @@
 ghost use Rattle.std.specs.Prelude.{◌≡◌, Some};
 ghost use Rattle.sv_lifecycle.specs.StartCode.{code_name, code_number};
 
-use crate::parts::Parts;
 use std::fmt;
+use sv_live::Parts;
 
 /// Why a context did not start. It is printed as its name.
 #[derive(Clone, Copy, Debug, PartialEq, Eq)]

@@ -2,7 +2,8 @@
 
 use std::alloc::Global;
 use sv_component::{Config, Event, Exchange, Filter, Gate, Init, Listener, Servlet, Step};
-use sv_lifecycle::{Live, Named, Parts, StartFault};
+use sv_lifecycle::StartFault;
+use sv_live::{Live, Named, Parts};
 use sv_text::{NoMemory, Text};
 
 /// A servlet or a filter with its answer to `init`.

@@ -65,7 +65,7 @@ fn start_with(
     journal: &mut Journal,
     told: &mut Draft,
 ) {
-    match TestLive::start(alloc, "", handed, descriptor, journal) {
+    match sv_lifecycle::start(alloc, "", handed, descriptor, journal) {
         Ok(live) => run(alloc, life, live, journal, told),
         Err(fault) => add_fault(told, &fault),
     }

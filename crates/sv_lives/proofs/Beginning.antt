@@ -19,10 +19,11 @@ use Rattle.sv_descriptor.specs.declared.web_app.WebApp.{WebApp}
 use Rattle.sv_journal.specs.Journal.{JournalState}
 use Rattle.sv_lifecycle.specs.Calls.{Answered, initialised, is_ready, lets_go_on, places_of}
 use Rattle.sv_lifecycle.specs.Order.{init_order}
-use Rattle.sv_lifecycle.specs.Standing.{LiveState, is_out}
+use Rattle.sv_live.specs.Standing.{LiveState}
+use Rattle.sv_lifecycle.specs.Standing.{is_out}
 use Rattle.sv_lifecycle.specs.Starting.{Inits, Stands}
-use Rattle.sv_lifecycle.specs.declared.order.Place.{Place}
-use Rattle.sv_lifecycle.specs.declared.order.Place.TheVariants.{Filter, Servlet}
+use Rattle.sv_live.specs.declared.place.Place.{Place}
+use Rattle.sv_live.specs.declared.place.Place.TheVariants.{Filter, Servlet}
 use Rattle.sv_lives.specs.Ends.{is_at}
 use Rattle.sv_lives.proofs.Ending.{IsOnce, flips, left_false, none_more, once_more, right_false}
 

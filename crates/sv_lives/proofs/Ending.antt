@@ -10,14 +10,14 @@ use Rattle.sv_component.specs.Call.{Call, Destroyed}
 use Rattle.sv_component.specs.Runs.{OfFilter, OfListener, OfServlet, Record}
 use Rattle.sv_component.specs.declared.standing.Standing.{Standing}
 use Rattle.sv_context.specs.Retiring.{EndsSo, Retires, calls_of, gone_at, is_destroy, is_destroy_of_filter}
-use Rattle.sv_journal.specs.declared.event.Event.{Event}
-use Rattle.sv_journal.specs.declared.event.Event.TheVariants.{ContextDestroyed}
-use Rattle.sv_lifecycle.specs.Calls.{destroyed, stop_calls}
-use Rattle.sv_lifecycle.specs.SessionEnds.{all_told, by_number, end_events, ends_told}
-use Rattle.sv_lifecycle.specs.Standing.{is_in_service}
-use Rattle.sv_lifecycle.specs.declared.order.Place.{Place}
-use Rattle.sv_lifecycle.specs.declared.order.Place.TheVariants.{Filter, Servlet}
-use Rattle.sv_listeners.specs.Telling.{hearing_order, told}
+use Rattle.sv_event.specs.declared.event.Event.{Event}
+use Rattle.sv_event.specs.declared.event.Event.TheVariants.{ContextDestroyed}
+use Rattle.sv_live.specs.Calls.{destroyed, stop_calls}
+use Rattle.sv_live.specs.SessionEnds.{all_told, by_number, end_events, ends_told}
+use Rattle.sv_live.specs.Standing.{is_in_service}
+use Rattle.sv_live.specs.declared.place.Place.{Place}
+use Rattle.sv_live.specs.declared.place.Place.TheVariants.{Filter, Servlet}
+use Rattle.sv_component.specs.Telling.{hearing_order, told}
 use Rattle.sv_lives.specs.Ends.{EndsOnce, component_calls, is_at}
 use Rattle.sv_session.specs.Calls.{ended}
 use Rattle.sv_session.specs.Store.{Session}

@@ -15,13 +15,13 @@ use Rattle.sv_context.specs.State.{ContextState, world_of}
 use Rattle.sv_context.specs.declared.deploy_fault.DeployFault.{DeployFault}
 use Rattle.sv_deployment.specs.declared.deployment.Deployment.{Deployment}
 use Rattle.sv_journal.specs.Journal.{JournalState}
-use Rattle.sv_lifecycle.specs.Calls.{stop_calls}
-use Rattle.sv_lifecycle.specs.Standing.{LiveState, is_in_service}
+use Rattle.sv_live.specs.Calls.{stop_calls}
+use Rattle.sv_live.specs.Standing.{LiveState, is_in_service}
 use Rattle.sv_lifecycle.specs.Starting.{IsResultOf, Outcome, Started, Undone, Untouched}
-use Rattle.sv_lifecycle.specs.World.{world}
-use Rattle.sv_lifecycle.specs.declared.order.Place.{Place}
-use Rattle.sv_lifecycle.specs.declared.order.Place.TheVariants.{Filter, Servlet}
-use Rattle.sv_lifecycle.specs.declared.parts.Parts.{Parts}
+use Rattle.sv_live.specs.World.{world}
+use Rattle.sv_live.specs.declared.place.Place.{Place}
+use Rattle.sv_live.specs.declared.place.Place.TheVariants.{Filter, Servlet}
+use Rattle.sv_live.specs.declared.parts.Parts.{Parts}
 use Rattle.sv_lifecycle.specs.declared.start_fault.StartFault.{StartFault}
 use Rattle.sv_lives.specs.Ends.{AllLiveToTheirStops, EachIsDestroyedOnce, EndsOnce, HasComponent, LivesToItsStop, calls_of_stop, component_calls, was_initialised}
 use Rattle.sv_lives.specs.Lives.{AllLive, Lives}

@@ -14,11 +14,11 @@ use Rattle.sv_context.specs.Retiring.{is_destroy}
 use Rattle.sv_context.specs.State.{ContextState, in_service, world_of}
 use Rattle.sv_deployment.specs.declared.deployment.Deployment.{Deployment}
 use Rattle.sv_journal.specs.Journal.{JournalState}
-use Rattle.sv_lifecycle.specs.Calls.{stop_calls}
-use Rattle.sv_lifecycle.specs.World.{world}
-use Rattle.sv_lifecycle.specs.declared.order.Place.{Place}
-use Rattle.sv_lifecycle.specs.declared.order.Place.TheVariants.{Filter, Servlet}
-use Rattle.sv_lifecycle.specs.declared.parts.Parts.{Parts}
+use Rattle.sv_live.specs.Calls.{stop_calls}
+use Rattle.sv_live.specs.World.{world}
+use Rattle.sv_live.specs.declared.place.Place.{Place}
+use Rattle.sv_live.specs.declared.place.Place.TheVariants.{Filter, Servlet}
+use Rattle.sv_live.specs.declared.parts.Parts.{Parts}
 use Rattle.sv_lives.specs.Lives.{AltersInTurn, Lives}
 use Rattle.sv_session.specs.Store.{Session}
 

@@ -10,7 +10,7 @@ ghost use Rattle.sv_realm.specs.Account.{account_fits};
 use crate::account::Account;
 use sha2::{Digest, Sha256};
 
-/// The salt that is hashed where there is no account: as long as the README has users' salts.
+/// The salt that is hashed where there is no account: as long as those that `tools/new-user` makes.
 const NO_SALT: [u8; 16] = [0; 16];
 
 /// Whether there is an account, and its digest is SHA-256 of its salt's bytes followed by the password's. A digest is made where there is none as

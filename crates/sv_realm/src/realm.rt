@@ -52,7 +52,8 @@ impl Realm {
     /// does not fit that user.
     ///
     /// It takes no memory. Digests are compared to their last byte also where an earlier one differs, and a digest is made for a name that no user
-    /// has as well, so that the time taken tells neither; that is a property of the code and not of the contract.
+    /// has as well: the time taken tells neither, but for that of the look-up and for the length of a salt. That is a property of the code and not of
+    /// the contract.
     pub fn check(&self, name: &str, password: &[u8]) -> Option<&Caller>
         ensures { option_copied result ≡ caller_checked self.now name.now password.now }
     {

@@ -1,7 +1,8 @@
 //! The texts of a run: one servlet, one listener, one request.
 
 use std::alloc::Global;
-use sv_journal::{Answer, CallName, Component, Entry, Event};
+use sv_event::Event;
+use sv_journal::{Answer, CallName, Component, Entry};
 use sv_policy::EditFault;
 use sv_rows::Strays;
 use sv_script::{event_text, shutdown_text, start_text};

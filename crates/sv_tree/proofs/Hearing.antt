@@ -2,8 +2,8 @@
 use Rattle.std.proofs.Common.{ℕ, List, [], ◌∷◌, ◌++◌, sym, subst, append_assoc, append-nil}
 use Rattle.std.specs.Prelude.{map}
 use Rattle.sv_component.specs.Runs.{OfListener, Record}
-use Rattle.sv_journal.specs.declared.event.Event.{Event}
-use Rattle.sv_listeners.specs.Telling.{hearing_order, told}
+use Rattle.sv_event.specs.declared.event.Event.{Event}
+use Rattle.sv_component.specs.Telling.{hearing_order, told}
 use Rattle.sv_tree.specs.Telling.{all_told}
 
 -- what each hearing keeps, all tellings keep

@@ -2,8 +2,8 @@
 use Rattle.std.specs.Prelude.{ℕ, ◌≡◌, ◌⊎◌, List, Some, None}
 use Rattle.std.specs.List.{flat_map}
 use Rattle.sv_component.specs.Runs.{Record}
-use Rattle.sv_journal.specs.declared.event.Event.{Event}
-use Rattle.sv_listeners.specs.Telling.{told}
+use Rattle.sv_event.specs.declared.event.Event.{Event}
+use Rattle.sv_component.specs.Telling.{told}
 use Rattle.sv_tree.specs.Does.{Does}
 
 -- as many listeners hear the events, one event after another, each in its telling order

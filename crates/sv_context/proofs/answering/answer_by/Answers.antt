@@ -1,7 +1,7 @@
 use Rattle.std.proofs.Common.{sym, subst}
 use Rattle.sv_dispatch.specs.Did.{seen}
-use Rattle.sv_served.proofs.ContextDeeds.{by_alone}
-use Rattle.sv_served.specs.ServedBy.{Alone, ServedBy}
+use Rattle.sv_dispatch.proofs.ContextDeeds.{by_alone}
+use Rattle.sv_dispatch.specs.ServedBy.{Alone, ServedBy}
 use Rattle.sv_site.specs.Site.{site_of}
 use Rattle.sv_context.specs.Answered.{Answers, SendsTo}
 use Rattle.sv_context.proofs.answering.answer_by.Goals as goal

@@ -1,6 +1,6 @@
 use Rattle.std.proofs.Common.{None, Option, Some, subst, ◌∙◌}
 use Rattle.sv_admission.specs.Asked.{asked_by}
-use Rattle.sv_journal.specs.declared.event.Event.{Event}
+use Rattle.sv_event.specs.declared.event.Event.{Event}
 use Rattle.sv_site.specs.Site.{site_of}
 use Rattle.sv_context.specs.Responding.{RespondsNoted}
 use Rattle.sv_context.proofs.Handlings.{answers_so, begun_code, cut_so, status_so}

@@ -1,7 +1,7 @@
 use Rattle.std.proofs.Common.{◌≡◌, length}
-use Rattle.sv_lifecycle.proofs.SessionEnds.{Doing}
-use Rattle.sv_lifecycle.specs.Calling.{StandsAsBefore}
-use Rattle.sv_lifecycle.specs.Standing.{live_world}
+use Rattle.sv_live.proofs.SessionEnds.{Doing}
+use Rattle.sv_live.specs.Calling.{StandsAsBefore}
+use Rattle.sv_live.specs.Standing.{live_world}
 use Rattle.sv_tree.specs.Asking.{without_events}
 use Rattle.sv_tree.specs.Telling.{all_told}
 use Rattle.sv_dispatch.proofs.telling.tell_events.Given as goal

@@ -1,10 +1,12 @@
 use Rattle.std.proofs.Common.{◌≡◌, ◌+◌, ◌<◌, true, length, drop, get_or, refl, sym, ◌∙◌, ap, subst, arith}
 use Rattle.std.proofs.lemmas.List.{get_or-map, length-replicate}
 use Rattle.sv_component.specs.Runs.{Moves}
-use Rattle.sv_lifecycle.specs.Calls.{config_at, init_record, is_ready, lets_go_on}
-use Rattle.sv_lifecycle.specs.World.{IsPlaceIn, world}
+use Rattle.sv_live.specs.Calls.{init_record}
+use Rattle.sv_lifecycle.specs.Calls.{config_at, is_ready, lets_go_on}
+use Rattle.sv_live.specs.World.{IsPlaceIn, world}
 use Rattle.sv_lifecycle.proofs.Beginning.{SoFar, begins_to_end, begins_to_stop, so_far_more, so_far_none}
-use Rattle.sv_lifecycle.proofs.Places.{all_serve, few_kept, length_answered, length_kept, not_both, place_kept, rest_kept, same_in_rest, standing_there}
+use Rattle.sv_live.proofs.Places.{place_kept}
+use Rattle.sv_lifecycle.proofs.Places.{all_serve, few_kept, length_answered, length_kept, not_both, rest_kept, same_in_rest, standing_there}
 use Rattle.sv_component.specs.declared.standing.Standing.TheVariants as standings
 use Rattle.sv_component.specs.Steps.{steps_of}
 use Rattle.sv_lifecycle.proofs.begin.begin_all.Goals as goal

@@ -1,7 +1,7 @@
 use Rattle.std.proofs.Common.{◌≡◌, ◌≤◌, length, drop, map}
 use Rattle.sv_descriptor.specs.declared.web_app.WebApp.{WebApp}
 use Rattle.sv_lifecycle.specs.Calls.{config_at}
-use Rattle.sv_lifecycle.specs.World.{HasSameCounts}
+use Rattle.sv_live.specs.World.{HasSameCounts}
 use Rattle.sv_lifecycle.proofs.Beginning.{SoFar}
 use Rattle.sv_lifecycle.proofs.begin.begin_all.Given as goal
 use Rattle.sv_component.specs.Steps.{steps_of}

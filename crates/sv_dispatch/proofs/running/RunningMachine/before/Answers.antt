@@ -1,5 +1,5 @@
 use Rattle.sv_dispatch.specs.Did.{seen}
-use Rattle.sv_lifecycle.specs.Standing.{live_world}
+use Rattle.sv_live.specs.Standing.{live_world}
 use Rattle.sv_component.specs.Call.{Entered}
 use Rattle.sv_component.specs.Runs.{OfFilter}
 use Rattle.sv_component.specs.Steps.{steps_of}

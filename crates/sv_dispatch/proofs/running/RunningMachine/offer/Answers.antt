@@ -2,7 +2,7 @@ use Rattle.std.proofs.Common.{[], refl, sym, subst, append-nil}
 use Rattle.sv_component.specs.Runs.{IsRun}
 use Rattle.sv_component.specs.Steps.{steps_of}
 use Rattle.sv_dispatch.specs.Seen.{offers}
-use Rattle.sv_lifecycle.specs.Standing.{live_world}
+use Rattle.sv_live.specs.Standing.{live_world}
 use Rattle.sv_dispatch.proofs.RunningDeeds.{at, offered}
 use Rattle.sv_dispatch.proofs.running.RunningMachine.offer.Goals as goal
 

@@ -3,7 +3,7 @@ use Rattle.sv_component.specs.Call.{Destroyed}
 use Rattle.sv_component.specs.Runs.{OfServlet}
 use Rattle.sv_component.specs.Steps.{steps_of}
 use Rattle.sv_dispatch.specs.Did.{seen}
-use Rattle.sv_lifecycle.specs.Standing.{live_world}
+use Rattle.sv_live.specs.Standing.{live_world}
 use Rattle.sv_dispatch.proofs.RunningDeeds.{at, framed, here_by_place, there_if, there_or_not, was_whole}
 use Rattle.sv_dispatch.proofs.running.RunningMachine.retire.Goals as goal
 

@@ -1,0 +1,75 @@
+//! Each listener hears an event, in the telling order.
+
+ghost use Rattle.sv_component.specs.Steps.{listening};
+ghost use Rattle.std.specs.Prelude.{◌≡◌, ◌-◌, ◌<◌, length, if◌then◌else◌};
+ghost use Rattle.sv_component.specs.Runs.{Moves, OfListener};
+ghost use Rattle.sv_component.specs.Telling.{Tells, is_end, listeners_alone};
+
+use crate::components::Listener;
+use std::alloc::Global;
+use sv_event::Event;
+use sv_journal::{Entry, Journal};
+
+/// Has each listener hear the event once, in the telling order (Jakarta Servlet 6.0, sections 11.3.3 and 11.3.4), each hearing followed
+/// by its entry. Where an entry finds no memory the journal breaks, and the listeners are told all the same.
+pub fn tell<L: Listener>(
+    alloc: Global,
+    context: &str,
+    listeners: &mut [L],
+    event: &Event,
+    journal: &mut Journal,
+)
+    ensures { Tells L.listener_step context.now event.now listeners.old journal.old listeners.new journal.new }
+{
+    let count = listeners.len();
+    for told in 0..count {
+        let place = hearing_place(event, count, told);
+        hear(alloc, context, listeners, place, event, journal);
+    }
+}
+
+// Has the listener at the place hear the event.
+fn hear<L: Listener>(
+    alloc: Global,
+    context: &str,
+    listeners: &mut [L],
+    place: usize,
+    event: &Event,
+    journal: &mut Journal,
+)
+    requires { place < length listeners.old }
+    ensures moves { Moves (listening L.listener_step)
+        (listeners_alone context.now listeners.old journal.old) (OfListener place event.now) (listeners_alone context.now listeners.new journal.new) }
+    ensures count { length listeners.new ≡ length listeners.old }
+{
+    listeners[place].hear(event);
+    journal.note(Entry::told(alloc, context, place, event));
+}
+
+// The place of the listener that hears when so many of them have heard.
+fn hearing_place(event: &Event, count: usize, told: usize) -> usize
+    requires { told < count }
+    ensures { result ≡ (if is_end event.now then count - 1 - told else told) }
+{
+    if is_end(event) {
+        count - 1 - told
+    } else {
+        told
+    }
+}
+
+// Whether a context, a request or a session ends.
+fn is_end(event: &Event) -> bool
+    ensures { result ≡ is_end event.now }
+{
+    match event {
+        Event::ContextInitialized
+        | Event::RequestInitialized
+        | Event::SessionCreated(_)
+        | Event::SessionIdChanged(_)
+        | Event::AttributeAdded(_, _)
+        | Event::AttributeReplaced(_, _)
+        | Event::AttributeRemoved(_, _) => false,
+        Event::ContextDestroyed | Event::RequestDestroyed | Event::SessionDestroyed(_) => true,
+    }
+}

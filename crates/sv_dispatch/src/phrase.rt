@@ -1,0 +1,16 @@
+//! The phrases of statuses.
+
+ghost use Rattle.std.specs.Prelude.{◌≡◌};
+ghost use Rattle.sv_message.specs.Phrases.{phrase_of};
+
+use http::StatusCode;
+
+/// The phrase of a status, empty where it has none.
+pub(crate) fn phrase_of(status: u16) -> &'static str
+    ensures { result.now ≡ phrase_of status }
+{
+    match StatusCode::from_u16(status) {
+        Ok(code) => code.canonical_reason().unwrap_or(""),
+        Err(_) => "",
+    }
+}

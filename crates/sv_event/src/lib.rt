@@ -1,0 +1,6 @@
+//! What listeners hear.
+#![tactic(auto)]
+
+mod event;
+
+pub use event::Event;

@@ -1,6 +1,0 @@
-//! Telling listeners what happened.
-#![tactic(auto)]
-
-mod telling;
-
-pub use telling::tell;

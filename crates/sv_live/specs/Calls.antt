@@ -1,0 +1,27 @@
+-- The init and the end of a component, and the calls and tellings of a stop (Jakarta Servlet 6.0, sections 2.3, 6.2.1 and 11.3).
+use Rattle.std.specs.Prelude.{ℕ, List, ◌++◌, map, reverse}
+use Rattle.sv_component.specs.Call.{Destroyed, Inited}
+use Rattle.sv_component.specs.Runs.{OfFilter, OfServlet, Record}
+use Rattle.sv_component.specs.declared.answers.Init.{Init}
+use Rattle.sv_component.specs.declared.config.Config.{Config}
+use Rattle.sv_event.specs.declared.event.Event.TheVariants.{ContextDestroyed}
+use Rattle.sv_component.specs.Telling.{told}
+use Rattle.sv_session.specs.Store.{Session}
+use Rattle.sv_live.specs.SessionEnds.{ends_told}
+use Rattle.sv_live.specs.declared.place.Place.{Place}
+use Rattle.sv_live.specs.declared.place.Place.TheVariants.{Filter, Servlet}
+
+-- the init of a component
+abbrev pub init_record : Place → Config → Init → Record
+init_record (Filter place) config answer = OfFilter place (Inited config answer)
+init_record (Servlet place) config answer = OfServlet place (Inited config answer)
+
+-- the end of a component
+abbrev pub destroyed : Place → Record
+destroyed (Filter place) = OfFilter place Destroyed
+destroyed (Servlet place) = OfServlet place Destroyed
+
+-- the calls of a stop: the components are destroyed in the reverse of the order in which they were begun, then the sessions end, then each
+-- listener hears that the context stops
+abbrev pub stop_calls : ℕ → List Place → List Session → List Record
+stop_calls listeners places sessions = map destroyed (reverse places) ++ (ends_told sessions listeners ++ told ContextDestroyed listeners)

@@ -1,0 +1,27 @@
+-- The components of a context with their journal, as runs see them.
+use Rattle.std.specs.Prelude.{◌≡◌, ℕ, ◌<◌, List, length}
+use Rattle.sv_component.specs.World.{World}
+use Rattle.sv_journal.specs.Journal.{JournalState}
+use Rattle.sv_live.specs.declared.place.Place.{Place}
+use Rattle.sv_live.specs.declared.place.Place.TheVariants.{Filter, Servlet}
+use Rattle.sv_live.specs.declared.parts.Parts.{Parts}
+
+abbrev pub world : {S F L : Type 0} → List ℕ → Parts S F L → JournalState → World S F L
+world its_context parts its_journal = record {
+  context = its_context;
+  servlets = parts.servlets.items;
+  filters = parts.filters.items;
+  listeners = parts.listeners.items;
+  journal = its_journal;
+}
+
+-- no component came or went
+pub record HasSameCounts {S F L : Type 0} (before after : Parts S F L) : Type 0 where
+  pub servlets : length after.servlets.items ≡ length before.servlets.items
+  pub filters : length after.filters.items ≡ length before.filters.items
+  pub listeners : length after.listeners.items ≡ length before.listeners.items
+
+-- there is a component at the place
+abbrev pub IsPlaceIn : {S F L : Type 0} → Parts S F L → Place → Type 0
+IsPlaceIn parts (Filter place) = place < length parts.filters.items
+IsPlaceIn parts (Servlet place) = place < length parts.servlets.items

@@ -1,3 +1,0 @@
-pub mod ContextDeeds
-pub mod ExchangeDeeds
-mod Phrases
