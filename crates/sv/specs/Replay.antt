@@ -11,9 +11,9 @@ use Rattle.sv_deployments.specs.declared.configuration.Configuration.{Configurat
 use Rattle.sv_program.specs.FileStore.{Giving}
 use Rattle.sv_program.specs.declared.command_fault.CommandFault.{CommandFault}
 use Rattle.sv_program.specs.declared.command_fault.CommandFault.TheVariants as fault
-use Rattle.sv_server.specs.Script.{RunsScript}
-use Rattle.sv_server.specs.declared.run_fault.RunFault.{RunFault}
-use Rattle.sv_server.specs.declared.run_fault.RunFault.TheVariants as run
+use Rattle.sv_container.specs.Script.{RunsScript}
+use Rattle.sv_container.specs.declared.run_fault.RunFault.{RunFault}
+use Rattle.sv_container.specs.declared.run_fault.RunFault.TheVariants as run
 use Rattle.sv_streams.specs.Calls.{Making}
 
 -- the command's fault by that of the run

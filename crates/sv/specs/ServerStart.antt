@@ -9,9 +9,9 @@ use Rattle.sv_deployments.specs.Folders.{FolderGiving}
 use Rattle.sv_deployments.specs.declared.configuration.Configuration.{Configuration}
 use Rattle.sv_program.specs.FileStore.{Giving}
 use Rattle.sv_program.specs.declared.command_fault.CommandFault.{CommandFault}
-use Rattle.sv_starting.specs.Seeding.{GivesSeed}
-use Rattle.sv_starting.specs.Starting.{StartsWith}
-use Rattle.sv_starting.specs.declared.seeding.Seeding.{Seeding}
+use Rattle.sv_listening.specs.Seeding.{GivesSeed}
+use Rattle.sv_listening.specs.Starting.{StartsWith}
+use Rattle.sv_listening.specs.declared.seeding.Seeding.{Seeding}
 use Rattle.sv.specs.declared.server_start.StartedServer.{StartedServer}
 
 module _ (moving : ComponentSteps ProgramServlet ProgramFilter ProgramListener) where

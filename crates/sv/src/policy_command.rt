@@ -16,9 +16,9 @@ use sv_application::{ProgramFilter, ProgramListener, ProgramServlet};
 use sv_component::{Filter, Listener, Servlet};
 use sv_container::{Container, ExplainFault, Explanation, containers_explain_what_was_deployed};
 use sv_deployments::{Configuration, FolderStore, read_deployments};
+use sv_listening::start;
 use sv_options::Question;
 use sv_program::{CommandFault, FileStore, print_line};
-use sv_starting::start;
 
 /// Reads the server file of the question and all that it names, starts a container with it, asks it what would become of the request, shuts it
 /// down, and writes the line of its answer.

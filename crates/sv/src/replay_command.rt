@@ -7,9 +7,9 @@ ghost use Rattle.sv.specs.Replay as spec;
 use std::alloc::Global;
 use sv_application::{ProgramFilter, ProgramListener, ProgramServlet};
 use sv_component::{Filter, Listener, Servlet};
+use sv_container::{RunFault, run_script};
 use sv_deployments::{FolderStore, read_deployments};
 use sv_program::{CommandFault, FileStore};
-use sv_server::{RunFault, run_script};
 use sv_streams::{Sink, Source};
 
 /// Reads the server file of this name and all that it names, starts a container with it, replays the script over it, and stops it. What is written

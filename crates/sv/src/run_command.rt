@@ -15,9 +15,8 @@ use sv_application::{ProgramFilter, ProgramListener, ProgramServlet};
 use sv_component::{Filter, Listener, Servlet};
 use sv_deployments::FolderStore;
 use sv_front::Limits;
-use sv_listening::{run_plainly, run_recorded};
+use sv_listening::{Seeding, run_plainly, run_recorded};
 use sv_program::{CommandFault, FileStore};
-use sv_starting::Seeding;
 
 /// Starts the container of the server file with the random words of that seeding, listens at the address, or at the server file's port on this
 /// machine where none is given, writes the line `listening ADDRESS:PORT`, serves all connections that come within these limits, none waiting for

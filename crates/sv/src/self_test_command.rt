@@ -2,7 +2,7 @@
 
 ghost use Rattle.sv_component.specs.Steps.{steps_of};
 ghost use Rattle.sv.specs.Serving.{BeginsWith};
-ghost use Rattle.sv_starting.specs.declared.seeding.Seeding.TheVariants.{Configured};
+ghost use Rattle.sv_listening.specs.declared.seeding.Seeding.TheVariants.{Configured};
 
 use crate::server_start::{StartedServer, start_server};
 use std::alloc::Global;
@@ -14,9 +14,8 @@ use std::time::Clock;
 use sv_application::{ProgramFilter, ProgramListener, ProgramServlet};
 use sv_component::{Filter, Listener, Servlet};
 use sv_deployments::FolderStore;
-use sv_listening::own_answer;
+use sv_listening::{Seeding, own_answer};
 use sv_program::{CommandFault, FileStore};
-use sv_starting::Seeding;
 
 /// Starts the container of the server file, listens at its port on this machine, connects to it, asks for the root path by `HEAD`, serves that
 /// connection and no other, shuts the container down, and writes the line `selftest ` with the first line of the answer behind it. No call waits for

@@ -2,7 +2,7 @@
 
 ghost use Rattle.sv_component.specs.Steps.{steps_of};
 ghost use Rattle.sv.specs.Serving.{BeginsWith};
-ghost use Rattle.sv_starting.specs.declared.seeding.Seeding.TheVariants.{Configured};
+ghost use Rattle.sv_listening.specs.declared.seeding.Seeding.TheVariants.{Configured};
 
 use crate::server_start::{StartedServer, start_server};
 use std::alloc::Global;
@@ -13,9 +13,8 @@ use std::time::Clock;
 use sv_application::{ProgramFilter, ProgramListener, ProgramServlet};
 use sv_component::{Filter, Listener, Servlet};
 use sv_deployments::FolderStore;
-use sv_listening::listen_and_serve;
+use sv_listening::{Seeding, listen_and_serve};
 use sv_program::{CommandFault, FileStore};
-use sv_starting::Seeding;
 
 /// Starts the container of the server file, listens at its port on this machine, writes the line `listening PORT`, serves so many connections one
 /// after another, writes the line `served COUNT`, and shuts the container down, also where something failed before.

@@ -7,12 +7,11 @@ use std::alloc::Global;
 use std::random::RandomSource;
 use sv_application::{ProgramFilter, ProgramListener, ProgramServlet};
 use sv_component::{Filter, Listener, Servlet};
-use sv_container::Container;
-use sv_deployment::let_go;
+use sv_container::{Container, let_go};
 use sv_deployments::{Configuration, FolderStore, read_deployments};
+use sv_listening::{Seeding, seed_for, start};
 use sv_program::{CommandFault, FileStore};
-use sv_starting::{Seeding, seed_for, start};
-use sv_words::SeededWords;
+use sv_run::SeededWords;
 
 /// A container whose components are of the program's own classes, and whose random words are those of a seed.
 pub(crate) type ProgramContainer = Container<

@@ -5,8 +5,8 @@ ghost use Rattle.std.specs.Option.{unwrap_or};
 ghost use Rattle.sv.specs.Site as spec;
 
 use sv_front::Limits;
+use sv_listening::Seeding;
 use sv_options::RunOptions;
-use sv_starting::Seeding;
 
 /// How many bytes a mebibyte is.
 const MEBIBYTE: u64 = 1_048_576;

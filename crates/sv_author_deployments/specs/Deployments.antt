@@ -3,7 +3,7 @@ use Rattle.std.specs.Prelude.{ℕ, List, [], ◌∷◌, codes, Option, Some, Non
 use Rattle.sv_text.specs.Gives.{Gives}
 use Rattle.sv_text.specs.Steps.{◌>>=◌}
 use Rattle.sv_component.specs.declared.named.Named.{Named}
-use Rattle.sv_deployment.specs.declared.deployment.Deployment as context
+use Rattle.sv_lifecycle.specs.declared.deployment.Deployment as context
 use Rattle.sv_descriptor.specs.declared.web_app.WebApp.{WebApp}
 use Rattle.sv_deploying.specs.Files.{told}
 use Rattle.sv_files.specs.Fault.{files_of}

@@ -9,7 +9,7 @@ ghost use Rattle.sv_author_deployments.specs.Deployments as spec;
 use std::alloc::Global;
 use sv_component::{Filter, Listener, Servlet};
 use sv_deploying::files_of;
-use sv_deployment::Deployment;
+use sv_lifecycle::Deployment;
 use sv_live::Parts;
 use sv_program::{CommandFault, ContextTexts, descriptor_in, realm_in};
 use sv_settings::ContextEntry;

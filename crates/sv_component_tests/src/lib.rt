@@ -1,4 +1,5 @@
-//! Tests of the exchange, of entries and of the component classes: tables whose rows a reader can check against the standards.
+//! Tests of the exchange and what it keeps of its request, of entries and of the component classes: tables whose rows a reader can check against the
+//! standards.
 #![tactic(auto)]
 
 #[cfg(test)]
@@ -13,6 +14,12 @@ mod classes;
 mod entries;
 #[cfg(test)]
 mod entry_lines;
+#[cfg(test)]
+mod exchange_calls;
+#[cfg(test)]
+mod exchange_requests;
+#[cfg(test)]
+mod exchange_tables;
 #[cfg(test)]
 mod readings;
 #[cfg(test)]

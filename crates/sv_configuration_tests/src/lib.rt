@@ -1,8 +1,19 @@
-//! Tests of the three readers of configuration files: what is read, which no command prints. The cases of the command `policy` show what is refused.
+//! Tests of the three readers of configuration files: what is read, which no command prints; the cases of the command `policy` show what is refused.
+//! And of what a descriptor gives: filter chains, error pages, static files and locations. The rows can be checked against the standards.
 #![tactic(auto)]
 
 #[cfg(test)]
+mod chains;
+#[cfg(test)]
 mod elements;
+#[cfg(test)]
+mod file_answers;
+#[cfg(test)]
+mod file_lists;
+#[cfg(test)]
+mod locations;
+#[cfg(test)]
+mod pages;
 #[cfg(test)]
 mod passwords;
 #[cfg(test)]

@@ -8,7 +8,7 @@ use Rattle.sv_context.specs.Deployment.{Undeploys}
 use Rattle.sv_context.specs.Forgetting.{without_sessions}
 use Rattle.sv_context.specs.Several.{UndeploysAll}
 use Rattle.sv_context.specs.State.{ContextState, in_service, world_of}
-use Rattle.sv_deployment.specs.declared.deployment.Deployment.{Deployment}
+use Rattle.sv_lifecycle.specs.declared.deployment.Deployment.{Deployment}
 use Rattle.sv_journal.specs.Journal.{JournalState}
 use Rattle.sv_live.specs.Calls.{stop_calls}
 use Rattle.sv_live.specs.World.{world}

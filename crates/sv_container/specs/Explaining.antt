@@ -4,7 +4,7 @@ use Rattle.sv_component.specs.Steps.{ComponentSteps}
 use Rattle.sv_context.specs.Several.{DeploysAll}
 use Rattle.sv_context.specs.Deployment.{declared_policy}
 use Rattle.sv_context.specs.State.{ContextState}
-use Rattle.sv_deployment.specs.declared.deployment.Deployment.{Deployment}
+use Rattle.sv_lifecycle.specs.declared.deployment.Deployment.{Deployment}
 use Rattle.sv_explain.specs.Context.{policy}
 use Rattle.sv_explain.specs.Explanation as explanation
 use Rattle.sv_explain.specs.declared.context.ContextPolicy.{ContextPolicy}

@@ -2,5 +2,8 @@ pub mod Container
 pub mod Explaining
 pub mod NewCode
 pub mod Paths
+pub mod RunFault
+pub mod Running
+pub mod Script
 pub mod Starting
 pub mod Stopping

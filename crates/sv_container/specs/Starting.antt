@@ -9,7 +9,7 @@ use Rattle.sv_container.specs.declared.new_fault.NewFault.{NewFault}
 use Rattle.sv_context.specs.Several.{DeploysAll, FailsAll, paths_of}
 use Rattle.sv_context.specs.State.{ContextState}
 use Rattle.sv_context.specs.declared.deploy_fault.DeployAllFault.{DeployAllFault}
-use Rattle.sv_deployment.specs.declared.deployment.Deployment.{Deployment}
+use Rattle.sv_lifecycle.specs.declared.deployment.Deployment.{Deployment}
 use Rattle.sv_host.specs.Host.{opening}
 use Rattle.sv_journal.specs.Journal.{JournalState}
 

@@ -1,4 +1,5 @@
-//! A container: started contexts behind connections, which takes events one by one (Jakarta Servlet 6.0; RFC 9112).
+//! A container: started contexts behind connections, which takes events one by one (Jakarta Servlet 6.0; RFC 9112); and its whole runs by a script,
+//! from the bytes of the script to those of the output.
 #![tactic(auto)]
 
 mod container;
@@ -8,6 +9,9 @@ mod laws;
 mod limits;
 mod new_fault;
 mod refusal;
+mod run_fault;
+mod running;
+mod script;
 mod starting;
 mod stopping;
 
@@ -17,5 +21,8 @@ pub use laws::{
 };
 pub use limits::MAX_CONTEXTS;
 pub use new_fault::{NewCode, NewFault};
-pub use sv_context::Shutdown;
+pub use run_fault::RunFault;
+pub use running::Running;
+pub use script::run_script;
+pub use sv_context::{Shutdown, let_go};
 pub use sv_explain::{ExplainFault, Explanation, HiddenCause};

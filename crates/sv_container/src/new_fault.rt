@@ -5,8 +5,8 @@ ghost use Rattle.sv_container.specs.NewCode.{code_name, code_number, code_of};
 
 use std::fmt;
 use sv_component::{Filter, Listener, Servlet};
-use sv_deployment::{Deployment, let_go};
-use sv_lifecycle::StartCode;
+use sv_context::let_go;
+use sv_lifecycle::{Deployment, StartCode};
 use sv_text::Text;
 
 /// Why a container did not start: the first cause that stands. It is printed as its name.

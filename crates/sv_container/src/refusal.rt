@@ -8,7 +8,7 @@ ghost use Rattle.sv_schema.specs.Names.{repeats};
 use crate::limits::MAX_CONTEXTS;
 use crate::new_fault::{NewCode, NewFault};
 use std::alloc::Global;
-use sv_deployment::Deployment;
+use sv_lifecycle::Deployment;
 use sv_schema::Names;
 use sv_text::{NoMemory, Text};
 

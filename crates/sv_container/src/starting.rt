@@ -17,10 +17,9 @@ use std::alloc::Global;
 use sv_component::{Filter, Listener, Servlet};
 use sv_context::{Context, DeployAllFault, Room, StopRoom, deploy_all};
 use sv_context_index::ContextIndex;
-use sv_deployment::Deployment;
 use sv_host::Host;
 use sv_journal::Journal;
-use sv_lifecycle::StartCode;
+use sv_lifecycle::{Deployment, StartCode};
 use sv_text::{NoMemory, Text};
 
 impl<S: Servlet, F: Filter, L: Listener, W: Drop> Container<S, F, L, W> {

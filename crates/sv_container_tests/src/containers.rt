@@ -7,8 +7,8 @@ use sv_application::{ProgramFilter, ProgramListener, ProgramServlet};
 use sv_container::{Container, NewCode, NewFault};
 use sv_journal::Journal;
 use sv_rows::{Draft, cell};
+use sv_run::CountedWords;
 use sv_text::{NoMemory, Text};
-use sv_words::CountedWords;
 
 /// A container of the program's own classes, whose calls are counted.
 pub type TestContainer = Container<

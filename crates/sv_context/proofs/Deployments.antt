@@ -22,7 +22,7 @@ use Rattle.sv_session.specs.Store.{Store}
 use Rattle.sv_site.specs.Site.{Content}
 use Rattle.sv_context.specs.Deployment.{Deploys, Undeploys, content_of, declared_policy, deployed, no_sessions}
 use Rattle.sv_context.specs.State.{AreComponentsOf, context_of, in_service, world_of}
-use Rattle.sv_deployment.specs.declared.deployment.Deployment.{Deployment}
+use Rattle.sv_lifecycle.specs.declared.deployment.Deployment.{Deployment}
 use Rattle.sv_context.proofs.Expiries.{grows_nothing, world_same}
 
 -- the start stands

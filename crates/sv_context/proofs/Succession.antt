@@ -6,7 +6,7 @@ use Rattle.sv_context.specs.Deployment.{Deploys, Undeploys, deployed}
 use Rattle.sv_context.specs.Several.{DeploysAll, UndeploysAll, paths_of}
 use Rattle.sv_context.specs.State.{ContextState}
 use Rattle.sv_context.specs.declared.deploy_fault.DeployFault.{DeployFault}
-use Rattle.sv_deployment.specs.declared.deployment.Deployment.{Deployment}
+use Rattle.sv_lifecycle.specs.declared.deployment.Deployment.{Deployment}
 use Rattle.sv_journal.specs.Journal.{JournalState}
 use Rattle.sv_live.specs.Standing.{LiveState}
 use Rattle.sv_lifecycle.specs.declared.start_fault.StartFault.{StartFault}

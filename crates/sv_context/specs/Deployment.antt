@@ -15,7 +15,7 @@ use Rattle.sv_session.specs.Store.{Store, empty_store}
 use Rattle.sv_site.specs.Site.{Content}
 use Rattle.sv_context.specs.State.{ContextState, context_of, in_service, world_of}
 use Rattle.sv_context.specs.declared.deploy_fault.DeployFault.{DeployFault}
-use Rattle.sv_deployment.specs.declared.deployment.Deployment.{Deployment}
+use Rattle.sv_lifecycle.specs.declared.deployment.Deployment.{Deployment}
 use Rattle.sv_context.specs.declared.limits.TheConstants.{SECONDS_OF_MINUTE}
 
 abbrev pub content_of : {S F L : Type 0} → Deployment S F L → Content

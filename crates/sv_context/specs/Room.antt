@@ -1,7 +1,7 @@
 -- The room that a start takes before its first call.
 use Rattle.std.specs.Prelude.{◌≡◌, ℕ, ◌≤◌, List, [], length, vec_capacity}
 use Rattle.sv_context.specs.Several.{paths_of}
-use Rattle.sv_deployment.specs.declared.deployment.Deployment.{Deployment}
+use Rattle.sv_lifecycle.specs.declared.deployment.Deployment.{Deployment}
 use Rattle.sv_context.specs.declared.room.Room.{Room}
 use Rattle.sv_context.specs.declared.room.StopRoom.{StopRoom}
 

@@ -5,7 +5,7 @@ use Rattle.sv_context.specs.Deployment.{Deploys, Undeploys}
 use Rattle.sv_context.specs.State.{ContextState}
 use Rattle.sv_context.specs.declared.deploy_fault.DeployAllFault.{DeployAllFault}
 use Rattle.sv_context.specs.declared.deploy_fault.DeployFault.{DeployFault}
-use Rattle.sv_deployment.specs.declared.deployment.Deployment.{Deployment}
+use Rattle.sv_lifecycle.specs.declared.deployment.Deployment.{Deployment}
 use Rattle.sv_journal.specs.Journal.{JournalState}
 use Rattle.sv_live.specs.declared.parts.Parts.{Parts}
 

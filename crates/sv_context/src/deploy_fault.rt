@@ -1,7 +1,6 @@
 //! Why contexts were not deployed.
 
-use sv_deployment::Deployment;
-use sv_lifecycle::StartCode;
+use sv_lifecycle::{Deployment, StartCode};
 use sv_text::Text;
 
 /// A context that was not deployed.

@@ -7,7 +7,7 @@ ghost use Rattle.sv_context.specs.Several.{paths_of};
 use crate::context::Context;
 use std::alloc::Global;
 use sv_component::{Filter, Listener, Servlet};
-use sv_deployment::Deployment;
+use sv_lifecycle::Deployment;
 use sv_live::Parts;
 use sv_text::{NoMemory, Text};
 

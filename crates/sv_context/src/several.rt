@@ -6,7 +6,7 @@ ghost use Rattle.sv_context.specs.Deployment.{Deploys};
 ghost use Rattle.sv_context.specs.Room.{HasRoomToStop, IsReady};
 ghost use Rattle.sv_context.specs.Several.{DeploysAll, FailsAll, GivesBackParts, UndeploysAll};
 ghost use Rattle.sv_context.specs.State.{ContextState};
-ghost use Rattle.sv_deployment.specs.declared.deployment.Deployment.{Deployment as DeploymentData};
+ghost use Rattle.sv_lifecycle.specs.declared.deployment.Deployment.{Deployment as DeploymentData};
 
 use crate::context::Context;
 use crate::deploy_fault::{DeployAllFault, DeployFault};
@@ -17,8 +17,8 @@ use std::alloc::Global;
 use std::collections::VecDeque;
 use std::mem;
 use sv_component::{Filter, Listener, Servlet};
-use sv_deployment::Deployment;
 use sv_journal::Journal;
+use sv_lifecycle::Deployment;
 use sv_live::Parts;
 
 /// Deploys contexts in the order of their list, with room for them (Jakarta Servlet 6.0, sections 2.3.1, 6.2.1 and 11.3.3). They come with
@@ -178,6 +178,6 @@ fn push_parts<S: Servlet, F: Filter, L: Listener>(
 {
     let mut waiting = VecDeque::from_vec(back);
     while let Some(undeployed) = waiting.pop_front() {
-        push(parts, undeployed.into_parts());
+        push(parts, undeployed.parts);
     }
 }

@@ -5,7 +5,7 @@ use Rattle.sv_application.specs.Parts.{Components, Made, components, components_
 use Rattle.sv_application.specs.declared.program_filter.ProgramFilter.{ProgramFilter}
 use Rattle.sv_application.specs.declared.program_listener.ProgramListener.{ProgramListener}
 use Rattle.sv_application.specs.declared.program_servlet.ProgramServlet.{ProgramServlet}
-use Rattle.sv_deployment.specs.declared.deployment.Deployment as context
+use Rattle.sv_lifecycle.specs.declared.deployment.Deployment as context
 use Rattle.sv_descriptor.specs.declared.web_app.WebApp.{WebApp}
 use Rattle.sv_files.specs.declared.file.File.{File}
 use Rattle.sv_realm.specs.declared.user.User.{User}

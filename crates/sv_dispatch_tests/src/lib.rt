@@ -1,8 +1,10 @@
-//! Tests of dispatches: tables whose rows a reader can check against the specification.
+//! Tests of starts, calls by place, stops and dispatches: tables whose rows a reader can check against the specification.
 #![tactic(auto)]
 
 #[cfg(test)]
 mod answers;
+#[cfg(test)]
+mod by_place;
 #[cfg(test)]
 mod chains;
 #[cfg(test)]
@@ -11,6 +13,14 @@ mod components;
 mod contexts;
 #[cfg(test)]
 mod descriptors;
+#[cfg(test)]
+mod entries;
+#[cfg(test)]
+mod lifecycle_components;
+#[cfg(test)]
+mod lifecycle_descriptors;
+#[cfg(test)]
+mod lives;
 #[cfg(test)]
 mod nesting;
 #[cfg(test)]
@@ -25,6 +35,8 @@ mod rows;
 mod scripts;
 #[cfg(test)]
 mod sessions;
+#[cfg(test)]
+mod starts;
 #[cfg(test)]
 mod told;
 #[cfg(test)]

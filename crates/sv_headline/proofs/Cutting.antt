@@ -1,14 +1,14 @@
 -- What a script prints whose run memory cut, of our contexts.
 use Rattle.std.proofs.Common.{◌≡◌, ◌⊎◌, ℕ, List, Result, Ok, Err, refl, inl, inr, subst}
 use Rattle.sv_component.specs.Steps.{ComponentSteps}
-use Rattle.sv_conduct.specs.Until.{EveryRunIsLawfulUntilRefused}
+use Rattle.sv_headline.specs.Until.{EveryRunIsLawfulUntilRefused}
 use Rattle.sv_container.specs.Starting.{Starts}
 use Rattle.sv_container.specs.declared.container.Container.{Container}
 use Rattle.sv_container.specs.declared.new_fault.NewCode.{NewCode}
 use Rattle.sv_container.specs.declared.new_fault.NewCode.TheVariants as code
 use Rattle.sv_container.specs.declared.new_fault.NewFault.{NewFault}
 use Rattle.sv_context.specs.Theory.{theory}
-use Rattle.sv_deployment.specs.declared.deployment.Deployment.{Deployment}
+use Rattle.sv_lifecycle.specs.declared.deployment.Deployment.{Deployment}
 use Rattle.sv_headline.proofs.Starting.{runs_lawfully}
 use Rattle.sv_headline.specs.Callers.{CallersOfAStartedContainerHaveLoggedIn}
 use Rattle.sv_headline.specs.Cut.{PrintsACutRun, WhatARefusedScriptPrintsBeginsTheWhole, WhatARefusedScriptPrintsIsCut}
@@ -17,14 +17,14 @@ use Rattle.sv_replay.specs.declared.fault.ReplayFault.{ReplayFault}
 use Rattle.sv_replay.specs.declared.fault.ReplayFault.TheVariants as replays
 use Rattle.sv_run.specs.Laws.{RequestsEnterExactlyWhereAllowed}
 use Rattle.sv_script.specs.Printed.{start_text}
-use Rattle.sv_script_run.specs.Laws as runs
-use Rattle.sv_script_run.specs.Whole.{PrintsOf, RunsWhole}
-use Rattle.sv_server.specs.RunFault.{ended_by}
-use Rattle.sv_server.specs.Running.{StepsOf, StopsOf, run_of}
-use Rattle.sv_server.specs.Script.{AreFresh, Follows, EndsUnstarted, draws, refused_by}
-use Rattle.sv_server.specs.declared.run_fault.RunFault.TheVariants.{NoMemory}
+use Rattle.sv_replay.specs.WholeLaws as runs
+use Rattle.sv_replay.specs.Whole.{PrintsOf, RunsWhole}
+use Rattle.sv_container.specs.RunFault.{ended_by}
+use Rattle.sv_container.specs.Running.{StepsOf, StopsOf, run_of}
+use Rattle.sv_container.specs.Script.{AreFresh, Follows, EndsUnstarted, draws, refused_by}
+use Rattle.sv_container.specs.declared.run_fault.RunFault.TheVariants.{NoMemory}
 use Rattle.sv_streams.specs.Calls.{Making}
-use Rattle.sv_words.specs.declared.counted_words.CountedWords.{CountedWords}
+use Rattle.sv_run.specs.declared.counted_words.CountedWords.{CountedWords}
 use Rattle.sv_headline.proofs.Printing.{like}
 
 -- want of memory ends a run where it ended the replay

@@ -1,7 +1,7 @@
 -- What a connection is sent, of our contexts.
 use Rattle.std.proofs.Common.{ℕ, [], ◌∷◌, ◌++◌, map, Ok, Err, refl, ap}
 use Rattle.sv_component.specs.Steps.{ComponentSteps}
-use Rattle.sv_conduct.specs.Until.{EveryRunIsLawfulUntilRefused}
+use Rattle.sv_headline.specs.Until.{EveryRunIsLawfulUntilRefused}
 use Rattle.sv_connection.specs.Running.{AConnectionIsARun, events_of}
 use Rattle.sv_container.specs.Container.{state_of}
 use Rattle.sv_container.specs.declared.container.Container.{Container}

@@ -3,17 +3,17 @@ use Rattle.std.proofs.Common.{◌≡◌, ℕ, Bool, true, false, List, [], ◌�
 use Rattle.std.specs.Bool.{MatchBool}
 use Rattle.std.specs.List.{AllByRecursion}
 use Rattle.sv_component.specs.Steps.{ComponentSteps}
-use Rattle.sv_conduct.specs.Order.{SessionsStayInOrder}
-use Rattle.sv_conduct.specs.Record.{IsLawfulRun}
-use Rattle.sv_conduct.specs.Start.{CallersLoggedInSinceTheStart}
-use Rattle.sv_conduct.specs.Until.{EveryRunIsLawfulUntilRefused, IsLawfulUpTo}
+use Rattle.sv_headline.specs.Order.{SessionsStayInOrder}
+use Rattle.sv_headline.specs.Record.{IsLawfulRun}
+use Rattle.sv_headline.specs.Start.{CallersLoggedInSinceTheStart}
+use Rattle.sv_headline.specs.Until.{EveryRunIsLawfulUntilRefused, IsLawfulUpTo}
 use Rattle.sv_container.specs.Container.{state_of}
 use Rattle.sv_context.specs.Several.{DeploysAll}
 use Rattle.sv_container.specs.Starting.{Starts}
 use Rattle.sv_container.specs.declared.container.Container.{Container}
 use Rattle.sv_context.specs.State.{ContextState}
 use Rattle.sv_context.specs.Theory.{theory}
-use Rattle.sv_deployment.specs.declared.deployment.Deployment.{Deployment}
+use Rattle.sv_lifecycle.specs.declared.deployment.Deployment.{Deployment}
 use Rattle.sv_headline.specs.Callers.{CallersOfAStartedContainerHaveLoggedIn}
 use Rattle.sv_headline.specs.Headline.{RunsLawfully}
 use Rattle.sv_journal.specs.Journal.{JournalState}
@@ -25,11 +25,11 @@ use Rattle.sv_run.specs.Runs.{Answer, Run}
 use Rattle.sv_run.specs.State.{State}
 use Rattle.sv_run.specs.declared.reaction.Reaction.{Reaction}
 use Rattle.sv_run.specs.declared.step_fault.StepFault.TheVariants.{NoMemory}
-use Rattle.sv_script_run.specs.Laws.{PlaysALawfulRun}
-use Rattle.sv_server.specs.Running.{StepsOf, run_of}
-use Rattle.sv_server.specs.Script as scripts
-use Rattle.sv_server.specs.declared.running.Running.{Running}
-use Rattle.sv_words.specs.declared.counted_words.CountedWords.{CountedWords}
+use Rattle.sv_replay.specs.WholeLaws.{PlaysALawfulRun}
+use Rattle.sv_container.specs.Running.{StepsOf, run_of}
+use Rattle.sv_container.specs.Script as scripts
+use Rattle.sv_container.specs.declared.running.Running.{Running}
+use Rattle.sv_run.specs.declared.counted_words.CountedWords.{CountedWords}
 
 -- where each event was accepted, none wanted memory
 none_wanted : {Context : Type 0} (answered refused : List (Answer Context)) (reactions : List Reaction)

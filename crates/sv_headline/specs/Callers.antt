@@ -6,7 +6,7 @@ use Rattle.sv_container.specs.Starting.{Starts}
 use Rattle.sv_container.specs.declared.container.Container.{Container}
 use Rattle.sv_context.specs.State.{ContextState}
 use Rattle.sv_context.specs.Theory.{theory}
-use Rattle.sv_deployment.specs.declared.deployment.Deployment.{Deployment}
+use Rattle.sv_lifecycle.specs.declared.deployment.Deployment.{Deployment}
 use Rattle.sv_journal.specs.Journal.{JournalState}
 use Rattle.sv_run.specs.Events.{Happening}
 use Rattle.sv_run.specs.Laws.{HoldsAt, LoggedInBefore}

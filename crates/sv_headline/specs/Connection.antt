@@ -2,7 +2,7 @@
 use Rattle.std.specs.Prelude.{◌≡◌, ℕ, false, [], ◌∷◌, ◌++◌, filter, map, Result, Ok}
 use Rattle.std.specs.List.{AllByRecursion}
 use Rattle.sv_component.specs.Steps.{ComponentSteps}
-use Rattle.sv_conduct.specs.Until.{IsLawfulUntilRefused}
+use Rattle.sv_headline.specs.Until.{IsLawfulUntilRefused}
 use Rattle.sv_connection.specs.Connection.{Connects}
 use Rattle.sv_connection.specs.Running.{IsARun, events_of}
 use Rattle.sv_connection.specs.declared.over.Over.{Over}

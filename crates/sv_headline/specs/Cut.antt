@@ -3,18 +3,18 @@ use Rattle.std.specs.Prelude.{◌≡◌, ◌⊎◌, List, ◌++◌, Result, Ok, 
 use Rattle.sv_component.specs.Steps.{ComponentSteps}
 use Rattle.sv_container.specs.Starting.{Starts}
 use Rattle.sv_container.specs.declared.container.Container.{Container}
-use Rattle.sv_deployment.specs.declared.deployment.Deployment.{Deployment}
+use Rattle.sv_lifecycle.specs.declared.deployment.Deployment.{Deployment}
 use Rattle.sv_headline.specs.Headline.{PrintsALawfulRun, RunsLawfully}
 use Rattle.sv_journal.specs.Journal.{JournalState, new_journal}
 use Rattle.sv_replay.specs.Asked.{reactions_text}
 use Rattle.sv_script.specs.Printed.{shutdown_text, start_text}
-use Rattle.sv_script_run.specs.Laws.{Begins, IsCut}
-use Rattle.sv_server.specs.Running.{StepsOf, StopsOf}
-use Rattle.sv_server.specs.Script.{AreFresh, RunsScript, draws}
-use Rattle.sv_server.specs.declared.run_fault.RunFault.{RunFault}
-use Rattle.sv_server.specs.declared.run_fault.RunFault.TheVariants.{NoMemory}
+use Rattle.sv_replay.specs.WholeLaws.{Begins, IsCut}
+use Rattle.sv_container.specs.Running.{StepsOf, StopsOf}
+use Rattle.sv_container.specs.Script.{AreFresh, RunsScript, draws}
+use Rattle.sv_container.specs.declared.run_fault.RunFault.{RunFault}
+use Rattle.sv_container.specs.declared.run_fault.RunFault.TheVariants.{NoMemory}
 use Rattle.sv_streams.specs.Calls.{Making}
-use Rattle.sv_words.specs.declared.counted_words.CountedWords.{CountedWords}
+use Rattle.sv_run.specs.declared.counted_words.CountedWords.{CountedWords}
 
 module _ {S F L I O : Type 0} (moving : ComponentSteps S F L) (gives : Making I)
     (takes : Making O) where

@@ -1,25 +1,25 @@
 -- What a script prints, from its bytes to those of the output (Jakarta Servlet 6.0, section 13.8).
 use Rattle.std.specs.Prelude.{◌≡◌, List, Result, Ok, Err}
 use Rattle.sv_component.specs.Steps.{ComponentSteps}
-use Rattle.sv_conduct.specs.Record.{IsLawfulRun}
+use Rattle.sv_headline.specs.Record.{IsLawfulRun}
 use Rattle.sv_container.specs.Container.{state_of}
 use Rattle.sv_container.specs.Starting.{Starts}
 use Rattle.sv_container.specs.declared.container.Container.{Container}
 use Rattle.sv_context.specs.Theory.{theory}
-use Rattle.sv_deployment.specs.declared.deployment.Deployment.{Deployment}
+use Rattle.sv_lifecycle.specs.declared.deployment.Deployment.{Deployment}
 use Rattle.sv_headline.specs.Callers.{CallersHaveLoggedIn}
 use Rattle.sv_journal.specs.Journal.{JournalState, new_journal}
 use Rattle.sv_replay.specs.Replay.{Played}
 use Rattle.sv_replay.specs.declared.fault.ReplayFault.{ReplayFault}
-use Rattle.sv_script_run.specs.Laws.{PlaysALawfulRun, IsOneText}
-use Rattle.sv_server.specs.RunFault.{ended_by}
-use Rattle.sv_server.specs.Running.{StepsOf, StopsOf, run_of}
-use Rattle.sv_server.specs.Script.{AreFresh, RunsScript, draws}
-use Rattle.sv_server.specs.declared.run_fault.RunFault.{RunFault}
-use Rattle.sv_server.specs.declared.run_fault.RunFault.TheVariants.{Script, Start, Output, NoMemory, Connection}
-use Rattle.sv_server.specs.declared.running.Running.{Running}
+use Rattle.sv_replay.specs.WholeLaws.{PlaysALawfulRun, IsOneText}
+use Rattle.sv_container.specs.RunFault.{ended_by}
+use Rattle.sv_container.specs.Running.{StepsOf, StopsOf, run_of}
+use Rattle.sv_container.specs.Script.{AreFresh, RunsScript, draws}
+use Rattle.sv_container.specs.declared.run_fault.RunFault.{RunFault}
+use Rattle.sv_container.specs.declared.run_fault.RunFault.TheVariants.{Script, Start, Output, NoMemory, Connection}
+use Rattle.sv_container.specs.declared.running.Running.{Running}
 use Rattle.sv_streams.specs.Calls.{Making}
-use Rattle.sv_words.specs.declared.counted_words.CountedWords.{CountedWords}
+use Rattle.sv_run.specs.declared.counted_words.CountedWords.{CountedWords}
 
 -- all was written: the run ended well, or a line of the script is to blame
 abbrev pub IsWritten : Result (Unit {0}) RunFault → Type 0

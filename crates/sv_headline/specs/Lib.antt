@@ -1,5 +1,12 @@
 pub mod Callers
 pub mod Connection
 pub mod Cut
+pub mod Ends
 pub mod Headline
+pub mod Lives
 pub mod Memory
+pub mod Order
+pub mod Record
+pub mod Refused
+pub mod Start
+pub mod Until

@@ -3,7 +3,7 @@ use Rattle.std.specs.Prelude.{◌≡◌, ℕ, List, ◌++◌, map, Ok}
 use Rattle.sv_component.specs.Steps.{ComponentSteps}
 use Rattle.sv_container.specs.Starting.{Starts}
 use Rattle.sv_container.specs.declared.container.Container.{Container}
-use Rattle.sv_deployment.specs.declared.deployment.Deployment.{Deployment}
+use Rattle.sv_lifecycle.specs.declared.deployment.Deployment.{Deployment}
 use Rattle.sv_headline.specs.Headline.{RunsLawfully}
 use Rattle.sv_journal.specs.Journal.{JournalState, new_journal}
 use Rattle.sv_replay.specs.Asked.{reactions_text}
@@ -11,11 +11,11 @@ use Rattle.sv_replay.specs.Lines.{lines_of}
 use Rattle.sv_replay.specs.Replay.{Played}
 use Rattle.sv_script.specs.Line.{asked}
 use Rattle.sv_script.specs.Printed.{shutdown_text, start_text}
-use Rattle.sv_server.specs.Running.{StopsOf}
-use Rattle.sv_server.specs.Script.{AreFresh, RunsScript}
-use Rattle.sv_server.specs.declared.running.Running.{Running}
+use Rattle.sv_container.specs.Running.{StopsOf}
+use Rattle.sv_container.specs.Script.{AreFresh, RunsScript}
+use Rattle.sv_container.specs.declared.running.Running.{Running}
 use Rattle.sv_streams.specs.Memory.{IsMade, MemoryState}
-use Rattle.sv_words.specs.declared.counted_words.CountedWords.{CountedWords}
+use Rattle.sv_run.specs.declared.counted_words.CountedWords.{CountedWords}
 
 module _ {S F L : Type 0} (moving : ComponentSteps S F L) where
   -- a container started with the deployments, what the lines of the input ask for is a lawful run of it, and it stopped; what is printed is the text of

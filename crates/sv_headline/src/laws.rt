@@ -7,22 +7,19 @@ ghost use Rattle.sv_headline.specs.Cut.{WhatARefusedScriptPrintsBeginsTheWhole, 
 ghost use Rattle.sv_headline.specs.Headline.{WhatAScriptPrintsIsLawful};
 ghost use Rattle.sv_headline.specs.Memory.{AScriptInMemoryPrintsItsRun};
 
+use crate::contexts::sessions_of_contexts_stay_in_order;
+use crate::record::every_run_is_lawful_until_memory_is_refused;
+use crate::runs::{callers_logged_in_since_the_start, requests_enter_exactly_where_allowed};
 use sv_component::{Filter, Listener, Servlet};
-use sv_conduct::{
-    callers_logged_in_since_the_start, every_run_is_lawful_until_memory_is_refused,
-    requests_enter_exactly_where_allowed, sessions_of_contexts_stay_in_order,
-};
 use sv_connection::a_connection_is_a_run;
-use sv_container::Container;
+use sv_container::{Container, Running};
 use sv_context::Context;
-use sv_run::Words;
-use sv_script_run::{
+use sv_replay::{
     a_cut_text_begins_the_whole, a_refused_run_is_cut, a_run_writes_one_text,
     a_script_is_a_lawful_run,
 };
-use sv_server::Running;
+use sv_run::{CountedWords, Words};
 use sv_streams::{Clock, MemoryStream, Sink, Source, Stream};
-use sv_words::CountedWords;
 
 /// In each run of a container that was started, until memory is refused, a session holds a caller only by a login that fits, which nothing has undone:
 /// whoever is logged in has logged in (Jakarta Servlet 6.0, section 13.6.3).
@@ -34,7 +31,7 @@ pub fn callers_of_a_started_container_have_logged_in<S: Servlet, F: Filter, L: L
 }
 
 /// Where a run of a script ended well, or a line of the script is to blame, what was written is the text of a container's run: from its start over
-/// the events that the script asks for, up to its stop. That run is lawful (`every_run_is_lawful` of `sv_conduct`): a message enters exactly where the
+/// the events that the script asks for, up to its stop. That run is lawful (`every_run_is_lawful`): a message enters exactly where the
 /// combined constraints allow its method and its path to the caller of its session, every other has a named cause, and components are moved by exactly
 /// the calls that the entries of the text note (Jakarta Servlet 6.0, section 13.8). Whoever is logged in behind it has logged in.
 pub fn what_a_script_prints_is_lawful<S: Servlet, F: Filter, L: Listener, I: Source, O: Sink>()
@@ -84,7 +81,7 @@ pub fn what_a_refused_script_prints_begins_the_whole<
 /// What is written of a connection is what a container's run sends, from its opening to its end or to the event that is refused, over the pieces that
 /// are read of it: one answer after another, all of it, or a part from the first byte on where a write failed (RFC 9112, section 9). The entries of that
 /// run tell the outcome of each message once, in order, and a request enters exactly where the combined constraints allow its method and its path to the
-/// caller of its session (Jakarta Servlet 6.0, section 13.8). If the container ran, that run is lawful (`every_run_is_lawful` of `sv_conduct`), up to where
+/// caller of its session (Jakarta Servlet 6.0, section 13.8). If the container ran, that run is lawful (`every_run_is_lawful`), up to where
 /// memory was refused.
 pub fn what_a_connection_is_sent_is_lawful<
     S: Servlet,

@@ -1,11 +1,29 @@
 //! The headline: what a script prints, and what a connection is sent, is of a lawful run, in which a request enters exactly where the combined
-//! constraints allow it.
+//! constraints allow it. Below it what runs of a container want of its contexts, proved of ours, the laws of runs over them, and the lives of components
+//! over every list of events, up to the stop.
 #![tactic(auto)]
 
+mod contexts;
 mod laws;
+mod lives;
+mod record;
+mod refused;
+mod runs;
 
+pub use contexts::{
+    callers_come_by_login, contexts_end_expired_sessions, contexts_tell_outcomes,
+    edits_alone_change_the_constraints, sessions_of_contexts_stay_in_order,
+};
 pub use laws::{
     a_script_in_memory_prints_its_run, callers_of_a_started_container_have_logged_in,
     what_a_connection_is_sent_is_lawful, what_a_refused_script_prints_begins_the_whole,
     what_a_refused_script_prints_is_cut, what_a_script_prints_is_lawful,
+};
+pub use lives::{components_are_destroyed_once, each_component_is_destroyed_once};
+pub use record::{every_run_is_lawful, every_run_is_lawful_until_memory_is_refused};
+pub use refused::the_undispatched_call_none;
+pub use runs::{
+    callers_logged_in, callers_logged_in_since_the_start, constraints_change_by_edits_alone,
+    orders_are_alike, orders_are_taken_alike, pieces_are_taken_in_parts, pieces_may_be_cut,
+    pieces_may_come_in_parts, requests_enter_exactly_where_allowed,
 };

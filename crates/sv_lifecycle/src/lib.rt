@@ -1,8 +1,9 @@
-//! How a context is started.
+//! What a context is deployed with, and how its components are started.
 #![tactic(auto)]
 
 mod begin;
 mod configs;
+mod deployment;
 mod fit;
 mod laws;
 mod order;
@@ -10,6 +11,7 @@ mod plan;
 mod start_fault;
 mod starting;
 
+pub use deployment::Deployment;
 pub use fit::fits;
 pub use laws::{stops_mirror_starts, undone_starts_mirror};
 pub use start_fault::{StartCode, StartFault};

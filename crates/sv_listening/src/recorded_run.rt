@@ -1,5 +1,8 @@
 //! All connections of an address at once, with a socket file and a journal.
 
+use crate::alarm::Alarm;
+use crate::record::Record;
+use crate::recorder::Recorder;
 use crate::running::run_controlled;
 use crate::sockets::file_fault;
 use std::alloc::Global;
@@ -11,7 +14,6 @@ use std::rt::Files;
 use std::time::Clock;
 use sv_front::{Consulted, Limits};
 use sv_program::CommandFault;
-use sv_recording::{Alarm, Record, Recorder};
 use sv_run::Reactor;
 use sv_streams::WriteSink;
 

@@ -6,9 +6,9 @@ use std::io;
 use std::io::ErrorKind;
 use std::net::{Net, OpenListener, OpenStream, SocketAddr};
 use std::time::Clock;
+use sv_connection::serve_connections;
 use sv_program::CommandFault;
 use sv_run::Reactor;
-use sv_runs::serve_connections;
 use sv_sockets::{OwnAcceptor, READ_BYTES, ask, first_line};
 use sv_streams::SystemClock;
 

@@ -3,9 +3,9 @@
 use std::alloc::Global;
 use std::io;
 use std::net::{Ipv4Addr, Net, TcpListener};
+use sv_connection::ServeFault;
 use sv_program::CommandFault;
 use sv_run::StepFault;
-use sv_runs::ServeFault;
 use sv_text::{NoMemory, Text};
 
 /// Listens at the port for connections of this machine alone.

@@ -1,8 +1,12 @@
-//! Tests of messages: tables whose rows a reader can check against the standards.
+//! Tests of canonical paths and of messages: tables whose rows a reader can check against the standards.
 #![tactic(auto)]
 
 #[cfg(test)]
 mod ample_memory;
+#[cfg(test)]
+mod ample_paths;
+#[cfg(test)]
+mod canonical_paths;
 #[cfg(test)]
 mod chunked_bodies;
 #[cfg(test)]
@@ -10,13 +14,19 @@ mod counts;
 #[cfg(test)]
 mod message_limits;
 #[cfg(test)]
+mod path_rows;
+#[cfg(test)]
 mod reading;
 #[cfg(test)]
 mod response_texts;
 #[cfg(test)]
 mod responses;
 #[cfg(test)]
+mod specification_table;
+#[cfg(test)]
 mod streams;
+#[cfg(test)]
+mod targets;
 #[cfg(test)]
 mod whole_messages;
 #[cfg(test)]

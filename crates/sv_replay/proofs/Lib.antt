@@ -1,4 +1,7 @@
+mod Cut
+mod Lawful
 mod LineLemmas
 mod PlayLemmas
 mod ProgressLemmas
 mod RunJoins
+mod WholeLemmas

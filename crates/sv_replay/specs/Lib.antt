@@ -4,3 +4,5 @@ pub mod Lines
 pub mod PlaySteps
 pub mod Replay
 pub mod ReplayFault
+pub mod Whole
+pub mod WholeLaws

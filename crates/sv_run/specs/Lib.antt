@@ -1,6 +1,7 @@
 pub mod Breaking
 pub mod Connections
 pub mod Contexts
+pub mod Counted
 pub mod Editing
 pub mod Effect
 pub mod Events
@@ -12,6 +13,7 @@ pub mod Messages
 pub mod Orders
 pub mod Reacting
 pub mod Runs
+pub mod Seeded
 pub mod Seen
 pub mod State
 pub mod StepFault

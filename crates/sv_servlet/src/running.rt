@@ -9,10 +9,10 @@ use std::random::RandomSource;
 use std::time::Clock;
 use sv_author_deployments::deployments_of;
 use sv_component::{Filter, Listener, Servlet};
-use sv_deployment::{Deployment, let_go};
-use sv_listening::listen_and_run;
+use sv_container::let_go;
+use sv_lifecycle::Deployment;
+use sv_listening::{Seeding, listen_and_run, seed_for, start};
 use sv_program::CommandFault;
-use sv_starting::{Seeding, seed_for, start};
 
 /// Runs an application: starts its contexts behind one port, with ids of sessions by the system's random source, writes the line
 /// `listening ADDRESS:PORT`, and serves all connections that come, none waiting for another, until the process is ended from outside, or an

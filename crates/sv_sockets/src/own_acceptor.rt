@@ -9,7 +9,7 @@ use crate::socket_stream::SocketStream;
 use std::io::{ErrorKind, Read, Write};
 use std::net::{OpenListener, OpenStream, SocketAddr};
 use std::time::{Clock, Duration};
-use sv_runs::{AcceptFailed, Acceptor};
+use sv_connection::{AcceptFailed, Acceptor};
 
 /// What accepts the connection of one client, by its address, and no other: a stranger's is closed. It looks for it [`MAX_SELF_TEST_ACCEPTS`] times.
 #[derive(Clone, Copy)]

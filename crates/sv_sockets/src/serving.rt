@@ -5,8 +5,8 @@ use crate::socket_acceptor::SocketAcceptor;
 use std::alloc::Global;
 use std::io::{Read, Write};
 use std::net::{OpenListener, OpenStream};
+use sv_connection::{ServeFault, serve_connections};
 use sv_run::Reactor;
-use sv_runs::{ServeFault, serve_connections};
 use sv_streams::{Clock, Sink, write_all};
 use sv_text::{NoMemory, Text};
 

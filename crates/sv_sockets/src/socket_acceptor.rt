@@ -8,7 +8,7 @@ use crate::socket_stream::SocketStream;
 use std::io::{ErrorKind, Read, Write};
 use std::net::{OpenListener, OpenStream};
 use std::time::Clock;
-use sv_runs::{AcceptFailed, Acceptor};
+use sv_connection::{AcceptFailed, Acceptor};
 
 /// What accepts the connections of a listener. An accept that was interrupted, or whose peer is gone already, is made again. Connections are read in
 /// parts, and behind its end each is read on for a while.

@@ -2,7 +2,7 @@ use Rattle.std.proofs.Common.{◌≡◌, Bool, true, false, not, List, ℕ, sym,
 use Rattle.sv_container.proofs.Repeating.{repeated_at}
 use Rattle.sv_container.specs.Paths.{IsRepeatedFirst}
 use Rattle.sv_context.specs.Several.{paths_of}
-use Rattle.sv_deployment.specs.declared.deployment.Deployment.{Deployment}
+use Rattle.sv_lifecycle.specs.declared.deployment.Deployment.{Deployment}
 use Rattle.sv_schema.proofs.Differing.{distinct-more}
 use Rattle.sv_container.proofs.refusal.first_repeated.Goals as goal
 

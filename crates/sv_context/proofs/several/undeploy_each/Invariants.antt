@@ -1,7 +1,7 @@
 use Rattle.std.proofs.Common.{◌≡◌, ◌+◌, ◌≤◌, List, ◌++◌, length, vec_capacity}
 use Rattle.sv_context.specs.Several.{UndeploysAll}
 use Rattle.sv_context.specs.State.{ContextState}
-use Rattle.sv_deployment.specs.declared.deployment.Deployment.{Deployment}
+use Rattle.sv_lifecycle.specs.declared.deployment.Deployment.{Deployment}
 use Rattle.sv_context.proofs.several.undeploy_each.Given as goal
 use Rattle.sv_component.specs.Steps.{steps_of}
 

@@ -1,5 +1,0 @@
-pub mod Order
-pub mod Record
-pub mod Refused
-pub mod Start
-pub mod Until

@@ -1,0 +1,35 @@
+//! A container that runs.
+
+ghost use Rattle.sv_component.specs.Steps.{steps_of};
+ghost use Rattle.sv_container.specs.Container.{state_of};
+ghost use Rattle.sv_run.specs.Seen.{happening_of};
+ghost use Rattle.sv_container.specs.Running.{StepsOf, StopsOf};
+
+use crate::container::Container;
+use sv_component::{Filter, Listener, Servlet};
+use sv_journal::Journal;
+use sv_replay::Stops;
+use sv_run::{Happening, Reaction, Reactor, StepFault, Words};
+
+/// A container that runs, and then stops.
+pub struct Running<S, F, L, W> {
+    /// The container.
+    pub container: Container<S, F, L, W>,
+}
+
+impl<S: Servlet, F: Filter, L: Listener, W: Words> Reactor for Running<S, F, L, W> {
+    ghost steps = { StepsOf (steps_of S.servlet_step F.filter_step L.listener_step) W.draws };
+
+    fn step(&mut self, happening: Happening) -> Result<Reaction, StepFault> {
+        self.container.step(happening)
+    }
+}
+
+impl<S: Servlet, F: Filter, L: Listener, W: Words + Drop> Stops for Running<S, F, L, W> {
+    ghost stops = { StopsOf (steps_of S.servlet_step F.filter_step L.listener_step) };
+
+    fn stop(self) -> Journal {
+        let Running { container } = self;
+        container.shutdown().into_journal()
+    }
+}

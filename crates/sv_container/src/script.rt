@@ -1,0 +1,78 @@
+//! The run of a script.
+
+ghost use Rattle.sv_component.specs.Steps.{steps_of};
+ghost use Rattle.sv_container.specs.Script.{PrintsRefused, EndsUnstarted, RunsScript};
+
+use crate::container::Container;
+use crate::new_fault::NewCode;
+use crate::run_fault::{RunFault, ended_by, fault_of};
+use crate::running::Running;
+use std::alloc::Global;
+use sv_component::{Filter, Listener, Servlet};
+use sv_journal::Journal;
+use sv_lifecycle::Deployment;
+use sv_replay::{print_start, run_started};
+use sv_run::CountedWords;
+use sv_streams::{Sink, Source};
+use sv_text::Text;
+
+/// Runs a script: starts a container of the deployments, whose words count, writes the text of the start, replays the script, shuts the
+/// container down, and writes the text of the shutdown (Jakarta Servlet 6.0, sections 2.3, 11.3.3 and 11.3.4).
+///
+/// # Errors
+/// [`RunFault`]. However the run ends, what was started is shut down. Behind `Script` the text of the shutdown is written, behind `Start` that
+/// of the start alone, and nothing behind a write that failed, nor once memory was wanted.
+pub fn run_script<S: Servlet, F: Filter, L: Listener, I: Source, O: Sink>(
+    alloc: Global,
+    script: &mut I,
+    output: &mut O,
+    deployments: Vec<Deployment<S, F, L>>,
+) -> Result<(), RunFault>
+    ensures { RunsScript (steps_of S.servlet_step F.filter_step L.listener_step) I.makes O.makes deployments.items script.old output.old result script.new output.new }
+{
+    let mut started = Journal::new(alloc);
+    match Container::new(alloc, deployments, CountedWords::new(), &mut started) {
+        Ok(container) => {
+            let running = Running { container };
+            ended_by(run_started(alloc, &started, running, script, output))
+        }
+        Err(fault) => {
+            let (code, context) = fault.into_cause();
+            refuse(alloc, code, context, &started, output)
+        }
+    }
+}
+
+// Writes the text of a start that was refused, unless for want of memory.
+fn refuse<O: Sink>(
+    alloc: Global,
+    code: NewCode,
+    context: Text,
+    started: &Journal,
+    output: &mut O,
+) -> Result<(), RunFault>
+    ensures { EndsUnstarted O.makes code context started.now output.old result output.new }
+{
+    match code {
+        NewCode::NoMemory => Err(RunFault::NoMemory),
+        NewCode::DuplicateContext => print_refused(alloc, code, context, started, output),
+        NewCode::TooManyContexts => print_refused(alloc, code, context, started, output),
+        NewCode::PartsMismatch => print_refused(alloc, code, context, started, output),
+        NewCode::InitFailed => print_refused(alloc, code, context, started, output),
+    }
+}
+
+fn print_refused<O: Sink>(
+    alloc: Global,
+    code: NewCode,
+    context: Text,
+    started: &Journal,
+    output: &mut O,
+) -> Result<(), RunFault>
+    ensures { PrintsRefused O.makes code context started.now output.old result output.new }
+{
+    match print_start(alloc, started, output) {
+        Ok(()) => Err(RunFault::Start(code, context)),
+        Err(fault) => Err(fault_of(fault)),
+    }
+}

@@ -1,0 +1,5 @@
+pub mod Laws
+pub mod Lines
+pub mod Recording
+pub mod Seeding
+pub mod Starting

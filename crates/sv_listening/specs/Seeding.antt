@@ -1,0 +1,23 @@
+-- The seed of a start.
+use Rattle.std.specs.Prelude.{◌≡◌, ℕ, List, length, Result, Ok, Err}
+use Rattle.sv_program.specs.declared.command_fault.CommandFault.{CommandFault}
+use Rattle.sv_program.specs.declared.command_fault.CommandFault.TheVariants.{File, NoMemory}
+use Rattle.sv_listening.specs.declared.seeding.Seeding.{Seeding}
+use Rattle.sv_listening.specs.declared.seeding.Seeding.TheVariants.{Configured, Fresh}
+use Rattle.sv_listening.specs.declared.seeding.TheConstants.{RANDOM_SOURCE}
+
+-- the system's random source failed, or memory ran out
+abbrev pub IsRandomFault : CommandFault → Type 0
+IsRandomFault (File name) = name ≡ RANDOM_SOURCE.now
+IsRandomFault NoMemory = Unit {0}
+IsRandomFault other = ⊥
+
+-- the seed is any of 32 bytes, or the system's random source failed; or it is the server file's
+abbrev pub GivesSeed : Seeding → List ℕ → Result (List ℕ) CommandFault → Type 0
+GivesSeed Fresh configured (Ok seed) = length seed ≡ 32
+GivesSeed Fresh configured (Err fault) = IsRandomFault fault
+GivesSeed Configured configured result = result ≡ Ok configured
+
+abbrev pub HasSeedLength : Result (List ℕ) CommandFault → Type 0
+HasSeedLength (Ok seed) = length seed ≡ 32
+HasSeedLength (Err fault) = Unit {0}

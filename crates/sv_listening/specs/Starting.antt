@@ -1,0 +1,39 @@
+-- The start of a container.
+use Rattle.std.specs.Prelude.{◌≡◌, ℕ, List, Result, Ok, Err}
+use Rattle.rand_chacha.specs.ChaCha.{of_seed}
+use Rattle.sv_component.specs.Steps.{ComponentSteps}
+use Rattle.sv_container.specs.NewCode.{code_number}
+use Rattle.sv_container.specs.Starting.{Starts}
+use Rattle.sv_container.specs.declared.container.Container.{Container}
+use Rattle.sv_container.specs.declared.new_fault.NewCode.{NewCode}
+use Rattle.sv_container.specs.declared.new_fault.NewCode.TheVariants as code
+use Rattle.sv_container.specs.declared.new_fault.NewFault.{NewFault}
+use Rattle.sv_lifecycle.specs.declared.deployment.Deployment.{Deployment}
+use Rattle.sv_journal.specs.Journal.{JournalState, new_journal}
+use Rattle.sv_program.specs.declared.command_fault.CommandFault.{CommandFault}
+use Rattle.sv_program.specs.declared.command_fault.CommandFault.TheVariants as fault
+use Rattle.sv_run.specs.declared.seeded_words.SeededWords.{SeededWords}
+
+-- the fault of a container that did not start, by its code and the context that goes with it
+abbrev pub start_fault : NewCode → List ℕ → CommandFault
+start_fault code.NoMemory context = fault.NoMemory
+start_fault code.DuplicateContext context = fault.Start (code_number code.DuplicateContext) context
+start_fault code.TooManyContexts context = fault.Start (code_number code.TooManyContexts) context
+start_fault code.PartsMismatch context = fault.Start (code_number code.PartsMismatch) context
+start_fault code.InitFailed context = fault.Start (code_number code.InitFailed) context
+
+-- the words of a seed, from the beginning of its key stream
+abbrev pub AreWordsOf : List ℕ → SeededWords → Type 0
+AreWordsOf seed words = words.generator ≡ of_seed seed
+
+module _ {S F L : Type 0} (moving : ComponentSteps S F L) where
+  -- a container starts with the deployments and the words of the seed, or its fault is told
+  abbrev pub StartsWith : List (Deployment S F L) → List ℕ → Result (Container S F L SeededWords) CommandFault → Type 0
+  StartsWith deployments seed (Ok container) =
+      (words : SeededWords) × AreWordsOf seed words
+      × ((journal : JournalState) × Starts moving deployments words new_journal (Ok container) journal)
+  StartsWith deployments seed (Err fault) =
+      (words : SeededWords) × AreWordsOf seed words
+      × ((journal : JournalState) × (refusal : NewFault S F L)
+      × Starts moving deployments words new_journal (Err refusal) journal
+      × (fault ≡ start_fault refusal.code refusal.context))

@@ -1,0 +1,85 @@
+//! What takes events as another does, and records them.
+
+use crate::alarm::Alarm;
+use crate::place::connection_of;
+use crate::record::Record;
+use std::alloc::Global;
+use sv_front::Consulted;
+use sv_run::{Happening, Reaction, Reactor, StepFault};
+use sv_streams::Sink;
+use sv_text::{Bytes, NoMemory};
+
+/// What takes events as the one within does, and records what they bring.
+#[derive(Drop)]
+pub struct Recorder<R, O, A> {
+    within: R,
+    notes: Record<O, A>,
+}
+
+impl<R: Reactor, O: Sink, A: Alarm> Recorder<R, O, A> {
+    ghost use Rattle.std.specs.Prelude.{◌≡◌};
+
+    /// Records what that one takes.
+    pub fn new(within: R, notes: Record<O, A>) -> Recorder<R, O, A>
+        ensures within { result.within ≡ within }
+        ensures notes { result.notes ≡ notes }
+    {
+        Recorder { within, notes }
+    }
+}
+
+impl<R, O: Drop, A: Drop> Recorder<R, O, A> {
+    ghost use Rattle.std.specs.Prelude.{◌≡◌};
+
+    /// Gives the one within back.
+    pub fn into_within(self) -> R
+        ensures { result ≡ self.within }
+    {
+        self.within
+    }
+}
+
+impl<R: Reactor, O: Sink, A: Alarm> Reactor for Recorder<R, O, A> {
+    ghost use Rattle.sv_listening.specs.Recording.{Records};
+
+    ghost steps = { λ before happening result after.
+        R.steps before.within happening result after.within × Records O.makes happening result before.notes after.notes };
+
+    fn step(&mut self, happening: Happening) -> Result<Reaction, StepFault> {
+        let connection = connection_of(&happening);
+        self.notes.reach(&happening);
+        match self.within.step(happening) {
+            Ok(reaction) => {
+                self.notes.write(connection, reaction.journal.entries());
+                Ok(reaction)
+            }
+            Err(fault) => Err(fault),
+        }
+    }
+}
+
+impl<R: Consulted, O, A> Consulted for Recorder<R, O, A> {
+    ghost explains = { λ recorder method target user. R.explains recorder.within method target user };
+
+    ghost uncovers = { λ recorder. R.uncovers recorder.within };
+
+    ghost stands = { λ recorder. R.stands recorder.within };
+
+    fn explain(
+        &self,
+        alloc: Global,
+        method: &str,
+        target: &[u8],
+        user: Option<&str>,
+    ) -> Result<Option<Bytes>, NoMemory> {
+        self.within.explain(alloc, method, target, user)
+    }
+
+    fn uncovered(&self, alloc: Global) -> Result<Option<Bytes>, NoMemory> {
+        self.within.uncovered(alloc)
+    }
+
+    fn standing(&self, alloc: Global) -> Result<Option<Bytes>, NoMemory> {
+        self.within.standing(alloc)
+    }
+}

@@ -1,0 +1,56 @@
+//! The start of a container.
+
+ghost use Rattle.sv_component.specs.Steps.{steps_of};
+ghost use Rattle.std.specs.Prelude.{◌≡◌, length};
+ghost use Rattle.sv_listening.specs.Starting as spec;
+
+use std::alloc::Global;
+use sv_component::{Filter, Listener, Servlet};
+use sv_container::{Container, NewCode};
+use sv_journal::Journal;
+use sv_lifecycle::Deployment;
+use sv_program::CommandFault;
+use sv_run::SeededWords;
+use sv_text::Text;
+
+/// Starts a container with deployments and the random words of a seed of 32 bytes.
+///
+/// # Errors
+/// [`CommandFault::Start`] or [`CommandFault::NoMemory`]. The contexts that had started are stopped.
+pub fn start<S: Servlet, F: Filter, L: Listener>(
+    alloc: Global,
+    deployments: Vec<Deployment<S, F, L>>,
+    seed: &[u8],
+) -> Result<Container<S, F, L, SeededWords>, CommandFault>
+    requires { length seed.now ≡ 32 }
+    ensures { spec.StartsWith (steps_of S.servlet_step F.filter_step L.listener_step) deployments.items seed.now result }
+{
+    let mut journal = Journal::new(alloc);
+    let started = Container::new(
+        alloc,
+        deployments,
+        SeededWords::from_seed(seed),
+        &mut journal,
+    );
+    journal.let_go();
+    match started {
+        Ok(container) => Ok(container),
+        Err(fault) => {
+            let (code, context) = fault.into_cause();
+            Err(start_fault(code, context))
+        }
+    }
+}
+
+// The fault of a container that did not start.
+fn start_fault(code: NewCode, context: Text) -> CommandFault
+    ensures { result ≡ spec.start_fault code context }
+{
+    if code == NewCode::NoMemory {
+        return CommandFault::NoMemory;
+    }
+    CommandFault::Start {
+        code: code.number(),
+        context,
+    }
+}

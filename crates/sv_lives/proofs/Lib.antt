@@ -1,4 +1,0 @@
-mod Beginning
-mod Ending
-mod Living
-mod Outliving

@@ -1,6 +1,0 @@
-use Rattle.sv_lives.proofs.Living.{components_are_destroyed_once}
-use Rattle.sv_lives.proofs.laws.components_are_destroyed_once.Goals as goal
-use Rattle.sv_component.specs.Steps.{steps_of}
-
-pub returns : goal.returns
-returns g c = components_are_destroyed_once (steps_of g.S.Servlet.servlet_step g.F.Filter.filter_step g.L.Listener.listener_step)

@@ -1,3 +1,0 @@
-pub mod Laws
-pub mod Lines
-pub mod Recording

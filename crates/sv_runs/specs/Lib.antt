@@ -1,2 +1,0 @@
-pub mod ServeFault
-pub mod Serving

@@ -1,3 +1,0 @@
-mod Cut
-mod Lawful
-mod WholeLemmas

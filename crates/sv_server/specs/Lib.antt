@@ -1,3 +1,0 @@
-pub mod RunFault
-pub mod Running
-pub mod Script

@@ -1,2 +1,0 @@
-pub mod Seeding
-pub mod Starting
