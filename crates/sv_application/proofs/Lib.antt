@@ -1,2 +1,4 @@
+pub mod DeployingSteps
+pub mod Ending
 mod Fitting
 mod Steps

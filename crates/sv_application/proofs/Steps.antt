@@ -3,7 +3,7 @@ use Rattle.std.proofs.Common.{◌≡◌, ◌∙◌, ℕ, ◌+◌, ◌<◌, List,
 use Rattle.sv_text.specs.Steps.{◌>>=◌}
 use Rattle.sv_application.specs.Parts.{each}
 
-behind : {A E : Type 0} (bs : List A) (b : A) (rest : Result (List A) E)
+pub behind : {A E : Type 0} (bs : List A) (b : A) (rest : Result (List A) E)
     → (rest >>= λ more. Ok ((bs ++ b ∷ []) ++ more)) ≡ ((rest >>= λ more. Ok (b ∷ more)) >>= λ more. Ok (bs ++ more))
 behind bs b (Ok more) = ap Ok (append_assoc bs (b ∷ []) more)
 behind bs b (Err fault) = refl

@@ -1,4 +1,5 @@
 pub mod ClassFault
+pub mod Files
 pub mod FilterClasses
 pub mod ListenerClasses
 pub mod Parts

@@ -1,7 +1,7 @@
 -- How a fault of a part is the fault of the whole.
 use Rattle.std.proofs.Common.{◌≡◌, ℕ, List, Ok, Err, refl}
 use Rattle.sv_author_deployments.specs.Deployments.{deployment_of, texts_of}
-use Rattle.sv_deploying.specs.Files.{told}
+use Rattle.sv_application.specs.Files.{told}
 use Rattle.sv_descriptor.specs.declared.web_app.WebApp.{WebApp}
 use Rattle.sv_files.specs.Fault.{files_of}
 use Rattle.sv_program.specs.Configuration.{descriptor_in, users_in}

@@ -5,7 +5,7 @@ use Rattle.sv_text.specs.Steps.{◌>>=◌}
 use Rattle.sv_component.specs.declared.named.Named.{Named}
 use Rattle.sv_lifecycle.specs.declared.deployment.Deployment as context
 use Rattle.sv_descriptor.specs.declared.web_app.WebApp.{WebApp}
-use Rattle.sv_deploying.specs.Files.{told}
+use Rattle.sv_application.specs.Files.{told}
 use Rattle.sv_files.specs.Fault.{files_of}
 use Rattle.sv_files.specs.declared.file.File.{File}
 use Rattle.sv_program.specs.CommandFault.{command_fault}

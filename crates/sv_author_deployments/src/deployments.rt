@@ -7,8 +7,8 @@ ghost use Rattle.sv_program.specs.CommandFault.{command_fault};
 ghost use Rattle.sv_author_deployments.specs.Deployments as spec;
 
 use std::alloc::Global;
+use sv_application::files_of;
 use sv_component::{Filter, Listener, Servlet};
-use sv_deploying::files_of;
 use sv_lifecycle::Deployment;
 use sv_live::Parts;
 use sv_program::{CommandFault, ContextTexts, descriptor_in, realm_in};

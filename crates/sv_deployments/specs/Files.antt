@@ -7,7 +7,7 @@ use Rattle.sv_files.specs.declared.file.File.{File}
 use Rattle.sv_settings.specs.declared.server.ContextEntry.{ContextEntry}
 use Rattle.sv_program.specs.Configuration.{Step}
 use Rattle.sv_program.specs.declared.command_fault.CommandFault.TheVariants as fault
-use Rattle.sv_deploying.specs.Files.{told}
+use Rattle.sv_application.specs.Files.{told}
 
 -- the files in the folder of this name, none where there is no name
 abbrev pub listed_files : List ℕ → Option (List File) → Step (List File)

@@ -9,8 +9,9 @@ ghost use Rattle.sv_deployments.specs.Files.{files_in, listed_files};
 
 use crate::folders::FoundContext;
 use std::alloc::Global;
-use sv_application::{ClassFault, ProgramFilter, ProgramListener, ProgramServlet, parts_of};
-use sv_deploying::files_of;
+use sv_application::{
+    ClassFault, ProgramFilter, ProgramListener, ProgramServlet, files_of, parts_of,
+};
 use sv_descriptor::Descriptor;
 use sv_files::{File, Files};
 use sv_lifecycle::Deployment;

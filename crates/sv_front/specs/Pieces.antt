@@ -1,5 +1,5 @@
 -- Where what was read is cut: behind an empty line (RFC 9112, sections 2.1 and 2.2). So a head ends within a piece with its last byte alone. Two messages
--- may: where a body is awaited its last bytes may stand in front of a whole head in one piece. `sv_part_bound` says how little a piece completes.
+-- may: where a body is awaited its last bytes may stand in front of a whole head in one piece. `sv_sockets` says how little a piece completes.
 use Rattle.std.specs.Prelude.{◌≡◌, ℕ, ◌+◌, ◌-◌, ◌<◌, ◌==◌, ◌&&◌, ◌||◌, Bool, false, List, length, slice_index}
 
 -- a line begins at that place: it is the first, or a line feed stands before it

@@ -1,2 +1,6 @@
 mod DroppingLemmas
+mod Items
+mod LineEnds
+mod OwnTexts
 mod PartLemmas
+mod Pieces

@@ -1,4 +1,6 @@
+pub mod Bound
 pub mod Laws
+pub mod Pacing
 pub mod Parting
 pub mod Parts
-pub mod Pacing
+pub mod Sending

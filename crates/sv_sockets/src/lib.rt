@@ -1,6 +1,8 @@
-//! Connections over TCP. What a socket gives and takes is known to no contract; how what was read is handed on is.
+//! Connections over TCP. What a socket gives and takes is known to no contract; how what was read is handed on is, and so is how little a part of it, which
+//! is cut behind an empty line, completes and sends.
 #![tactic(auto)]
 
+mod bounds;
 mod kept;
 mod laws;
 mod limits;
@@ -15,6 +17,7 @@ mod socket_acceptor;
 mod socket_stream;
 mod time;
 
+pub use bounds::{an_event_sends_little, parts_complete_little, pieces_are_parts};
 pub use laws::{limits_are_as_stated, parts_are_what_is_read};
 pub use limits::{
     BYTES_A_WINDOW, LINGER_SECONDS, MAX_ANSWER_BYTES, MAX_DROPPED_BYTES, MAX_IDLE_SECONDS,

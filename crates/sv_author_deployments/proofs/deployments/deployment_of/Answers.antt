@@ -1,9 +1,9 @@
 use Rattle.sv_files.specs.Fault.{files_of}
-use Rattle.sv_deploying.specs.Files.{told}
+use Rattle.sv_application.specs.Files.{told}
 use Rattle.sv_program.specs.Configuration.{users_in}
 use Rattle.sv_author_deployments.specs.Deployments.{deployed, deployment_of}
 use Rattle.sv_author_deployments.proofs.Ending.{files_end, users_end}
-use Rattle.sv_deploying.proofs.Ending.{ends}
+use Rattle.sv_application.proofs.Ending.{ends}
 use Rattle.sv_author_deployments.proofs.deployments.deployment_of.Goals as goal
 
 pub returns-in_err-users : goal.returns-in_err-users

@@ -2,7 +2,7 @@ use Rattle.std.proofs.Common.{map}
 use Rattle.std.specs.Vec.Iter.{into_iter_items}
 use Rattle.sv_program.specs.Configuration.{each}
 use Rattle.sv_author_deployments.specs.Deployments.{deployed, deployment_of}
-use Rattle.sv_deploying.proofs.Steps.{one_more, seen_more}
+use Rattle.sv_application.proofs.DeployingSteps.{one_more, seen_more}
 use Rattle.sv_author_deployments.proofs.deployments.deployments_of.Goals as goal
 
 pub loop-context-preserved : goal.loop-context-preserved

@@ -2,7 +2,7 @@ use Rattle.std.proofs.Common.{refl}
 use Rattle.sv_deployments.specs.Deployments.{components_in, deployment, deployment_for}
 use Rattle.sv_deployments.specs.Files.{files_in}
 use Rattle.sv_program.specs.Configuration.{users_in}
-use Rattle.sv_deploying.proofs.Ending.{ends}
+use Rattle.sv_application.proofs.Ending.{ends}
 use Rattle.sv_deployments.proofs.deploying.deployment_for.Goals as goal
 
 pub returns-in_err-users : goal.returns-in_err-users

@@ -1,7 +1,7 @@
 //! How little a part of a stream completes, and how little its event sends, each the contract of a function that does nothing.
 
-ghost use Rattle.sv_part_bound.specs.Bound.{PartsCompleteLittle, PiecesAreParts};
-ghost use Rattle.sv_part_bound.specs.Sending.{AnEventSendsLittle};
+ghost use Rattle.sv_sockets.specs.Bound.{PartsCompleteLittle, PiecesAreParts};
+ghost use Rattle.sv_sockets.specs.Sending.{AnEventSendsLittle};
 ghost use Rattle.sv_run.specs.Contexts.{theory_of};
 
 use sv_run::{Context, Words};

@@ -1,6 +1,6 @@
 -- How little the event of a part sends (RFC 9110, section 15.2.1; RFC 9112, sections 2.1, 2.2 and 9.3).
 use Rattle.std.specs.Prelude.{◌≡◌, ℕ, ◌+◌, ◌≤◌, false, List, [], ◌∷◌, ◌++◌, length, count_by}
-use Rattle.sv_part_bound.specs.Bound.{AreFew, is_call_to_continue}
+use Rattle.sv_sockets.specs.Bound.{AreFew, is_call_to_continue}
 use Rattle.sv_run.specs.Connections.{no_connections}
 use Rattle.sv_run.specs.Contexts.{Theory}
 use Rattle.sv_run.specs.Effect.{Effect}

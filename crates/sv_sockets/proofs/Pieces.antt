@@ -5,10 +5,10 @@ use Rattle.std.specs.List.{count_by}
 use Rattle.std.specs.Map.{update}
 use Rattle.std.proofs.lemmas.Bool.{false≢true}
 use Rattle.std.proofs.lemmas.List.Sums.{sum_by-append}
-use Rattle.sv_part_bound.proofs.Items.{AreAtMost, IsHeld, are_few, by_match, few_calls, few_in_all, is_held, part_completes}
-use Rattle.sv_part_bound.proofs.LineEnds.{HasLineEndsBehind, front_has_so}
-use Rattle.sv_part_bound.specs.Bound.{is_call_to_continue}
-use Rattle.sv_part_bound.specs.Sending.{AnEventSendsLittle, AreAnswered, IsLittle, IsTextFor}
+use Rattle.sv_sockets.proofs.Items.{AreAtMost, IsHeld, are_few, by_match, few_calls, few_in_all, is_held, part_completes}
+use Rattle.sv_sockets.proofs.LineEnds.{HasLineEndsBehind, front_has_so}
+use Rattle.sv_sockets.specs.Bound.{is_call_to_continue}
+use Rattle.sv_sockets.specs.Sending.{AnEventSendsLittle, AreAnswered, IsLittle, IsTextFor}
 use Rattle.sv_run.specs.Connections.{Connections}
 use Rattle.sv_run.specs.Contexts.{Theory}
 use Rattle.sv_run.specs.Effect.{Effect, joined, telling}

@@ -9,7 +9,7 @@ use Rattle.sv_program.specs.CommandFault.{command_fault}
 use Rattle.sv_program.specs.Configuration.{Step}
 use Rattle.sv_program.specs.declared.command_fault.CommandFault.{CommandFault}
 use Rattle.sv_program.specs.declared.command_fault.CommandFault.TheVariants as fault
-use Rattle.sv_deploying.specs.Files.{files_fault, told}
+use Rattle.sv_application.specs.Files.{files_fault, told}
 
 -- a fault of a step that was come to is the fault of the whole
 pub ends : {A B X : Type 0} (view : A → B) (fault : CommandFault) (result : Result A CommandFault) (part : Step X) (whole : Step B)

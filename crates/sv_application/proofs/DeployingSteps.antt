@@ -1,12 +1,8 @@
 -- What each context is deployed with, as far as a loop has come.
-use Rattle.std.proofs.Common.{◌≡◌, ◌∙◌, List, [], ◌∷◌, ◌++◌, map, Ok, Err, refl, ap, append_assoc}
+use Rattle.std.proofs.Common.{◌≡◌, ◌∙◌, List, [], ◌∷◌, ◌++◌, map, Ok, refl, ap}
+use Rattle.sv_application.proofs.Steps.{behind}
 use Rattle.sv_text.specs.Steps.{◌>>=◌}
 use Rattle.sv_program.specs.Configuration.{Step, each}
-
-behind : {A : Type 0} (bs : List A) (b : A) (rest : Step (List A))
-    → (rest >>= λ more. Ok ((bs ++ b ∷ []) ++ more)) ≡ ((rest >>= λ more. Ok (b ∷ more)) >>= λ more. Ok (bs ++ more))
-behind bs b (Ok more) = ap Ok (append_assoc bs (b ∷ []) more)
-behind bs b (Err fault) = refl
 
 -- one more of those that are left
 pub one_more : {A B : Type 0} (step : A → Step B) (left rest : List A) (a : A) (b : B) (bs next : List B) (whole : Step (List B))

@@ -4,7 +4,7 @@ ghost use Rattle.std.specs.Prelude.{◌≡◌, Err, MatchOption};
 ghost use Rattle.sv_text.specs.Gives.{Gives};
 ghost use Rattle.sv_files.specs.Fault.{files_of, list_fault};
 ghost use Rattle.sv_program.specs.CommandFault.{command_fault};
-ghost use Rattle.sv_deploying.specs.Files.{files_fault, told};
+ghost use Rattle.sv_application.specs.Files.{files_fault, told};
 
 use std::alloc::Global;
 use sv_files::{File, Files, FilesFault};

@@ -30,9 +30,9 @@ use Rattle.sv_message.specs.Messages.{with_body}
 use Rattle.sv_wire.specs.Reads.{IsJudged, ReadsHead, Reads, Start, Starts, StartsAt, StartsBehind, StartsBody, after_body, awaits, cut_head, gives, has_too_many_lines, text_of}
 use Rattle.sv_wire.proofs.ReadsLemmas.{settled, IsSettled, ReadsHead-unique, cut_holds}
 use Rattle.sv_wire.proofs.EmptyLinesLemmas.{drop_empty_lines_twice}
-use Rattle.sv_part_bound.proofs.LineEnds.{AreLineEnds, EndsInLineEnds, HasLineEndsBehind, IsLineEnd, ends_so_behind, part_ends_so, parts_end_so}
-use Rattle.sv_part_bound.proofs.OwnTexts.{body_ends, body_owns}
-use Rattle.sv_part_bound.specs.Bound.{AreFew, PartsCompleteLittle, is_call_to_continue, is_message}
+use Rattle.sv_sockets.proofs.LineEnds.{AreLineEnds, EndsInLineEnds, HasLineEndsBehind, IsLineEnd, ends_so_behind, part_ends_so, parts_end_so}
+use Rattle.sv_sockets.proofs.OwnTexts.{body_ends, body_owns}
+use Rattle.sv_sockets.specs.Bound.{AreFew, PartsCompleteLittle, is_call_to_continue, is_message}
 use Rattle.sv_sockets.specs.Parts.{is_line_end}
 
 -- at most so many messages and so many calls to continue, and a refusal as the last alone

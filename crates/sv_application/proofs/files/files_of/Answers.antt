@@ -1,6 +1,6 @@
 use Rattle.sv_files.specs.Fault.{list_fault}
-use Rattle.sv_deploying.proofs.Ending.{refused_files}
-use Rattle.sv_deploying.proofs.files.files_of.Goals as goal
+use Rattle.sv_application.proofs.Ending.{refused_files}
+use Rattle.sv_application.proofs.files.files_of.Goals as goal
 
 pub returns-in-Err : goal.returns-in-Err
 returns-in-Err c =

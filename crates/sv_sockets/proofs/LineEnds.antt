@@ -8,7 +8,7 @@ use Rattle.std.proofs.lemmas.List.{drop-drop, drop-take, drop_all, get_or-append
 use Rattle.std.proofs.lemmas.List.Elements.{All-from_get_or, All-nil}
 use Rattle.sv_body.proofs.ListLemmas.{drop_behind, take_behind}
 use Rattle.sv_front.specs.Pieces.{begins_line, ends_empty_line, is_lone_return}
-use Rattle.sv_part_bound.specs.Bound.{PiecesAreParts}
+use Rattle.sv_sockets.specs.Bound.{PiecesAreParts}
 use Rattle.sv_sockets.specs.Parts.{is_line_end}
 use Rattle.sv_wire.specs.Head.{ends_head}
 

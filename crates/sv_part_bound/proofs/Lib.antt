@@ -1,4 +1,0 @@
-mod Items
-mod LineEnds
-mod OwnTexts
-mod Pieces

@@ -1,2 +1,0 @@
-pub mod Bound
-pub mod Sending
