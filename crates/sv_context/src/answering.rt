@@ -5,7 +5,6 @@ ghost use Rattle.std.specs.Prelude.{◌≡◌, Some, OnOk, length, true};
 ghost use Rattle.std.specs.Option.{option_copied};
 ghost use Rattle.sv_admission.specs.declared.answer.Answer.TheVariants.{Error};
 ghost use Rattle.sv_dispatch.specs.Did.{seen};
-ghost use Rattle.sv_dispatch.specs.Running.{made_seen};
 ghost use Rattle.sv_exchange.specs.State as exchanges;
 ghost use Rattle.sv_live.specs.World.{HasSameCounts};
 ghost use Rattle.sv_dispatch.specs.ServedBy.{Alone, ServedBy};
@@ -18,8 +17,8 @@ ghost use Rattle.sv_context.specs.Answered.{Answered, Answers, Requested, SendsT
 
 use std::alloc::Global;
 use sv_admission::{Answer, SEE_OTHER};
-use sv_component::{Event, Exchange, ExchangeFault, Filter, Listener, Servlet};
-use sv_dispatch::{serve, show_error};
+use sv_component::{Event, Exchange, Filter, Listener, Servlet};
+use sv_dispatch::{made, serve, show_error};
 use sv_journal::Journal;
 use sv_live::Live;
 use sv_mapping::Kind;
@@ -217,15 +216,4 @@ fn send_to(exchange: &mut Exchange, location: &str) -> Result<(), NoMemory>
         return Err(NoMemory);
     };
     made(exchange.set_header("location", location))
-}
-
-// What a changing call did: a fault other than want of memory is an answer, and changes nothing.
-fn made(answered: Result<bool, ExchangeFault>) -> Result<(), NoMemory>
-    ensures { seen result ≡ made_seen answered }
-{
-    match answered {
-        Ok(_) => Ok(()),
-        Err(ExchangeFault::NoMemory) => Err(NoMemory),
-        Err(_) => Ok(()),
-    }
 }

@@ -1,6 +1,6 @@
 //! Errors and failures, kept for the answer where they arise.
 
-ghost use Rattle.std.specs.Prelude.{◌≡◌, ◌≤◌, None, IfOk};
+ghost use Rattle.std.specs.Prelude.{◌≡◌, None, IfOk};
 ghost use Rattle.sv_dispatch.specs.Did.{Did, lasting, seen};
 ghost use Rattle.sv_dispatch.specs.Seen.{field_of};
 ghost use Rattle.sv_tree.specs.Endings.{error_status, errs, errs_with, fails, faults, is_away_for, is_missing, is_not_allowed};

@@ -21,4 +21,5 @@ mod telling;
 
 pub use live_dispatch::dispatch;
 pub use pages::show_error;
+pub use parts::made;
 pub use serving::serve;

@@ -173,7 +173,10 @@ pub(crate) fn retired(whole: bool) -> Result<(), NoMemory>
 }
 
 /// What a changing call did: a fault other than want of memory is an answer, and changes nothing.
-pub(crate) fn made(answered: Result<bool, ExchangeFault>) -> Result<(), NoMemory>
+///
+/// # Errors
+/// `NoMemory` where the call wanted memory.
+pub fn made(answered: Result<bool, ExchangeFault>) -> Result<(), NoMemory>
     ensures { seen result ≡ made_seen answered }
 {
     match answered {

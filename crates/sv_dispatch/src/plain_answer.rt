@@ -3,14 +3,14 @@
 ghost use Rattle.std.specs.Prelude.{◌≡◌, IfOk, string_bytes};
 ghost use Rattle.std.specs.Option.{option_copied};
 ghost use Rattle.sv_dispatch.specs.Did.{seen};
-ghost use Rattle.sv_dispatch.specs.Running.{made_seen};
 ghost use Rattle.sv_dispatch.specs.ServedBy.{Alone};
 ghost use Rattle.sv_tree.specs.Served.{Plain, Resets, plain_text, sets, unless_committed};
 
+use crate::parts::made;
 use crate::phrase::phrase_of;
 use std::alloc::Global;
 use sv_component::Exchange;
-use sv_exchange::{ExchangeFault, KeptField};
+use sv_exchange::KeptField;
 use sv_text::NoMemory;
 
 /// Answers an error plainly: what was said is taken back, and the answer has the status, the field that goes with the error, and the
@@ -76,17 +76,6 @@ fn set_field(exchange: &mut Exchange, field: Option<&KeptField>) -> Result<(), N
     match field {
         Some(field) => made(exchange.set_header(field.name.as_str(), field.value.as_str())),
         None => Ok(()),
-    }
-}
-
-// What a changing call did: a fault other than want of memory is an answer, and changes nothing.
-fn made(answered: Result<bool, ExchangeFault>) -> Result<(), NoMemory>
-    ensures { seen result ≡ made_seen answered }
-{
-    match answered {
-        Ok(_) => Ok(()),
-        Err(ExchangeFault::NoMemory) => Err(NoMemory),
-        Err(_) => Ok(()),
     }
 }
 

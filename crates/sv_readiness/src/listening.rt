@@ -12,7 +12,7 @@ use std::os::unix::fs::{FileTypeExt, PermissionsExt};
 use std::os::unix::net::UnixStream;
 
 // The token of the listener. No connection has it as its number.
-pub(crate) const LISTENER: Token = Token(usize::MAX);
+pub(crate) const LISTENER: usize = usize::MAX;
 
 // Who may write to a file, as the system's mode has it: its owner alone.
 const OWNER_ALONE: u32 = 0o600;
@@ -34,7 +34,7 @@ impl Listening {
         let poll = Poll::new(host)?;
         let mut listener = without_delay(TcpListener::bind(host, address)?);
         poll.registry()
-            .register(&mut listener, LISTENER, Interest::READABLE)?;
+            .register(&mut listener, Token(LISTENER), Interest::READABLE)?;
         Ok(Listening {
             poll,
             listener,

@@ -96,7 +96,7 @@ impl<'a, C: Clock> Sockets<'a, C> {
         if self.lingers(token) {
             return None;
         }
-        self.has_come = self.has_come || token == usize::MAX;
+        self.has_come = self.has_come || token == LISTENER;
         self.told = self.told.saturating_add(1);
         Some(told_by(token))
     }
@@ -171,7 +171,7 @@ impl<'a, C: Clock> Sockets<'a, C> {
 
     // Whether a token is that of a connection that is over and whose stream is still kept, which is then read on.
     fn lingers(&mut self, token: usize) -> bool {
-        token != usize::MAX && self.lingering.read_on(token as u64, self.registry)
+        token != LISTENER && self.lingering.read_on(token as u64, self.registry)
     }
 
     // Whether another second than before is told.
@@ -211,7 +211,7 @@ impl<'a, C: Clock> Sockets<'a, C> {
         // Where that fails, one who comes is reported all the same, and one who has come is looked for each second.
         let _ = self
             .registry
-            .reregister(&mut self.listener, LISTENER, Interest::READABLE);
+            .reregister(&mut self.listener, Token(LISTENER), Interest::READABLE);
     }
 
     // Takes who came to the socket file, where nobody asks there.
@@ -349,7 +349,7 @@ fn control_of(
 
 // What a token tells: the connection of that number may be ready, or one may have come.
 fn told_by(token: usize) -> Told {
-    if token == usize::MAX {
+    if token == LISTENER {
         return Told::Incoming;
     }
     Told::Ready(token as u64)
