@@ -1,5 +1,5 @@
 -- Each message goes where its target says, by the paths of the contexts, which nothing changes.
-use Rattle.std.proofs.Common.{◌≡◌, ℕ, ◌+◌, zero, suc, Bool, cond, true, false, inl, inr, List, [], ◌∷◌, ◌++◌, map, Option, None, Some, Result, Ok, Err, refl, sym, ap, ◌∙◌, subst, slice_get, slice_set}
+use Rattle.std.proofs.Common.{◌≡◌, ℕ, ◌+◌, zero, suc, Bool, cond, false, inl, inr, List, [], ◌∷◌, ◌++◌, map, Option, None, Some, Result, Ok, Err, refl, sym, ap, ◌∙◌, subst, slice_get, slice_set}
 use Rattle.std.specs.List.{AllByRecursion, position, position_from}
 use Rattle.std.proofs.lemmas.Iterator.Adapters.{position_from-zero}
 use Rattle.sv_headline.specs.Record.{IsDestinedBy}
@@ -7,11 +7,12 @@ use Rattle.sv_context_path.specs.Chosen.{is_chosen}
 use Rattle.sv_journal.specs.declared.entry.Entry.{Entry}
 use Rattle.sv_policy.specs.declared.edit.Edit.{Edit}
 use Rattle.sv_policy.specs.declared.edit_fault.EditFault.{EditFault}
-use Rattle.sv_headline.proofs.Travelling.{all_append, runs_on, stopped_stays}
+use Rattle.sv_run.proofs.Callers.{runs_on, stopped_stays}
+use Rattle.sv_run.proofs.Outcomes.{all_append}
 use Rattle.sv_run.proofs.Taking.{either}
-use Rattle.sv_run.specs.Contexts.{Request, Theory, request_of}
+use Rattle.sv_run.specs.Contexts.{Request, Theory}
 use Rattle.sv_run.specs.Editing.{EditsIn, place_with}
-use Rattle.sv_run.specs.Effect.{Answered, Deed, Effect, Handled, nothing}
+use Rattle.sv_run.specs.Effect.{Deed, Effect, nothing}
 use Rattle.sv_run.specs.Events.{Accepts, Edited, Ended, ExpiresAll, Happening, Happens, Lost, Opened, Piece, Tick}
 use Rattle.sv_run.specs.Items.{Responds, Takes, TakesItem}
 use Rattle.sv_run.specs.Lawful.{EditsAlone, ChangesConstraintsByEdits}

@@ -3,35 +3,20 @@ use Rattle.std.proofs.Common.{◌≡◌, ℕ, Bool, true, false, List, [], ◌�
 use Rattle.std.specs.Bool.{MatchBool}
 use Rattle.std.specs.List.{AllByRecursion}
 use Rattle.sv_component.specs.Steps.{ComponentSteps}
-use Rattle.sv_headline.proofs.Travelling.{runs_on}
 use Rattle.sv_headline.specs.Record.{EveryRunIsLawful, IsLawfulRun}
 use Rattle.sv_headline.specs.Until.{EveryRunIsLawfulUntilRefused, IsLawfulUpTo}
 use Rattle.sv_context.specs.State.{ContextState}
 use Rattle.sv_context.specs.Theory as contexts
+use Rattle.sv_run.proofs.Callers.{runs_on}
+use Rattle.sv_run.proofs.Refusals.{accepted_runs}
 use Rattle.sv_run.specs.Contexts.{Theory}
-use Rattle.sv_run.specs.Effect.{Effect}
-use Rattle.sv_run.specs.Events.{Accepts, Breaks, Edited, Ended, Happening, Happens, Lost, Opened, Piece, Tick, moment_after}
+use Rattle.sv_run.specs.Events.{Breaks, Happening}
 use Rattle.sv_run.specs.Laws.{WantOfMemoryStops}
 use Rattle.sv_run.specs.Runs.{Answer, Run}
-use Rattle.sv_run.specs.State.{State, settled_at}
+use Rattle.sv_run.specs.State.{State}
 use Rattle.sv_run.specs.declared.step_fault.StepFault.TheVariants.{Stopped, BadConnection, TooManyConnections, NoMemory}
 
 module _ {Context Words : Type 0} (theory : Theory Context Words) where
-  happens_runs : (before after : State Context Words) (happening : Happening) (effect : Effect Context) → Happens theory before happening effect after
-      → after.stopped ≡ before.stopped
-  happens_runs before after (Opened other) effect happens = ap (λ (state : State Context Words). state.stopped) happens.1
-  happens_runs before after (Piece other bytes moment) effect happens = ap (λ (state : State Context Words). state.stopped) happens.is_after
-  happens_runs before after (Ended other) effect happens = ap (λ (state : State Context Words). state.stopped) happens.1
-  happens_runs before after (Lost other) effect happens = ap (λ (state : State Context Words). state.stopped) happens.1
-  happens_runs before after (Tick moment) effect happens = ap (λ (state : State Context Words). state.stopped) happens.1
-  happens_runs before after (Edited path edit) effect happens = ap (λ (state : State Context Words). state.stopped) happens.is_after
-
-  -- an accepted event leaves a container that runs
-  accepted_runs : (before after : State Context Words) (happening : Happening) (effect : Effect Context) → Accepts theory before happening effect after
-      → after.stopped ≡ false
-  accepted_runs before after happening effect accepts =
-      happens_runs (settled_at (moment_after before.moment happening) accepts.contexts before) after happening accepts.brings accepts.happens ∙ accepts.runs
-
   -- an event wanted memory, and none before it
   record IsRefusedAt (before : State Context Words) (happenings : List Happening) (answers : List (Answer Context)) (after : State Context Words) : Type 0 where
     pub front : List Happening
@@ -74,7 +59,7 @@ module _ {Context Words : Type 0} (theory : Theory Context Words) where
   refused_at law before after (happening ∷ happenings) [] runs stops run = absurd run
   refused_at law before after (happening ∷ happenings) (Ok effect ∷ answers) runs stops run =
       one_more before run.0 after happening (Ok effect) happenings answers
-      (refused_at law run.0 after happenings answers (accepted_runs before run.0 happening effect run.1) stops run.2) (λ at. (run.0, run.1, at.runs))
+      (refused_at law run.0 after happenings answers (accepted_runs theory before run.0 happening effect run.1) stops run.2) (λ at. (run.0, run.1, at.runs))
   refused_at law before after (happening ∷ happenings) (Err Stopped ∷ answers) runs stops run = absurd (runs_on run.1.0 runs)
   refused_at law before after (happening ∷ happenings) (Err BadConnection ∷ answers) runs stops run =
       one_more before run.0 after happening (Err BadConnection) happenings answers

@@ -33,41 +33,9 @@ use Rattle.sv_message.specs.declared.message.Message.{Message as MessageRecord}
 use Rattle.sv_message.specs.declared.message.Target.{Target}
 use Rattle.sv_message.specs.declared.message.Target.TheVariants.{Star, Path}
 use Rattle.sv_headline.specs.Record.{calls_of, is_call, outcomes_of}
-
-pub all_append : {X : Type 0} (P : X → Type 0) (xs ys : List X) → AllByRecursion P xs → AllByRecursion P ys → AllByRecursion P (xs ++ ys)
-all_append P [] ys first second = second
-all_append P (x ∷ xs) ys first second = (first.0, all_append P xs ys first.1 second)
-
--- no container is stopped and runs
-pub runs_on : {b : Bool} → b ≡ true → b ≡ false → ⊥
-runs_on is not = absurd (cc)
-
--- a container that is stopped stays so
-pub stopped_stays : {Context Words : Type 0} (theory : Theory Context Words) (before after : State Context Words) (happenings : List Happening) (answers : List (Answer Context))
-    → Run theory before happenings answers after → before.stopped ≡ true → after.stopped ≡ true
-stopped_stays theory before after [] [] run stopped = ap (λ s. s.stopped) run ∙ stopped
-stopped_stays theory before after [] (answer ∷ answers) run stopped = absurd run
-stopped_stays theory before after (happening ∷ happenings) [] run stopped = absurd run
-stopped_stays theory before after (happening ∷ happenings) (Ok effect ∷ answers) run stopped = absurd (runs_on stopped run.1.runs)
-stopped_stays {Context} {Words} theory before after (happening ∷ happenings) (Err Stopped ∷ answers) run stopped =
-    stopped_stays theory run.0 after happenings answers run.2 (ap (λ (s : State Context Words). s.stopped) run.1.1 ∙ stopped)
-stopped_stays theory before after (happening ∷ happenings) (Err BadConnection ∷ answers) run stopped = absurd (runs_on stopped run.1.runs)
-stopped_stays theory before after (happening ∷ happenings) (Err TooManyConnections ∷ answers) run stopped = absurd (runs_on stopped run.1.runs)
-stopped_stays theory before after (happening ∷ happenings) (Err NoMemory ∷ answers) run stopped = absurd (runs_on stopped run.1.runs)
-
--- ---- places
-
-there_set : {X : Type 0} (items : List X) (place : ℕ) (old new : X) → slice_get items place ≡ Some old → slice_get (slice_set items place new) place ≡ Some new
-there_set [] place old new there = absurd (cc)
-there_set (item ∷ items) zero old new there = refl
-there_set (item ∷ items) (suc place) old new there = there_set items place old new there
-
-apart_set : {X : Type 0} (items : List X) (set place : ℕ) (new : X) → set ≢ place → slice_get (slice_set items set new) place ≡ slice_get items place
-apart_set [] set place new apart = refl
-apart_set (item ∷ items) zero zero new apart = absurd (apart refl)
-apart_set (item ∷ items) zero (suc place) new apart = refl
-apart_set (item ∷ items) (suc set) zero new apart = refl
-apart_set (item ∷ items) (suc set) (suc place) new apart = apart_set items set place new (λ same. apart (ap suc same))
+use Rattle.sv_run.proofs.Callers.{runs_on, stopped_stays}
+use Rattle.sv_run.proofs.Constraints.{get_apart, get_set}
+use Rattle.sv_run.proofs.Outcomes.{all_append}
 
 -- ---- the calls of one context among those of all
 
@@ -241,7 +209,7 @@ module _ {World Record : Type 0} (Runs : World → List Record → World → Typ
           → (trip : Trip context told after) → Went (slice_get before place) (calls_of place (map (at_place place) trip.made)) (slice_get (slice_set before place after) place)
       went_there before place context after told there trip =
           subst (λ found. Went found (calls_of place (map (at_place place) trip.made)) (slice_get (slice_set before place after) place)) (sym there)
-          (after, there_set before place context after there, subst (λ calls. Runs (world context) calls (world after)) (sym (calls_here place trip.made)) trip.runs)
+          (after, get_set before place context after there, subst (λ calls. Runs (world context) calls (world after)) (sym (calls_here place trip.made)) trip.runs)
 
       travels_at : (before : List Context) (place : ℕ) (context after : Context) (told : List Entry) → slice_get before place ≡ Some context
           → Trip context told after → Travels before told (slice_set before place after)
@@ -253,7 +221,7 @@ module _ {World Record : Type 0} (Runs : World → List Record → World → Typ
               subst (λ (its : ℕ). Went (slice_get before its) (calls_of its (map (at_place place) trip.made)) (slice_get (slice_set before place after) its)) same.1
               (went_there before place context after told there trip)
           | inr apart ↦
-              subst (λ found. Went (slice_get before other) (calls_of other (map (at_place place) trip.made)) found) (sym (apart_set before place other after apart.1))
+              subst (λ found. Went (slice_get before other) (calls_of other (map (at_place place) trip.made)) found) (sym (get_apart before place other after (λ same. apart.1 (sym same))))
               (subst (λ calls. Went (slice_get before other) calls (slice_get before other)) (sym (calls_elsewhere place other trip.made apart.1))
               (went_none (slice_get before other)))
         ];

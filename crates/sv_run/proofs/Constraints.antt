@@ -41,12 +41,12 @@ same_map f (item ∷ items) zero old new there same = ap (λ y. y ∷ map f item
 same_map f (item ∷ items) (suc place) old new there same = ap (λ ys. f item ∷ ys) (same_map f items place old new there same)
 
 -- what stands at a place that was set, and at another
-get_set : {X : Type 0} (items : List X) (place : ℕ) (old new : X) → slice_get items place ≡ Some old → slice_get (slice_set items place new) place ≡ Some new
+pub get_set : {X : Type 0} (items : List X) (place : ℕ) (old new : X) → slice_get items place ≡ Some old → slice_get (slice_set items place new) place ≡ Some new
 get_set [] place old new there = absurd (cc)
 get_set (item ∷ items) zero old new there = refl
 get_set (item ∷ items) (suc place) old new there = get_set items place old new there
 
-get_apart : {X : Type 0} (items : List X) (set place : ℕ) (new : X) → place ≢ set → slice_get (slice_set items set new) place ≡ slice_get items place
+pub get_apart : {X : Type 0} (items : List X) (set place : ℕ) (new : X) → place ≢ set → slice_get (slice_set items set new) place ≡ slice_get items place
 get_apart [] set place new apart = refl
 get_apart (item ∷ items) zero zero new apart = absurd (apart refl)
 get_apart (item ∷ items) zero (suc place) new apart = refl

@@ -1,14 +1,14 @@
 mod Beside
 pub mod Breaking
-mod Callers
-mod Constraints
+pub mod Callers
+pub mod Constraints
 mod Cuts
 pub mod Effects
 mod Feedings
 mod Joining
 mod Orders
-mod Outcomes
+pub mod Outcomes
 pub mod Reactions
-mod Refusals
+pub mod Refusals
 mod Stepping
 pub mod Taking

@@ -30,7 +30,7 @@ module _ {Context Words : Type 0} (theory : Theory Context Words) where
   happens_runs state after (Edited path edit) effect happens = ap (λ (s : State Context Words). s.stopped) happens.is_after
 
   -- an accepted event leaves a container that runs
-  accepted_runs : (before after : State Context Words) (happening : Happening) (effect : Effect Context) → Accepts theory before happening effect after
+  pub accepted_runs : (before after : State Context Words) (happening : Happening) (effect : Effect Context) → Accepts theory before happening effect after
       → after.stopped ≡ false
   accepted_runs before after happening effect accepts =
       happens_runs (settled_at (moment_after before.moment happening) accepts.contexts before) after happening accepts.brings accepts.happens ∙ accepts.runs
