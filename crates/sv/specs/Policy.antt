@@ -21,7 +21,7 @@ use Rattle.sv_program.specs.Configuration.{Step}
 use Rattle.sv_program.specs.FileStore.{Giving}
 use Rattle.sv_program.specs.declared.command_fault.CommandFault.{CommandFault}
 use Rattle.sv_program.specs.declared.command_fault.CommandFault.TheVariants as fault
-use Rattle.sv_listening.specs.Starting.{StartsWith}
+use Rattle.sv_container.specs.SeededStart.{StartsWith}
 use Rattle.sv_run.specs.declared.seeded_words.SeededWords.{SeededWords}
 use Rattle.sv.specs.Printed.{Shows}
 

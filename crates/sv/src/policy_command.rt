@@ -14,9 +14,10 @@ use std::alloc::Global;
 use std::io::Write;
 use sv_application::{ProgramFilter, ProgramListener, ProgramServlet};
 use sv_component::{Filter, Listener, Servlet};
-use sv_container::{Container, ExplainFault, Explanation, containers_explain_what_was_deployed};
+use sv_container::{
+    Container, ExplainFault, Explanation, containers_explain_what_was_deployed, start,
+};
 use sv_deployments::{Configuration, FolderStore, read_deployments};
-use sv_listening::start;
 use sv_options::Question;
 use sv_program::{CommandFault, FileStore, print_line};
 

@@ -7,9 +7,9 @@ use std::alloc::Global;
 use std::random::RandomSource;
 use sv_application::{ProgramFilter, ProgramListener, ProgramServlet};
 use sv_component::{Filter, Listener, Servlet};
-use sv_container::{Container, let_go};
+use sv_container::{Container, let_go, start};
 use sv_deployments::{Configuration, FolderStore, read_deployments};
-use sv_listening::{Seeding, seed_for, start};
+use sv_listening::{Seeding, seed_for};
 use sv_program::{CommandFault, FileStore};
 use sv_run::SeededWords;
 

@@ -5,5 +5,6 @@ pub mod Paths
 pub mod RunFault
 pub mod Running
 pub mod Script
+pub mod SeededStart
 pub mod Starting
 pub mod Stopping

@@ -1,5 +1,5 @@
-//! A container: started contexts behind connections, which takes events one by one (Jakarta Servlet 6.0; RFC 9112); and its whole runs by a script,
-//! from the bytes of the script to those of the output.
+//! A container: started contexts behind connections, which takes events one by one (Jakarta Servlet 6.0; RFC 9112); its start with a seed, and its whole
+//! runs by a script, from the bytes of the script to those of the output.
 #![tactic(auto)]
 
 mod container;
@@ -12,6 +12,7 @@ mod refusal;
 mod run_fault;
 mod running;
 mod script;
+mod seeded_start;
 mod starting;
 mod stopping;
 
@@ -24,5 +25,6 @@ pub use new_fault::{NewCode, NewFault};
 pub use run_fault::RunFault;
 pub use running::Running;
 pub use script::run_script;
+pub use seeded_start::start;
 pub use sv_context::{Shutdown, let_go};
 pub use sv_explain::{ExplainFault, Explanation, HiddenCause};

@@ -2,4 +2,3 @@ pub mod Laws
 pub mod Lines
 pub mod Recording
 pub mod Seeding
-pub mod Starting

@@ -1,5 +1,5 @@
-//! What programs do with a container: its start with a seed, and anything that takes events over the connections of a port, one after another or all at
-//! once, with the entries of its events written as they come.
+//! What programs do with what takes events: the seed of its random words, and its connections over a port, one after another or all at once, with the
+//! entries of its events written as they come.
 #![tactic(auto)]
 
 mod alarm;
@@ -14,7 +14,6 @@ mod running;
 mod seeding;
 mod self_asking;
 mod sockets;
-mod starting;
 
 pub use alarm::Alarm;
 pub use lines::event_lines;
@@ -26,4 +25,3 @@ pub use recorder::Recorder;
 pub use running::listen_and_run;
 pub use seeding::{RANDOM_SOURCE, Seeding, seed_for};
 pub use self_asking::own_answer;
-pub use starting::start;

@@ -9,9 +9,9 @@ use std::random::RandomSource;
 use std::time::Clock;
 use sv_author_deployments::deployments_of;
 use sv_component::{Filter, Listener, Servlet};
-use sv_container::let_go;
+use sv_container::{let_go, start};
 use sv_lifecycle::Deployment;
-use sv_listening::{Seeding, listen_and_run, seed_for, start};
+use sv_listening::{Seeding, listen_and_run, seed_for};
 use sv_program::CommandFault;
 
 /// Runs an application: starts its contexts behind one port, with ids of sessions by the system's random source, writes the line

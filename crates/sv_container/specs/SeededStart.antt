@@ -1,4 +1,4 @@
--- The start of a container.
+-- The start of a container with the random words of a seed.
 use Rattle.std.specs.Prelude.{◌≡◌, ℕ, List, Result, Ok, Err}
 use Rattle.rand_chacha.specs.ChaCha.{of_seed}
 use Rattle.sv_component.specs.Steps.{ComponentSteps}

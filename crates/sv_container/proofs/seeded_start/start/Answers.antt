@@ -1,4 +1,4 @@
-use Rattle.sv_listening.proofs.starting.start.Goals as goal
+use Rattle.sv_container.proofs.seeded_start.start.Goals as goal
 
 pub returns-in-Err : goal.returns-in-Err
 returns-in-Err g c = (

@@ -1,12 +1,13 @@
-//! The start of a container.
+//! The start of a container with the random words of a seed.
 
 ghost use Rattle.sv_component.specs.Steps.{steps_of};
 ghost use Rattle.std.specs.Prelude.{◌≡◌, length};
-ghost use Rattle.sv_listening.specs.Starting as spec;
+ghost use Rattle.sv_container.specs.SeededStart as spec;
 
+use crate::container::Container;
+use crate::new_fault::NewCode;
 use std::alloc::Global;
 use sv_component::{Filter, Listener, Servlet};
-use sv_container::{Container, NewCode};
 use sv_journal::Journal;
 use sv_lifecycle::Deployment;
 use sv_program::CommandFault;
