@@ -1,29 +1,21 @@
--- How a fault of a part is the fault of the whole.
-use Rattle.std.proofs.Common.{◌≡◌, ℕ, List, Ok, Err, refl}
-use Rattle.sv_author_deployments.specs.Deployments.{deployment_of, texts_of}
-use Rattle.sv_application.specs.Files.{told}
-use Rattle.sv_descriptor.specs.declared.web_app.WebApp.{WebApp}
-use Rattle.sv_files.specs.Fault.{files_of}
-use Rattle.sv_program.specs.Configuration.{descriptor_in, users_in}
+-- How both of two readings are given, or the first fault of them.
+use Rattle.std.proofs.Common.{◌≡◌, Option, Some, None, MatchOption, Result, Ok, Err, refl}
+use Rattle.sv_author_deployments.specs.Deployments.{both}
+use Rattle.sv_program.specs.CommandFault.{command_fault}
+use Rattle.sv_program.specs.Configuration.{Step}
 use Rattle.sv_program.specs.declared.command_fault.CommandFault.{CommandFault}
-use Rattle.sv_program.specs.declared.configuration.ContextTexts.{ContextTexts}
-use Rattle.sv_realm.specs.declared.user.User.{User}
-use Rattle.sv_web.specs.declared.content.Content.{Content}
+use Rattle.sv_text.specs.Gives.{Gives}
 
--- a fault of the users ends it
-pub users_end : {S F L : Type 0} (content : Content S F L) (path : List ℕ) (texts : ContextTexts) (descriptor : WebApp)
-    → path ≡ content.path → texts ≡ texts_of path content.descriptor content.users → descriptor_in texts ≡ Ok descriptor
-    → (found : CommandFault) → users_in texts ≡ Err found → deployment_of content ≡ Err found
-users_end content path texts descriptor there same first found failed =
-    let read = rw (same, there) at first in
-    let ended = rw (same, there) at failed in
-    rw (read, ended) refl
-
--- a fault of the files ends it
-pub files_end : {S F L : Type 0} (content : Content S F L) (path : List ℕ) (texts : ContextTexts) (descriptor : WebApp) (users : List User)
-    → path ≡ content.path → texts ≡ texts_of path content.descriptor content.users → descriptor_in texts ≡ Ok descriptor → users_in texts ≡ Ok users
-    → (found : CommandFault) → told content.path (files_of content.files) ≡ Err found → deployment_of content ≡ Err found
-files_end content path texts descriptor users there same first second found failed =
-    let read = rw (same, there) at first in
-    let known = rw (same, there) at second in
-    rw (read, known, failed) refl
+pub both_given : {A B : Type 0} (one : Result A CommandFault) (other : Result B CommandFault) (first : Step A) (second : Step B)
+    → Gives command_fault one first → Gives command_fault other second → Gives command_fault (both one other) (both first second)
+both_given (Ok a) (Ok b) first second given then = rw (given, then) refl
+both_given {A} {B} (Ok a) (Err e) first second given then = at (command_fault e) then
+  where
+    at : (found : Option CommandFault) → MatchOption found (Unit {0}) (λ f. second ≡ Err f) → MatchOption found (Unit {0}) (λ f. both first second ≡ Err f)
+    at None h = tt
+    at (Some f) h = rw (given, h) refl
+both_given {A} {B} (Err e) other first second given then = at (command_fault e) given
+  where
+    at : (found : Option CommandFault) → MatchOption found (Unit {0}) (λ f. first ≡ Err f) → MatchOption found (Unit {0}) (λ f. both first second ≡ Err f)
+    at None h = tt
+    at (Some f) h = rw h refl

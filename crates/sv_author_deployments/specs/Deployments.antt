@@ -28,6 +28,20 @@ texts_of path descriptor users = record {
   users = Some users;
 }
 
+-- both, or the first fault
+abbrev pub both : {A B : Type 0} → Step A → Step B → Step (A × B)
+both (Ok one) (Ok other) = Ok (one, other)
+both (Ok one) (Err fault) = Err fault
+both (Err fault) other = Err fault
+
+-- its descriptor and its users, as these texts are read
+abbrev pub configured : ContextTexts → Step (WebApp × List User)
+configured texts = both (descriptor_in texts) (users_in texts)
+
+-- these, and its files if they can be served
+abbrev pub read_of : List ℕ → List ℕ → List ℕ → List File → Step ((WebApp × List User) × List File)
+read_of path descriptor users files = both (configured (texts_of path descriptor users)) (told path (files_of files))
+
 -- what a context is deployed with, its components as lists
 pub record Deployed (S F L : Type 0) : Type 0 where
   pub path : List ℕ
@@ -53,14 +67,12 @@ module _ {S F L : Type 0} where
   -- its descriptor and its users as their texts are read, its files if they can be served, and its components as they are
   abbrev pub deployment_of : Content S F L → Step (Deployed S F L)
   deployment_of content = do
-    its_descriptor ← descriptor_in (texts_of content.path content.descriptor content.users)
-    its_users ← users_in (texts_of content.path content.descriptor content.users)
-    its_files ← told content.path (files_of content.files)
+    read ← read_of content.path content.descriptor content.users content.files
     Ok (record {
       path = content.path;
-      descriptor = its_descriptor;
-      files = its_files;
-      users = its_users;
+      descriptor = read.0.0;
+      files = read.1;
+      users = read.0.1;
       servlets = content.servlets;
       filters = content.filters;
       listeners = content.listeners;

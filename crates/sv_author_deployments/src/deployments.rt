@@ -9,11 +9,14 @@ ghost use Rattle.sv_author_deployments.specs.Deployments as spec;
 use std::alloc::Global;
 use sv_application::files_of;
 use sv_component::{Filter, Listener, Servlet};
+use sv_descriptor::Descriptor;
+use sv_files::{File, Files};
 use sv_lifecycle::Deployment;
 use sv_live::Parts;
 use sv_program::{CommandFault, ContextTexts, descriptor_in, realm_in};
+use sv_realm::Realm;
 use sv_settings::ContextEntry;
-use sv_text::{NoMemory, Text};
+use sv_text::{Listed, NoMemory, Text};
 use sv_web::Content;
 
 /// What the contexts of an application are deployed with, in their order: their descriptors and users as their texts are read, and their
@@ -51,10 +54,7 @@ fn deployment_of<S: Servlet, F: Filter, L: Listener>(
         files,
         users,
     } = content;
-    let texts = texts_of(alloc, path.as_str(), descriptor, users)?;
-    let descriptor = descriptor_in(alloc, &texts)?;
-    let users = realm_in(alloc, &texts)?;
-    let files = files_of(alloc, path.as_str(), files)?;
+    let ((descriptor, users), files) = read(alloc, path.as_str(), descriptor, users, files)?;
     Ok(Deployment {
         path,
         descriptor,
@@ -66,6 +66,41 @@ fn deployment_of<S: Servlet, F: Filter, L: Listener>(
             listeners: listeners.into_vec(),
         },
     })
+}
+
+// What is read of a context's texts and files: its descriptor and its users, and its files.
+fn read(
+    alloc: Global,
+    path: &str,
+    descriptor: Text,
+    users: Text,
+    files: Listed<File>,
+) -> Result<((Descriptor, Realm), Files), CommandFault>
+    ensures { Gives command_fault result (spec.read_of path.now descriptor users files) }
+{
+    let texts = texts_of(alloc, path, descriptor, users)?;
+    both(configured(alloc, &texts), files_of(alloc, path, files))
+}
+
+// The descriptor and the users of a context with these texts.
+fn configured(alloc: Global, texts: &ContextTexts) -> Result<(Descriptor, Realm), CommandFault>
+    ensures { Gives command_fault result (spec.configured texts.now) }
+{
+    both(descriptor_in(alloc, texts), realm_in(alloc, texts))
+}
+
+// Both, or the first fault.
+fn both<A: Drop, B: Drop>(
+    one: Result<A, CommandFault>,
+    other: Result<B, CommandFault>,
+) -> Result<(A, B), CommandFault>
+    ensures { result ≡ spec.both one other }
+{
+    match (one, other) {
+        (Ok(one), Ok(other)) => Ok((one, other)),
+        (Err(fault), _) => Err(fault),
+        (_, Err(fault)) => Err(fault),
+    }
 }
 
 // The texts of a context's files.
