@@ -1,7 +1,7 @@
 //! The requests on which calls are made.
 
+use crate::requests::field;
 use http::Method;
-use http_header::{HeaderName, HeaderValue};
 use std::alloc::Global;
 use sv_exchange::{Exchange, HeldSession};
 use sv_head::Field;
@@ -110,17 +110,6 @@ fn fields(alloc: Global, content_type: &str) -> Result<Vec<Field>, NoMemory> {
     let mut fields = Vec::new(alloc);
     fields.push(field(alloc, b"content-type", content_type.as_bytes())?)?;
     Ok(fields)
-}
-
-/// A field of a name and a value that are valid.
-fn field(alloc: Global, name: &[u8], value: &[u8]) -> Result<Field, NoMemory> {
-    let Ok(name) = HeaderName::from_bytes(alloc, name) else {
-        return Err(NoMemory);
-    };
-    let Ok(value) = HeaderValue::from_bytes(alloc, value) else {
-        return Err(NoMemory);
-    };
-    Ok(Field { name, value })
 }
 
 /// The sessions of a context that has one, with the attributes n and m. Where memory runs out, it has less.

@@ -59,7 +59,7 @@ fn fields(alloc: Global) -> Result<Vec<Field>, NoMemory> {
 }
 
 /// A field of a name and a value that are valid.
-fn field(alloc: Global, name: &[u8], value: &[u8]) -> Result<Field, NoMemory> {
+pub fn field(alloc: Global, name: &[u8], value: &[u8]) -> Result<Field, NoMemory> {
     let Ok(name) = HeaderName::from_bytes(alloc, name) else {
         return Err(NoMemory);
     };
