@@ -144,9 +144,9 @@ fn cookie_text(alloc: Global, cookie: &NewCookie<'_>) -> Result<Text, NoMemory>
     push_pair(&mut text, cookie.name, cookie.value)?;
     push_path(&mut text, cookie.path)?;
     push_max_age(&mut text, cookie.max_age)?;
-    push_flag(&mut text, cookie.http_only)?;
-    push_secure(&mut text, cookie.secure)?;
-    push_same_site(&mut text, cookie.same_site)?;
+    text.push_str(http_only_attribute(cookie.http_only))?;
+    text.push_str(secure_attribute(cookie.secure))?;
+    text.push_str(same_site_attribute(cookie.same_site))?;
     Ok(Text::from_string(text))
 }
 
@@ -181,32 +181,25 @@ fn push_max_age(text: &mut String, max_age: Option<u32>) -> Result<(), NoMemory>
     Ok(())
 }
 
-fn push_flag(text: &mut String, http_only: bool) -> Result<(), NoMemory>
-    ensures { OnOk result (string_bytes text.new ≡ string_bytes text.old ++ http_only_attribute http_only) }
+fn http_only_attribute(http_only: bool) -> &'static str
+    ensures { result.now ≡ http_only_attribute http_only }
 {
-    if http_only {
-        text.push_str("; HttpOnly")?;
-    }
-    Ok(())
+    if http_only { "; HttpOnly" } else { "" }
 }
 
-fn push_secure(text: &mut String, secure: bool) -> Result<(), NoMemory>
-    ensures { OnOk result (string_bytes text.new ≡ string_bytes text.old ++ secure_attribute secure) }
+fn secure_attribute(secure: bool) -> &'static str
+    ensures { result.now ≡ secure_attribute secure }
 {
-    if secure {
-        text.push_str("; Secure")?;
-    }
-    Ok(())
+    if secure { "; Secure" } else { "" }
 }
 
-fn push_same_site(text: &mut String, same_site: Option<SameSite>) -> Result<(), NoMemory>
-    ensures { OnOk result (string_bytes text.new ≡ string_bytes text.old ++ same_site_attribute same_site) }
+fn same_site_attribute(same_site: Option<SameSite>) -> &'static str
+    ensures { result.now ≡ same_site_attribute same_site }
 {
     match same_site {
-        Some(SameSite::Strict) => text.push_str("; SameSite=Strict")?,
-        Some(SameSite::Lax) => text.push_str("; SameSite=Lax")?,
-        Some(SameSite::Everywhere) => text.push_str("; SameSite=None")?,
-        None => {}
+        Some(SameSite::Strict) => "; SameSite=Strict",
+        Some(SameSite::Lax) => "; SameSite=Lax",
+        Some(SameSite::Everywhere) => "; SameSite=None",
+        None => "",
     }
-    Ok(())
 }

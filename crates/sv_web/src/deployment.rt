@@ -1,13 +1,13 @@
 //! A context of an application, put together call by call.
 
-ghost use Rattle.std.specs.Prelude.{IfOk};
+ghost use Rattle.std.specs.Prelude.{◌≡◌, IfOk, Ok, OnOk, [], ◌∷◌, ◌++◌};
 ghost use Rattle.sv_text.specs.Gives.{GivesAnswer};
 
 use crate::content::Content;
-use crate::elements::{push_filter, push_listener, push_servlet};
+use crate::elements::{push_elements, push_filter, push_listener, push_servlet};
 use std::alloc::Global;
 use std::marker::Model;
-use sv_component::{Filter, Listener, Named, Servlet};
+use sv_component::Named;
 use sv_files::File;
 use sv_text::{Bytes, Listed, NoMemory, Text};
 
@@ -45,7 +45,7 @@ impl<S, F, L> Model for Deployment<S, F, L> {
     } };
 }
 
-impl<S: Servlet, F: Filter, L: Listener> Deployment<S, F, L> {
+impl<S: Drop, F: Drop, L: Drop> Deployment<S, F, L> {
     ghost use Rattle.std.specs.Prelude.{◌≡◌, OnOk, string_bytes, [], ◌∷◌, ◌++◌};
     ghost use Rattle.sv_web.specs.Deploying as spec;
 
@@ -72,9 +72,8 @@ impl<S: Servlet, F: Filter, L: Listener> Deployment<S, F, L> {
     pub fn describe(mut self, elements: &str) -> Result<Deployment<S, F, L>, NoMemory>
         ensures { IfOk result (λ deployment. deployment ≡ spec.with_elements elements.now self) }
     {
-        self.descriptor.push_str(elements)?;
-        self.descriptor.push_str("\n")?;
-        Ok(self)
+        let added = push_elements(&mut self.descriptor, elements);
+        kept(self, added)
     }
 
     /// Adds a servlet by its name, at some URL patterns, at least one (Jakarta Servlet 6.0, sections 4.4.1 and 12.2).
@@ -86,13 +85,8 @@ impl<S: Servlet, F: Filter, L: Listener> Deployment<S, F, L> {
     ) -> Result<Deployment<S, F, L>, NoMemory>
         ensures { IfOk result (λ deployment. deployment ≡ spec.with_servlet name.now patterns.now servlet self) }
     {
-        push_servlet(&mut self.descriptor, name, patterns)?;
-        let name = Text::copy_of(self.alloc, name)?;
-        self.servlets.push(Named {
-            name,
-            component: servlet,
-        })?;
-        Ok(self)
+        let added = self.add_servlet(name, patterns, servlet);
+        kept(self, added)
     }
 
     /// Adds a filter by its name, for the client's requests whose paths fit some URL patterns, at least one (Jakarta Servlet 6.0, sections 4.4.2
@@ -105,40 +99,32 @@ impl<S: Servlet, F: Filter, L: Listener> Deployment<S, F, L> {
     ) -> Result<Deployment<S, F, L>, NoMemory>
         ensures { IfOk result (λ deployment. deployment ≡ spec.with_filter name.now patterns.now filter self) }
     {
-        push_filter(&mut self.descriptor, name, patterns)?;
-        let name = Text::copy_of(self.alloc, name)?;
-        self.filters.push(Named {
-            name,
-            component: filter,
-        })?;
-        Ok(self)
+        let added = self.add_filter(name, patterns, filter);
+        kept(self, added)
     }
 
     /// Adds a listener (Jakarta Servlet 6.0, sections 4.4.3 and 11.3).
     pub fn listener(mut self, listener: L) -> Result<Deployment<S, F, L>, NoMemory>
         ensures { IfOk result (λ deployment. deployment ≡ spec.with_listener listener self) }
     {
-        push_listener(&mut self.descriptor)?;
-        self.listeners.push(listener)?;
-        Ok(self)
+        let added = self.add_listener(listener);
+        kept(self, added)
     }
 
     /// Adds a static file at a path within the context, which begins with `/` (Jakarta Servlet 6.0, section 10.10).
     pub fn file(mut self, path: &str, bytes: &[u8]) -> Result<Deployment<S, F, L>, NoMemory>
         ensures { IfOk result (λ deployment. deployment ≡ spec.with_file path.now bytes.now self) }
     {
-        let path = Text::copy_of(self.alloc, path)?;
-        let bytes = Bytes::copy_of(self.alloc, bytes)?;
-        self.files.push(File { path, bytes })?;
-        Ok(self)
+        let added = push_file(self.alloc, &mut self.files, path, bytes);
+        kept(self, added)
     }
 
     /// Gives the context the users of a users file, a text in TOML, in place of those that it had.
     pub fn users(mut self, users: &str) -> Result<Deployment<S, F, L>, NoMemory>
         ensures { IfOk result (λ deployment. deployment ≡ spec.with_users users.now self) }
     {
-        self.users = Text::copy_of(self.alloc, users)?;
-        Ok(self)
+        let given = put_text(self.alloc, &mut self.users, users);
+        kept(self, given)
     }
 
     /// The list of this context alone, for an application that has no other.
@@ -163,4 +149,71 @@ impl<S: Servlet, F: Filter, L: Listener> Deployment<S, F, L> {
             users: self.users,
         }
     }
+    // Declares the servlet, and keeps it.
+    fn add_servlet(&mut self, name: &str, patterns: &[&str], servlet: S) -> Result<(), NoMemory>
+        ensures { OnOk result (self.new ≡ spec.with_servlet name.now patterns.now servlet self.old) }
+    {
+        push_servlet(&mut self.descriptor, name, patterns)?;
+        push_component(self.alloc, &mut self.servlets, name, servlet)
+    }
+
+    // Declares the filter, and keeps it.
+    fn add_filter(&mut self, name: &str, patterns: &[&str], filter: F) -> Result<(), NoMemory>
+        ensures { OnOk result (self.new ≡ spec.with_filter name.now patterns.now filter self.old) }
+    {
+        push_filter(&mut self.descriptor, name, patterns)?;
+        push_component(self.alloc, &mut self.filters, name, filter)
+    }
+
+    // Declares the listener, and keeps it.
+    fn add_listener(&mut self, listener: L) -> Result<(), NoMemory>
+        ensures { OnOk result (self.new ≡ spec.with_listener listener self.old) }
+    {
+        push_listener(&mut self.descriptor)?;
+        self.listeners.push(listener)?;
+        Ok(())
+    }
+}
+
+// What a call made of a deployment, if it was done. The one place where a deployment is let go.
+fn kept<T: Drop>(value: T, done: Result<(), NoMemory>) -> Result<T, NoMemory>
+    ensures kept { IfOk result (λ kept. kept ≡ value) }
+    ensures done { IfOk result (λ _. done ≡ Ok tt) }
+{
+    match done {
+        Ok(()) => Ok(value),
+        Err(fault) => Err(fault),
+    }
+}
+
+// A component more, with its name.
+fn push_component<C: Drop>(
+    alloc: Global,
+    components: &mut Vec<Named<C>>,
+    name: &str,
+    component: C,
+) -> Result<(), NoMemory>
+    ensures { OnOk result (components.new.items ≡ components.old.items ++ record { name = name.now; component = component } ∷ []) }
+{
+    let name = Text::copy_of(alloc, name)?;
+    components.push(Named { name, component })?;
+    Ok(())
+}
+
+// A file more.
+fn push_file(alloc: Global, files: &mut Vec<File>, path: &str, bytes: &[u8]) -> Result<(), NoMemory>
+    ensures { OnOk result (files.new.items ≡ files.old.items ++ record { path = path.now; bytes = bytes.now } ∷ []) }
+{
+    let path = Text::copy_of(alloc, path)?;
+    let bytes = Bytes::copy_of(alloc, bytes)?;
+    files.push(File { path, bytes })?;
+    Ok(())
+}
+
+// A copy of a text in place of another.
+fn put_text(alloc: Global, place: &mut Text, text: &str) -> Result<(), NoMemory>
+    ensures { OnOk result (place.new ≡ text.now) }
+{
+    *place = Text::copy_of(alloc, text)?;
+    Ok(())
 }

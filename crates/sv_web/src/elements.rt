@@ -6,6 +6,15 @@ ghost use Rattle.sv_web.specs.Elements as spec;
 
 use sv_text::NoMemory;
 
+/// Adds elements as they are written, and a line feed.
+pub(crate) fn push_elements(descriptor: &mut String, elements: &str) -> Result<(), NoMemory>
+    ensures { OnOk result (string_bytes descriptor.new ≡ string_bytes descriptor.old ++ elements.now ++ codes "\n") }
+{
+    descriptor.push_str(elements)?;
+    descriptor.push_str("\n")?;
+    Ok(())
+}
+
 /// Adds a servlet whose class has its name, and its patterns.
 pub(crate) fn push_servlet(
     descriptor: &mut String,
