@@ -1,5 +1,5 @@
 -- What is done with a message, in parts.
-use Rattle.std.proofs.Common.{◌≡◌, ℕ, true, inl, inr, List, Option, None, Some, refl, sym, ◌∙◌, ap, ap₂, subst, arith}
+use Rattle.std.proofs.Common.{◌≡◌, ℕ, true, inl, inr, List, Option, None, Some, Result, Ok, Err, IfOk, refl, sym, ◌∙◌, ap, ap₂, subst, arith}
 use Rattle.http.specs.StatusCode.{IsStatusCode}
 use Rattle.sv_admission.specs.Admission.{settled_in}
 use Rattle.sv_admission.specs.Asked.{Asked}
@@ -16,17 +16,19 @@ use Rattle.sv_event.specs.declared.event.Event.{Event}
 use Rattle.sv_live.specs.Standing.{LiveState, live_world}
 use Rattle.sv_policy.specs.Compiled.{Standing}
 use Rattle.sv_realm.specs.declared.user.User.{User}
+use Rattle.sv_dispatch.specs.Did.{seen}
 use Rattle.sv_dispatch.specs.ServedBy.{ServedBy}
 use Rattle.sv_session.specs.Store.{Store}
 use Rattle.sv_site.specs.Site.{Content, site_of}
+use Rattle.sv_text.specs.declared.no_memory.NoMemory.{NoMemory}
 use Rattle.sv_tree.specs.Site.{Site}
 use Rattle.sv_uri.specs.declared.path.Canon.{Canon}
 use Rattle.sv_message.specs.declared.cookie_settings.CookieSettings.{CookieSettings}
 use Rattle.sv_message.specs.declared.message.Message.{Message}
 use Rattle.sv_message.specs.declared.response.Response.{Response}
 use Rattle.sv_context.specs.Answered.{Answered}
-use Rattle.sv_context.specs.Handled.{GivesResponse, CutShort, IsAnswered, admitted, exchange_begun, state_in}
-use Rattle.sv_context.specs.Responding.{RespondsNoted}
+use Rattle.sv_context.specs.Handled.{GivesResponse, CutShort, HandlesMessage, IsAnswered, admitted, exchange_begun, state_in}
+use Rattle.sv_context.specs.Responding.{EndsExchange, RespondsNoted}
 use Rattle.sv_context.specs.State.{AreComponentsOf, ContextState, context_of, world_of}
 use Rattle.sv_context.proofs.Expiries.{world_same}
 use Rattle.sv_context.proofs.Journals.{taken}
@@ -140,3 +142,22 @@ module _ {S F L : Type 0} (moving : ComponentSteps S F L) where
         store = stored;
         whole = is_whole;
       }
+
+    -- the exchange was begun of the message, and ended
+    module _ (components : AreComponentsOf content live) (is : admission ≡ admitted before asked) (settled : lent ≡ (settled_in content policy users asked store).store)
+        (x : exchanges.State) (began : x ≡ begun_with) (live' : LiveState S F L) (store' : Store) (noted noted' : JournalState) where
+      pub handled_so : (response : Option Response)
+          → EndsExchange moving (site_of content) asked.canon admission.entry admission.event admission.answer live x noted response live' store' noted'
+          → HandlesMessage moving asked before noted response (context_of content policy users live' store') noted'
+      handled_so (Some response) ended =
+          answers_so components is settled x began live' ended.0 store' noted noted' response ended.1 ended.4 ended.2 ended.3
+      handled_so None ended = cut_so components is settled x began live' ended.0 store' noted noted' ended.1
+
+  -- the status of its response is a status code
+  pub ended_code : (site : Site) (canon : Canon) (entry : Entry) (event : Option Event) (answer : Answer) (live live' : LiveState S F L) (x : exchanges.State)
+      (store : Store) (noted noted' : JournalState) (result : Result Response NoMemory)
+      → EndsExchange moving site canon entry event answer live x noted (seen result) live' store noted' → IsStatusCode x.status
+      → IfOk result (λ response. IsStatusCode response.status)
+  ended_code site canon entry event answer live live' x store noted noted' (Ok response) ended code =
+      status_so site canon entry event answer live live' x ended.0 noted noted' response ended.1 code ended.2
+  ended_code site canon entry event answer live live' x store noted noted' (Err refusal) ended code = tt

@@ -20,7 +20,7 @@ use Rattle.sv_mapping.specs.declared.kind.Kind.{Kind}
 use Rattle.sv_mapping.specs.declared.kind.Kind.TheVariants as kinds
 use Rattle.sv_tree.proofs.Keeping.{FilterSteps, Keeps, Opens, Steps, away_same, becomes_keeps, gives_keeps, keeps_keeps, then_keeps, tree_keeps, wants_keeps, within_keeps}
 use Rattle.sv_tree.proofs.Doing.{chosen_then}
-use Rattle.sv_tree.specs.Does.{Does, ◌>>=◌, ◌>>◌, becomes, gives, makes, wants_memory}
+use Rattle.sv_tree.specs.Does.{Does, ◌>>=◌, ◌>>◌, becomes, makes, wants_memory}
 use Rattle.sv_tree.specs.Endings.{keeps}
 use Rattle.sv_tree.specs.Served.{Pages, Plain, breaks, Resets, Served, Settled, Shown, Shows, ShowsError, kept_field, plain_text, reset, sets, unless_committed}
 use Rattle.sv_tree.specs.Site.{Site, begun}

@@ -16,7 +16,7 @@ ghost use Rattle.sv_session.specs.Store.{Store};
 ghost use Rattle.sv_site.specs.Site.{site_of};
 ghost use Rattle.sv_text.specs.Gives.{GivesAnswer};
 ghost use Rattle.sv_context.specs.Handled.{HandlesMessage, admitted, within};
-ghost use Rattle.sv_context.specs.Responding.{RespondsNoted};
+ghost use Rattle.sv_context.specs.Responding.{EndsExchange, RespondsNoted};
 ghost use Rattle.sv_context.specs.State.{AreComponentsOf, context_of};
 
 use crate::answering::respond;
@@ -205,14 +205,38 @@ fn answer<S: Servlet, F: Filter, L: Listener>(
         event,
     } = admission;
     let lent = mem::replace(sessions, Sessions::new(alloc, 0, 0));
-    let begun = begin(alloc, site, message, canon, moment, words, session, lent);
-    let mut exchange = match begun {
-        Ok(exchange) => exchange,
+    match begin(alloc, site, message, canon, moment, words, session, lent) {
+        Ok(exchange) => answer_begun(
+            alloc, site, live, sessions, exchange, canon, entry, event, answer, journal,
+        ),
         Err(BeginFault { sessions: back }) => {
             *sessions = back;
-            return Err(NoMemory);
+            Err(NoMemory)
         }
-    };
+    }
+}
+
+// Answers a message whose exchange was begun, and takes the sessions back from it.
+fn answer_begun<S: Servlet, F: Filter, L: Listener>(
+    alloc: Global,
+    site: &mut Site,
+    live: &mut Live<S, F, L>,
+    sessions: &mut Sessions,
+    exchange: Exchange,
+    canon: &Canon,
+    entry: Entry,
+    event: Option<Event>,
+    answer: Answer,
+    journal: &mut Journal,
+) -> Result<Response, NoMemory>
+    requires components { AreComponentsOf site.old live.old }
+    requires whole { journal.old.whole ≡ true }
+    ensures ends { EndsExchange (steps_of S.servlet_step F.filter_step L.listener_step) (site_of site.old) canon.now entry event answer
+        live.old exchange journal.old (seen result) live.new sessions.new journal.new }
+    ensures components { AreComponentsOf site.old live.new }
+    ensures site { site.new ≡ site.old }
+{
+    let mut exchange = exchange;
     let done = respond_noted(
         alloc,
         live,

@@ -178,6 +178,13 @@ fn push_parts<S: Servlet, F: Filter, L: Listener>(
 {
     let mut waiting = VecDeque::from_vec(back);
     while let Some(undeployed) = waiting.pop_front() {
-        push(parts, undeployed.parts);
+        push(parts, parts_of(undeployed));
     }
+}
+
+// The components of a deployment. All else is let go here, and not in the loop, where each step would tell of it.
+fn parts_of<S: Servlet, F: Filter, L: Listener>(deployment: Deployment<S, F, L>) -> Parts<S, F, L>
+    ensures { result ≡ deployment.parts }
+{
+    deployment.parts
 }
