@@ -28,6 +28,14 @@ fn run<R: Net + Clock + RandomSource + Print + AllocGlobal, S: Alter + Drop>(
     Ok(())
 }
 
+// Serves the book of this file: no part of `main`, so that few steps see the type of its database.
+fn serve(rt: &HostRuntime, options: Options, file: &str) -> anyhow::Result<()> {
+    match Connection::open(rt, file) {
+        Ok(connection) => run(rt, options, connection),
+        Err(_) => bail!("{file} cannot be opened"),
+    }
+}
+
 fn main(rt: HostRuntime) -> anyhow::Result<ExitCode> {
     let mut arguments = env::args(&rt)?.skip(1);
     let port = arguments
@@ -39,9 +47,6 @@ fn main(rt: HostRuntime) -> anyhow::Result<ExitCode> {
     };
     let file = arguments.next();
     let file = file.as_ref().map_or(FILE, |name| name.as_str());
-    let Ok(connection) = Connection::open(&rt, file) else {
-        bail!("{file} cannot be opened");
-    };
-    run(&rt, Options::at_port(port), connection)?;
+    serve(&rt, Options::at_port(port), file)?;
     Ok(ExitCode::SUCCESS)
 }

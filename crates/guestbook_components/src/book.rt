@@ -64,10 +64,9 @@ impl<S: Alter + Drop> Book<S> {
     ///
     /// # Errors
     /// [`BookFault`]: the database is no book, or cannot be written.
-    pub fn new(connection: Connection<S>) -> Result<Book<S>, BookFault> {
-        let mut book = Book { connection };
-        book.connection.execute_batch(TABLE)?;
-        Ok(book)
+    pub fn new(mut connection: Connection<S>) -> Result<Book<S>, BookFault> {
+        connection.execute_batch(TABLE)?;
+        Ok(Book { connection })
     }
 
     /// Writes an entry down, with the second since 1970 in which that was. It stands in the file when this returns, whatever becomes of the program.
@@ -100,14 +99,8 @@ impl<S: Alter + Drop> Book<S> {
     pub fn newest_below(&mut self, alloc: Global, number: i64) -> Result<Vec<Entry>, BookFault> {
         let found = self
             .connection
-            .query_all(SELECT, params![number, PAGE_LEN as i64])?;
-        let mut entries = Vec::new(alloc);
-        for row in found {
-            if entries.push(entry_of(&row)?).is_err() {
-                return Err(BookFault);
-            }
-        }
-        Ok(entries)
+            .query_all(SELECT, params![number, PAGE_LEN as i64]);
+        entries_of(alloc, found)
     }
 }
 
@@ -140,6 +133,30 @@ fn delete<S: Alter>(connection: &mut Connection<S>, number: i64) -> Result<usize
         (state S.Store connection.old) (state S.Store connection.new) result }
 {
     connection.execute(DELETE, params![number])
+}
+
+// The entries of the rows that were found.
+fn entries_of(alloc: Global, found: Result<Vec<Row>, Error>) -> Result<Vec<Entry>, BookFault> {
+    let found = found?;
+    let mut entries = Vec::new(alloc);
+    push_entries(&mut entries, found.as_slice())?;
+    Ok(entries)
+}
+
+// The entries of these rows, behind others.
+fn push_entries(entries: &mut Vec<Entry>, rows: &[Row]) -> Result<(), BookFault> {
+    for row in rows {
+        push_entry(entries, entry_of(row)?)?;
+    }
+    Ok(())
+}
+
+// An entry more.
+fn push_entry(entries: &mut Vec<Entry>, entry: Entry) -> Result<(), BookFault> {
+    match entries.push(entry) {
+        Ok(()) => Ok(()),
+        Err(_) => Err(BookFault),
+    }
 }
 
 // The entry of a row.

@@ -1,12 +1,13 @@
 //! The servlet of the book.
 
-ghost use Rattle.std.specs.Prelude.{◌≡◌, IfOk, IfSome, Ok, OnOk, false, true};
+ghost use Rattle.std.specs.Prelude.{◌≡◌, IfOk, IfSome, Ok, OnOk, codes, false, true};
+ghost use Rattle.std.specs.Str.Parse.{signed_digits_value};
 ghost use Rattle.sv_exchange.specs.Sessions.{is_in_role};
 ghost use Rattle.sv_exchange.specs.Changing.{Reaches};
 ghost use Rattle.guestbook_components.specs.Forms.{IsOfMember, IsSent, Removes, Writes, caller_name, value_of};
 ghost use Rattle.guestbook_components.specs.Token.{is_own_form};
 
-use crate::book::{Book, BookFault};
+use crate::book::{Book, BookFault, Entry};
 use crate::pages::{Member, book_page};
 use crate::token::{is_own_form, token_of};
 use crate::visits::Visits;
@@ -36,7 +37,11 @@ impl<S: Alter + Drop> Servlet for Guestbook<S> {
     }
 
     fn service(&mut self, alloc: Global, exchange: &mut Exchange, _turn: u32) -> Step {
-        step_of(alloc, answered(alloc, self, exchange))
+        let done = match Form::at(exchange.path()) {
+            Some(form) => take_form(alloc, &mut self.book, exchange, form),
+            None => show_book(alloc, &mut self.book, self.visits.count(), exchange),
+        };
+        step_behind(alloc, done)
     }
 
     fn destroy(&mut self) {}
@@ -62,49 +67,64 @@ impl Form {
     }
 }
 
-// The answer, by the path.
-fn answered<S: Alter + Drop>(
-    alloc: Global,
-    guestbook: &mut Guestbook<S>,
-    exchange: &mut Exchange,
-) -> Result<Step, Fault>
-    ensures { Reaches exchange.old exchange.new }
-{
-    match Form::at(exchange.path()) {
-        Some(form) => take_form(alloc, &mut guestbook.book, exchange, form)?,
-        None => show_book(alloc, guestbook, exchange)?,
+// The step behind a page or a form: it is done, or that of its fault.
+fn step_behind(alloc: Global, done: Result<(), Fault>) -> Step {
+    match done {
+        Ok(()) => Step::Done,
+        Err(fault) => step_of(alloc, Err(fault)),
     }
-    Ok(Step::Done)
 }
 
-// The page of the entries.
+// The page of the entries, where it is asked for.
 fn show_book<S: Alter + Drop>(
     alloc: Global,
-    guestbook: &mut Guestbook<S>,
+    book: &mut Book<S>,
+    requests: u64,
     exchange: &mut Exchange,
 ) -> Result<(), Fault>
     ensures { Reaches exchange.old exchange.new }
 {
-    if asked_verb(alloc, exchange, &[Verb::Get])?.is_some() {
-        let page = page_of(alloc, guestbook, exchange)?;
-        send_html(exchange, page.as_str())?;
+    let Some(number) = page_asked_for(alloc, exchange)? else {
+        return Ok(());
+    };
+    let entries = answer_of(alloc, book.newest_below(alloc, number))?;
+    send_page(alloc, exchange, entries.as_slice(), requests)
+}
+
+// The number below which the page begins that is asked for, by GET alone.
+fn page_asked_for(alloc: Global, exchange: &mut Exchange) -> Result<Option<i64>, Fault>
+    ensures { Reaches exchange.old exchange.new }
+{
+    match asked_verb(alloc, exchange, &[Verb::Get])? {
+        Some(_) => Ok(Some(first_below(exchange)?)),
+        None => Ok(None),
     }
+}
+
+// The page of these entries, for whoever asks.
+fn send_page(
+    alloc: Global,
+    exchange: &mut Exchange,
+    entries: &[Entry],
+    requests: u64,
+) -> Result<(), Fault>
+    ensures { Reaches exchange.old exchange.new }
+{
+    let page = page_of(alloc, exchange, entries, requests)?;
+    send_html(exchange, page.as_str())?;
     Ok(())
 }
 
-// The page for whoever asks.
-fn page_of<S: Alter + Drop>(
+// The page of these entries, with the forms of the user of the session.
+fn page_of(
     alloc: Global,
-    guestbook: &mut Guestbook<S>,
     exchange: &Exchange,
-) -> Result<String, Fault> {
-    let entries = answer_of(
-        alloc,
-        guestbook.book.newest_below(alloc, first_below(exchange)?),
-    )?;
+    entries: &[Entry],
+    requests: u64,
+) -> Result<String, NoMemory> {
     let token = token_of(alloc, exchange)?;
     let reader = member_of(exchange, token.as_ref());
-    Ok(book_page(alloc, entries.as_slice(), reader, guestbook.visits.count())?)
+    book_page(alloc, entries, reader, requests)
 }
 
 // The user of the session, where one is logged in.
@@ -159,18 +179,20 @@ fn obey<S: Alter + Drop>(
     ensures reached { Reaches exchange.old exchange.new }
 {
     if !is_own_form(alloc, exchange)? {
-        return Err(Fault::Error(
-            403,
-            Text::copy_of(alloc, "This form is of another session.")?,
-        ));
+        return Err(error_of(alloc, 403, "This form is of another session."));
     }
     match form {
-        Form::Write => write(alloc, book, exchange)?,
-        Form::Remove => remove(alloc, book, exchange)?,
-        Form::Leave => {
-            exchange.logout()?;
-        }
+        Form::Write => write(alloc, book, exchange),
+        Form::Remove => remove(alloc, book, exchange),
+        Form::Leave => leave(exchange),
     }
+}
+
+// Logs the caller out.
+fn leave(exchange: &mut Exchange) -> Result<(), Fault>
+    ensures { Reaches exchange.old exchange.new }
+{
+    exchange.logout()?;
     Ok(())
 }
 
@@ -182,15 +204,24 @@ fn write<S: Alter + Drop>(
 ) -> Result<(), Fault>
     ensures { OnOk result (Writes S.Store exchange.now book.old.connection book.new.connection) }
 {
-    let words = value_of(alloc, exchange, "words")?;
-    if words.as_str().trim().is_empty() || words.as_str().len() > MAX_WORDS {
-        return Err(Fault::Error(
-            400,
-            Text::copy_of(alloc, "An entry has 1 to 4000 bytes, and not blanks alone.")?,
-        ));
-    }
+    let words = words_of(alloc, exchange)?;
     let written = book.write(caller_name(exchange), exchange.moment(), words.as_str());
     answer_of(alloc, written)
+}
+
+// The words of an entry that were sent.
+fn words_of(alloc: Global, exchange: &Exchange) -> Result<Text, Fault>
+    ensures { IfOk result (λ words. words ≡ value_of (codes "words") exchange.now) }
+{
+    let words = value_of(alloc, exchange, "words")?;
+    if words.as_str().trim().is_empty() || words.as_str().len() > MAX_WORDS {
+        return Err(error_of(
+            alloc,
+            400,
+            "An entry has 1 to 4000 bytes, and not blanks alone.",
+        ));
+    }
+    Ok(words)
 }
 
 // An entry less, which an administrator takes out: the descriptor lets no one else come here, and neither does this.
@@ -203,13 +234,29 @@ fn remove<S: Alter + Drop>(
     ensures kept { is_in_role ADMINISTRATOR.now exchange.now.caller ≡ false → book.new ≡ book.old }
 {
     if !exchange.is_user_in_role(ADMINISTRATOR) {
-        return Err(Fault::Error(403, Text::copy_of(alloc, "You take no entries out.")?));
+        return Err(error_of(alloc, 403, "You take no entries out."));
     }
-    let number = value_of(alloc, exchange, "number")?;
-    let Ok(number) = number.as_str().parse::<i64>() else {
-        return Err(Fault::Error(400, Text::copy_of(alloc, "This is no number of an entry.")?));
-    };
+    let number = number_of(alloc, exchange)?;
     answer_of(alloc, book.remove(number))
+}
+
+// The number of an entry that was sent.
+fn number_of(alloc: Global, exchange: &Exchange) -> Result<i64, Fault>
+    ensures { IfOk result (λ number. number ≡ signed_digits_value 10 (value_of (codes "number") exchange.now)) }
+{
+    let number = value_of(alloc, exchange, "number")?;
+    match number.as_str().parse::<i64>() {
+        Ok(number) => Ok(number),
+        Err(_) => Err(error_of(alloc, 400, "This is no number of an entry.")),
+    }
+}
+
+// The error of that code, if there is memory for its text.
+fn error_of(alloc: Global, code: u16, text: &str) -> Fault {
+    match Text::copy_of(alloc, text) {
+        Ok(text) => Fault::Error(code, text),
+        Err(NoMemory) => Fault::NoMemory,
+    }
 }
 
 // The first value of that name, empty where none was sent.

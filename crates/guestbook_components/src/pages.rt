@@ -3,7 +3,7 @@
 use crate::book::{Entry, PAGE_LEN};
 use crate::paragraph::push_paragraph;
 use httpdate::HttpDate;
-use std::alloc::Global;
+use std::alloc::{AllocError, Global};
 use std::str;
 use sv_web::{NoMemory, escape_html};
 
@@ -29,17 +29,38 @@ pub fn book_page(
     requests: u64,
 ) -> Result<String, NoMemory> {
     let mut page = String::new(alloc);
+    push_page(alloc, &mut page, entries, reader, requests)?;
+    Ok(page)
+}
+
+// The parts of the page, which is lent, so that none that fails has to let it go.
+fn push_page(
+    alloc: Global,
+    page: &mut String,
+    entries: &[Entry],
+    reader: Option<Member<'_>>,
+    requests: u64,
+) -> Result<(), NoMemory> {
     page.push_str(HEAD)?;
     match reader {
-        Some(member) => push_forms(alloc, &mut page, member)?,
+        Some(member) => push_forms(alloc, page, member)?,
         None => page.push_str(INVITATION)?,
     }
-    push_entries(alloc, &mut page, entries, reader)?;
-    push_older(alloc, &mut page, entries)?;
-    page.push_str(format!(in alloc;
-        "<footer>{requests} requests since the start</footer>\n</main>\n</html>\n"
-    )?.as_str())?;
-    Ok(page)
+    push_entries(alloc, page, entries, reader)?;
+    push_older(alloc, page, entries)?;
+    push_made(
+        page,
+        format!(in alloc;
+            "<footer>{requests} requests since the start</footer>\n</main>\n</html>\n"
+        ),
+    )
+}
+
+// A text that was made for the page, if there was memory for it.
+fn push_made(page: &mut String, made: Result<String, AllocError>) -> Result<(), NoMemory> {
+    let made = made?;
+    page.push_str(made.as_str())?;
+    Ok(())
 }
 
 /// The page down to its heading.
@@ -63,8 +84,10 @@ fn push_forms(alloc: Global, page: &mut String, member: Member<'_>) -> Result<()
     let name = escape_html(alloc, member.name)?;
     let name = name.as_str();
     let token = member.token;
-    page.push_str(format!(in alloc;
-        r#"<form class="greeting" method="post" action="/leave">
+    push_made(
+        page,
+        format!(in alloc;
+            r#"<form class="greeting" method="post" action="/leave">
 <input type="hidden" name="token" value="{token}">
 <span>You are <b>{name}</b>.</span> <button class="plain">Log out</button>
 </form>
@@ -74,9 +97,8 @@ fn push_forms(alloc: Global, page: &mut String, member: Member<'_>) -> Result<()
 <button>Write</button>
 </form>
 "#
-    )?
-    .as_str())?;
-    Ok(())
+        ),
+    )
 }
 
 // The entries, the newest first.
@@ -141,15 +163,16 @@ fn push_removal(
         return Ok(());
     }
     let token = member.token;
-    page.push_str(format!(in alloc;
-        r#"<form method="post" action="/remove">
+    push_made(
+        page,
+        format!(in alloc;
+            r#"<form method="post" action="/remove">
 <input type="hidden" name="token" value="{token}">
 <button class="plain" name="number" value="{number}">Remove</button>
 </form>
 "#
-    )?
-    .as_str())?;
-    Ok(())
+        ),
+    )
 }
 
 // Where a page is full, the way to the next one.
@@ -157,11 +180,12 @@ fn push_older(alloc: Global, page: &mut String, entries: &[Entry]) -> Result<(),
     if entries.len() < PAGE_LEN {
         return Ok(());
     }
-    if let Some(last) = entries.last() {
-        let number = last.number;
-        page.push_str(format!(in alloc;
-            "<p><a href=\"/?before={number}\">Older entries</a></p>\n"
-        )?.as_str())?;
-    }
-    Ok(())
+    let Some(last) = entries.last() else {
+        return Ok(());
+    };
+    let number = last.number;
+    push_made(
+        page,
+        format!(in alloc; "<p><a href=\"/?before={number}\">Older entries</a></p>\n"),
+    )
 }

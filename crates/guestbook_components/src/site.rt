@@ -75,11 +75,29 @@ pub fn site_of<S: Alter + Drop>(
         book,
         visits: visits.shared()?,
     };
-    Deployment::at(alloc, "/")?
+    deployed(alloc, guestbook, Shield {}, visits)
+}
+
+// The site with these components, of whatever types: so the prover sees each call of it without them.
+fn deployed<S: Drop, F: Drop, L: Drop>(
+    alloc: Global,
+    servlet: S,
+    filter: F,
+    listener: L,
+) -> Result<Vec<Deployment<S, F, L>>, NoMemory> {
+    let deployment = Deployment::at(alloc, "/")?
         .describe(DESCRIPTOR)?
-        .servlet("guestbook", &["", "/write", "/remove", "/leave"], guestbook)?
-        .filter("shield", &["/*"], Shield {})?
-        .listener(visits)?
+        .servlet("guestbook", &["", "/write", "/remove", "/leave"], servlet)?
+        .filter("shield", &["/*"], filter)?
+        .listener(listener)?;
+    with_files(deployment)
+}
+
+// The site with its files and its users as well.
+fn with_files<S: Drop, F: Drop, L: Drop>(
+    deployment: Deployment<S, F, L>,
+) -> Result<Vec<Deployment<S, F, L>>, NoMemory> {
+    deployment
         .file("/login.html", LOGIN.as_bytes())?
         .file("/login-failed.html", LOGIN_FAILED.as_bytes())?
         .file("/style.css", STYLE.as_bytes())?
