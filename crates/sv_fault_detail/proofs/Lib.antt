@@ -1,3 +1,6 @@
 pub mod Trees
 pub mod Again
 pub mod Choices
+pub mod Tellings
+pub mod Joining
+pub mod Growing

@@ -5,3 +5,4 @@ pub mod Tree
 pub mod Shown
 pub mod Offending
 pub mod Telling
+pub mod Lists

@@ -1,5 +1,5 @@
 -- Of which file the second line of a fault tells, by what the store gives: it is asked again for the server file, and for the file of the context.
-use Rattle.std.specs.Prelude.{◌≡◌, ℕ, Bool, List, Option, Some, None, find}
+use Rattle.std.specs.Prelude.{◌≡◌, ℕ, List, Option, Some, None, find}
 use Rattle.std.specs.Option.{option_and_then}
 use Rattle.std.specs.Path.{path_with_file_name}
 use Rattle.std.specs.Str.{bytes_eq}
@@ -11,6 +11,8 @@ use Rattle.sv_program.specs.FileStore.{Giving}
 use Rattle.sv_program.specs.declared.command_fault.CommandFault.{CommandFault}
 use Rattle.sv_program.specs.declared.command_fault.CommandFault.TheVariants as fault
 use Rattle.sv_fault_detail.specs.Detail.{IsLine}
+use Rattle.sv_fault_detail.specs.declared.detail.ContextFile.{ContextFile}
+use Rattle.sv_fault_detail.specs.declared.detail.ContextFile.TheVariants.{Descriptor, Users}
 
 -- the line is that of this text, and there is none where no text was to be had
 abbrev pub TellsText : List ℕ → DescriptorFault → Option (List ℕ) → Option (List ℕ) → Type 0
@@ -32,6 +34,11 @@ TellsNamed gives config (Some name) found before given after = TellsFile gives (
 abbrev pub entry_among : List ℕ → List ContextEntry → Option ContextEntry
 entry_among path entries = find (λ entry. bytes_eq entry.path path) entries
 
+-- the server file is read, and has these contexts
+abbrev pub ReadsEntries : {S : Type 0} → Giving S → List ℕ → S → List ContextEntry → S → Type 0
+ReadsEntries gives config before entries after =
+    (text : Option (List ℕ)) × gives before config text after × (entries ≡ contexts_in (server_in config text))
+
 -- the server file is read, and has this of the context of this path
 abbrev pub ReadsEntry : {S : Type 0} → Giving S → List ℕ → List ℕ → S → Option ContextEntry → S → Type 0
 ReadsEntry gives config path before entry after =
@@ -48,6 +55,10 @@ named_descriptor entry = Some entry.descriptor
 
 abbrev pub named_users : ContextEntry → Option (List ℕ)
 named_users entry = entry.users
+
+abbrev pub named_for : ContextFile → ContextEntry → Option (List ℕ)
+named_for Descriptor = named_descriptor
+named_for Users = named_users
 
 -- of a fault of a file its line, and for another fault nothing is read
 abbrev pub TellsFault : {S : Type 0} → Giving S → List ℕ → CommandFault → S → Option (List ℕ) → S → Type 0

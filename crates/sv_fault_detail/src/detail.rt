@@ -1,7 +1,9 @@
 //! The second line of a fault, by the files that a store gives.
 
-ghost use Rattle.std.specs.Prelude.{◌≡◌, IfOk, IfSome, Some, ℕ, List};
+ghost use Rattle.std.specs.Prelude.{◌≡◌, [], IfOk, IsSome, option_copied};
+ghost use Rattle.std.specs.Option.{option_and_then};
 ghost use Rattle.std.specs.Path.{path_with_file_name};
+ghost use Rattle.sv_program.specs.CommandFault.{command_fault};
 ghost use Rattle.sv_fault_detail.specs.Detail as spec;
 ghost use Rattle.sv_fault_detail.specs.Telling as telling;
 
@@ -10,7 +12,7 @@ use std::alloc::Global;
 use std::path::Path;
 use sv_program::{CommandFault, FileStore, read_server_file};
 use sv_schema::DescriptorFault;
-use sv_settings::ContextEntry;
+use sv_settings::{ContextEntry, Server};
 use sv_text::{Listed, NoMemory, Text};
 
 /// The line that stands behind that of a fault of a configuration file of the server file `config`, without its end. It asks the store again for the server file, and
@@ -25,65 +27,47 @@ pub fn fault_detail<S: FileStore>(
     ensures told { IfOk result (λ given. telling.TellsFault S.gives_text config.now fault.now store.old given store.new) }
 {
     match fault {
-        CommandFault::Server(fault) => detail_of_server(alloc, store, config, fault),
+        CommandFault::Server(fault) => detail_of_file(alloc, store, config, config, fault),
         CommandFault::Descriptor { context, fault } => {
             let context = context.as_str();
-            detail_of_descriptor(alloc, store, config, context, fault)
+            detail_of_context(
+                alloc,
+                store,
+                config,
+                context,
+                ContextFile::Descriptor,
+                fault,
+            )
         }
         CommandFault::Users { context, fault } => {
             let context = context.as_str();
-            detail_of_users(alloc, store, config, context, fault)
+            detail_of_context(alloc, store, config, context, ContextFile::Users, fault)
         }
         _ => Ok(None),
     }
 }
 
-fn detail_of_server<S: FileStore>(
-    alloc: Global,
-    store: &mut S,
-    config: &str,
-    fault: &DescriptorFault,
-) -> Result<Option<Text>, NoMemory>
-    ensures line { IfOk result (λ given. IfSome given (λ line. (text : List ℕ) × spec.IsLine config.now text fault.now line)) }
-    ensures told { IfOk result (λ given. telling.TellsFile S.gives_text config.now config.now fault.now store.old given store.new) }
-{
-    match store.read_text(alloc, config)? {
-        Some(text) => Ok(Some(detail_line(alloc, config, text.as_str(), fault)?)),
-        None => Ok(None),
-    }
+/// A file that the server file names for a context.
+#[derive(Clone, Copy)]
+enum ContextFile {
+    Descriptor,
+    Users,
 }
 
-fn detail_of_descriptor<S: FileStore>(
+/// The line of a fault of a file of the context of this path.
+fn detail_of_context<S: FileStore>(
     alloc: Global,
     store: &mut S,
     config: &str,
     context: &str,
+    file: ContextFile,
     fault: &DescriptorFault,
 ) -> Result<Option<Text>, NoMemory>
-    ensures line { IfOk result (λ given. IfSome given (λ line. (name : List ℕ) × (text : List ℕ) × spec.IsLine name text fault.now line)) }
-    ensures told { IfOk result (λ given. telling.TellsOfContext S.gives_text config.now context.now telling.named_descriptor fault.now store.old given store.new) }
+    ensures { IfOk result (λ given. telling.TellsOfContext S.gives_text config.now context.now (telling.named_for file) fault.now store.old given store.new) }
 {
-    match entry_of(alloc, store, config, context)? {
-        Some(entry) => detail_beside(alloc, store, config, entry.descriptor.as_str(), fault),
-        None => Ok(None),
-    }
-}
-
-fn detail_of_users<S: FileStore>(
-    alloc: Global,
-    store: &mut S,
-    config: &str,
-    context: &str,
-    fault: &DescriptorFault,
-) -> Result<Option<Text>, NoMemory>
-    ensures line { IfOk result (λ given. IfSome given (λ line. (name : List ℕ) × (text : List ℕ) × spec.IsLine name text fault.now line)) }
-    ensures told { IfOk result (λ given. telling.TellsOfContext S.gives_text config.now context.now telling.named_users fault.now store.old given store.new) }
-{
-    let Some(entry) = entry_of(alloc, store, config, context)? else {
-        return Ok(None);
-    };
-    match &entry.users {
-        Some(name) => detail_beside(alloc, store, config, name.as_str(), fault),
+    let entries = entries_in(alloc, store, config)?;
+    match name_among(entries.as_slice(), context, file) {
+        Some(name) => detail_beside(alloc, store, config, name, fault),
         None => Ok(None),
     }
 }
@@ -96,40 +80,85 @@ fn detail_beside<S: FileStore>(
     name: &str,
     fault: &DescriptorFault,
 ) -> Result<Option<Text>, NoMemory>
-    ensures line { IfOk result (λ given. IfSome given (λ line. (text : List ℕ) × spec.IsLine name.now text fault.now line)) }
-    ensures told { IfOk result (λ given. telling.TellsFile S.gives_text (path_with_file_name config.now name.now) name.now fault.now store.old given store.new) }
+    ensures { IfOk result (λ given. telling.TellsFile S.gives_text (path_with_file_name config.now name.now) name.now fault.now store.old given store.new) }
 {
     let path = Path::new(config).with_file_name(alloc, name)?;
-    match store.read_text(alloc, path.as_str())? {
+    detail_of_file(alloc, store, path.as_str(), name, fault)
+}
+
+/// The line of a fault of the file at this path, with this name for it.
+fn detail_of_file<S: FileStore>(
+    alloc: Global,
+    store: &mut S,
+    path: &str,
+    name: &str,
+    fault: &DescriptorFault,
+) -> Result<Option<Text>, NoMemory>
+    ensures { IfOk result (λ given. telling.TellsFile S.gives_text path.now name.now fault.now store.old given store.new) }
+{
+    match store.read_text(alloc, path)? {
         Some(text) => Ok(Some(detail_line(alloc, name, text.as_str(), fault)?)),
         None => Ok(None),
     }
 }
 
-/// What the server file says of the context of this path.
-fn entry_of<S: FileStore>(
+/// What the server file says of the contexts.
+fn entries_in<S: FileStore>(
     alloc: Global,
     store: &mut S,
     config: &str,
-    context: &str,
-) -> Result<Option<ContextEntry>, NoMemory>
-    ensures { IfOk result (λ entry. telling.ReadsEntry S.gives_text config.now context.now store.old entry store.new) }
+) -> Result<Listed<ContextEntry>, NoMemory>
+    ensures { IfOk result (λ entries. telling.ReadsEntries S.gives_text config.now store.old entries store.new) }
 {
     match read_server_file(alloc, store, config) {
-        Ok(server) => Ok(entry_among(server.contexts, context)),
-        Err(CommandFault::NoMemory) => Err(NoMemory),
-        Err(_) => Ok(None),
+        Ok(server) => Ok(entries_of(server)),
+        Err(fault) => no_entries(alloc, fault),
     }
 }
 
-/// The first context of this path.
-fn entry_among(entries: Listed<ContextEntry>, path: &str) -> Option<ContextEntry>
-    ensures { result ≡ telling.entry_among path.now entries }
+fn entries_of(server: Server) -> Listed<ContextEntry>
+    ensures { result ≡ server.contexts }
 {
-    for entry in entries.into_vec() {
+    let Server { contexts, .. } = server;
+    contexts
+}
+
+/// None, as a server file has them that is refused.
+fn no_entries(alloc: Global, fault: CommandFault) -> Result<Listed<ContextEntry>, NoMemory>
+    ensures { IfOk result (λ entries. (entries ≡ []) × IsSome (command_fault fault)) }
+{
+    match fault {
+        CommandFault::NoMemory => Err(NoMemory),
+        _ => Ok(Listed::from_vec(Vec::new(alloc))),
+    }
+}
+
+/// The name of the file for the first context of this path.
+fn name_among<'a>(entries: &'a [ContextEntry], path: &str, file: ContextFile) -> Option<&'a str>
+    ensures { option_copied result ≡ option_and_then (telling.named_for file) (telling.entry_among path.now entries.now) }
+{
+    for entry in entries {
         if entry.path.as_str() == path {
-            return Some(entry);
+            return name_in(entry, file);
         }
     }
     None
+}
+
+fn name_in(entry: &ContextEntry, file: ContextFile) -> Option<&str>
+    ensures { option_copied result ≡ telling.named_for file entry.now }
+{
+    match file {
+        ContextFile::Descriptor => Some(entry.descriptor.as_str()),
+        ContextFile::Users => users_name(entry),
+    }
+}
+
+fn users_name(entry: &ContextEntry) -> Option<&str>
+    ensures { option_copied result ≡ telling.named_users entry.now }
+{
+    match &entry.users {
+        Some(name) => Some(name.as_str()),
+        None => None,
+    }
 }

@@ -5,6 +5,7 @@ mod detail;
 mod laws;
 mod limits;
 mod line;
+mod lists;
 mod names;
 mod offending;
 mod place;

@@ -1,6 +1,6 @@
 //! The text that offends at the key of a fault.
 
-ghost use Rattle.std.specs.Prelude.{◌≡◌, [], IfOk, option_copied, option_map};
+ghost use Rattle.std.specs.Prelude.{◌≡◌, [], IfOk, codes, option_copied, option_map};
 ghost use Rattle.std.specs.List.{list_any};
 ghost use Rattle.std.specs.Option.{option_and_then};
 ghost use Rattle.sv_text.specs.Gives.{GivesAnswer};
@@ -8,8 +8,10 @@ ghost use Rattle.toml.specs.View.{table_view, view};
 ghost use Rattle.sv_schema.specs.Table.{has_key as table_has_key, texts as texts_seen};
 ghost use Rattle.sv_fault_detail.specs.Offending as spec;
 ghost use Rattle.sv_fault_detail.specs.Shown.{shown as shown_value};
+ghost use Rattle.sv_fault_detail.specs.Tree as tree;
 ghost use Rattle.sv_fault_detail.specs.Tree.{tables_seen, values_seen};
 
+use crate::lists::{joined, list_of};
 use crate::names::{first_again, first_bad_pattern, first_other, first_reserved};
 use crate::shown::{quoted, shown};
 use crate::tree::{all_tables, items_of, tables_at, tables_in, texts_at, values_at};
@@ -89,14 +91,23 @@ fn url_patterns(alloc: Global, file: &Table) -> Result<Vec<&str>, NoMemory>
     ensures { IfOk result (λ found. texts_seen found.items ≡ spec.url_patterns (table_view file.now)) }
 {
     let key = "url-pattern";
-    let mut patterns = texts_of_elements(alloc, "servlet-mapping", key, file)?;
-    let of_filters = texts_of_elements(alloc, "filter-mapping", key, file)?;
+    let of_servlets = texts_of_elements(alloc, "servlet-mapping", key, file);
+    let of_filters = texts_of_elements(alloc, "filter-mapping", key, file);
+    let of_constraints = patterns_of_constraints(alloc, key, file);
+    joined(joined(of_servlets, of_filters), of_constraints)
+}
+
+/// The texts at a key of the collections that constraints are about.
+fn patterns_of_constraints<'a>(
+    alloc: Global,
+    key: &str,
+    file: &'a Table,
+) -> Result<Vec<&'a str>, NoMemory>
+    ensures { IfOk result (λ found. texts_seen found.items ≡ tree.texts_at key.now (tree.tables_at (codes "web-resource-collection") (spec.elements (codes "security-constraint") (table_view file.now)))) }
+{
     let constraints = elements(alloc, "security-constraint", file)?;
     let collections = tables_at(alloc, "web-resource-collection", constraints.as_slice())?;
-    let of_constraints = texts_at(alloc, key, collections.as_slice())?;
-    patterns.extend_from_slice(of_filters.as_slice())?;
-    patterns.extend_from_slice(of_constraints.as_slice())?;
-    Ok(patterns)
+    texts_at(alloc, key, collections.as_slice())
 }
 
 /// The servlets that a descriptor declares.
@@ -138,15 +149,14 @@ fn unknown_servlet(alloc: Global, file: &Table) -> Result<Option<&str>, NoMemory
 /// The first servlet of a filter mapping that is not declared.
 fn unknown_to_filters<'a>(
     alloc: Global,
-    declared: &[&str],
+    declared: &[&'a str],
     file: &'a Table,
 ) -> Result<Option<&'a str>, NoMemory>
     ensures { IfOk result (λ found. option_copied found ≡ spec.unknown_to_filters (texts_seen declared.now) (table_view file.now)) }
 {
-    let mut known = Vec::new(alloc);
-    known.push("default")?;
-    known.push("*")?;
-    known.extend_from_slice(declared)?;
+    // Their type says that they live as long as what is declared.
+    let always: [&'a str; 2] = ["default", "*"];
+    let known = joined(list_of(alloc, &always), list_of(alloc, declared))?;
     first_unknown(
         alloc,
         known.as_slice(),

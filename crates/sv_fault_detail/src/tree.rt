@@ -8,6 +8,7 @@ ghost use Rattle.toml.specs.View.{table_view, view};
 ghost use Rattle.sv_schema.specs.Table.{texts as texts_seen};
 ghost use Rattle.sv_fault_detail.specs.Tree as spec;
 
+use crate::lists::{joined, list_of};
 use std::alloc::Global;
 use sv_text::NoMemory;
 use toml::{Table, Value};
@@ -64,14 +65,9 @@ pub(crate) fn tables_in<'a>(alloc: Global, tables: &[&'a Table]) -> Result<Vec<&
 pub(crate) fn all_tables(alloc: Global, file: &Table) -> Result<Vec<&Table>, NoMemory>
     ensures { IfOk result (λ found. spec.tables_seen found.items ≡ spec.all_tables (table_view file.now)) }
 {
-    let first = [file];
-    let second = tables_in(alloc, &first)?;
-    let third = tables_in(alloc, second.as_slice())?;
-    let mut tables = Vec::new(alloc);
-    tables.push(file)?;
-    tables.extend_from_slice(second.as_slice())?;
-    tables.extend_from_slice(third.as_slice())?;
-    Ok(tables)
+    let second = tables_in(alloc, &[file])?;
+    let third = tables_in(alloc, second.as_slice());
+    joined(list_of(alloc, &[file]), joined(Ok(second), third))
 }
 
 /// The items of a list; any other value has none.
