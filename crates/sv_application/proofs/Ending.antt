@@ -1,5 +1,5 @@
 -- How a fault of a part is the fault of the whole.
-use Rattle.std.proofs.Common.{◌≡◌, ℕ, List, Option, Some, None, MatchOption, Result, Ok, Err, IsErrAnd}
+use Rattle.std.proofs.Common.{◌≡◌, ℕ, List, Option, Some, None, MatchOption, Result, Ok, Err, IsErrAnd, refl}
 use Rattle.sv_text.specs.Gives.{Gives}
 use Rattle.sv_files.specs.Fault.{files_of}
 use Rattle.sv_files.specs.declared.fault.FilesFault.{FilesFault}
@@ -10,6 +10,7 @@ use Rattle.sv_program.specs.Configuration.{Step}
 use Rattle.sv_program.specs.declared.command_fault.CommandFault.{CommandFault}
 use Rattle.sv_program.specs.declared.command_fault.CommandFault.TheVariants as fault
 use Rattle.sv_application.specs.Files.{files_fault, told}
+use Rattle.sv_application.specs.Results.{both}
 
 -- a fault of a step that was come to is the fault of the whole
 pub ends : {A B X : Type 0} (view : A → B) (fault : CommandFault) (result : Result A CommandFault) (part : Step X) (whole : Step B)
@@ -30,3 +31,18 @@ pub refused_files : (path : List ℕ) (listed : List File) (found : Option Files
     → Gives command_fault result (told path (files_of listed))
 refused_files path listed None result h said = rw said tt
 refused_files path listed (Some f) result h said = rw h said
+
+-- both of two readings are given, or the first fault of them
+pub both_given : {A B : Type 0} (one : Result A CommandFault) (other : Result B CommandFault) (first : Step A) (second : Step B)
+    → Gives command_fault one first → Gives command_fault other second → Gives command_fault (both one other) (both first second)
+both_given (Ok a) (Ok b) first second given then = rw (given, then) refl
+both_given {A} {B} (Ok a) (Err e) first second given then = at (command_fault e) then
+  where
+    at : (found : Option CommandFault) → MatchOption found (Unit {0}) (λ f. second ≡ Err f) → MatchOption found (Unit {0}) (λ f. both first second ≡ Err f)
+    at None h = tt
+    at (Some f) h = rw (given, h) refl
+both_given {A} {B} (Err e) other first second given then = at (command_fault e) given
+  where
+    at : (found : Option CommandFault) → MatchOption found (Unit {0}) (λ f. first ≡ Err f) → MatchOption found (Unit {0}) (λ f. both first second ≡ Err f)
+    at None h = tt
+    at (Some f) h = rw h refl

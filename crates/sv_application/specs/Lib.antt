@@ -3,4 +3,5 @@ pub mod Files
 pub mod FilterClasses
 pub mod ListenerClasses
 pub mod Parts
+pub mod Results
 pub mod ServletClasses

@@ -9,6 +9,7 @@ mod parts;
 mod program_filter;
 mod program_listener;
 mod program_servlet;
+mod results;
 
 pub use class_fault::ClassFault;
 pub use files::files_of;
@@ -16,3 +17,4 @@ pub use parts::parts_of;
 pub use program_filter::ProgramFilter;
 pub use program_listener::ProgramListener;
 pub use program_servlet::ProgramServlet;
+pub use results::both;

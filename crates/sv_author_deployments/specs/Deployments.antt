@@ -6,6 +6,7 @@ use Rattle.sv_component.specs.declared.named.Named.{Named}
 use Rattle.sv_lifecycle.specs.declared.deployment.Deployment as context
 use Rattle.sv_descriptor.specs.declared.web_app.WebApp.{WebApp}
 use Rattle.sv_application.specs.Files.{told}
+use Rattle.sv_application.specs.Results.{both}
 use Rattle.sv_files.specs.Fault.{files_of}
 use Rattle.sv_files.specs.declared.file.File.{File}
 use Rattle.sv_program.specs.CommandFault.{command_fault}
@@ -27,12 +28,6 @@ texts_of path descriptor users = record {
   descriptor = Some descriptor;
   users = Some users;
 }
-
--- both, or the first fault
-abbrev pub both : {A B : Type 0} → Step A → Step B → Step (A × B)
-both (Ok one) (Ok other) = Ok (one, other)
-both (Ok one) (Err fault) = Err fault
-both (Err fault) other = Err fault
 
 -- its descriptor and its users, as these texts are read
 abbrev pub configured : ContextTexts → Step (WebApp × List User)

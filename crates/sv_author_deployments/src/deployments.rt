@@ -1,13 +1,13 @@
 //! What the contexts of an application are deployed with.
 
-ghost use Rattle.std.specs.Prelude.{◌≡◌, map};
+ghost use Rattle.std.specs.Prelude.{map};
 ghost use Rattle.sv_text.specs.Gives.{Gives, GivesAnswer};
 ghost use Rattle.sv_application.specs.Parts.{seen};
 ghost use Rattle.sv_program.specs.CommandFault.{command_fault};
 ghost use Rattle.sv_author_deployments.specs.Deployments as spec;
 
 use std::alloc::Global;
-use sv_application::files_of;
+use sv_application::{both, files_of};
 use sv_component::{Filter, Listener, Servlet};
 use sv_descriptor::Descriptor;
 use sv_files::{File, Files};
@@ -87,20 +87,6 @@ fn configured(alloc: Global, texts: &ContextTexts) -> Result<(Descriptor, Realm)
     ensures { Gives command_fault result (spec.configured texts.now) }
 {
     both(descriptor_in(alloc, texts), realm_in(alloc, texts))
-}
-
-// Both, or the first fault.
-fn both<A: Drop, B: Drop>(
-    one: Result<A, CommandFault>,
-    other: Result<B, CommandFault>,
-) -> Result<(A, B), CommandFault>
-    ensures { result ≡ spec.both one other }
-{
-    match (one, other) {
-        (Ok(one), Ok(other)) => Ok((one, other)),
-        (Err(fault), _) => Err(fault),
-        (_, Err(fault)) => Err(fault),
-    }
 }
 
 // The texts of a context's files.

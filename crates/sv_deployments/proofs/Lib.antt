@@ -1,2 +1,3 @@
 mod Finding
 mod FolderReadings
+mod InTurn

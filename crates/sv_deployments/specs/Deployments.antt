@@ -2,6 +2,7 @@
 use Rattle.std.specs.Prelude.{ℕ, List, map, Option, Ok, Err}
 use Rattle.sv_text.specs.Steps.{◌>>=◌}
 use Rattle.sv_application.specs.Parts.{Components, Made, components, components_of}
+use Rattle.sv_application.specs.Results.{both}
 use Rattle.sv_application.specs.declared.program_filter.ProgramFilter.{ProgramFilter}
 use Rattle.sv_application.specs.declared.program_listener.ProgramListener.{ProgramListener}
 use Rattle.sv_application.specs.declared.program_servlet.ProgramServlet.{ProgramServlet}
@@ -45,6 +46,10 @@ known (Err class) = Err (fault.Class class)
 
 abbrev pub components_in : WebApp → Step Components
 components_in app = known (components_of app)
+
+-- its descriptor and its users, and its files, or the first fault of these
+abbrev pub read_of : ContextTexts → Option (List File) → Step ((WebApp × List User) × List File)
+read_of texts found = both (both (descriptor_in texts) (users_in texts)) (files_in texts.context found)
 
 -- what a context with these texts and these files is deployed with: its faults are found in the order of its descriptor, users, files and classes
 abbrev pub deployment_for : ContextTexts → Option (List File) → Step Deployed

@@ -10,13 +10,14 @@ ghost use Rattle.sv_deployments.specs.Files.{files_in, listed_files};
 use crate::folders::FoundContext;
 use std::alloc::Global;
 use sv_application::{
-    ClassFault, ProgramFilter, ProgramListener, ProgramServlet, files_of, parts_of,
+    ClassFault, ProgramFilter, ProgramListener, ProgramServlet, both, files_of, parts_of,
 };
 use sv_descriptor::Descriptor;
 use sv_files::{File, Files};
 use sv_lifecycle::Deployment;
 use sv_live::Parts;
 use sv_program::{CommandFault, ContextTexts, descriptor_in, realm_in};
+use sv_realm::Realm;
 use sv_settings::ContextEntry;
 use sv_text::{Listed, Text};
 
@@ -56,10 +57,10 @@ fn deployment_for(
     ensures { Gives command_fault (seen spec.deployment result) (spec.deployment_for texts.now files) }
 {
     let path = Text::copy_of(alloc, texts.context.path.as_str())?;
-    let descriptor = descriptor_in(alloc, texts)?;
-    let users = realm_in(alloc, texts)?;
-    let files = files_in(alloc, &texts.context, files)?;
-    let parts = parts_in(alloc, &descriptor)?;
+    let read = read(alloc, texts, files)?;
+    let parts = parts_in(alloc, &read.0.0);
+    // Joined by a general function, so that what was read does not live where the components may fail.
+    let (((descriptor, users), files), parts) = both(Ok(read), parts)?;
     Ok(Deployment {
         path,
         descriptor,
@@ -67,6 +68,18 @@ fn deployment_for(
         users,
         parts,
     })
+}
+
+// What is read of a context with these texts and these files: its descriptor and its users, and its files.
+fn read(
+    alloc: Global,
+    texts: &ContextTexts,
+    files: Option<Listed<File>>,
+) -> Result<((Descriptor, Realm), Files), CommandFault>
+    ensures { Gives command_fault result (spec.read_of texts.now files) }
+{
+    let configured = both(descriptor_in(alloc, texts), realm_in(alloc, texts));
+    both(configured, files_in(alloc, &texts.context, files))
 }
 
 // The static files of a context.

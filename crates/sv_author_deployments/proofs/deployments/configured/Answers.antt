@@ -1,5 +1,5 @@
 use Rattle.sv_program.specs.Configuration.{descriptor_in, users_in}
-use Rattle.sv_author_deployments.proofs.Ending.{both_given}
+use Rattle.sv_application.proofs.Ending.{both_given}
 use Rattle.sv_author_deployments.proofs.deployments.configured.Goals as goal
 
 pub returns : goal.returns

@@ -1,5 +1,5 @@
 use Rattle.sv_application.specs.Files.{told}
-use Rattle.sv_author_deployments.proofs.Ending.{both_given}
+use Rattle.sv_application.proofs.Ending.{both_given}
 use Rattle.sv_author_deployments.proofs.deployments.read.Goals as goal
 use Rattle.sv_author_deployments.specs.Deployments.{configured, texts_of}
 use Rattle.sv_files.specs.Fault.{files_of}

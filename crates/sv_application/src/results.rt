@@ -1,0 +1,23 @@
+//! Two results as one, so that neither of two large values lives where the other may fail.
+
+ghost use Rattle.std.specs.Prelude.{◌≡◌};
+ghost use Rattle.sv_application.specs.Results.{both};
+
+use sv_program::CommandFault;
+
+/// Both of two readings.
+///
+/// # Errors
+/// The fault of the first, else that of the other.
+pub fn both<A: Drop, B: Drop>(
+    one: Result<A, CommandFault>,
+    other: Result<B, CommandFault>,
+) -> Result<(A, B), CommandFault>
+    ensures { result ≡ both one other }
+{
+    match (one, other) {
+        (Ok(one), Ok(other)) => Ok((one, other)),
+        (Err(fault), _) => Err(fault),
+        (_, Err(fault)) => Err(fault),
+    }
+}
