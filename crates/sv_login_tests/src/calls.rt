@@ -153,7 +153,7 @@ fn told_text(alloc: Global, text: Option<&str>) -> Result<String, NoMemory> {
 
 fn told_value(alloc: Global, value: Option<Text>) -> Result<String, NoMemory> {
     match value {
-        Some(value) => Ok(value.into_string()),
+        Some(value) => told_text(alloc, Some(value.as_str())),
         None => told_text(alloc, None),
     }
 }

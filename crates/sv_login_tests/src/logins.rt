@@ -155,7 +155,7 @@ fn told_outcome(alloc: Global, outcome: LoginOutcome) -> Result<String, NoMemory
 
 fn told_target(alloc: Global, target: Option<Text>) -> Result<String, NoMemory> {
     match target {
-        Some(target) => Ok(target.into_string()),
+        Some(target) => Ok(String::from_str(alloc, target.as_str())?),
         None => Ok(String::from_str(alloc, "-")?),
     }
 }

@@ -13,10 +13,11 @@ pub(crate) const ID_BYTES: usize = 48;
 pub fn id_of(alloc: Global, words: (u64, u64), serial: u64) -> Result<Text, NoMemory>
     ensures { GivesAnswer result (id_text words serial) }
 {
-    let mut id = digits_of(alloc, words.0)?.into_string();
-    id.push_str(digits_of(alloc, words.1)?.as_str())?;
-    id.push_str(digits_of(alloc, serial)?.as_str())?;
-    Ok(Text::from_string(id))
+    let mut id = Text::with_room(alloc, ID_BYTES)?;
+    id.push_str(alloc, digits_of(alloc, words.0)?.as_str())?;
+    id.push_str(alloc, digits_of(alloc, words.1)?.as_str())?;
+    id.push_str(alloc, digits_of(alloc, serial)?.as_str())?;
+    Ok(id)
 }
 
 /// The 16 hexadecimal digits of a number.

@@ -1,23 +1,39 @@
 //! A text that contracts see as the list of its bytes.
 
-ghost use Rattle.std.specs.Prelude.{◌≡◌, ℕ, List, Some, string_bytes};
+ghost use Rattle.std.specs.Prelude.{◌≡◌, [], ◌++◌, Some, IfOk, OnErr, OnOk, string_bytes};
 ghost use Rattle.sv_text.specs.Gives.{GivesAnswer};
 
 use crate::no_memory::NoMemory;
+use arrayvec::ArrayString;
 use std::alloc::Global;
 use std::fmt;
 use std::marker::Model;
 
-/// A text in UTF-8. Contracts see the list of its bytes, so that a struct with a `Text` field is plain data to them.
-#[derive(Debug, Drop)]
+/// How many bytes a text may have that lies in its value.
+const SHORT_LEN: usize = 24;
+
+/// A text in UTF-8. Contracts see the list of its bytes, so that a struct with a `Text` field is plain data to them. A short one takes no memory.
+#[derive(Drop)]
 pub struct Text {
-    inner: String,
+    inner: Inner,
+}
+
+/// Where the bytes of a text lie.
+#[derive(Drop)]
+enum Inner {
+    /// In the value.
+    Short(ArrayString<SHORT_LEN>),
+    /// In memory of their own.
+    Long(String),
 }
 
 impl Model for Text {
+    ghost use Rattle.std.specs.Prelude.{ℕ, List};
+    ghost use Rattle.sv_text.specs.Text.{bytes_of};
+
     ghost Value = { List ℕ };
 
-    ghost view = { λ t. string_bytes t.inner };
+    ghost view = { λ t. bytes_of t.inner };
 }
 
 impl Text {
@@ -25,38 +41,79 @@ impl Text {
     pub fn from_string(inner: String) -> Text
         ensures { result ≡ string_bytes inner }
     {
-        Text { inner }
+        Text {
+            inner: Inner::Long(inner),
+        }
+    }
+
+    /// An empty text with room for so many bytes.
+    pub fn with_room(alloc: Global, room: usize) -> Result<Text, NoMemory>
+        ensures { GivesAnswer result [] }
+    {
+        let inner = if room <= SHORT_LEN {
+            Inner::Short(ArrayString::new())
+        } else {
+            Inner::Long(String::with_capacity(alloc, room)?)
+        };
+        Ok(Text { inner })
     }
 
     /// Copies a text.
     pub fn copy_of(alloc: Global, text: &str) -> Result<Text, NoMemory>
         ensures { GivesAnswer result text.now }
     {
-        Ok(Text {
-            inner: String::from_str(alloc, text)?,
-        })
+        match ArrayString::from(text) {
+            Ok(short) => Ok(Text {
+                inner: Inner::Short(short),
+            }),
+            Err(_) => Ok(Text {
+                inner: Inner::Long(String::from_str(alloc, text)?),
+            }),
+        }
+    }
+
+    /// Adds a text behind it. After [`NoMemory`] nothing has changed.
+    pub fn push_str(&mut self, alloc: Global, text: &str) -> Result<(), NoMemory>
+        ensures pushed { OnOk result (self.new ≡ self.old ++ text.now) }
+        ensures refused { OnErr result (self.new ≡ self.old) }
+    {
+        match &mut self.inner {
+            Inner::Short(short) => {
+                if short.try_push_str(text).is_ok() {
+                    return Ok(());
+                }
+            }
+            Inner::Long(long) => {
+                long.push_str(text)?;
+                return Ok(());
+            }
+        }
+        let long = joined(alloc, self.as_str(), text)?;
+        self.inner = Inner::Long(long);
+        Ok(())
     }
 
     /// The text.
     pub fn as_str(&self) -> &str
         ensures { result.now ≡ self.now }
     {
-        self.inner.as_str()
+        match &self.inner {
+            Inner::Short(short) => short.as_str(),
+            Inner::Long(long) => long.as_str(),
+        }
     }
 
     /// The bytes of the text.
     pub fn as_bytes(&self) -> &[u8]
         ensures { result.now ≡ self.now }
     {
-        self.inner.as_bytes()
+        self.as_str().as_bytes()
     }
+}
 
-    /// Gives the string back, without taking memory.
-    pub fn into_string(self) -> String
-        ensures { string_bytes result ≡ self }
-    {
-        let Text { inner } = self;
-        inner
+impl fmt::Debug for Text {
+    fn fmt<W: fmt::Write>(&self, f: &mut fmt::Formatter<W>) -> fmt::Result {
+        fmt::Debug::fmt(&self.as_str(), f)
     }
 }
 
@@ -64,6 +121,16 @@ impl fmt::Display for Text {
     ghost output = { λ t. Some t };
 
     fn fmt<W: fmt::Write>(&self, f: &mut fmt::Formatter<W>) -> fmt::Result {
-        f.write_str(self.inner.as_str())
+        f.write_str(self.as_str())
     }
+}
+
+// Both texts, one behind the other.
+fn joined(alloc: Global, front: &str, back: &str) -> Result<String, NoMemory>
+    ensures { IfOk result (λ text. string_bytes text ≡ front.now ++ back.now) }
+{
+    let mut text = String::with_capacity(alloc, front.len() + back.len())?;
+    text.push_str(front)?;
+    text.push_str(back)?;
+    Ok(text)
 }

@@ -1,0 +1,9 @@
+-- What a contract sees of a text.
+use Rattle.std.specs.Prelude.{ℕ, List, string_bytes}
+use Rattle.sv_text.specs.declared.text.Inner.{Inner}
+use Rattle.sv_text.specs.declared.text.Inner.TheVariants.{Short, Long}
+
+-- the bytes of a text, wherever they lie
+abbrev pub bytes_of : Inner → List ℕ
+bytes_of (Short text) = text.bytes
+bytes_of (Long text) = string_bytes text
