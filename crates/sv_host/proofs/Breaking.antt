@@ -1,5 +1,5 @@
 -- What is left where memory ends an event.
-use Rattle.std.proofs.Common.{◌≡◌, ◌⊎◌, ℕ, ◌<◌, inl, inr, true, false, List, [], ◌∷◌, ◌++◌, length, None, Result, Ok, Err, IfErr, slice_index_or, slice_set, take, drop, zero, suc, refl, sym, ap, ◌∙◌, subst, arith, add-one}
+use Rattle.std.proofs.Common.{◌≡◌, ◌⊎◌, ℕ, ◌<◌, inl, inr, true, false, List, [], ◌∷◌, ◌++◌, length, None, Result, Ok, Err, IfErr, slice_index_or, slice_set, refl, sym, subst}
 use Rattle.sv_body.proofs.BoolLemmas.{MatchBool-from_false}
 use Rattle.sv_host.proofs.Handling.{there_at}
 use Rattle.sv_host.specs.Connections.{FeedsOne}
@@ -8,7 +8,7 @@ use Rattle.sv_run.proofs.Effects.{joined-nothing}
 use Rattle.sv_run.proofs.Taking.{takes_whole}
 use Rattle.sv_run.specs.Breaking.{BreaksAnswer, BreaksItem, BreaksItems, BreaksPiece, DoesNothing, Given}
 use Rattle.sv_run.specs.Connections.{Connections}
-use Rattle.sv_run.specs.Contexts.{Request, Theory, request_of}
+use Rattle.sv_run.specs.Contexts.{Theory, request_of}
 use Rattle.sv_run.specs.Effect.{Effect, joined, nothing}
 use Rattle.sv_run.specs.Events.{Breaks, BreaksOff, Edited, Ended, ExpiresAll, Happening, Lost, MovesAll, Opened, Piece, Tick, fault_of, moment_after}
 use Rattle.sv_run.specs.Items.{Takes, TakesItem}
@@ -19,19 +19,6 @@ use Rattle.sv_wire.specs.declared.item.Item.{Item}
 use Rattle.sv_wire.specs.declared.item.Item.TheVariants as item
 use Rattle.sv_message.specs.declared.message.Message.{Message}
 use Rattle.sv_message.specs.declared.response.Response.{Response}
-
--- a list by one of its items
-take_next : {A : Type 0} (all : List A) (place : ℕ) (one : A) → place < length all → one ≡ slice_index_or all place one
-    → take (suc place) all ≡ take place all ++ one ∷ []
-take_next [] place one within is = absurd (omega (arith, within))
-take_next (first ∷ all) zero one within is = ap (λ x. x ∷ []) (sym is)
-take_next (first ∷ all) (suc place) one within is = ap (λ xs. first ∷ xs) (take_next all place one (omega (arith, within)) is)
-
-split_at : {A : Type 0} (all : List A) (place : ℕ) (one : A) → place < length all → one ≡ slice_index_or all place one
-    → all ≡ take place all ++ one ∷ drop (suc place) all
-split_at [] place one within is = absurd (omega (arith, within))
-split_at (first ∷ all) zero one within is = ap (λ x. x ∷ all) (sym is)
-split_at (first ∷ all) (suc place) one within is = ap (λ xs. first ∷ xs) (split_at all place one (omega (arith, within)) is)
 
 module _ {C W : Type 0} (theory : Theory C W) (moment : ℕ) (message : Message) (words : ℕ × ℕ) (before : List C) where
   -- memory ended the answer, with some request given or none
@@ -92,27 +79,26 @@ module _ {C W : Type 0} (theory : Theory C W) (moment : ℕ) where
   none_done_if (Err fault) at world broken = broken
 
   -- items in front of one
-  pub took_next : (all : List Item) (start reached next : World C W) (front more : Effect C) (place : ℕ) (one : Item)
-      → place < length all → one ≡ slice_index_or all place one → front.closes ≡ false → more.closes ≡ false
-      → Takes theory moment (take place all) start front reached → TakesItem theory moment one reached more next
-      → Takes theory moment (take (suc place) all) start (joined front more) next
-  took_next all start reached next front more place one within is unclosed still_unclosed took takes =
-      subst (λ items. Takes theory moment items start (joined front more) next) (sym (take_next all place one within is))
-      (takes_whole theory moment (take place all) (one ∷ []) start reached next front more took
+  pub took_next : (before : List Item) (start reached next : World C W) (front more : Effect C) (one : Item)
+      → front.closes ≡ false → more.closes ≡ false
+      → Takes theory moment before start front reached → TakesItem theory moment one reached more next
+      → Takes theory moment (before ++ one ∷ []) start (joined front more) next
+  took_next before start reached next front more one unclosed still_unclosed took takes =
+      takes_whole theory moment before (one ∷ []) start reached next front more took
       (MatchBool-from_false front.closes _ _ unclosed
-      (next, more, nothing, takes, MatchBool-from_false more.closes _ _ still_unclosed (refl, refl), sym (joined-nothing more))))
+      (next, more, nothing, takes, MatchBool-from_false more.closes _ _ still_unclosed (refl, refl), sym (joined-nothing more)))
 
-  pub broken_at : (all : List Item) (start reached after : World C W) (front : Effect C) (place : ℕ) (one : Item)
-      → place < length all → one ≡ slice_index_or all place one → front.closes ≡ false
-      → Takes theory moment (take place all) start front reached → BrokenItem one reached after
+  pub broken_at : (all before rest : List Item) (start reached after : World C W) (front : Effect C) (one : Item)
+      → all ≡ before ++ one ∷ rest → front.closes ≡ false
+      → Takes theory moment before start front reached → BrokenItem one reached after
       → (given : List (Given C)) × BreaksItems theory moment all start given after
-  broken_at all start reached after front place one within is unclosed took broken = (
+  broken_at all before rest start reached after front one are unclosed took broken = (
     _,
     record {
-      front = take place all;
+      front = before;
       item = one;
-      behind = drop (suc place) all;
-      are = split_at all place one within is;
+      behind = rest;
+      are = are;
       effect = front;
       between = reached;
       takes = took;

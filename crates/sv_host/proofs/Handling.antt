@@ -30,6 +30,22 @@ abbrev pub AnswersMessage : {C W : Type 0} → Theory C W → ℕ → Destinatio
 AnswersMessage {C} theory moment where_to message words before after start end =
     (effect : Effect C) × Responds theory moment where_to message words before effect after × (end ≡ then_brings start effect)
 
+module _ (C : Type 0) (moment : ℕ) (message : Message) (start : Reaction) where
+  -- an entry is noted, and the text is sent behind it
+  pub noted_and_sent : {T E : Type 0} (result : Result T E) (entry : Entry) (response : Response) (middle end : Reaction)
+      → middle ≡ record start { journal = noting (entry ∷ []) start.journal }
+      → IfOk result (λ _. (text : List ℕ) × IsAnswerTo message moment response text
+      × (end ≡ record middle { sends = middle.sends ++ text; closes = middle.closes || closes_behind message response }))
+      → IfOk result (λ _. (text : List ℕ) × IsAnswerTo message moment response text
+      × (end ≡ then_brings start (answered {Context = C} entry text (closes_behind message response))))
+  noted_and_sent (Err fault) entry response middle end notes sends = tt
+  noted_and_sent (Ok done) entry response middle end notes sends = (
+    sends.0,
+    sends.1,
+    sends.2 ∙ ap (λ (r : Reaction). record r { sends = r.sends ++ sends.0; closes = r.closes || closes_behind message response }) notes
+        ∙ (λ i. record (then_brings start (answered {Context = C} entry sends.0 (closes_behind message response))) { edited = sym (first-at_none start.edited) i }),
+  )
+
 module _ {C W : Type 0} (theory : Theory C W) (moment : ℕ) (message : Message) (words : ℕ × ℕ) (before : List C) (start : Reaction) where
   pub handles_at : (place : ℕ) (canon : Canon) (old new : C) (response : Response) (middle end : Reaction) (entries : List Entry) (text : List ℕ)
       → place < length before → old ≡ slice_index_or before place old

@@ -1,6 +1,5 @@
 -- Items that are handled one after another.
-use Rattle.std.proofs.Common.{◌≡◌, ℕ, ◌+◌, ◌<◌, ◌≤◌, true, false, List, ◌∷◌, Result, Ok, Err, IfOk, length, drop, slice_index_or, refl, sym, ap, ◌∙◌, subst, drop-cons, add-one}
-use Rattle.std.proofs.lemmas.List.{drop_all}
+use Rattle.std.proofs.Common.{◌≡◌, ℕ, true, false, List, [], ◌∷◌, Result, Ok, Err, IfOk, refl, sym, subst}
 use Rattle.sv_body.proofs.BoolLemmas.{MatchBool-from_true, MatchBool-from_false}
 use Rattle.sv_run.proofs.Effects.{joined-assoc, joined-nothing}
 use Rattle.sv_host.specs.Output.{then_brings}
@@ -24,32 +23,23 @@ module _ {C W : Type 0} (theory : Theory C W) (moment : ℕ) (all : List Item) w
       (later : Effect C) (after : World C W) → Takes theory moment rest reached later after → Takes theory moment all start (joined front later) after
 
   -- an item that does not close the connection is handled behind the others
-  pub goes_on : (start reached next : World C W) (front more : Effect C) (place : ℕ) (item : Item)
-      → place < length all → item ≡ slice_index_or all place item → more.closes ≡ false → TakesOn start front reached (drop place all)
-      → TakesItem theory moment item reached more next → TakesOn start (joined front more) next (drop (place + 1) all)
-  goes_on start reached next front more place item below is stays completes takes later after rest =
+  pub goes_on : (start reached next : World C W) (front more : Effect C) (item : Item) (rest : List Item)
+      → more.closes ≡ false → TakesOn start front reached (item ∷ rest)
+      → TakesItem theory moment item reached more next → TakesOn start (joined front more) next rest
+  goes_on start reached next front more item rest stays completes takes later after handled =
       subst (λ r. Takes theory moment all start r after) (sym (joined-assoc front more later))
-      (completes (joined more later) after
-      (subst (λ left. Takes theory moment left reached (joined more later) after)
-      (sym (drop-cons all place item below ∙ ap (λ k. slice_index_or all place item ∷ drop k all) (sym (add-one place))))
-      (next, more, later, subst (λ at. TakesItem theory moment at reached more next) is takes, MatchBool-from_false more.closes _ _ stays rest, refl)))
+      (completes (joined more later) after (next, more, later, takes, MatchBool-from_false more.closes _ _ stays handled, refl))
 
   -- behind one that closes it, none is handled
-  pub stops : (start reached next : World C W) (front more : Effect C) (place : ℕ) (item : Item)
-      → place < length all → item ≡ slice_index_or all place item → more.closes ≡ true → TakesOn start front reached (drop place all)
+  pub stops : (start reached next : World C W) (front more : Effect C) (item : Item) (rest : List Item)
+      → more.closes ≡ true → TakesOn start front reached (item ∷ rest)
       → TakesItem theory moment item reached more next → Takes theory moment all start (joined front more) next
-  stops start reached next front more place item below is closes completes takes =
+  stops start reached next front more item rest closes completes takes =
       subst (λ r. Takes theory moment all start (joined front r) next) (joined-nothing more)
-      (completes (joined more nothing) next
-      (subst (λ left. Takes theory moment left reached (joined more nothing) next)
-      (sym (drop-cons all place item below))
-      (next, more, nothing, subst (λ at. TakesItem theory moment at reached more next) is takes, MatchBool-from_true more.closes _ _ closes (refl, refl), refl)))
+      (completes (joined more nothing) next (next, more, nothing, takes, MatchBool-from_true more.closes _ _ closes (refl, refl), refl))
 
-  pub ends : (start reached : World C W) (front : Effect C) (place : ℕ) → length all ≤ place → TakesOn start front reached (drop place all)
-      → Takes theory moment all start front reached
-  ends start reached front place past completes =
-      subst (λ r. Takes theory moment all start r reached) (joined-nothing front)
-      (completes nothing reached (subst (λ left. Takes theory moment left reached nothing reached) (sym (drop_all place all past)) (refl, refl)))
+  pub ends : (start reached : World C W) (front : Effect C) → TakesOn start front reached [] → Takes theory moment all start front reached
+  ends start reached front completes = subst (λ r. Takes theory moment all start r reached) (joined-nothing front) (completes nothing reached (refl, refl))
 
 module _ {C W : Type 0} (theory : Theory C W) (moment : ℕ) where
   -- the item is handled, and that is brought

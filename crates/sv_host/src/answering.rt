@@ -1,6 +1,6 @@
 //! The answers to messages.
 
-ghost use Rattle.std.specs.Prelude.{◌≡◌, ◌++◌, ◌||◌, ℕ, true, false, List, IfOk, bytes_eq, codes};
+ghost use Rattle.std.specs.Prelude.{◌≡◌, ◌++◌, ◌||◌, ℕ, true, false, List, IfOk, bytes_eq, codes, not};
 ghost use Rattle.http.specs.StatusCode.{IsStatusCode};
 ghost use Rattle.sv_host.specs.Output.{Adds, reaction_of};
 ghost use Rattle.sv_journal.specs.Journal.{with_entry};
@@ -10,6 +10,7 @@ ghost use Rattle.sv_run.specs.Effect.{answered, sending};
 ghost use Rattle.sv_run.specs.Items.{IsAnswerTo, IsTextAt, closes_behind, continue_text};
 ghost use Rattle.sv_run.specs.Messages.{empty_response, plain_response, plain_text};
 ghost use Rattle.sv_text.specs.Gives.{GivesAnswer};
+ghost use Rattle.sv_message.specs.Content.{ends_connection};
 ghost use Rattle.sv_message.specs.Phrases.{phrase_of};
 ghost use Rattle.sv_wire_fault.specs.WireFault.{fault_status};
 
@@ -80,43 +81,39 @@ pub(crate) fn send_continue<C>(output: &mut Output) -> Result<(), NoMemory>
     Ok(())
 }
 
-// Sends the answer to a message, behind what was sent.
+// Sends the answer to a message, behind what was sent: without its body where the head alone is asked for, and as the last one of its connection
+// where the message does not keep that.
 pub(crate) fn send(
-    message: &Message,
+    head_only: bool,
+    keep: bool,
     response: &Response,
     moment: u64,
     output: &mut Output,
 ) -> Result<(), NoMemory>
     requires { IsStatusCode response.now.status }
-    ensures { IfOk result (λ _. (text : List ℕ) × IsAnswerTo message.now moment response.now text
+    ensures { IfOk result (λ _. (text : List ℕ) × IsTextAt moment response.now head_only keep text
         × (reaction_of output.new ≡ record (reaction_of output.old) {
           sends = output.old.sends.items ++ text;
-          closes = output.old.closes || closes_behind message.now response.now;
+          closes = output.old.closes || (not keep || ends_connection response.now.body);
         })) }
 {
-    write_response(
-        response,
-        is_head(message),
-        message.keep,
-        moment,
-        &mut output.sends,
-    )?;
-    output.closes |= closes_behind(message, response);
+    write_response(response, head_only, keep, moment, &mut output.sends)?;
+    output.closes |= closes_behind(keep, &response.body);
     Ok(())
 }
 
+// Whether the connection closes behind a body, of a message that keeps it or does not: one of them ends it.
+fn closes_behind(keep: bool, body: &Body) -> bool
+    ensures { result ≡ (not keep || ends_connection body.now) }
+{
+    !keep || body.ends_connection()
+}
+
 // Whether the head alone is asked for.
-fn is_head(message: &Message) -> bool
+pub(crate) fn is_head(message: &Message) -> bool
     ensures { result ≡ bytes_eq message.now.method (codes "HEAD") }
 {
     message.method.as_str() == "HEAD"
-}
-
-// Whether the connection closes behind the response to a message: one of them ends it.
-fn closes_behind(message: &Message, response: &Response) -> bool
-    ensures { result ≡ closes_behind message.now response.now }
-{
-    !message.keep || response.body.ends_connection()
 }
 
 // Answers a message that no context handles.
@@ -132,7 +129,7 @@ pub(crate) fn answer_itself<C>(
         × Adds {Context = C} output.old (answered entry text (closes_behind message.now response.now)) output.new) }
 {
     note(entry, output)?;
-    send(message, response, moment, output)
+    send(is_head(message), message.keep, response, moment, output)
 }
 
 // Answers what was refused before it was a message. The connection closes.

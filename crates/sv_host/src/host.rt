@@ -190,7 +190,7 @@ impl<C: Context, W: Words> Host<C, W> {
             &mut self.contexts,
             &mut self.words,
             self.moment,
-            &items,
+            items,
             output,
         )?;
         if !output.closes {

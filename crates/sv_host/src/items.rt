@@ -24,14 +24,14 @@ fn take_item<C: Context, W: Words>(
     contexts: &mut Indexed<C>,
     words: &mut W,
     moment: u64,
-    item: &Item,
+    item: Item,
     output: &mut Output,
 ) -> Result<(), NoMemory>
     ensures takes { IfOk result (λ _. (effect : Effect C)
-        × TakesItem (theory_of C.path_of C.conduct W.draws) moment item.now (world_of contexts.old words.old) effect (world_of contexts.new words.new)
+        × TakesItem (theory_of C.path_of C.conduct W.draws) moment item (world_of contexts.old words.old) effect (world_of contexts.new words.new)
         × Adds output.old effect output.new) }
     ensures breaks { IfErr result (λ _. (given : List (Given C))
-        × BreaksItem (theory_of C.path_of C.conduct W.draws) moment item.now (world_of contexts.old words.old) given (world_of contexts.new words.new)) }
+        × BreaksItem (theory_of C.path_of C.conduct W.draws) moment item (world_of contexts.old words.old) given (world_of contexts.new words.new)) }
     ensures moves { MovesAll C.conduct contexts.old contexts.new }
 {
     match item {
@@ -39,7 +39,7 @@ fn take_item<C: Context, W: Words>(
         Item::Message(message) => {
             take_message::<C, W>(alloc, contexts, words, moment, message, output)
         }
-        Item::Refuse(fault) => refuse::<C>(alloc, *fault, moment, output),
+        Item::Refuse(fault) => refuse::<C>(alloc, fault, moment, output),
     }
 }
 
@@ -49,15 +49,15 @@ pub(crate) fn take_items<C: Context, W: Words>(
     contexts: &mut Indexed<C>,
     words: &mut W,
     moment: u64,
-    items: &[Item],
+    items: Vec<Item>,
     output: &mut Output,
 ) -> Result<(), NoMemory>
     requires { output.old.closes ≡ false }
     ensures takes { IfOk result (λ _. (effect : Effect C)
-        × Takes (theory_of C.path_of C.conduct W.draws) moment items.now (world_of contexts.old words.old) effect (world_of contexts.new words.new)
+        × Takes (theory_of C.path_of C.conduct W.draws) moment items.items (world_of contexts.old words.old) effect (world_of contexts.new words.new)
         × Adds output.old effect output.new) }
     ensures breaks { IfErr result (λ _. (given : List (Given C))
-        × BreaksItems (theory_of C.path_of C.conduct W.draws) moment items.now (world_of contexts.old words.old) given (world_of contexts.new words.new)) }
+        × BreaksItems (theory_of C.path_of C.conduct W.draws) moment items.items (world_of contexts.old words.old) given (world_of contexts.new words.new)) }
     ensures moves { MovesAll C.conduct contexts.old contexts.new }
 {
     for item in items {

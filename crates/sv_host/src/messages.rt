@@ -29,14 +29,14 @@ pub(crate) fn take_message<C: Context, W: Words>(
     contexts: &mut Indexed<C>,
     words: &mut W,
     moment: u64,
-    message: &Message,
+    message: Message,
     output: &mut Output,
 ) -> Result<(), NoMemory>
     ensures takes { IfOk result (λ _. (effect : Effect C)
-        × TakesMessage (theory_of C.path_of C.conduct W.draws) moment message.now (world_of contexts.old words.old) effect (world_of contexts.new words.new)
+        × TakesMessage (theory_of C.path_of C.conduct W.draws) moment message (world_of contexts.old words.old) effect (world_of contexts.new words.new)
         × Adds output.old effect output.new) }
     ensures breaks { IfErr result (λ _. (given : List (Given C))
-        × BreaksItem (theory_of C.path_of C.conduct W.draws) moment (item.Message message.now) (world_of contexts.old words.old) given (world_of contexts.new words.new)) }
+        × BreaksItem (theory_of C.path_of C.conduct W.draws) moment (item.Message message) (world_of contexts.old words.old) given (world_of contexts.new words.new)) }
     ensures moves { MovesAll C.conduct contexts.old contexts.new }
 {
     let pair = words.pair();
@@ -48,24 +48,24 @@ fn respond<C: Context, W: Words>(
     alloc: Global,
     contexts: &mut Indexed<C>,
     moment: u64,
-    message: &Message,
+    message: Message,
     words: (u64, u64),
     output: &mut Output,
 ) -> Result<(), NoMemory>
     ensures responds { IfOk result (λ _. (effect : Effect C)
-        × Responds (theory_of C.path_of C.conduct W.draws) moment (destination (theory_of C.path_of C.conduct W.draws) contexts.old message.now.target)
-        message.now words contexts.old effect contexts.new
+        × Responds (theory_of C.path_of C.conduct W.draws) moment (destination (theory_of C.path_of C.conduct W.draws) contexts.old message.target)
+        message words contexts.old effect contexts.new
         × Adds output.old effect output.new) }
     ensures breaks { IfErr result (λ _. (given : List (Given C))
-        × BreaksAnswer (theory_of C.path_of C.conduct W.draws) moment (destination (theory_of C.path_of C.conduct W.draws) contexts.old message.now.target)
-        message.now words contexts.old given contexts.new) }
+        × BreaksAnswer (theory_of C.path_of C.conduct W.draws) moment (destination (theory_of C.path_of C.conduct W.draws) contexts.old message.target)
+        message words contexts.old given contexts.new) }
     ensures moves { MovesAll C.conduct contexts.old contexts.new }
 {
     match &message.target {
         Target::Star => {
             let response = empty_response(alloc);
             let entry = Entry::Refused(RefusalCause::Star);
-            answer_itself::<C>(message, entry, &response, moment, output)
+            answer_itself::<C>(&message, entry, &response, moment, output)
         }
         Target::Path(target) => match canon(alloc, target.as_slice()) {
             Ok(canon) => {
@@ -74,7 +74,7 @@ fn respond<C: Context, W: Words>(
             Err(CanonFault::Path(fault)) => {
                 let response = plain_response(alloc, 400)?;
                 let entry = Entry::Refused(RefusalCause::Path(fault));
-                answer_itself::<C>(message, entry, &response, moment, output)
+                answer_itself::<C>(&message, entry, &response, moment, output)
             }
             Err(CanonFault::NoMemory) => Err(NoMemory),
         },
@@ -86,7 +86,7 @@ fn respond_at<C: Context, W: Words>(
     alloc: Global,
     contexts: &mut Indexed<C>,
     moment: u64,
-    message: &Message,
+    message: Message,
     canon: &Canon,
     words: (u64, u64),
     output: &mut Output,
@@ -94,12 +94,12 @@ fn respond_at<C: Context, W: Words>(
     ensures responds { IfOk result (λ _. (effect : Effect C)
         × Responds (theory_of C.path_of C.conduct W.draws) moment
         (destination_in canon.now (place_for (theory_of C.path_of C.conduct W.draws) contexts.old canon.now.path))
-        message.now words contexts.old effect contexts.new
+        message words contexts.old effect contexts.new
         × Adds output.old effect output.new) }
     ensures breaks { IfErr result (λ _. (given : List (Given C))
         × BreaksAnswer (theory_of C.path_of C.conduct W.draws) moment
         (destination_in canon.now (place_for (theory_of C.path_of C.conduct W.draws) contexts.old canon.now.path))
-        message.now words contexts.old given contexts.new) }
+        message words contexts.old given contexts.new) }
     ensures moves { MovesAll C.conduct contexts.old contexts.new }
 {
     match contexts.place(canon.path.as_str()) {
@@ -109,7 +109,7 @@ fn respond_at<C: Context, W: Words>(
         None => {
             let response = plain_response(alloc, 404)?;
             let entry = Entry::Hidden(RefusalCause::NoContext);
-            answer_itself::<C>(message, entry, &response, moment, output)
+            answer_itself::<C>(&message, entry, &response, moment, output)
         }
     }
 }

@@ -10,7 +10,7 @@ ghost use Rattle.sv_run.specs.Events.{MovesAll};
 ghost use Rattle.sv_run.specs.Items.{Responds};
 ghost use Rattle.sv_run.specs.Messages.{Within};
 
-use crate::answering::send;
+use crate::answering::{is_head, send};
 use crate::output::Output;
 use std::alloc::Global;
 use sv_message::Message;
@@ -24,7 +24,7 @@ pub(crate) fn handle_at<C: Context, W: Words>(
     contexts: &mut [C],
     place: usize,
     moment: u64,
-    message: &Message,
+    message: Message,
     canon: &Canon,
     words: (u64, u64),
     output: &mut Output,
@@ -32,12 +32,14 @@ pub(crate) fn handle_at<C: Context, W: Words>(
     requires there { place < length contexts.old }
     requires serves { (context : C) → slice_get contexts.old place ≡ Some context → IsTrue (is_at_or_below (C.path_of context) canon.now.path) }
     ensures responds { IfOk result (λ _. (effect : Effect C)
-        × Responds (theory_of C.path_of C.conduct W.draws) moment (Within place canon.now) message.now words contexts.old effect contexts.new
+        × Responds (theory_of C.path_of C.conduct W.draws) moment (Within place canon.now) message words contexts.old effect contexts.new
         × Adds output.old effect output.new) }
     ensures breaks { IfErr result (λ _. (given : List (Given C))
-        × BreaksAnswer (theory_of C.path_of C.conduct W.draws) moment (Within place canon.now) message.now words contexts.old given contexts.new) }
+        × BreaksAnswer (theory_of C.path_of C.conduct W.draws) moment (Within place canon.now) message words contexts.old given contexts.new) }
     ensures moves { MovesAll C.conduct contexts.old contexts.new }
 {
+    let head_only = is_head(&message);
+    let keep = message.keep;
     let response = contexts[place].handle(
         alloc,
         message,
@@ -46,5 +48,5 @@ pub(crate) fn handle_at<C: Context, W: Words>(
         words,
         &mut output.journal,
     )?;
-    send(message, &response, moment, output)
+    send(head_only, keep, &response, moment, output)
 }

@@ -80,7 +80,10 @@ impl Journal {
     {
         match self.entries.push(entry) {
             Ok(()) => {}
-            Err(_) => self.whole = false,
+            Err(refused) => {
+                drop(refused);
+                self.whole = false;
+            }
         }
     }
 }

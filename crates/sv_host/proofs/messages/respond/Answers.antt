@@ -15,17 +15,17 @@ returns-in_err-response-in-Err-Path-clause-moves g c = moves_none g.C.Context.co
 pub returns-in-Star-clause-moves : goal.returns-in-Star-clause-moves
 returns-in-Star-clause-moves g c = moves_none g.C.Context.conduct g.met.C.Context.is_motion c.args.contexts.now
 
-pub returns-in_ok-response-in-Err-Path-clause-moves : goal.returns-in_ok-response-in-Err-Path-clause-moves
-returns-in_ok-response-in-Err-Path-clause-moves g c = moves_none g.C.Context.conduct g.met.C.Context.is_motion c.args.contexts.now
+pub returns-in-Err-Path-clause-moves : goal.returns-in-Err-Path-clause-moves
+returns-in-Err-Path-clause-moves g c = moves_none g.C.Context.conduct g.met.C.Context.is_motion c.args.contexts.now
 
-pub returns-in-Err-NoMemory-clause-moves : goal.returns-in-Err-NoMemory-clause-moves
-returns-in-Err-NoMemory-clause-moves g c = moves_none g.C.Context.conduct g.met.C.Context.is_motion c.args.contexts.now
+pub returns-clause-moves : goal.returns-clause-moves
+returns-clause-moves g c = moves_none g.C.Context.conduct g.met.C.Context.is_motion c.args.contexts.now
 
 pub returns-in-Star-clause-responds : goal.returns-in-Star-clause-responds
 returns-in-Star-clause-responds g c =
     let theory = theory_of g.C.HasContextPath.path_of g.C.Context.conduct g.W.Words.draws in
     let before = c.args.contexts.now in
-    let message = c.args.message.now in
+    let message = c.args.message in
     sent_to theory c.args.moment message c.args.words before (reaction_of c.args.output.now) c.answer_itself.result
     (destination theory before message.target) (Itself (Refused causes.Star) empty_response) before
     (reaction_of c.answer_itself.new.output) (at_star theory before message.target c.in-Star.is)
@@ -33,11 +33,11 @@ returns-in-Star-clause-responds g c =
     (Refused causes.Star) c.empty_response-response.result empty_response (reaction_of c.answer_itself.new.output)
     c.empty_response-response.ensures c.answer_itself.ensures)
 
-pub returns-in_ok-response-in-Err-Path-clause-responds : goal.returns-in_ok-response-in-Err-Path-clause-responds
-returns-in_ok-response-in-Err-Path-clause-responds g c =
+pub returns-in-Err-Path-clause-responds : goal.returns-in-Err-Path-clause-responds
+returns-in-Err-Path-clause-responds g c =
     let theory = theory_of g.C.HasContextPath.path_of g.C.Context.conduct g.W.Words.draws in
     let before = c.args.contexts.now in
-    let message = c.args.message.now in
+    let message = c.args.message in
     let reads = rw c.in-Err-Path.field-0-is at c.in-Err-Path.ensures in
     sent_to theory c.args.moment message c.args.words before (reaction_of c.args.output.now) c.answer_itself-in-Err-Path.result
     (destination theory before message.target) (Itself (Refused (causes.Path c.in-Err-Path.fault)) (plain_response 400)) before
@@ -54,21 +54,21 @@ pub returns-in_err-response-in-Err-Path-clause-breaks : goal.returns-in_err-resp
 returns-in_err-response-in-Err-Path-clause-breaks g c =
     let theory = theory_of g.C.HasContextPath.path_of g.C.Context.conduct g.W.Words.draws in
     if_err _
-    (none_given theory c.args.moment c.args.message.now c.args.words c.args.contexts.now (destination theory c.args.contexts.now c.args.message.now.target))
+    (none_given theory c.args.moment c.args.message c.args.words c.args.contexts.now (destination theory c.args.contexts.now c.args.message.target))
 
 pub returns-in-Star-clause-breaks : goal.returns-in-Star-clause-breaks
 returns-in-Star-clause-breaks g c =
     let theory = theory_of g.C.HasContextPath.path_of g.C.Context.conduct g.W.Words.draws in
-    none_given_if theory c.args.moment c.args.message.now c.args.words c.args.contexts.now c.answer_itself.result
-    (destination theory c.args.contexts.now c.args.message.now.target)
+    none_given_if theory c.args.moment c.args.message c.args.words c.args.contexts.now c.answer_itself.result
+    (destination theory c.args.contexts.now c.args.message.target)
 
-pub returns-in_ok-response-in-Err-Path-clause-breaks : goal.returns-in_ok-response-in-Err-Path-clause-breaks
-returns-in_ok-response-in-Err-Path-clause-breaks g c =
+pub returns-in-Err-Path-clause-breaks : goal.returns-in-Err-Path-clause-breaks
+returns-in-Err-Path-clause-breaks g c =
     let theory = theory_of g.C.HasContextPath.path_of g.C.Context.conduct g.W.Words.draws in
-    none_given_if theory c.args.moment c.args.message.now c.args.words c.args.contexts.now c.answer_itself-in-Err-Path.result
-    (destination theory c.args.contexts.now c.args.message.now.target)
+    none_given_if theory c.args.moment c.args.message c.args.words c.args.contexts.now c.answer_itself-in-Err-Path.result
+    (destination theory c.args.contexts.now c.args.message.target)
 
-pub returns-in-Err-NoMemory-clause-breaks : goal.returns-in-Err-NoMemory-clause-breaks
-returns-in-Err-NoMemory-clause-breaks g c =
+pub returns-clause-breaks : goal.returns-clause-breaks
+returns-clause-breaks g c =
     let theory = theory_of g.C.HasContextPath.path_of g.C.Context.conduct g.W.Words.draws in
-    none_given theory c.args.moment c.args.message.now c.args.words c.args.contexts.now (destination theory c.args.contexts.now c.args.message.now.target)
+    none_given theory c.args.moment c.args.message c.args.words c.args.contexts.now (destination theory c.args.contexts.now c.args.message.target)

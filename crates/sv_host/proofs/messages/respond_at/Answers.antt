@@ -20,7 +20,7 @@ returns-in-Some-clause-responds g c =
     let theory = theory_of g.C.HasContextPath.path_of g.C.Context.conduct g.W.Words.draws in
     let before = c.args.contexts.now in
     let canon = c.args.canon.now in
-    sent_to theory c.args.moment c.args.message.now c.args.words before (reaction_of c.args.output.now) c.handle_at.result
+    sent_to theory c.args.moment c.args.message c.args.words before (reaction_of c.args.output.now) c.handle_at.result
     (destination_in canon (place_for theory before canon.path)) (Within c.in-Some.place canon) c.handle_at.new.self (reaction_of c.handle_at.new.output)
     (ap (destination_in canon) (ap (place_for theory before) (sym c.as_str.ensures) ∙ sym c.place.ensures.chosen ∙ c.in-Some.is)) c.handle_at.ensures.responds
 
@@ -29,10 +29,10 @@ returns-in_ok-response-in-None-clause-responds g c =
     let theory = theory_of g.C.HasContextPath.path_of g.C.Context.conduct g.W.Words.draws in
     let before = c.args.contexts.now in
     let canon = c.args.canon.now in
-    sent_to theory c.args.moment c.args.message.now c.args.words before (reaction_of c.args.output.now) c.answer_itself.result
+    sent_to theory c.args.moment c.args.message c.args.words before (reaction_of c.args.output.now) c.answer_itself.result
     (destination_in canon (place_for theory before canon.path)) (Itself (Hidden causes.NoContext) (plain_response 404)) before
     (reaction_of c.answer_itself.new.output) (ap (destination_in canon) (ap (place_for theory before) (sym c.as_str.ensures) ∙ sym c.place.ensures.chosen ∙ c.in-None.is))
-    (answers_itself theory c.args.moment c.args.message.now c.args.words before (reaction_of c.args.output.now) c.answer_itself.result
+    (answers_itself theory c.args.moment c.args.message c.args.words before (reaction_of c.args.output.now) c.answer_itself.result
     (Hidden causes.NoContext) c.in_ok-response-in-None.response (plain_response 404) (reaction_of c.answer_itself.new.output)
     c.in_ok-response-in-None.ensures c.answer_itself.ensures)
 
@@ -41,7 +41,7 @@ returns-in-Some-clause-breaks g c =
     let theory = theory_of g.C.HasContextPath.path_of g.C.Context.conduct g.W.Words.draws in
     let before = c.args.contexts.now in
     let canon = c.args.canon.now in
-    broken_to theory c.args.moment c.args.message.now c.args.words before c.handle_at.result
+    broken_to theory c.args.moment c.args.message c.args.words before c.handle_at.result
     (destination_in canon (place_for theory before canon.path)) (Within c.in-Some.place canon) c.handle_at.new.self
     (ap (destination_in canon) (ap (place_for theory before) (sym c.as_str.ensures) ∙ sym c.place.ensures.chosen ∙ c.in-Some.is)) c.handle_at.ensures.breaks
 
@@ -49,11 +49,11 @@ pub returns-in_err-response-in-None-clause-breaks : goal.returns-in_err-response
 returns-in_err-response-in-None-clause-breaks g c =
     let theory = theory_of g.C.HasContextPath.path_of g.C.Context.conduct g.W.Words.draws in
     if_err _
-    (none_given theory c.args.moment c.args.message.now c.args.words c.args.contexts.now
+    (none_given theory c.args.moment c.args.message c.args.words c.args.contexts.now
     (destination_in c.args.canon.now (place_for theory c.args.contexts.now c.args.canon.now.path)))
 
 pub returns-in_ok-response-in-None-clause-breaks : goal.returns-in_ok-response-in-None-clause-breaks
 returns-in_ok-response-in-None-clause-breaks g c =
     let theory = theory_of g.C.HasContextPath.path_of g.C.Context.conduct g.W.Words.draws in
-    none_given_if theory c.args.moment c.args.message.now c.args.words c.args.contexts.now c.answer_itself.result
+    none_given_if theory c.args.moment c.args.message c.args.words c.args.contexts.now c.answer_itself.result
     (destination_in c.args.canon.now (place_for theory c.args.contexts.now c.args.canon.now.path))

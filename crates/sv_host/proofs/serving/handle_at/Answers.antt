@@ -1,9 +1,10 @@
-use Rattle.std.proofs.Common.{◌≡◌, slice_index_or, ap}
+use Rattle.std.proofs.Common.{◌≡◌, ◌++◌, ◌||◌, ℕ, List, IfOk, slice_index_or, ap, subst}
 use Rattle.sv_run.specs.Contexts.{theory_of}
 use Rattle.sv_host.proofs.Breaking.{cut_at, unsent}
 use Rattle.sv_host.proofs.Contexts.{if_err, moves_next, moves_none}
 use Rattle.sv_host.proofs.Handling.{sent}
 use Rattle.sv_host.specs.Output.{reaction_of}
+use Rattle.sv_run.specs.Items.{IsTextAt, closes_behind}
 use Rattle.sv_run.specs.declared.reaction.Reaction.{Reaction}
 use Rattle.sv_host.proofs.serving.handle_at.Goals as goal
 
@@ -34,9 +35,12 @@ returns-clause-responds g c =
     let handled = c.in_ok-response.ensures.handles in
     let start = reaction_of c.args.output.now in
     let middle : Reaction = record start { journal = c.handle.new.journal } in
-    sent theory c.args.moment c.args.message.now c.args.words before start c.send.result c.args.place c.args.canon.now old c.handle.new.self
+    sent theory c.args.moment c.args.message c.args.words before start c.send.result c.args.place c.args.canon.now old c.handle.new.self
     c.in_ok-response.response middle (reaction_of c.send.new.output) handled.0 c.requires.there is_old handled.1
-    (λ i. record start { journal = handled.2 i }) c.send.ensures
+    (λ i. record start { journal = handled.2 i })
+    (subst (λ head_only. IfOk c.send.result (λ _. (text : List ℕ) × IsTextAt c.args.moment c.in_ok-response.response head_only c.args.message.keep text
+    × (reaction_of c.send.new.output ≡ record middle { sends = middle.sends ++ text; closes = middle.closes || closes_behind c.args.message c.in_ok-response.response })))
+    c.is_head-head_only.ensures c.send.ensures)
 
 pub returns-in_err-response-clause-breaks : goal.returns-in_err-response-clause-breaks
 returns-in_err-response-clause-breaks g c =
@@ -45,7 +49,7 @@ returns-in_err-response-clause-breaks g c =
     let old = slice_index_or before c.args.place c.index-contexts-place.result in
     let is_old : old ≡ slice_index_or before c.args.place old = ap (λ d. slice_index_or before c.args.place d) c.index-contexts-place.is in
     if_err c.from_residual.result
-    (cut_at theory c.args.moment c.args.message.now c.args.words before c.args.place c.args.canon.now old c.handle.new.self c.requires.there is_old
+    (cut_at theory c.args.moment c.args.message c.args.words before c.args.place c.args.canon.now old c.handle.new.self c.requires.there is_old
     c.in_err-response.ensures.cut_short)
 
 pub returns-clause-breaks : goal.returns-clause-breaks
@@ -55,5 +59,5 @@ returns-clause-breaks g c =
     let old = slice_index_or before c.args.place c.index-contexts-place.result in
     let is_old : old ≡ slice_index_or before c.args.place old = ap (λ d. slice_index_or before c.args.place d) c.index-contexts-place.is in
     let handled = c.in_ok-response.ensures.handles in
-    unsent theory c.args.moment c.args.message.now c.args.words before c.args.place c.args.canon.now old c.handle.new.self c.requires.there is_old
+    unsent theory c.args.moment c.args.message c.args.words before c.args.place c.args.canon.now old c.handle.new.self c.requires.there is_old
     c.send.result c.in_ok-response.response handled.0 handled.1

@@ -1,8 +1,6 @@
-use Rattle.std.proofs.Common.{List, refl, sym, ◌∙◌, subst}
+use Rattle.std.proofs.Common.{refl, sym, ◌∙◌}
 use Rattle.sv_run.specs.Connections.{connections_of}
-use Rattle.sv_run.specs.Breaking.{BreaksItems, Given}
 use Rattle.sv_run.specs.Contexts.{theory_of}
-use Rattle.sv_run.specs.Items.{Takes}
 use Rattle.sv_run.specs.State.{world_of}
 use Rattle.sv_host.proofs.Adding.{adds_closes}
 use Rattle.sv_host.proofs.Breaking.{broken_piece, none_read}
@@ -28,7 +26,7 @@ returns-then-not-output-clause-takes g c =
       taken.0,
       takes_open theory (state_of host) c.args.number c.args.piece.now c.in_ok-items.items.items (connections_of c.feed.new.self)
           (connections_of c.feed.new.self) reached taken.0 c.in_ok-items.ensures
-          (subst (λ all. Takes theory host.moment all (world_of host.contexts host.words) taken.0 reached) c.deref.ensures.value taken.1) refl
+          taken.1 refl
           (sym (adds_closes c.args.output.now c.take_items.new.output taken.0 taken.2 c.requires.unclosed) ∙ c.if-not-output.true),
       taken.2,
     )
@@ -42,7 +40,7 @@ returns-clause-takes g c =
       taken.0,
       takes_closing theory (state_of host) c.args.number c.args.piece.now c.in_ok-items.items.items (connections_of c.feed.new.self)
           (connections_of c.close.new.self) reached taken.0 c.in_ok-items.ensures
-          (subst (λ all. Takes theory host.moment all (world_of host.contexts host.words) taken.0 reached) c.deref.ensures.value taken.1) c.close.ensures
+          taken.1 c.close.ensures
           (sym (adds_closes c.args.output.now c.take_items.new.output taken.0 taken.2 c.requires.unclosed) ∙ c.if-not-output.false),
       taken.2,
     )
@@ -58,5 +56,4 @@ returns-in_err-take_items-clause-breaks g c =
     let reached = world_of c.take_items.new.contexts c.take_items.new.words in
     if_err _
     (broken_piece theory (state_of host) c.args.number c.args.piece.now c.in_ok-items.items.items (connections_of c.feed.new.self) reached c.in_ok-items.ensures
-    (subst (λ all. (given : List (Given g.row.C.Denot)) × BreaksItems theory host.moment all (world_of host.contexts host.words) given reached)
-    c.deref.ensures.value c.in_err-take_items.ensures.breaks))
+    c.in_err-take_items.ensures.breaks)
