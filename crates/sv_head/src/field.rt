@@ -1,13 +1,16 @@
 //! One field of a message.
 
-ghost use Rattle.std.specs.Prelude.{◌≡◌, true, OnOk, OnErr};
+ghost use Rattle.std.specs.Prelude.{◌≡◌, true, length, OnOk, OnErr};
 ghost use Rattle.http_header.specs.FieldName.{IsFieldName};
 ghost use Rattle.http_header.specs.FieldValue.{IsFieldValue, plain_value};
 ghost use Rattle.http_header.specs.Token.{lowercase};
+ghost use Rattle.httparse.specs.Spans.{IsHeaderWithin, IsWithin, span_bytes};
 ghost use Rattle.sv_head.specs.Fields.{has_field};
 ghost use Rattle.sv_text.specs.Gives.{GivesAnswer};
 
+use bytes::Bytes;
 use http_header::{HeaderName, HeaderNameError, HeaderValue, HeaderValueError};
+use httparse::spans::{HeaderSpan, Span};
 use std::alloc::Global;
 use sv_text::NoMemory;
 
@@ -40,6 +43,25 @@ impl Field {
         }
     }
 
+    /// The field of a head whose valid name and value stand at those spans of the head's text. It shares the text: nothing is
+    /// copied but a name that is neither standard nor in lower case.
+    pub fn at_span(alloc: Global, text: &Bytes, span: &HeaderSpan) -> Result<Field, NoMemory>
+        requires within { IsHeaderWithin (length text.now) span.now }
+        requires name { IsFieldName (span_bytes text.now span.now.name) }
+        requires value { IsFieldValue (span_bytes text.now span.now.value) }
+        ensures { GivesAnswer result (record {
+          name = lowercase (span_bytes text.now span.now.name);
+          value = plain_value (span_bytes text.now span.now.value);
+        }) }
+    {
+        let name = name_at(alloc, text, span.name)?;
+        let value = text.slice(span.value.start..span.value.end)?;
+        Ok(Field {
+            name,
+            value: HeaderValue::from_known_valid(value),
+        })
+    }
+
     /// Whether the field has that name, which is in lower case.
     pub fn is_named(&self, name: &str) -> bool
         ensures { result ≡ is_named name.now self.now }
@@ -57,6 +79,22 @@ impl Field {
             self.value = read_host(alloc, host)?;
         }
         Ok(())
+    }
+}
+
+/// The valid name that stands at a span of a head's text, in lower case.
+fn name_at(alloc: Global, text: &Bytes, span: Span) -> Result<HeaderName, NoMemory>
+    requires within { IsWithin (length text.now) span }
+    requires name { IsFieldName (span_bytes text.now span) }
+    ensures { GivesAnswer result (lowercase (span_bytes text.now span)) }
+{
+    if let Some(name) = HeaderName::standard(span.of(text.as_slice())) {
+        return Ok(name);
+    }
+    match HeaderName::from_shared(alloc, text.slice(span.start..span.end)?) {
+        Ok(name) => Ok(name),
+        Err(HeaderNameError::OutOfMemory) => Err(NoMemory),
+        Err(HeaderNameError::Invalid) => unreachable!(),
     }
 }
 
