@@ -97,17 +97,18 @@ fn judge(
     ensures { (whole : RequestHead) → ShowHead text.now spans.now head.now whole
         → GivesAnswer result (judge whole) }
 {
-    let mut fields = read_fields(alloc, text, spans)?;
+    let shared = bytes::Bytes::copy_from_slice(alloc, text)?;
+    let mut fields = read_fields(alloc, &shared, spans)?;
     let method = head.method.of(text);
-    let target = head.path.of(text);
-    let form = target_form(method, target);
+    let target = shared.slice(head.path.start..head.path.end)?;
+    let form = target_form(method, target.as_slice());
     if let Err(fault) = accept(head.version, form, &fields) {
         return Ok(Judgement::Refused(fault));
     }
     let framing = framing_of(&fields);
     let keep = keeps(head.version, &fields);
     let is_asked = awaits_continue(head.version, &fields);
-    set_hosts(alloc, form, target, &mut fields)?;
+    set_hosts(alloc, form, target.as_slice(), &mut fields)?;
     let message = Message {
         method: read_method(alloc, method)?,
         target: read_target(alloc, form, target)?,
@@ -237,38 +238,50 @@ fn set_hosts(
     }
 }
 
-/// Copies what a target in that form asks for.
-fn read_target(alloc: Global, form: TargetForm, target: &[u8]) -> Result<Target, NoMemory>
-    requires { FitsForm form target.now }
-    ensures { GivesAnswer result (target_in form target.now) }
+/// What a target in that form asks for. It shares the text of the target.
+fn read_target(
+    alloc: Global,
+    form: TargetForm,
+    mut target: bytes::Bytes,
+) -> Result<Target, NoMemory>
+    requires { FitsForm form target }
+    ensures { GivesAnswer result (target_in form target) }
 {
     match form {
-        TargetForm::Origin => Ok(Target::Path(Bytes::from_vec(Vec::from_slice(alloc, target)?))),
-        TargetForm::Absolute(len) => read_path(alloc, &target[SCHEME_LEN + len..]),
+        TargetForm::Origin => Ok(Target::Path(target)),
+        TargetForm::Absolute(len) => {
+            target.advance(SCHEME_LEN + len);
+            read_path(alloc, target)
+        }
         TargetForm::Star | TargetForm::Unknown => Ok(Target::Star),
     }
 }
 
-/// Copies the path behind an authority. An empty path is a slash.
-fn read_path(alloc: Global, behind: &[u8]) -> Result<Target, NoMemory>
-    ensures { GivesAnswer result (Path (with_slash behind.now)) }
+/// The path behind an authority. An empty path is a slash, and one that is copied stands before a query alone.
+fn read_path(alloc: Global, behind: bytes::Bytes) -> Result<Target, NoMemory>
+    ensures { GivesAnswer result (Path (with_slash behind)) }
 {
-    let mut path = Vec::new(alloc);
-    if !behind.starts_with(b"/") {
-        path.push(b'/')?;
+    if behind.as_slice().starts_with(b"/") {
+        return Ok(Target::Path(behind));
     }
-    path.extend_from_slice(behind)?;
-    Ok(Target::Path(Bytes::from_vec(path)))
+    let mut path = Vec::new(alloc);
+    path.push(b'/')?;
+    path.extend_from_slice(behind.as_slice())?;
+    Ok(Target::Path(bytes::Bytes::from_vec(path)?))
 }
 
-/// Copies the fields that the spans show in the text.
-fn read_fields(alloc: Global, text: &[u8], spans: &[HeaderSpan]) -> Result<Vec<Field>, NoMemory>
+/// Reads the fields that the spans show in the text, which they share.
+fn read_fields(
+    alloc: Global,
+    text: &bytes::Bytes,
+    spans: &[HeaderSpan],
+) -> Result<Vec<Field>, NoMemory>
     requires { All (IsFieldAt text.now) spans.now }
     ensures { IfOk result (λ fields. fields.items ≡ map (field_at text.now) spans.now) }
 {
     let mut fields = Vec::with_capacity(alloc, spans.len())?;
     for span in spans {
-        fields.push(Field::copy_of(alloc, span.name.of(text), span.value.of(text))?)?;
+        fields.push(Field::at_span(alloc, text, span)?)?;
     }
     Ok(fields)
 }
