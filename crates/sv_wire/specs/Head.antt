@@ -1,5 +1,5 @@
 -- The head of a request, and the one judgement on it (RFC 9112, sections 2.1, 3, 5 and 6).
-use Rattle.std.specs.Prelude.{ℕ, Bool, true, false, ◌&&◌, ◌||◌, not, List, [], ◌∷◌, ◌++◌, ◌==◌, nat_eq, nat_lt, codes, if◌then◌else◌, Option, None, Some, is_none, Result, Ok, Err, ⊤}
+use Rattle.std.specs.Prelude.{ℕ, Bool, true, false, ◌&&◌, ◌||◌, not, List, [], ◌∷◌, ◌++◌, ◌==◌, nat_eq, nat_lt, slice_index, codes, if◌then◌else◌, Option, None, Some, is_none, Result, Ok, Err, ⊤}
 use Rattle.std.specs.List.{ends_with}
 use Rattle.httparse.specs.Ascii.{line_feed, carriage_return}
 use Rattle.httparse.specs.Grammar.{RequestHead}
@@ -33,6 +33,10 @@ abbrev pub ends_head : List ℕ → Bool
 ends_head text =
     ends_with nat_eq text (line_feed ∷ line_feed ∷ [])
     || ends_with nat_eq text (line_feed ∷ carriage_return ∷ line_feed ∷ [])
+
+-- whether a text does not begin with the end of a line
+abbrev pub begins_at_once : List ℕ → Bool
+begins_at_once text = not (slice_index text 0 == line_feed || slice_index text 0 == carriage_return)
 
 -- whether a target is in no form that is served
 abbrev pub is_unknown : TargetForm → Bool

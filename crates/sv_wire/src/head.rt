@@ -6,7 +6,7 @@ ghost use Rattle.httparse.specs.Grammar.{RequestHead};
 ghost use Rattle.sv_head.specs.TargetForm.{FitsForm, with_slash};
 ghost use Rattle.sv_text.specs.Faults.{first_or};
 ghost use Rattle.sv_text.specs.Gives.{GivesAnswer};
-ghost use Rattle.sv_wire.specs.Head.{accept, awaits_continue, faults_by_kind, fields_beside, framing_faults, framing_of, has_codings, has_length, is_unknown, is_unknown_expectation, judge, target_in};
+ghost use Rattle.sv_wire.specs.Head.{accept, awaits_continue, begins_at_once, faults_by_kind, fields_beside, framing_faults, framing_of, has_codings, has_length, is_unknown, is_unknown_expectation, judge, target_in};
 ghost use Rattle.sv_message.specs.declared.message.Target.TheVariants.{Path};
 ghost use Rattle.sv_wire.specs.Reads.{ReadsHead, has_too_many_lines, lines};
 ghost use Rattle.sv_wire.specs.Spans.{field_at, IsFieldAt, AreHeadSpans, ShowHead};
@@ -27,39 +27,38 @@ use sv_message::{Message, Target};
 use sv_text::{Bytes, Listed, NoMemory};
 use sv_wire_fault::WireFault;
 
-/// Reads the whole text of a head, which is no longer than a head may be. Most heads have few lines, and places for few fields are made for these: a
-/// function makes its places where it begins, so each number of them has a function of its own.
+/// Reads the whole text of a head, which is no longer than a head may be. Most heads have few fields and begin at once: of these
+/// no line is counted, since a head has two lines more than it has fields.
 pub(crate) fn read_head(alloc: Global, text: &[u8]) -> Result<Judgement, NoMemory>
     requires { length text.now ≤ MAX_HEAD_LEN }
     ensures { IfOk result (ReadsHead text.now) }
 {
-    let lines = lines_of(text);
-    if lines > MAX_FIELD_LINES + 2 {
+    let mut spans = [EMPTY_HEADER_SPAN; FEW_FIELD_LINES];
+    match parse_request(text, &mut spans) {
+        Ok(Status::Complete(head)) if head.len == text.len() && begins_at_once(text) => {
+            judge(alloc, text, &head, &spans[..head.headers])
+        }
+        _ => read_many(alloc, text),
+    }
+}
+
+/// Whether a text does not begin with the end of a line.
+fn begins_at_once(text: &[u8]) -> bool
+    ensures { result ≡ begins_at_once text.now }
+{
+    !matches!(text, [b'\n', ..] | [b'\r', ..])
+}
+
+/// Reads the text of a head of any number of lines. A function makes its places where it begins, so those for many fields stand in a
+/// function of their own.
+fn read_many(alloc: Global, text: &[u8]) -> Result<Judgement, NoMemory>
+    requires { length text.now ≤ MAX_HEAD_LEN }
+    ensures { IfOk result (ReadsHead text.now) }
+{
+    if lines_of(text) > MAX_FIELD_LINES + 2 {
         return Ok(Judgement::Refused(WireFault::HeadTooLarge));
     }
-    if lines > FEW_FIELD_LINES + 2 {
-        return read_many(alloc, text);
-    }
-    read_few(alloc, text)
-}
-
-/// Reads the text of a head that has no more lines than it may have.
-fn read_many(alloc: Global, text: &[u8]) -> Result<Judgement, NoMemory>
-    requires short { length text.now ≤ MAX_HEAD_LEN }
-    requires few { has_too_many_lines text.now ≡ false }
-    ensures { IfOk result (ReadsHead text.now) }
-{
     read_lines(alloc, text, &mut [EMPTY_HEADER_SPAN; MAX_FIELD_LINES])
-}
-
-/// Reads the text of a head that has few lines.
-fn read_few(alloc: Global, text: &[u8]) -> Result<Judgement, NoMemory>
-    requires short { length text.now ≤ MAX_HEAD_LEN }
-    requires few { has_too_many_lines text.now ≡ false }
-    requires room { lines text.now ≤ FEW_FIELD_LINES + 2 }
-    ensures { IfOk result (ReadsHead text.now) }
-{
-    read_lines(alloc, text, &mut [EMPTY_HEADER_SPAN; FEW_FIELD_LINES])
 }
 
 /// How many lines the text of a head has.
