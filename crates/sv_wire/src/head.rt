@@ -6,7 +6,7 @@ ghost use Rattle.httparse.specs.Grammar.{RequestHead};
 ghost use Rattle.sv_head.specs.TargetForm.{FitsForm, with_slash};
 ghost use Rattle.sv_text.specs.Faults.{first_or};
 ghost use Rattle.sv_text.specs.Gives.{GivesAnswer};
-ghost use Rattle.sv_wire.specs.Head.{accept, awaits_continue, begins_at_once, faults_by_kind, fields_beside, framing_faults, framing_of, has_codings, has_length, is_unknown, is_unknown_expectation, judge, target_in};
+ghost use Rattle.sv_wire.specs.Head.{accept, awaits_continue, begins_at_once, faults_by_kind, fields_beside, framing_faults, framing_of, has_codings, has_length, is_unknown, is_unknown_expectation, judge, target_in, tell_of_body, tells_of_body};
 ghost use Rattle.sv_message.specs.declared.message.Target.TheVariants.{Path};
 ghost use Rattle.sv_wire.specs.Reads.{ReadsHead, has_too_many_lines, lines};
 ghost use Rattle.sv_wire.specs.Spans.{field_at, IsFieldAt, AreHeadSpans, ShowHead};
@@ -101,12 +101,13 @@ fn judge(
     let method = head.method.of(text);
     let target = shared.slice(head.path.start..head.path.end)?;
     let form = target_form(method, target.as_slice());
-    if let Err(fault) = accept(head.version, form, &fields) {
+    let told = tell_of_body(&fields);
+    if let Err(fault) = accept(head.version, form, &fields, told) {
         return Ok(Judgement::Refused(fault));
     }
-    let framing = framing_of(&fields);
+    let framing = framing_of(&fields, told);
     let keep = keeps(head.version, &fields);
-    let is_asked = awaits_continue(head.version, &fields);
+    let is_asked = awaits_continue(head.version, &fields, told);
     set_hosts(alloc, form, target.as_slice(), &mut fields)?;
     let message = Message {
         method: read_method(alloc, method)?,
@@ -124,8 +125,24 @@ fn judge(
     })
 }
 
+/// Whether some field tells of a body. Of most heads none does, and then their fields are gone through once for all that such a field would say.
+fn tell_of_body(fields: &[Field]) -> bool
+    ensures { result ≡ tell_of_body fields.now }
+{
+    fields.iter().any(|field| tells_of_body(field))
+}
+
+/// Whether a field tells how the end of a body is found, or expects something before it.
+fn tells_of_body(field: &Field) -> bool
+    ensures { result ≡ tells_of_body field.now }
+{
+    let name = field.name.as_str();
+    name == "content-length" || name == "transfer-encoding" || name == "expect"
+}
+
 /// Accepts a head, or answers the first of its faults in the order in which they are judged.
-fn accept(minor: u8, form: TargetForm, fields: &[Field]) -> Result<(), WireFault>
+fn accept(minor: u8, form: TargetForm, fields: &[Field], told: bool) -> Result<(), WireFault>
+    requires { told ≡ tell_of_body fields.now }
     ensures { result ≡ accept minor form fields.now }
 {
     if !accepts_hosts(minor, fields) {
@@ -133,6 +150,9 @@ fn accept(minor: u8, form: TargetForm, fields: &[Field]) -> Result<(), WireFault
     }
     if is_unknown(form) {
         return Err(WireFault::BadTarget);
+    }
+    if !told {
+        return Ok(());
     }
     if let Err(fault) = accept_framing(minor, fields) {
         return Err(fault);
@@ -198,16 +218,24 @@ fn is_unknown_expectation(minor: u8, fields: &[Field]) -> bool
 }
 
 /// Whether `100 Continue` is given before the body.
-fn awaits_continue(minor: u8, fields: &[Field]) -> bool
+fn awaits_continue(minor: u8, fields: &[Field], told: bool) -> bool
+    requires { told ≡ tell_of_body fields.now }
     ensures { result ≡ awaits_continue minor fields.now }
 {
-    minor == 1 && asks_to_continue(fields) && has_body(framing_of(fields))
+    if !told {
+        return false;
+    }
+    minor == 1 && asks_to_continue(fields) && has_body(framing_of(fields, told))
 }
 
 /// How the end of the body is found.
-fn framing_of(fields: &[Field]) -> Framing
+fn framing_of(fields: &[Field], told: bool) -> Framing
+    requires { told ≡ tell_of_body fields.now }
     ensures { result ≡ framing_of fields.now }
 {
+    if !told {
+        return Framing::Length(0);
+    }
     if has_codings(fields) {
         return Framing::Chunked;
     }
