@@ -45,6 +45,8 @@ impl Field {
 
     /// The field of a head whose valid name and value stand at those spans of the head's text. It shares the text: nothing is
     /// copied but a name that is neither standard nor in lower case.
+    // Inlined, the field is made where its list has room for it.
+    #[inline(always)]
     pub fn at_span(alloc: Global, text: &Bytes, span: &HeaderSpan) -> Result<Field, NoMemory>
         requires within { IsHeaderWithin (length text.now) span.now }
         requires name { IsFieldName (span_bytes text.now span.now.name) }
@@ -83,6 +85,7 @@ impl Field {
 }
 
 /// The valid name that stands at a span of a head's text, in lower case.
+#[inline(always)]
 fn name_at(alloc: Global, text: &Bytes, span: Span) -> Result<HeaderName, NoMemory>
     requires within { IsWithin (length text.now) span }
     requires name { IsFieldName (span_bytes text.now span) }
