@@ -8,6 +8,7 @@ ghost use Rattle.httparse.specs.Spans.{IsHeaderWithin, IsWithin, span_bytes};
 ghost use Rattle.sv_head.specs.Fields.{has_field};
 ghost use Rattle.sv_text.specs.Gives.{GivesAnswer};
 
+use crate::common::common_value;
 use bytes::Bytes;
 use http_header::{HeaderName, HeaderNameError, HeaderValue, HeaderValueError};
 use httparse::spans::{HeaderSpan, Span};
@@ -25,7 +26,7 @@ impl Field {
     ghost use Rattle.sv_head.specs.Fields.{is_named};
     ghost use Rattle.sv_head.specs.Host.{is_host, with_host};
 
-    /// Copies a field, whose name and value are valid.
+    /// Copies a field, whose name and value are valid. A standard name takes no memory, nor does a value that is given often.
     pub fn copy_of(alloc: Global, name: &[u8], value: &[u8]) -> Result<Field, NoMemory>
         requires name { IsFieldName name.now }
         requires value { IsFieldValue value.now }
@@ -36,6 +37,9 @@ impl Field {
             Err(HeaderNameError::OutOfMemory) => return Err(NoMemory),
             Err(HeaderNameError::Invalid) => unreachable!(),
         };
+        if let Some(value) = common_value(value) {
+            return Ok(Field { name, value });
+        }
         match HeaderValue::from_bytes(alloc, value) {
             Ok(value) => Ok(Field { name, value }),
             Err(HeaderValueError::OutOfMemory) => Err(NoMemory),
