@@ -1,13 +1,17 @@
 //! One field of a message.
 
-ghost use Rattle.std.specs.Prelude.{◌≡◌, true, OnOk, OnErr};
+ghost use Rattle.std.specs.Prelude.{◌≡◌, true, length, OnOk, OnErr};
 ghost use Rattle.http_header.specs.FieldName.{IsFieldName};
 ghost use Rattle.http_header.specs.FieldValue.{IsFieldValue, plain_value};
 ghost use Rattle.http_header.specs.Token.{lowercase};
+ghost use Rattle.httparse.specs.Spans.{IsHeaderWithin, IsWithin, span_bytes};
 ghost use Rattle.sv_head.specs.Fields.{has_field};
 ghost use Rattle.sv_text.specs.Gives.{GivesAnswer};
 
+use crate::common::common_value;
+use bytes::Bytes;
 use http_header::{HeaderName, HeaderNameError, HeaderValue, HeaderValueError};
+use httparse::spans::{HeaderSpan, Span};
 use std::alloc::Global;
 use sv_text::NoMemory;
 
@@ -22,7 +26,7 @@ impl Field {
     ghost use Rattle.sv_head.specs.Fields.{is_named};
     ghost use Rattle.sv_head.specs.Host.{is_host, with_host};
 
-    /// Copies a field, whose name and value are valid.
+    /// Copies a field, whose name and value are valid. A standard name takes no memory, nor does a value that is given often.
     pub fn copy_of(alloc: Global, name: &[u8], value: &[u8]) -> Result<Field, NoMemory>
         requires name { IsFieldName name.now }
         requires value { IsFieldValue value.now }
@@ -33,11 +37,35 @@ impl Field {
             Err(HeaderNameError::OutOfMemory) => return Err(NoMemory),
             Err(HeaderNameError::Invalid) => unreachable!(),
         };
+        if let Some(value) = common_value(value) {
+            return Ok(Field { name, value });
+        }
         match HeaderValue::from_bytes(alloc, value) {
             Ok(value) => Ok(Field { name, value }),
             Err(HeaderValueError::OutOfMemory) => Err(NoMemory),
             Err(HeaderValueError::Invalid) => unreachable!(),
         }
+    }
+
+    /// The field of a head whose valid name and value stand at those spans of the head's text. It shares the text: nothing is
+    /// copied but a name that is neither standard nor in lower case.
+    // Inlined, the field is made where its list has room for it.
+    #[inline(always)]
+    pub fn at_span(alloc: Global, text: &Bytes, span: &HeaderSpan) -> Result<Field, NoMemory>
+        requires within { IsHeaderWithin (length text.now) span.now }
+        requires name { IsFieldName (span_bytes text.now span.now.name) }
+        requires value { IsFieldValue (span_bytes text.now span.now.value) }
+        ensures { GivesAnswer result (record {
+          name = lowercase (span_bytes text.now span.now.name);
+          value = plain_value (span_bytes text.now span.now.value);
+        }) }
+    {
+        let name = name_at(alloc, text, span.name)?;
+        let value = text.slice(span.value.start..span.value.end)?;
+        Ok(Field {
+            name,
+            value: HeaderValue::from_known_valid(value),
+        })
     }
 
     /// Whether the field has that name, which is in lower case.
@@ -57,6 +85,23 @@ impl Field {
             self.value = read_host(alloc, host)?;
         }
         Ok(())
+    }
+}
+
+/// The valid name that stands at a span of a head's text, in lower case.
+#[inline(always)]
+fn name_at(alloc: Global, text: &Bytes, span: Span) -> Result<HeaderName, NoMemory>
+    requires within { IsWithin (length text.now) span }
+    requires name { IsFieldName (span_bytes text.now span) }
+    ensures { GivesAnswer result (lowercase (span_bytes text.now span)) }
+{
+    if let Some(name) = HeaderName::standard(span.of(text.as_slice())) {
+        return Ok(name);
+    }
+    match HeaderName::from_shared(alloc, text.slice(span.start..span.end)?) {
+        Ok(name) => Ok(name),
+        Err(HeaderNameError::OutOfMemory) => Err(NoMemory),
+        Err(HeaderNameError::Invalid) => unreachable!(),
     }
 }
 

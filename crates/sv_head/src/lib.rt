@@ -2,6 +2,7 @@
 #![tactic(auto)]
 
 mod codings;
+mod common;
 mod expectation;
 mod field;
 mod host;

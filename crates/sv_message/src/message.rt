@@ -36,6 +36,6 @@ impl Message {
 pub enum Target {
     /// `*`: the server itself.
     Star,
-    /// A path with its query, as it was sent.
-    Path(Bytes),
+    /// A path with its query, as it was sent. It may share the text of the head that it was read from.
+    Path(bytes::Bytes),
 }

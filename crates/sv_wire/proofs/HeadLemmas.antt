@@ -1,14 +1,15 @@
 -- What the spans of a parser show in the text of a head, and how many lines it has.
-use Rattle.std.proofs.Common.{◌≡◌, ℕ, ◌+◌, ◌<◌, ◌≤◌, false, Result, Ok, Err, List, [], ◌∷◌, ◌++◌, length, get_or, take, drop, map, refl, ◌==◌, sym, ap, ◌∙◌, subst, inl, inr, cond, arith, length-append}
+use Rattle.std.proofs.Common.{◌≡◌, ℕ, zero, suc, ◌+◌, ◌<◌, ◌≤◌, Bool, true, false, true≢false, Result, Ok, Err, List, [], ◌∷◌, ◌++◌, length, get_or, take, drop, map, refl, ◌==◌, sym, ap, ◌∙◌, subst, inl, inr, cond, ne_eqb, le-ltb, arith, length-append}
 use Rattle.std.specs.Prelude.{All, IfOk}
 use Rattle.std.specs.List.{count_by, flat_map}
+use Rattle.std.proofs.lemmas.Grind.{common_steps}
 use Rattle.std.proofs.lemmas.List.{append-nil, append_assoc, length-map, get_or-map, drop_all}
-use Rattle.std.proofs.lemmas.List.Elements.{All-nil, All-cons, All-map, All-weaker}
-use Rattle.std.proofs.lemmas.List.Sums.{sum_by-append}
+use Rattle.std.proofs.lemmas.List.Elements.{All-nil, All-cons, All-head, All-tail, All-map, All-weaker}
+use Rattle.std.proofs.lemmas.List.Sums.{sum_by-append, sum_by-cons}
 use Rattle.http_header.specs.FieldName.{IsFieldName}
 use Rattle.http_header.specs.FieldValue.{IsFieldValue, plain_value}
 use Rattle.http_header.specs.Token as written
-use Rattle.httparse.specs.Grammar.{LineEnd, crlf, lf, print_end, Field, IsField, is_token_byte, is_value_byte, IsToken, print_field, print_section, print_version, print_blank, RequestHead, print_request, ReadsRequest}
+use Rattle.httparse.specs.Grammar.{LineEnd, crlf, lf, print_end, Field, IsField, is_token_byte, is_uri_byte, is_value_byte, IsToken, AllPass, print_field, print_section, print_version, print_blank, RequestHead, IsRequestHead, print_request, ReadsRequest}
 use Rattle.httparse.specs.Spans.{header_bytes, name_and_value, IsRequestWithin, IsRequestAt, FindsRequest}
 use Rattle.httparse.specs.declared.spans.HeaderSpan.{HeaderSpan}
 use Rattle.httparse.specs.declared.spans.RequestSpans.{RequestSpans}
@@ -23,7 +24,7 @@ use Rattle.sv_text.specs.declared.NoMemory.{NoMemory}
 use Rattle.sv_wire.specs.declared.owed_head.Judgement.{Judgement}
 use Rattle.sv_wire.specs.declared.owed_head.Judgement.TheVariants.{Refused}
 use Rattle.sv_wire_fault.specs.declared.wire_fault.WireFault.TheVariants.{BadHead}
-use Rattle.sv_wire.specs.Head.{judge}
+use Rattle.sv_wire.specs.Head.{begins_at_once, judge}
 use Rattle.sv_wire.specs.Reads.{IsNoHead, has_too_many_lines, ReadsHead}
 use Rattle.sv_wire.specs.Spans.{IsFieldAt, AreHeadSpans, ShowHead}
 use Rattle.sv_body.proofs.BoolLemmas.{MatchBool-from_false}
@@ -64,6 +65,96 @@ feeds-request h =
       feeds-end h.line_end,
       feeds-end h.last,
     )
+
+-- ---- lines of a head that is read
+
+-- bytes of a class that has no line feed
+no_feed : (test : ℕ → Bool) → test 10 ≡ false → (bytes : List ℕ) → AllPass test bytes → feeds bytes ≡ 0
+no_feed test none [] all = refl
+no_feed test none (b ∷ bytes) all =
+    let other : (b == 10) ≡ false = ne_eqb b 10 (λ same. true≢false (sym (subst (λ x. test x ≡ true) same (All-head (λ x. test x ≡ true) b bytes all)) ∙ none)) in
+    omega (
+      arith,
+      sum_by-cons (λ x. cond (x == 10) 1 0) b bytes,
+      ap {B = ℕ} (λ t. cond t 1 0) other,
+      no_feed test none bytes (All-tail (λ x. test x ≡ true) b bytes all),
+    )
+
+feeds-behind : (b : ℕ) (bytes : List ℕ) → (b == 10) ≡ false → feeds (b ∷ bytes) ≡ feeds bytes
+feeds-behind b bytes other = omega (arith, sum_by-cons (λ x. cond (x == 10) 1 0) b bytes, ap {B = ℕ} (λ t. cond t 1 0) other)
+
+no_token_feed : (bytes : List ℕ) → IsToken bytes → feeds bytes ≡ 0
+unfolding is_token_byte
+no_token_feed bytes token = no_feed is_token_byte refl bytes token.1
+
+one_feed : (f : Field) → IsField f → feeds (print_field f) ≡ 1
+one_feed f is =
+    omega (
+      arith,
+      feeds-append (f.name ++ 58 ∷ f.raw) (print_end f.end),
+      feeds-append f.name (58 ∷ f.raw),
+      feeds-behind 58 f.raw refl,
+      feeds-end f.end,
+      no_token_feed f.name is.name,
+      no_feed is_value_byte refl f.raw is.raw,
+    )
+
+feed_each : (fields : List Field) → All IsField fields → feeds (flat_map print_field fields) ≡ length fields
+feed_each [] all = refl
+feed_each (f ∷ fields) all =
+    omega (
+      arith,
+      feeds-append (print_field f) (flat_map print_field fields),
+      one_feed f (All-head IsField f fields all),
+      feed_each fields (All-tail IsField f fields all),
+    )
+
+feeds-version : (minor : ℕ) → minor ≤ 1 → feeds (print_version minor) ≡ 0
+feeds-version zero known = refl
+feeds-version (suc zero) known = refl
+feeds-version (suc (suc minor)) known = absurd (omega arith)
+
+no_blank : (ends : List LineEnd) (text : List ℕ) → begins_at_once (print_blank ends ++ text) ≡ true → print_blank ends ≡ []
+no_blank [] text begins = refl
+no_blank (crlf ∷ ends) text begins = absurd (cc)
+no_blank (lf ∷ ends) text begins = absurd (cc)
+
+lines_are : (h : RequestHead) → IsRequestHead h → print_blank h.blank ≡ [] → feeds (print_request h) ≡ length h.fields + 2
+unfolding print_request
+lines_are h is none =
+    let line = print_blank h.blank ++ h.method ++ 32 ∷ h.target ++ 32 ∷ print_version h.minor in
+    omega (
+      arith,
+      feeds-append (line ++ print_end h.line_end) (print_section h.fields h.last),
+      feeds-append line (print_end h.line_end),
+      feeds-append (print_blank h.blank ++ h.method ++ 32 ∷ h.target) (32 ∷ print_version h.minor),
+      feeds-append (print_blank h.blank ++ h.method) (32 ∷ h.target),
+      feeds-append (print_blank h.blank) h.method,
+      ap feeds none,
+      no_token_feed h.method is.method,
+      feeds-behind 32 h.target refl,
+      no_feed is_uri_byte refl h.target is.target.1,
+      feeds-behind 32 (print_version h.minor) refl,
+      feeds-version h.minor is.minor,
+      feeds-end h.line_end,
+      feeds-append (flat_map print_field h.fields) (print_end h.last),
+      feed_each h.fields is.fields,
+      feeds-end h.last,
+    )
+
+begins : (h : RequestHead) → begins_at_once (print_request h) ≡ true → print_blank h.blank ≡ []
+unfolding print_request
+begins h at_once =
+    let rest : List ℕ = h.method ++ 32 ∷ h.target ++ 32 ∷ print_version h.minor ++ print_end h.line_end ++ print_section h.fields h.last in
+    let parted : print_request h ≡ print_blank h.blank ++ rest = grind (arith, common_steps) in
+    no_blank h.blank rest (subst (λ t. begins_at_once t ≡ true) parted at_once)
+
+-- a text that begins at once with a head of few fields, and holds nothing else, has no more lines than it may have
+pub few_lines : (text : List ℕ) (h : RequestHead) → ReadsRequest text h [] → begins_at_once text ≡ true → length h.fields ≤ 128 → has_too_many_lines text ≡ false
+few_lines text h reads at_once few =
+    let same : text ≡ print_request h = reads.1 ∙ append-nil (print_request h) in
+    let none = begins h (subst (λ t. begins_at_once t ≡ true) same at_once) in
+    le-ltb 130 (feeds text) (omega (arith, ap feeds same, lines_are h reads.0 none, few))
 
 -- ---- names
 

@@ -1,3 +1,4 @@
+mod BareLemmas
 pub mod EmptyLinesLemmas
 pub mod ExistenceLemmas
 pub mod HeadLemmas

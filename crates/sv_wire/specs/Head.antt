@@ -1,6 +1,6 @@
 -- The head of a request, and the one judgement on it (RFC 9112, sections 2.1, 3, 5 and 6).
-use Rattle.std.specs.Prelude.{ℕ, Bool, true, false, ◌&&◌, ◌||◌, not, List, [], ◌∷◌, ◌++◌, ◌==◌, nat_eq, nat_lt, codes, if◌then◌else◌, Option, None, Some, is_none, Result, Ok, Err, ⊤}
-use Rattle.std.specs.List.{ends_with}
+use Rattle.std.specs.Prelude.{ℕ, Bool, true, false, ◌&&◌, ◌||◌, not, List, [], ◌∷◌, ◌++◌, ◌==◌, nat_eq, nat_lt, slice_index, codes, if◌then◌else◌, Option, None, Some, is_none, Result, Ok, Err, ⊤}
+use Rattle.std.specs.List.{ends_with, list_any}
 use Rattle.httparse.specs.Ascii.{line_feed, carriage_return}
 use Rattle.httparse.specs.Grammar.{RequestHead}
 use Rattle.sv_body.specs.declared.framing.Framing.{Framing}
@@ -13,7 +13,7 @@ use Rattle.sv_head.specs.declared.target.TargetForm.{TargetForm}
 use Rattle.sv_head.specs.declared.target.TargetForm.TheVariants.{Origin, Absolute, Star, Unknown}
 use Rattle.sv_head.specs.Codings.{coding_kind}
 use Rattle.sv_head.specs.Expectation.{asks_to_continue}
-use Rattle.sv_head.specs.Fields.{fields_of, has_field, values_of}
+use Rattle.sv_head.specs.Fields.{fields_of, has_field, is_named, values_of}
 use Rattle.sv_head.specs.Host.{accepts_hosts, with_hosts}
 use Rattle.sv_head.specs.Length.{content_length}
 use Rattle.sv_head.specs.Persistence.{keeps}
@@ -34,6 +34,10 @@ ends_head text =
     ends_with nat_eq text (line_feed ∷ line_feed ∷ [])
     || ends_with nat_eq text (line_feed ∷ carriage_return ∷ line_feed ∷ [])
 
+-- whether a text does not begin with the end of a line
+abbrev pub begins_at_once : List ℕ → Bool
+begins_at_once text = not (slice_index text 0 == line_feed || slice_index text 0 == carriage_return)
+
 -- whether a target is in no form that is served
 abbrev pub is_unknown : TargetForm → Bool
 is_unknown Origin = false
@@ -47,6 +51,15 @@ has_codings fields = has_field (codes "transfer-encoding") fields
 
 abbrev pub has_length : List Field → Bool
 has_length fields = has_field (codes "content-length") fields
+
+-- whether a field tells how the end of a body is found, or expects something before it
+abbrev pub tells_of_body : Field → Bool
+tells_of_body field =
+    is_named (codes "content-length") field || (is_named (codes "transfer-encoding") field || is_named (codes "expect") field)
+
+-- whether some field does
+abbrev pub tell_of_body : List Field → Bool
+tell_of_body fields = list_any tells_of_body fields
 
 -- the faults of those codings
 abbrev pub faults_by_kind : Codings → List WireFault

@@ -13,7 +13,6 @@ use Rattle.sv_text.specs.Front.{cut}
 use Rattle.sv_wire.specs.declared.item.Item.{Item}
 use Rattle.sv_wire.specs.declared.item.Item.TheVariants.{Continue, Message, Refuse}
 use Rattle.sv_wire.specs.declared.limits.TheConstants.{MAX_HEAD_LEN, MAX_FIELD_LINES}
-use Rattle.sv_message.specs.declared.message.Message.{Message as MessageRecord}
 use Rattle.sv_wire.specs.declared.owed_head.OwedHead.{OwedHead}
 use Rattle.sv_wire.specs.declared.owed_head.Judgement.{Judgement}
 use Rattle.sv_wire.specs.declared.owed_head.Judgement.TheVariants.{Refused, Expecting, Accepted}

@@ -6,7 +6,7 @@ ghost use Rattle.httparse.specs.Grammar.{RequestHead};
 ghost use Rattle.sv_head.specs.TargetForm.{FitsForm, with_slash};
 ghost use Rattle.sv_text.specs.Faults.{first_or};
 ghost use Rattle.sv_text.specs.Gives.{GivesAnswer};
-ghost use Rattle.sv_wire.specs.Head.{accept, awaits_continue, faults_by_kind, fields_beside, framing_faults, framing_of, has_codings, has_length, is_unknown, is_unknown_expectation, judge, target_in};
+ghost use Rattle.sv_wire.specs.Head.{accept, awaits_continue, begins_at_once, faults_by_kind, fields_beside, framing_faults, framing_of, has_codings, has_length, is_unknown, is_unknown_expectation, judge, target_in, tell_of_body, tells_of_body};
 ghost use Rattle.sv_message.specs.declared.message.Target.TheVariants.{Path};
 ghost use Rattle.sv_wire.specs.Reads.{ReadsHead, has_too_many_lines, lines};
 ghost use Rattle.sv_wire.specs.Spans.{field_at, IsFieldAt, AreHeadSpans, ShowHead};
@@ -27,39 +27,38 @@ use sv_message::{Message, Target};
 use sv_text::{Bytes, Listed, NoMemory};
 use sv_wire_fault::WireFault;
 
-/// Reads the whole text of a head, which is no longer than a head may be. Most heads have few lines, and places for few fields are made for these: a
-/// function makes its places where it begins, so each number of them has a function of its own.
+/// Reads the whole text of a head, which is no longer than a head may be. Most heads have few fields and begin at once: of these
+/// no line is counted, since a head has two lines more than it has fields.
 pub(crate) fn read_head(alloc: Global, text: &[u8]) -> Result<Judgement, NoMemory>
     requires { length text.now ≤ MAX_HEAD_LEN }
     ensures { IfOk result (ReadsHead text.now) }
 {
-    let lines = lines_of(text);
-    if lines > MAX_FIELD_LINES + 2 {
+    let mut spans = [EMPTY_HEADER_SPAN; FEW_FIELD_LINES];
+    match parse_request(text, &mut spans) {
+        Ok(Status::Complete(head)) if head.len == text.len() && begins_at_once(text) => {
+            judge(alloc, text, &head, &spans[..head.headers])
+        }
+        _ => read_many(alloc, text),
+    }
+}
+
+/// Whether a text does not begin with the end of a line.
+fn begins_at_once(text: &[u8]) -> bool
+    ensures { result ≡ begins_at_once text.now }
+{
+    !matches!(text, [b'\n', ..] | [b'\r', ..])
+}
+
+/// Reads the text of a head of any number of lines. A function makes its places where it begins, so those for many fields stand in a
+/// function of their own.
+fn read_many(alloc: Global, text: &[u8]) -> Result<Judgement, NoMemory>
+    requires { length text.now ≤ MAX_HEAD_LEN }
+    ensures { IfOk result (ReadsHead text.now) }
+{
+    if lines_of(text) > MAX_FIELD_LINES + 2 {
         return Ok(Judgement::Refused(WireFault::HeadTooLarge));
     }
-    if lines > FEW_FIELD_LINES + 2 {
-        return read_many(alloc, text);
-    }
-    read_few(alloc, text)
-}
-
-/// Reads the text of a head that has no more lines than it may have.
-fn read_many(alloc: Global, text: &[u8]) -> Result<Judgement, NoMemory>
-    requires short { length text.now ≤ MAX_HEAD_LEN }
-    requires few { has_too_many_lines text.now ≡ false }
-    ensures { IfOk result (ReadsHead text.now) }
-{
     read_lines(alloc, text, &mut [EMPTY_HEADER_SPAN; MAX_FIELD_LINES])
-}
-
-/// Reads the text of a head that has few lines.
-fn read_few(alloc: Global, text: &[u8]) -> Result<Judgement, NoMemory>
-    requires short { length text.now ≤ MAX_HEAD_LEN }
-    requires few { has_too_many_lines text.now ≡ false }
-    requires room { lines text.now ≤ FEW_FIELD_LINES + 2 }
-    ensures { IfOk result (ReadsHead text.now) }
-{
-    read_lines(alloc, text, &mut [EMPTY_HEADER_SPAN; FEW_FIELD_LINES])
 }
 
 /// How many lines the text of a head has.
@@ -97,17 +96,19 @@ fn judge(
     ensures { (whole : RequestHead) → ShowHead text.now spans.now head.now whole
         → GivesAnswer result (judge whole) }
 {
-    let mut fields = read_fields(alloc, text, spans)?;
+    let shared = bytes::Bytes::copy_from_slice(alloc, text)?;
+    let mut fields = read_fields(alloc, &shared, spans)?;
     let method = head.method.of(text);
-    let target = head.path.of(text);
-    let form = target_form(method, target);
-    if let Err(fault) = accept(head.version, form, &fields) {
+    let target = shared.slice(head.path.start..head.path.end)?;
+    let form = target_form(method, target.as_slice());
+    let told = tell_of_body(&fields);
+    if let Err(fault) = accept(head.version, form, &fields, told) {
         return Ok(Judgement::Refused(fault));
     }
-    let framing = framing_of(&fields);
+    let framing = framing_of(&fields, told);
     let keep = keeps(head.version, &fields);
-    let is_asked = awaits_continue(head.version, &fields);
-    set_hosts(alloc, form, target, &mut fields)?;
+    let is_asked = awaits_continue(head.version, &fields, told);
+    set_hosts(alloc, form, target.as_slice(), &mut fields)?;
     let message = Message {
         method: read_method(alloc, method)?,
         target: read_target(alloc, form, target)?,
@@ -124,8 +125,24 @@ fn judge(
     })
 }
 
+/// Whether some field tells of a body. Of most heads none does, and then their fields are gone through once for all that such a field would say.
+fn tell_of_body(fields: &[Field]) -> bool
+    ensures { result ≡ tell_of_body fields.now }
+{
+    fields.iter().any(|field| tells_of_body(field))
+}
+
+/// Whether a field tells how the end of a body is found, or expects something before it.
+fn tells_of_body(field: &Field) -> bool
+    ensures { result ≡ tells_of_body field.now }
+{
+    let name = field.name.as_str();
+    name == "content-length" || name == "transfer-encoding" || name == "expect"
+}
+
 /// Accepts a head, or answers the first of its faults in the order in which they are judged.
-fn accept(minor: u8, form: TargetForm, fields: &[Field]) -> Result<(), WireFault>
+fn accept(minor: u8, form: TargetForm, fields: &[Field], told: bool) -> Result<(), WireFault>
+    requires { told ≡ tell_of_body fields.now }
     ensures { result ≡ accept minor form fields.now }
 {
     if !accepts_hosts(minor, fields) {
@@ -133,6 +150,9 @@ fn accept(minor: u8, form: TargetForm, fields: &[Field]) -> Result<(), WireFault
     }
     if is_unknown(form) {
         return Err(WireFault::BadTarget);
+    }
+    if !told {
+        return Ok(());
     }
     if let Err(fault) = accept_framing(minor, fields) {
         return Err(fault);
@@ -198,16 +218,24 @@ fn is_unknown_expectation(minor: u8, fields: &[Field]) -> bool
 }
 
 /// Whether `100 Continue` is given before the body.
-fn awaits_continue(minor: u8, fields: &[Field]) -> bool
+fn awaits_continue(minor: u8, fields: &[Field], told: bool) -> bool
+    requires { told ≡ tell_of_body fields.now }
     ensures { result ≡ awaits_continue minor fields.now }
 {
-    minor == 1 && asks_to_continue(fields) && has_body(framing_of(fields))
+    if !told {
+        return false;
+    }
+    minor == 1 && asks_to_continue(fields) && has_body(framing_of(fields, told))
 }
 
 /// How the end of the body is found.
-fn framing_of(fields: &[Field]) -> Framing
+fn framing_of(fields: &[Field], told: bool) -> Framing
+    requires { told ≡ tell_of_body fields.now }
     ensures { result ≡ framing_of fields.now }
 {
+    if !told {
+        return Framing::Length(0);
+    }
     if has_codings(fields) {
         return Framing::Chunked;
     }
@@ -237,38 +265,50 @@ fn set_hosts(
     }
 }
 
-/// Copies what a target in that form asks for.
-fn read_target(alloc: Global, form: TargetForm, target: &[u8]) -> Result<Target, NoMemory>
-    requires { FitsForm form target.now }
-    ensures { GivesAnswer result (target_in form target.now) }
+/// What a target in that form asks for. It shares the text of the target.
+fn read_target(
+    alloc: Global,
+    form: TargetForm,
+    mut target: bytes::Bytes,
+) -> Result<Target, NoMemory>
+    requires { FitsForm form target }
+    ensures { GivesAnswer result (target_in form target) }
 {
     match form {
-        TargetForm::Origin => Ok(Target::Path(Bytes::from_vec(Vec::from_slice(alloc, target)?))),
-        TargetForm::Absolute(len) => read_path(alloc, &target[SCHEME_LEN + len..]),
+        TargetForm::Origin => Ok(Target::Path(target)),
+        TargetForm::Absolute(len) => {
+            target.advance(SCHEME_LEN + len);
+            read_path(alloc, target)
+        }
         TargetForm::Star | TargetForm::Unknown => Ok(Target::Star),
     }
 }
 
-/// Copies the path behind an authority. An empty path is a slash.
-fn read_path(alloc: Global, behind: &[u8]) -> Result<Target, NoMemory>
-    ensures { GivesAnswer result (Path (with_slash behind.now)) }
+/// The path behind an authority. An empty path is a slash, and one that is copied stands before a query alone.
+fn read_path(alloc: Global, behind: bytes::Bytes) -> Result<Target, NoMemory>
+    ensures { GivesAnswer result (Path (with_slash behind)) }
 {
-    let mut path = Vec::new(alloc);
-    if !behind.starts_with(b"/") {
-        path.push(b'/')?;
+    if behind.as_slice().starts_with(b"/") {
+        return Ok(Target::Path(behind));
     }
-    path.extend_from_slice(behind)?;
-    Ok(Target::Path(Bytes::from_vec(path)))
+    let mut path = Vec::new(alloc);
+    path.push(b'/')?;
+    path.extend_from_slice(behind.as_slice())?;
+    Ok(Target::Path(bytes::Bytes::from_vec(path)?))
 }
 
-/// Copies the fields that the spans show in the text.
-fn read_fields(alloc: Global, text: &[u8], spans: &[HeaderSpan]) -> Result<Vec<Field>, NoMemory>
+/// Reads the fields that the spans show in the text, which they share.
+fn read_fields(
+    alloc: Global,
+    text: &bytes::Bytes,
+    spans: &[HeaderSpan],
+) -> Result<Vec<Field>, NoMemory>
     requires { All (IsFieldAt text.now) spans.now }
     ensures { IfOk result (λ fields. fields.items ≡ map (field_at text.now) spans.now) }
 {
     let mut fields = Vec::with_capacity(alloc, spans.len())?;
     for span in spans {
-        fields.push(Field::copy_of(alloc, span.name.of(text), span.value.of(text))?)?;
+        fields.push(Field::at_span(alloc, text, span)?)?;
     }
     Ok(fields)
 }

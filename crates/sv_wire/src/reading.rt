@@ -79,6 +79,12 @@ pub(crate) fn read_items(alloc: Global, stream: &[u8], mut from: usize) -> Resul
                         rest: Rest::Ended,
                     });
                 }
+                if next.is_none() && end == stream.len() {
+                    return Ok(Reading {
+                        items,
+                        rest: Rest::Head(end),
+                    });
+                }
                 body = next;
                 at = end;
                 from = 0;

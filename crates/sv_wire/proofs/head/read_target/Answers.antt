@@ -1,5 +1,5 @@
-use Rattle.std.proofs.Common.{◌≡◌, ◌+◌, ◌-◌, ℕ, List, length, take, drop, sym, ap, ◌∙◌, subst}
-use Rattle.std.proofs.lemmas.List.{drop-drop, take_rest}
+use Rattle.std.proofs.Common.{◌≡◌, ◌+◌, ℕ, List, drop, sym, ap, ◌∙◌, subst}
+use Rattle.std.proofs.lemmas.List.{drop-drop}
 use Rattle.sv_head.specs.declared.target.TargetForm.{TargetForm}
 use Rattle.sv_head.specs.declared.target.TargetForm.TheVariants.{Absolute}
 use Rattle.sv_head.specs.TargetForm.{FitsForm, with_slash}
@@ -9,12 +9,14 @@ use Rattle.sv_wire.specs.Head.{target_in}
 use Rattle.sv_wire.proofs.head.read_target.Goals as goal
 
 same_target : (form : TargetForm) (len : ℕ) (target : List ℕ) → form ≡ Absolute len → FitsForm form target
-    → Path (with_slash (take (length target - (7 + len)) (drop (7 + len) target))) ≡ target_in form target
+    → Path (with_slash (drop (7 + len) target)) ≡ target_in form target
 same_target form len target is fits =
     let there : FitsForm (Absolute len) target = subst (λ f. FitsForm f target) is fits in
-    ap (λ t. Path (with_slash t)) (take_rest target (7 + len) ∙ sym (drop-drop len 7 target) ∙ ap (λ n. drop n (drop 7 target)) there.0)
+    ap (λ t. Path (with_slash t)) (sym (drop-drop len 7 target) ∙ ap (λ n. drop n (drop 7 target)) there.0)
     ∙ ap (λ f. target_in f target) (sym is)
 
 pub returns-in-Absolute : goal.returns-in-Absolute
 returns-in-Absolute c =
-    subst (λ t. GivesAnswer c.read_path.result t) (same_target c.args.form c.in-Absolute.len c.args.target.now c.in-Absolute.is c.requires) c.read_path.ensures
+    subst (λ t. GivesAnswer c.read_path.result t)
+    (ap (λ t. Path (with_slash t)) c.advance.ensures ∙ same_target c.args.form c.in-Absolute.len c.args.target c.in-Absolute.is c.requires)
+    c.read_path.ensures
