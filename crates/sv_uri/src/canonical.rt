@@ -2,7 +2,7 @@
 
 ghost use Rattle.std.specs.Prelude.{◌≡◌, false, ◌∷◌, MatchOption};
 ghost use Rattle.std.specs.Str.{byte};
-ghost use Rattle.sv_text.specs.Gives.{Gives};
+ghost use Rattle.sv_text.specs.Gives.{Gives, GivesAnswer};
 ghost use Rattle.sv_text.specs.Faults.{first_or};
 ghost use Rattle.sv_uri.specs.Fault.{path_fault};
 ghost use Rattle.sv_uri.specs.Target.{between_slashes};
@@ -11,12 +11,13 @@ ghost use Rattle.sv_uri.specs.Canonical.{canonical, begins_with_slash, path_faul
 
 use crate::fault::{CanonFault, PathFault};
 use crate::path::Canon;
+use crate::plain::as_it_came;
 use crate::query::read_query;
 use crate::segment::read_name;
 use crate::separator::before_and_behind;
 use crate::walk::Walk;
 use std::alloc::Global;
-use sv_text::Text;
+use sv_text::{NoMemory, Text};
 
 // The walk over all segments of what stands behind the first slash.
 fn walk_of<'a>(alloc: Global, path: &'a [u8]) -> Result<Walk<'a>, CanonFault>
@@ -32,11 +33,24 @@ fn walk_of<'a>(alloc: Global, path: &'a [u8]) -> Result<Walk<'a>, CanonFault>
     Ok(walk)
 }
 
-// The canonical path of what stands behind the first slash.
+// The text with a slash before it.
+fn behind_a_slash(alloc: Global, text: &str) -> Result<Text, NoMemory>
+    ensures { GivesAnswer result (byte "/" ∷ text.now) }
+{
+    let mut path = Text::with_room(alloc, text.len() + 1)?;
+    path.push_str(alloc, "/")?;
+    path.push_str(alloc, text)?;
+    Ok(path)
+}
+
+// The canonical path of what stands behind the first slash: it is not walked where it can stay as it came.
 fn canonical_path(alloc: Global, path: &[u8]) -> Result<Text, CanonFault>
     ensures { let segments = between_slashes path.now in
         Gives path_fault result (first_or (path_faults segments) (path_text segments)) }
 {
+    if let Some(plain) = as_it_came(path) {
+        return Ok(behind_a_slash(alloc, plain)?);
+    }
     let walk = walk_of(alloc, path)?;
     if walk.climbs {
         return Err(CanonFault::Path(PathFault::Climbs));

@@ -8,6 +8,7 @@ pub mod fault;
 pub mod laws;
 mod location_field;
 pub mod path;
+mod plain;
 mod query;
 mod segment;
 mod separator;
