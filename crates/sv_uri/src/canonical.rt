@@ -42,7 +42,7 @@ fn canonical_path(alloc: Global, path: &[u8]) -> Result<Text, CanonFault>
     if walk.climbs {
         return Err(CanonFault::Path(PathFault::Climbs));
     }
-    Ok(walk.into_path(alloc, path.len() + 1)?)
+    Ok(walk.path(alloc)?)
 }
 
 // The same where the path has to be walked.

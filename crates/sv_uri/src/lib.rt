@@ -7,6 +7,7 @@ mod context_path;
 pub mod fault;
 pub mod laws;
 mod location_field;
+mod name;
 pub mod path;
 mod plain;
 mod query;
