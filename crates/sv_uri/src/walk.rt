@@ -22,7 +22,7 @@ fn is_idle(name: &[u8]) -> bool
 }
 
 /// How many names a walk keeps without memory of its own.
-const FEW: usize = 8;
+const FEW: usize = 4;
 
 /// The names that are left of the segments that were entered.
 #[derive(Drop)]
