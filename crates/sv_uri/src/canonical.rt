@@ -72,6 +72,9 @@ pub fn canon(alloc: Global, target: &[u8]) -> Result<Canon, CanonFault>
 {
     if let Some((path, query)) = plain_parts(target) {
         let path = Text::copy_of(alloc, path)?;
+        if query.is_none() {
+            return Ok(Canon { path, query: None });
+        }
         let query = read_query(alloc, query)?;
         return Ok(Canon { path, query });
     }

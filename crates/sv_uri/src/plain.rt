@@ -13,9 +13,13 @@ fn means_itself(b: u8) -> bool
     32 <= b && b <= 126 && !(b == b'%' || b == b';' || b == b'\\' || b == b'?' || b == b'#')
 }
 
+// Most bytes are letters above `?`, which want the fewest tests.
 fn may_follow(before: u8, b: u8) -> bool
     ensures { result ≡ spec.may_follow before b }
 {
+    if b'?' < b {
+        return b <= 126 && b != b'\\';
+    }
     means_itself(b) && !(before == b'/' && (b == b'/' || b == b'.'))
 }
 
