@@ -1,10 +1,10 @@
 //! The journal.
 
-ghost use Rattle.std.specs.Prelude.{◌≡◌, true};
+ghost use Rattle.std.specs.Prelude.{◌≡◌, true, is_err};
 ghost use Rattle.sv_text.specs.Gives.{GivesAnswer};
 
 use crate::entry::Entry;
-use std::alloc::Global;
+use std::alloc::{AllocFailed, Global};
 use std::marker::Model;
 use sv_text::NoMemory;
 
@@ -78,12 +78,18 @@ impl Journal {
         requires { self.old.whole ≡ true }
         ensures { Takes self.old entry self.new }
     {
-        match self.entries.push(entry) {
-            Ok(()) => {}
-            Err(refused) => {
-                drop(refused);
-                self.whole = false;
-            }
+        if is_refused(self.entries.push(entry)) {
+            self.whole = false;
         }
+    }
+}
+
+// Whether there was no room. What found none is let go here, whatever it holds.
+fn is_refused<T: Drop>(pushed: Result<(), AllocFailed<T>>) -> bool
+    ensures { result ≡ is_err pushed }
+{
+    match pushed {
+        Ok(()) => false,
+        Err(_) => true,
     }
 }

@@ -1,7 +1,7 @@
 -- What dot segments do to the names in front of them.
-use Rattle.std.proofs.Common.{ℕ, suc, ◌≡◌, ◌+◌, ◌-◌, ◌<◌, ◌≤◌, true, false, ◌||◌, ltb, List, [], ◌∷◌, ◌++◌, length, take, take_all, Option, Some, sym, refl, ap, ◌∙◌, ⊎_elim, arith, zero, not, cond, Bool, eqb, append-nil, map, length-append, None, MatchOption, is_some}
+use Rattle.std.proofs.Common.{ℕ, suc, ◌≡◌, ◌+◌, ◌-◌, ◌<◌, ◌≤◌, true, false, ◌||◌, ltb, List, [], ◌∷◌, ◌++◌, length, take, take_all, Option, Some, sym, refl, ap, ◌∙◌, ⊎_elim, arith, zero, not, cond, Bool, eqb, append-nil, map, length-append, None, IsSome, is_some, ◌↔◌}
 use Rattle.std.specs.List.{All, last_or, count_by}
-use Rattle.std.proofs.lemmas.Bool.{cases_Bool, cond-true, cond-false, cond_both, or_parts, lt-ltb, le-ltb, or_left, or_right, or_from, cases_lt, ltb-true, not_from_true, not_from_false, not-true, not-false, ne_eqb}
+use Rattle.std.proofs.lemmas.Bool.{false≢true, cases_Bool, cond-true, cond-false, cond_both, or_parts, lt-ltb, le-ltb, or_left, or_right, or_from, cases_lt, ltb-true, not_from_true, not_from_false, not-true, not-false, ne_eqb}
 use Rattle.std.proofs.lemmas.List.Elements.{All-nil, All-cons, All-head, All-tail, filter-append}
 use Rattle.sv_uri.specs.Segment.{is_parent}
 use Rattle.sv_uri.specs.DotSegments.{removed_in_front, remaining, is_idle, kept, climbs}
@@ -209,13 +209,17 @@ IsLeftOf-parent names left climbed none open_end seen name parent shorter empty 
       opened_by = rw (last_or-push seen None name, parent, parent_is_not_idle name parent) refl;
     }
 
--- a list of n items after its last was popped
-pub popped : {X Y : Type 0} (f : X → Y) (before after : List X) (item : Option X) (none : Bool) (n m : ℕ) → before ≡ after ++ option_to_list item → after ≡ take (n - 1) before → MatchOption item ((n ≡ 0) × (m ≡ 0)) (λ _. m + 1 ≡ n) → is_some item ≡ not none → (map f after ≡ take (length (map f before) - 1) (map f before)) × (none ≡ eqb (length (map f before)) 0)
-popped f before after None none n m whole rest count said =
-    let empty : after ≡ [] = rest ∙ ap (λ k. take (k - 1) before) count.0 in
-    let nothing : before ≡ [] = whole ∙ rw empty refl in
+emptied : {X : Type 0} (xs : List X) → (0 < length xs → ⊥) → xs ≡ []
+emptied [] never = refl
+emptied (x ∷ xs) never = absurd (never (omega arith))
+
+-- a list after its last item was popped
+pub popped : {X Y : Type 0} (f : X → Y) (before after : List X) (item : Option X) (none : Bool) → before ≡ after ++ option_to_list item → after ≡ take (length before - 1) before → IsSome item ↔ (0 < length before) → is_some item ≡ not none → (map f after ≡ take (length (map f before) - 1) (map f before)) × (none ≡ eqb (length (map f before)) 0)
+popped f before after None none whole rest count said =
+    let nothing : before ≡ [] = emptied before (λ some. false≢true (count.1 some)) in
+    let empty : after ≡ [] = rest ∙ rw nothing refl in
     rw (nothing, empty) (refl, not-false _ (sym said))
-popped f before after (Some x) none n m whole rest count said =
+popped f before after (Some x) none whole rest count said =
     let front : map f before ≡ map f after ++ f x ∷ [] = rw whole (map-append f after (x ∷ [])) in
     let long : length (map f before) ≡ length (map f after) + 1 = ap length front ∙ length-append (map f after) (f x ∷ []) in
     let one_less : length (map f before) - 1 ≡ length (map f after) = omega arith in

@@ -84,7 +84,7 @@ begins (name ∷ rest) some =
     (cases_Bool (ends_open (last_or (Some name) rest)))
 
 -- literal names that are plain are segments without a fault, which name themselves
-faultless_names : (names : List (List ℕ)) → All IsPlain names → All (λ name. holds (byte "%") name ≡ false) names → All (λ name. holds (byte ";") name ≡ false) names → (flat_map segment_faults names ≡ []) × (map name_of names ≡ names)
+pub faultless_names : (names : List (List ℕ)) → All IsPlain names → All (λ name. holds (byte "%") name ≡ false) names → All (λ name. holds (byte ";") name ≡ false) names → (flat_map segment_faults names ≡ []) × (map name_of names ≡ names)
 faultless_names [] plain percentless semicolonless = (refl, refl)
 faultless_names (name ∷ rest) plain percentless semicolonless =
     let own = All-head IsPlain name rest plain in

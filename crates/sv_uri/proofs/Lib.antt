@@ -2,6 +2,7 @@ mod AnswerLemmas
 mod DotSegmentLemmas
 mod ItsOwnLemmas
 mod LocationLemmas
+mod PlainLemmas
 mod QueryLemmas
 mod SegmentLemmas
 mod ShapeLemmas

@@ -4,6 +4,8 @@ pub mod DotSegments
 pub mod Fault
 pub mod Laws
 pub mod LocationField
+pub mod Name
+pub mod Plain
 pub mod Segment
 pub mod Shape
 pub mod Target

@@ -1,19 +1,18 @@
 -- What a walk over the segments of a path keeps of those that it has seen: RFC 3986, section 5.2.4.
 use Rattle.std.specs.Prelude.{ℕ, ◌≡◌, Bool, List, [], map, None, Result, Ok, Err, MatchOption}
 use Rattle.std.specs.List.{last_or, flat_map}
-use Rattle.std.specs.Cow.{cow_slice_items}
-use Rattle.std.specs.declared.borrow.CowSlice.{CowSlice}
-use Rattle.std.specs.declared.alloc.Global.{Global}
+use Rattle.sv_uri.specs.declared.name.Name.{Name}
 use Rattle.sv_uri.specs.declared.walk.Walk.{Walk}
 use Rattle.sv_uri.specs.declared.fault.CanonFault.{CanonFault}
 use Rattle.sv_text.specs.Faults.{first_or}
 use Rattle.sv_uri.specs.Fault.{path_fault}
+use Rattle.sv_uri.specs.Name.{bytes_of}
 use Rattle.sv_uri.specs.Segment.{name_of, segment_faults}
 use Rattle.sv_uri.specs.DotSegments.{kept, remaining, climbs, ends_open}
 
 -- the bytes of each name
-abbrev pub shown : List (CowSlice ℕ Global) → List (List ℕ)
-shown names = map cow_slice_items names
+abbrev pub shown : List Name → List (List ℕ)
+shown names = map bytes_of names
 
 -- what is left of these segments, whether they climb, and whether the last leaves the path open
 pub record IsLeftOf (names : List (List ℕ)) (climbed open_end : Bool) (seen : List (List ℕ)) : Type 0 where

@@ -11,9 +11,10 @@ ghost use Rattle.sv_uri.specs.Canonical.{canonical, begins_with_slash, path_faul
 
 use crate::fault::{CanonFault, PathFault};
 use crate::path::Canon;
+use crate::plain::plain_parts;
 use crate::query::read_query;
 use crate::segment::read_name;
-use crate::separator::before_and_behind;
+use crate::separator::{before_and_behind, behind_slash};
 use crate::walk::Walk;
 use std::alloc::Global;
 use sv_text::Text;
@@ -41,27 +42,11 @@ fn canonical_path(alloc: Global, path: &[u8]) -> Result<Text, CanonFault>
     if walk.climbs {
         return Err(CanonFault::Path(PathFault::Climbs));
     }
-    Ok(walk.into_path(alloc, path.len() + 1)?)
+    Ok(walk.path(alloc)?)
 }
 
-// What stands behind the slash with which a target begins.
-fn behind_slash(target: &[u8]) -> Option<&[u8]>
-    ensures { MatchOption result (begins_with_slash target.now ≡ false)
-        (λ relative. target.now ≡ byte "/" ∷ relative.now) }
-{
-    match target {
-        [b'/', relative @ ..] => Some(relative),
-        _ => None,
-    }
-}
-
-/// The canonical path of a request target, with its query (Jakarta Servlet 6.0, section 3.5.2; RFC 3986, section 5.2.4).
-///
-/// The query is cut off at the first `?`, the rest split at each `/`, each segment cut at its first `;` and decoded once. Empty
-/// segments and `.` are dropped, `..` removes the name before it, and where the last segment is empty, `.` or `..` the path ends in `/`.
-/// The target may hold any bytes; a wrong one is answered with the first of its faults, in the order of [`PathFault`], and
-/// `CanonFault::NoMemory` comes only where a growth was refused. The work is linear in the length of the target.
-pub fn canon(alloc: Global, target: &[u8]) -> Result<Canon, CanonFault>
+// The same where the path has to be walked.
+fn walked(alloc: Global, target: &[u8]) -> Result<Canon, CanonFault>
     ensures { Gives path_fault result (canonical target.now) }
 {
     if target.contains(&b'#') {
@@ -74,4 +59,24 @@ pub fn canon(alloc: Global, target: &[u8]) -> Result<Canon, CanonFault>
     let path = canonical_path(alloc, path)?;
     let query = read_query(alloc, query)?;
     Ok(Canon { path, query })
+}
+
+/// The canonical path of a request target, with its query (Jakarta Servlet 6.0, section 3.5.2; RFC 3986, section 5.2.4).
+///
+/// The query is cut off at the first `?`, the rest split at each `/`, each segment cut at its first `;` and decoded once. Empty
+/// segments and `.` are dropped, `..` removes the name before it, and where the last segment is empty, `.` or `..` the path ends in `/`.
+/// The target may hold any bytes; a wrong one is answered with the first of its faults, in the order of [`PathFault`], and
+/// `CanonFault::NoMemory` comes only where a growth was refused. The work is linear in the length of the target.
+pub fn canon(alloc: Global, target: &[u8]) -> Result<Canon, CanonFault>
+    ensures { Gives path_fault result (canonical target.now) }
+{
+    if let Some((path, query)) = plain_parts(target) {
+        let path = Text::copy_of(alloc, path)?;
+        if query.is_none() {
+            return Ok(Canon { path, query: None });
+        }
+        let query = read_query(alloc, query)?;
+        return Ok(Canon { path, query });
+    }
+    walked(alloc, target)
 }

@@ -6,6 +6,7 @@ ghost use Rattle.sv_uri.specs.Target as target;
 
 use percent_encoding::{AsciiSet, CONTROLS, ascii_set, percent_encode};
 use std::alloc::Global;
+use std::borrow::CowStr;
 use sv_text::{NoMemory, Text};
 
 // The bytes below 128 that are written as escapes; all bytes from 128 up are.
@@ -14,9 +15,10 @@ const ESCAPED: AsciiSet = ascii_set!(CONTROLS.add(b' '));
 fn visible_query(alloc: Global, query: &[u8]) -> Result<Text, NoMemory>
     ensures { GivesAnswer result (target.visible_query query.now) }
 {
-    let mut text = String::with_capacity(alloc, query.len())?;
-    percent_encode(query, ESCAPED).append_to(&mut text)?;
-    Ok(Text::from_string(text))
+    match percent_encode(query, ESCAPED).into_cow(alloc)? {
+        CowStr::Borrowed(text) => Text::copy_of(alloc, text),
+        CowStr::Owned(text) => Ok(Text::from_string(text)),
+    }
 }
 
 /// The query of a target, where it has one, with each byte outside 33 to 126 as an escape.

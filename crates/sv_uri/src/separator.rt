@@ -1,7 +1,9 @@
 //! What stands before a separator, and what stands behind it.
 
-ghost use Rattle.std.specs.Prelude.{◌≡◌, ◌==◌, position};
+ghost use Rattle.std.specs.Prelude.{◌≡◌, ◌==◌, ◌∷◌, false, position, MatchOption};
 ghost use Rattle.std.specs.Option.{option_copied};
+ghost use Rattle.std.specs.Str.{byte};
+ghost use Rattle.sv_uri.specs.Canonical.{begins_with_slash};
 ghost use Rattle.sv_uri.specs.Target as target;
 
 fn place_of(bytes: &[u8], separator: u8) -> Option<usize>
@@ -18,5 +20,16 @@ pub(crate) fn before_and_behind(bytes: &[u8], separator: u8) -> (&[u8], Option<&
     match place_of(bytes, separator) {
         Some(place) => (&bytes[..place], Some(&bytes[place + 1..])),
         None => (bytes, None),
+    }
+}
+
+/// What stands behind the slash with which a target begins.
+pub(crate) fn behind_slash(target: &[u8]) -> Option<&[u8]>
+    ensures { MatchOption result (begins_with_slash target.now ≡ false)
+        (λ relative. target.now ≡ byte "/" ∷ relative.now) }
+{
+    match target {
+        [b'/', relative @ ..] => Some(relative),
+        _ => None,
     }
 }

@@ -8,7 +8,9 @@ ghost use Rattle.sv_text.specs.Gives.{GivesAnswer};
 ghost use Rattle.sv_uri.specs.DotSegments as spec;
 ghost use Rattle.sv_uri.specs.Walked.{shown, HasSeen};
 
+use crate::name::Name;
 use crate::segment::{is_parent, is_same};
+use smallvec::SmallVec;
 use std::alloc::Global;
 use std::borrow::CowSlice;
 use sv_text::{NoMemory, Text};
@@ -19,10 +21,13 @@ fn is_idle(name: &[u8]) -> bool
     name.is_empty() || is_same(name)
 }
 
+/// How many names a walk keeps without memory of its own.
+const FEW: usize = 4;
+
 /// The names that are left of the segments that were entered.
 #[derive(Drop)]
 pub(crate) struct Walk<'a> {
-    pub(crate) names: Vec<CowSlice<'a, u8, Global>>,
+    pub(crate) names: SmallVec<Name<'a>, FEW>,
     pub(crate) climbs: bool,
     pub(crate) is_open: bool,
 }
@@ -33,7 +38,7 @@ impl<'a> Walk<'a> {
         ensures { HasSeen result [] }
     {
         Walk {
-            names: Vec::new(alloc),
+            names: SmallVec::new(alloc),
             climbs: false,
             is_open: false,
         }
@@ -51,41 +56,44 @@ impl<'a> Walk<'a> {
         } else if is_idle(bytes) {
             self.is_open = true;
         } else {
-            self.names.push(name)?;
+            self.names.push(Name { bytes: name })?;
             self.is_open = false;
         }
         Ok(())
     }
 
     /// The path of the names that are left, a slash before each; it ends in a slash where the last segment was no name.
-    pub(crate) fn into_path(self, alloc: Global, capacity: usize) -> Result<Text, NoMemory>
-        requires { All IsUtf8 (shown self.names.items) }
+    pub(crate) fn path(&self, alloc: Global) -> Result<Text, NoMemory>
+        requires { All IsUtf8 (shown self.now.names.items) }
         ensures { GivesAnswer result (flat_map (λ name. byte "/" ∷ name)
-            (shown self.entry.names.items ++ (if self.entry.is_open then [] ∷ [] else []))) }
+            (shown self.now.names.items ++ (if self.now.is_open then [] ∷ [] else []))) }
     {
-        let mut path = joined(alloc, self.names.as_slice(), capacity)?;
+        let mut path = joined(alloc, self.names.as_slice())?;
         if self.is_open {
-            path.push(b'/')?;
+            path.push_str(alloc, "/")?;
         }
-        let Ok(path) = String::from_utf8(path) else {
-            unreachable!()
-        };
-        Ok(Text::from_string(path))
+        Ok(path)
     }
 }
 
-// A slash and then the name, for each name.
-fn joined(
-    alloc: Global,
-    names: &[CowSlice<'_, u8, Global>],
-    capacity: usize,
-) -> Result<Vec<u8>, NoMemory>
-    ensures { IfOk result (λ path. path.items ≡ flat_map (λ name. byte "/" ∷ name) (shown names.now)) }
-{
-    let mut path = Vec::with_capacity(alloc, capacity)?;
+// The bytes of all names, with a slash before each and one behind them.
+fn room_of(names: &[Name<'_>]) -> usize {
+    let mut room: usize = 1;
     for name in names {
-        path.push(b'/')?;
-        path.extend_from_slice(name.as_slice())?;
+        room = room.saturating_add(name.bytes.len()).saturating_add(1);
+    }
+    room
+}
+
+// A slash and then the name, for each name.
+fn joined(alloc: Global, names: &[Name<'_>]) -> Result<Text, NoMemory>
+    requires { All IsUtf8 (shown names.now) }
+    ensures { GivesAnswer result (flat_map (λ name. byte "/" ∷ name) (shown names.now)) }
+{
+    let mut path = Text::with_room(alloc, room_of(names))?;
+    for name in names {
+        path.push_str(alloc, "/")?;
+        path.push_str(alloc, name.as_str())?;
     }
     Ok(path)
 }

@@ -1,5 +1,5 @@
 use Rattle.sv_uri.proofs.AnswerLemmas.{names_are_texts}
 use Rattle.sv_uri.proofs.canonical.canonical_path.Goals as goal
 
-pub into_path-requires : goal.into_path-requires
-into_path-requires c = names_are_texts c.in_ok-walk.walk _ c.in_ok-walk.ensures.0 c.in_ok-walk.ensures.1
+pub path-requires : goal.path-requires
+path-requires c = names_are_texts c.in_ok-walk.walk _ c.in_ok-walk.ensures.0 c.in_ok-walk.ensures.1

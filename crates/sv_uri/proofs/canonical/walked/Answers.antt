@@ -3,7 +3,7 @@ use Rattle.std.specs.Option.{option_map}
 use Rattle.std.proofs.lemmas.Result.{err_from_is_err_and}
 use Rattle.sv_uri.specs.Target.{visible_query}
 use Rattle.sv_uri.proofs.AnswerLemmas.{fault_answer, target_answer}
-use Rattle.sv_uri.proofs.canonical.canon.Goals as goal
+use Rattle.sv_uri.proofs.canonical.walked.Goals as goal
 
 pub returns-in_err-path : goal.returns-in_err-path
 returns-in_err-path c =
