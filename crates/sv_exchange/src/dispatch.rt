@@ -90,8 +90,8 @@ pub(crate) fn shown(text: &Option<Text>) -> Option<&str>
 fn joined(alloc: Global, front: &str, back: &str) -> Result<Text, NoMemory>
     ensures { GivesAnswer result (front.now ++ back.now) }
 {
-    let mut text = String::with_capacity(alloc, front.len() + back.len())?;
-    text.push_str(front)?;
-    text.push_str(back)?;
-    Ok(Text::from_string(text))
+    let mut text = Text::with_room(alloc, front.len() + back.len())?;
+    text.push_str(alloc, front)?;
+    text.push_str(alloc, back)?;
+    Ok(text)
 }
