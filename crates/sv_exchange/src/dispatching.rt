@@ -31,6 +31,7 @@ impl Exchange {
             (paths_at self.old.context_path path.now (Some servlet_path.now) (option_copied path_info.entry) (option_copied query.entry)) self.old) }
         ensures refused { OnErr result (self.new ≡ self.old) }
     {
+        make_room(&mut self.dispatches)?;
         let context_path = self.context_path.as_str();
         let paths = Paths::copy_of(
             self.alloc,
@@ -60,7 +61,7 @@ impl Exchange {
         requires { 0 < length self.old.dispatches }
         ensures { Leaves self.old self.new }
     {
-        let _ended = self.dispatches.pop();
+        drop(self.dispatches.pop());
     }
 
     /// Empties what was written behind the last flush, without taking memory.
@@ -141,4 +142,14 @@ impl Exchange {
             _ => Ok(None),
         }
     }
+}
+
+// Gives a list of no dispatches room for one: most requests have no more, and a dispatch is large.
+fn make_room(dispatches: &mut Vec<Dispatch>) -> Result<(), NoMemory>
+    ensures { dispatches.new.items ≡ dispatches.old.items }
+{
+    if dispatches.capacity() == 0 {
+        dispatches.reserve_exact(1)?;
+    }
+    Ok(())
 }
