@@ -14,6 +14,7 @@ mod exchange;
 mod exchange_fault;
 mod fields;
 mod flushed;
+mod frequent;
 mod held_session;
 mod holding;
 mod kept_error;
