@@ -5,6 +5,7 @@ ghost use Rattle.std.specs.Option.{option_copied};
 ghost use Rattle.sv_text.specs.Gives.{GivesAnswer};
 ghost use Rattle.sv_exchange.specs.Dispatches.{is_include, paths_at};
 
+use crate::rare::Rare;
 use crate::told_error::ToldError;
 use std::alloc::Global;
 use sv_mapping::Kind;
@@ -16,7 +17,7 @@ pub struct Dispatch {
     pub kind: Kind,
     pub paths: Paths,
     /// The error that was kept when an error page began; `None` for other kinds.
-    pub error: Option<ToldError>,
+    pub error: Rare<ToldError>,
 }
 
 /// The paths of a request or of a dispatch (Jakarta Servlet 6.0, section 3.5).

@@ -7,6 +7,7 @@ ghost use Rattle.sv_text.specs.Gives.{GivesAnswer};
 use crate::dispatch::{Dispatch, Paths, copied};
 use crate::exchange::Exchange;
 use crate::kept_error::{KeptError, KeptField};
+use crate::rare::Rare;
 use crate::told_error::ToldError;
 use sv_mapping::Kind;
 use sv_text::{NoMemory, Text};
@@ -99,7 +100,7 @@ impl Exchange {
             servlet: copied(self.alloc, servlet)?,
             field,
         };
-        self.kept = Some(kept);
+        self.kept = Rare::some(self.alloc, kept)?;
         Ok(())
     }
 
@@ -115,7 +116,7 @@ impl Exchange {
     pub fn kept(&self) -> Option<&KeptError>
         ensures { option_copied result ≡ self.now.kept }
     {
-        self.kept.as_ref()
+        self.kept.get()
     }
 
     /// How many calls of `before` and `service` the request has had.
@@ -134,12 +135,15 @@ impl Exchange {
     }
 
     // What an error page of this moment is told; nothing for other kinds.
-    fn error_in(&self, kind: Kind) -> Result<Option<ToldError>, NoMemory>
+    fn error_in(&self, kind: Kind) -> Result<Rare<ToldError>, NoMemory>
         ensures { GivesAnswer result (error_in kind self.now.kept) }
     {
-        match (kind, &self.kept) {
-            (Kind::Error, Some(kept)) => Ok(Some(ToldError::of(self.alloc, kept)?)),
-            _ => Ok(None),
+        match (kind, self.kept.get()) {
+            (Kind::Error, Some(kept)) => {
+                let told = ToldError::of(self.alloc, kept)?;
+                Rare::some(self.alloc, told)
+            }
+            _ => Ok(Rare::none()),
         }
     }
 }

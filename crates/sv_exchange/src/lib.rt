@@ -22,6 +22,7 @@ mod laws;
 mod limits;
 mod listing;
 mod parameters;
+mod rare;
 mod reading;
 mod request;
 mod sessions;
