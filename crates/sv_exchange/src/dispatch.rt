@@ -91,6 +91,9 @@ pub(crate) fn shown(text: &Option<Text>) -> Option<&str>
 fn joined(alloc: Global, front: &str, back: &str) -> Result<Text, NoMemory>
     ensures { GivesAnswer result (front.now ++ back.now) }
 {
+    if front.is_empty() {
+        return Text::copy_of(alloc, back);
+    }
     let mut text = Text::with_room(alloc, front.len() + back.len())?;
     text.push_str(alloc, front)?;
     text.push_str(alloc, back)?;
