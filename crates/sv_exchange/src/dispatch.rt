@@ -37,6 +37,7 @@ pub struct Paths {
 
 impl Paths {
     /// Copies the paths of a context's request.
+    #[inline(always)]
     pub(crate) fn copy_of(
         alloc: Global,
         context_path: &str,
