@@ -5,7 +5,10 @@ ghost use Rattle.sv_exchange.specs.Changing.{Reaches};
 use crate::plain::{done, write_plain};
 use std::alloc::Global;
 use sv_component::{Config, Exchange, Init, Servlet, Step};
-use sv_text::NoMemory;
+use sv_text::{NoMemory, Text};
+
+// What stands in front of the caller's name.
+const FRONT: &str = "caller ";
 
 /// Writes a line with the caller's name, `-` where there is none.
 #[derive(Drop)]
@@ -33,8 +36,17 @@ impl Servlet for Who {
 fn write_caller(alloc: Global, exchange: &mut Exchange) -> Result<(), NoMemory>
     ensures { Reaches exchange.old exchange.new }
 {
-    let line = format!(in alloc; "caller {}\n", caller_name(exchange))?;
+    let line = line_of(alloc, caller_name(exchange))?;
     write_plain(exchange, line.as_bytes())
+}
+
+// The line that names a caller. That of a short name takes no memory.
+fn line_of(alloc: Global, name: &str) -> Result<Text, NoMemory> {
+    let mut line = Text::with_room(alloc, name.len() + FRONT.len() + 1)?;
+    line.push_str(alloc, FRONT)?;
+    line.push_str(alloc, name)?;
+    line.push_str(alloc, "\n")?;
+    Ok(line)
 }
 
 fn caller_name(exchange: &Exchange) -> &str {

@@ -127,7 +127,7 @@ fn told_by<'a>(dispatch: &'a Dispatch, exchange: &'a Exchange, rest: &[u8]) -> O
             if rest == REQUEST_URI {
                 Some(exchange.client.uri.as_str())
             } else {
-                let error = dispatch.error.as_ref()?;
+                let error = dispatch.error.get()?;
                 told_of_error(rest, error)
             }
         }

@@ -7,7 +7,10 @@ use crate::attributes::{is_reserved_attribute, set_value};
 use crate::exchange::Exchange;
 use crate::exchange_fault::ExchangeFault;
 use crate::fields::{add_field, is_field, is_reserved_field, set_field};
-use crate::limits::{LEAST_STATUS, MAX_BODY_LEN, MAX_STATUS, NOT_MODIFIED, RESET_CONTENT};
+use crate::limits::{
+    FIRST_ROOM, LEAST_STATUS, MAX_BODY_LEN, MAX_STATUS, NOT_MODIFIED, RESET_CONTENT,
+};
+use sv_text::NoMemory;
 
 impl Exchange {
     ghost use Rattle.sv_exchange.specs.Dispatches.{is_within_include};
@@ -142,6 +145,9 @@ impl Exchange {
         if !self.has_room(bytes.len()) {
             return Err(ExchangeFault::TooLarge);
         }
+        if !self.committed {
+            make_room(&mut self.buffer, bytes.len())?;
+        }
         self.buffer.extend_from_slice(bytes)?;
         Ok(true)
     }
@@ -163,6 +169,16 @@ impl Exchange {
         self.committed = true;
         Ok(true)
     }
+}
+
+// Gives a body of which nothing was written room for that many bytes, and for some more, so that small writes behind it need no growth.
+fn make_room(buffer: &mut Vec<u8>, count: usize) -> Result<(), NoMemory>
+    ensures { buffer.new.items ≡ buffer.old.items }
+{
+    if buffer.capacity() == 0 {
+        buffer.reserve(count.max(FIRST_ROOM))?;
+    }
+    Ok(())
 }
 
 // Whether a component may set the status.

@@ -5,6 +5,7 @@ ghost use Rattle.std.specs.Option.{option_copied};
 ghost use Rattle.sv_text.specs.Gives.{GivesAnswer};
 ghost use Rattle.sv_exchange.specs.Dispatches.{is_include, paths_at};
 
+use crate::rare::Rare;
 use crate::told_error::ToldError;
 use std::alloc::Global;
 use sv_mapping::Kind;
@@ -16,7 +17,7 @@ pub struct Dispatch {
     pub kind: Kind,
     pub paths: Paths,
     /// The error that was kept when an error page began; `None` for other kinds.
-    pub error: Option<ToldError>,
+    pub error: Rare<ToldError>,
 }
 
 /// The paths of a request or of a dispatch (Jakarta Servlet 6.0, section 3.5).
@@ -36,6 +37,7 @@ pub struct Paths {
 
 impl Paths {
     /// Copies the paths of a context's request.
+    #[inline(always)]
     pub(crate) fn copy_of(
         alloc: Global,
         context_path: &str,
@@ -90,8 +92,11 @@ pub(crate) fn shown(text: &Option<Text>) -> Option<&str>
 fn joined(alloc: Global, front: &str, back: &str) -> Result<Text, NoMemory>
     ensures { GivesAnswer result (front.now ++ back.now) }
 {
-    let mut text = String::with_capacity(alloc, front.len() + back.len())?;
-    text.push_str(front)?;
-    text.push_str(back)?;
-    Ok(Text::from_string(text))
+    if front.is_empty() {
+        return Text::copy_of(alloc, back);
+    }
+    let mut text = Text::with_room(alloc, front.len() + back.len())?;
+    text.push_str(alloc, front)?;
+    text.push_str(alloc, back)?;
+    Ok(text)
 }

@@ -7,6 +7,7 @@ ghost use Rattle.sv_text.specs.Gives.{GivesAnswer};
 use crate::dispatch::{Dispatch, Paths, copied};
 use crate::exchange::Exchange;
 use crate::kept_error::{KeptError, KeptField};
+use crate::rare::Rare;
 use crate::told_error::ToldError;
 use sv_mapping::Kind;
 use sv_text::{NoMemory, Text};
@@ -31,6 +32,7 @@ impl Exchange {
             (paths_at self.old.context_path path.now (Some servlet_path.now) (option_copied path_info.entry) (option_copied query.entry)) self.old) }
         ensures refused { OnErr result (self.new ≡ self.old) }
     {
+        make_room(&mut self.dispatches)?;
         let context_path = self.context_path.as_str();
         let paths = Paths::copy_of(
             self.alloc,
@@ -60,7 +62,7 @@ impl Exchange {
         requires { 0 < length self.old.dispatches }
         ensures { Leaves self.old self.new }
     {
-        let _ended = self.dispatches.pop();
+        drop(self.dispatches.pop());
     }
 
     /// Empties what was written behind the last flush, without taking memory.
@@ -98,7 +100,7 @@ impl Exchange {
             servlet: copied(self.alloc, servlet)?,
             field,
         };
-        self.kept = Some(kept);
+        self.kept = Rare::some(self.alloc, kept)?;
         Ok(())
     }
 
@@ -114,7 +116,7 @@ impl Exchange {
     pub fn kept(&self) -> Option<&KeptError>
         ensures { option_copied result ≡ self.now.kept }
     {
-        self.kept.as_ref()
+        self.kept.get()
     }
 
     /// How many calls of `before` and `service` the request has had.
@@ -133,12 +135,25 @@ impl Exchange {
     }
 
     // What an error page of this moment is told; nothing for other kinds.
-    fn error_in(&self, kind: Kind) -> Result<Option<ToldError>, NoMemory>
+    fn error_in(&self, kind: Kind) -> Result<Rare<ToldError>, NoMemory>
         ensures { GivesAnswer result (error_in kind self.now.kept) }
     {
-        match (kind, &self.kept) {
-            (Kind::Error, Some(kept)) => Ok(Some(ToldError::of(self.alloc, kept)?)),
-            _ => Ok(None),
+        match (kind, self.kept.get()) {
+            (Kind::Error, Some(kept)) => {
+                let told = ToldError::of(self.alloc, kept)?;
+                Rare::some(self.alloc, told)
+            }
+            _ => Ok(Rare::none()),
         }
     }
+}
+
+// Gives a list of no dispatches room for one: most requests have no more, and a dispatch is large.
+fn make_room(dispatches: &mut Vec<Dispatch>) -> Result<(), NoMemory>
+    ensures { dispatches.new.items ≡ dispatches.old.items }
+{
+    if dispatches.capacity() == 0 {
+        dispatches.reserve_exact(1)?;
+    }
+    Ok(())
 }

@@ -11,6 +11,7 @@ use crate::held_session::HeldSession;
 use crate::holding::{held_cookie, parts_of};
 use crate::kept_error::KeptError;
 use crate::limits::OK;
+use crate::rare::Rare;
 use http::Method;
 use std::alloc::Global;
 use std::collections::VecDeque;
@@ -44,12 +45,12 @@ pub struct Exchange {
     pub(crate) committed: bool,
     pub(crate) broken: bool,
     pub(crate) calls: u32,
-    pub(crate) kept: Option<KeptError>,
+    pub(crate) kept: Rare<KeptError>,
     pub(crate) words: (u64, u64),
     pub(crate) sessions: Sessions,
     pub(crate) session: Option<u64>,
     pub(crate) caller: Option<Caller>,
-    pub(crate) cookie: Option<Cookie>,
+    pub(crate) cookie: Rare<Cookie>,
     pub(crate) events: VecDeque<Event>,
 }
 
@@ -136,7 +137,7 @@ impl Exchange {
             committed: false,
             broken: false,
             calls: 0,
-            kept: None,
+            kept: Rare::none(),
             words,
             sessions,
             session,
@@ -163,7 +164,7 @@ impl Exchange {
         let response = Response {
             status: self.status,
             fields: Listed::from_vec(self.fields),
-            cookie: self.cookie,
+            cookie: self.cookie.into_option(),
             body,
         };
         (response, self.sessions)

@@ -9,6 +9,7 @@ ghost use Rattle.sv_exchange.specs.Sessions.{context_cookie_path, cookie_of, coo
 
 use crate::exchange::Exchange;
 use crate::held_session::HeldSession;
+use crate::rare::Rare;
 use std::alloc::Global;
 use sv_message::{Cookie, CookieSettings};
 use sv_realm::Caller;
@@ -107,12 +108,12 @@ pub(crate) fn held_cookie(
     context_path: &str,
     sessions: &Sessions,
     held: &Option<HeldSession>,
-) -> Result<Option<Cookie>, NoMemory>
+) -> Result<Rare<Cookie>, NoMemory>
     ensures { GivesAnswer result (option_and_then (renewed_cookie settings.now context_path.now sessions.now) held.now) }
 {
     match held {
         Some(held) => renewed_cookie(alloc, settings, context_path, sessions, held),
-        None => Ok(None),
+        None => Ok(Rare::none()),
     }
 }
 
@@ -122,18 +123,19 @@ fn renewed_cookie(
     context_path: &str,
     sessions: &Sessions,
     held: &HeldSession,
-) -> Result<Option<Cookie>, NoMemory>
+) -> Result<Rare<Cookie>, NoMemory>
     ensures { GivesAnswer result (renewed_cookie settings.now context_path.now sessions.now held.now) }
 {
     if !held.is_renewed {
-        return Ok(None);
+        return Ok(Rare::none());
     }
     match sessions.id(held.number) {
         Some(id) => {
             let id = Text::copy_of(alloc, id)?;
-            Ok(Some(cookie_of(alloc, settings, context_path, id)?))
+            let cookie = cookie_of(alloc, settings, context_path, id)?;
+            Rare::some(alloc, cookie)
         }
-        None => Ok(None),
+        None => Ok(Rare::none()),
     }
 }
 

@@ -3,6 +3,9 @@
 /// The longest body of a response, in bytes.
 pub const MAX_BODY_LEN: usize = 4_194_304;
 
+/// For how many bytes a body has room once something is written.
+pub(crate) const FIRST_ROOM: usize = 256;
+
 /// The longest name of a field, in bytes.
 pub(crate) const MAX_FIELD_NAME_LEN: usize = 65_535;
 

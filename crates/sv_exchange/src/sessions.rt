@@ -8,6 +8,7 @@ use crate::events::{ending_events, push};
 use crate::exchange::Exchange;
 use crate::exchange_fault::ExchangeFault;
 use crate::holding::cookie_of;
+use crate::rare::Rare;
 use sv_event::Event;
 use sv_text::Text;
 
@@ -75,10 +76,11 @@ impl Exchange {
         let id = self.sessions.next_id(self.words)?;
         let path = self.context_path.as_str();
         let cookie = cookie_of(self.alloc, &self.cookie_settings, path, id)?;
+        let cookie = Rare::some(self.alloc, cookie)?;
         self.events.reserve(1)?;
         let number = self.sessions.open(self.words, self.moment)?;
         self.session = Some(number);
-        self.cookie = Some(cookie);
+        self.cookie = cookie;
         push(&mut self.events, Event::SessionCreated(number));
         Ok(true)
     }
@@ -130,7 +132,7 @@ impl Exchange {
         self.session = None;
         self.caller = None;
         if !self.committed {
-            self.cookie = None;
+            self.cookie = Rare::none();
         }
         Ok(true)
     }

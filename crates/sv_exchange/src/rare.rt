@@ -1,0 +1,65 @@
+//! A value that is seldom there.
+
+ghost use Rattle.std.specs.Prelude.{◌≡◌, None, Some};
+ghost use Rattle.std.specs.Option.{option_copied};
+ghost use Rattle.sv_text.specs.Gives.{GivesAnswer};
+
+use std::alloc::Global;
+use std::marker::Model;
+use sv_text::NoMemory;
+
+/// A value that is seldom there, in memory of its own: what holds it stays small, and is moved at less cost. Contracts see an option.
+#[derive(Debug, Drop)]
+pub struct Rare<T> {
+    inner: Option<Box<T>>,
+}
+
+impl<T> Model for Rare<T> {
+    ghost use Rattle.std.specs.Prelude.{Option};
+    ghost use Rattle.std.specs.Option.{option_map};
+
+    ghost Value = { Option T };
+
+    ghost view = { λ rare. option_map (λ boxed. boxed.value) rare.inner };
+}
+
+impl<T> Rare<T> {
+    /// No value. It takes no memory.
+    pub(crate) fn none() -> Rare<T>
+        ensures { result ≡ None }
+    {
+        Rare { inner: None }
+    }
+
+    /// The value, where there is one.
+    pub(crate) fn get(&self) -> Option<&T>
+        ensures { option_copied result ≡ self.now }
+    {
+        match &self.inner {
+            Some(boxed) => Some(boxed.as_ref()),
+            None => None,
+        }
+    }
+
+    /// Gives the value back, without taking memory.
+    pub(crate) fn into_option(self) -> Option<T>
+        ensures { result ≡ self }
+    {
+        let Rare { inner } = self;
+        match inner {
+            Some(boxed) => Some(Box::into_inner(boxed)),
+            None => None,
+        }
+    }
+}
+
+impl<T: Drop> Rare<T> {
+    /// Keeps a value.
+    pub(crate) fn some(alloc: Global, value: T) -> Result<Rare<T>, NoMemory>
+        ensures { GivesAnswer result (Some value) }
+    {
+        Ok(Rare {
+            inner: Some(Box::new(alloc, value)?),
+        })
+    }
+}
