@@ -39,7 +39,7 @@ use sv_uri::path::Canon;
 
 impl<S: Servlet, F: Filter, L: Listener> Context<S, F, L> {
     /// Handles a message whose target has that canonical path, which the context serves, at a moment in seconds since 1970, with the two random
-    /// words of the message: it is admitted, noted, and answered by the servlet or the file of its path, by a page, plainly, or by sending the
+    /// words of the message, which it has for good: it is admitted, noted, and answered by the servlet or the file of its path, by a page, plainly, or by sending the
     /// client elsewhere (Jakarta Servlet 6.0, sections 3.5, 10.9, 11.3 and 13.6.3). The sessions that have expired have ended before.
     ///
     /// # Errors
@@ -48,14 +48,14 @@ impl<S: Servlet, F: Filter, L: Listener> Context<S, F, L> {
     pub fn handle(
         &mut self,
         alloc: Global,
-        message: &Message,
+        message: Message,
         canon: &Canon,
         moment: u64,
         words: (u64, u64),
         journal: &mut Journal,
     ) -> Result<Response, NoMemory>
         requires { IsTrue (is_at_or_below self.old.content.context_path canon.now.path) }
-        ensures handles { HandlesMessage (steps_of S.servlet_step F.filter_step L.listener_step) (asked_by message.now (within self.old canon.now) moment words)
+        ensures handles { HandlesMessage (steps_of S.servlet_step F.filter_step L.listener_step) (asked_by message (within self.old canon.now) moment words)
             self.old journal.old (seen result) self.new journal.new }
         ensures status { IfOk result (λ response. IsStatusCode response.status) }
     {
@@ -83,7 +83,7 @@ fn handle_in<S: Servlet, F: Filter, L: Listener>(
     users: &Realm,
     live: &mut Live<S, F, L>,
     sessions: &mut Sessions,
-    message: &Message,
+    message: Message,
     canon: &Canon,
     moment: u64,
     words: (u64, u64),
@@ -92,7 +92,7 @@ fn handle_in<S: Servlet, F: Filter, L: Listener>(
     requires below { IsTrue (is_at_or_below site.old.context_path canon.now.path) }
     requires components { AreComponentsOf site.old live.old }
     ensures handles { HandlesMessage (steps_of S.servlet_step F.filter_step L.listener_step)
-        (asked_by message.now (within (context_of site.old policy.now users.now live.old sessions.old) canon.now) moment words)
+        (asked_by message (within (context_of site.old policy.now users.now live.old sessions.old) canon.now) moment words)
         (context_of site.old policy.now users.now live.old sessions.old) journal.old (seen result)
         (context_of site.old policy.now users.now live.new sessions.new) journal.new }
     ensures components { AreComponentsOf site.old live.new }
@@ -123,7 +123,7 @@ fn handle_at<S: Servlet, F: Filter, L: Listener>(
     users: &Realm,
     live: &mut Live<S, F, L>,
     sessions: &mut Sessions,
-    message: &Message,
+    message: Message,
     canon: &Canon,
     moment: u64,
     words: (u64, u64),
@@ -131,7 +131,7 @@ fn handle_at<S: Servlet, F: Filter, L: Listener>(
 ) -> Result<Response, NoMemory>
     requires components { AreComponentsOf site.old live.old }
     requires whole { journal.old.whole ≡ true }
-    ensures handles { HandlesMessage (steps_of S.servlet_step F.filter_step L.listener_step) (asked_by message.now canon.now moment words)
+    ensures handles { HandlesMessage (steps_of S.servlet_step F.filter_step L.listener_step) (asked_by message canon.now moment words)
         (context_of site.old policy.now users.now live.old sessions.old) journal.old (seen result)
         (context_of site.old policy.now users.now live.new sessions.new) journal.new }
     ensures components { AreComponentsOf site.old live.new }
@@ -139,7 +139,7 @@ fn handle_at<S: Servlet, F: Filter, L: Listener>(
     ensures site { site.new ≡ site.old }
 {
     let Ok(admission) = admit(
-        alloc, site, policy, users, message, canon, moment, words, sessions,
+        alloc, site, policy, users, &message, canon, moment, words, sessions,
     ) else {
         return Err(NoMemory);
     };
@@ -180,7 +180,7 @@ fn answer<S: Servlet, F: Filter, L: Listener>(
     site: &mut Site,
     live: &mut Live<S, F, L>,
     sessions: &mut Sessions,
-    message: &Message,
+    message: Message,
     canon: &Canon,
     moment: u64,
     words: (u64, u64),
@@ -190,9 +190,9 @@ fn answer<S: Servlet, F: Filter, L: Listener>(
     requires components { AreComponentsOf site.old live.old }
     requires whole { journal.old.whole ≡ true }
     ensures handles { (policy : Standing) (users : List User) (store : Store)
-        → admission ≡ admitted (context_of site.old policy users live.old store) (asked_by message.now canon.now moment words)
-        → sessions.old ≡ (settled_in site.old policy users (asked_by message.now canon.now moment words) store).store
-        → HandlesMessage (steps_of S.servlet_step F.filter_step L.listener_step) (asked_by message.now canon.now moment words)
+        → admission ≡ admitted (context_of site.old policy users live.old store) (asked_by message canon.now moment words)
+        → sessions.old ≡ (settled_in site.old policy users (asked_by message canon.now moment words) store).store
+        → HandlesMessage (steps_of S.servlet_step F.filter_step L.listener_step) (asked_by message canon.now moment words)
         (context_of site.old policy users live.old store) journal.old (seen result) (context_of site.old policy users live.new sessions.new) journal.new }
     ensures components { AreComponentsOf site.old live.new }
     ensures status { IfOk result (λ response. IsStatusCode response.status) }
@@ -287,7 +287,7 @@ fn respond_noted<S: Servlet, F: Filter, L: Listener>(
 fn begin(
     alloc: Global,
     site: &Site,
-    message: &Message,
+    message: Message,
     canon: &Canon,
     moment: u64,
     words: (u64, u64),
@@ -295,7 +295,7 @@ fn begin(
     sessions: Sessions,
 ) -> Result<Exchange, BeginFault>
     ensures { MatchResult result
-        (λ exchange. exchange ≡ begun message.now canon.now site.now.context_path site.now.app.session.cookie moment words held sessions)
+        (λ exchange. exchange ≡ begun message canon.now site.now.context_path site.now.app.session.cookie moment words held sessions)
         (λ fault. fault.sessions ≡ sessions) }
 {
     let settings = &site.descriptor().web_app().session.cookie;

@@ -28,7 +28,7 @@ impl<S: Servlet, F: Filter, L: Listener> sv_run::Context for Context<S, F, L> {
     fn handle(
         &mut self,
         alloc: Global,
-        message: &Message,
+        message: Message,
         canon: &Canon,
         moment: u64,
         words: (u64, u64),

@@ -119,7 +119,7 @@ fn begun(
     let (message, held) = asked;
     let begun = Exchange::begin(
         alloc,
-        &message,
+        message,
         canon,
         context,
         &settings,

@@ -91,14 +91,14 @@ impl Exchange {
     ghost use Rattle.sv_exchange.specs.Beginning.{begun, finished};
 
     /// Begins an exchange of a request to the context with that path, whose session cookie is set so, and of which nothing was said yet.
-    /// The path of the `Canon` is the one in the context, the moment is in seconds since 1970, and the words are the two random ones of the message. The context's
+    /// It has the message for good, whose fields and body are not copied. The path of the `Canon` is the one in the context, the moment is in seconds since 1970, and the words are the two random ones of the message. The context's
     /// sessions are lent to the exchange until [`finish`](Exchange::finish), and the session that the request holds is one of them.
     ///
     /// # Errors
     /// [`BeginFault`]: a growth was refused; it gives the sessions back.
     pub fn begin(
         alloc: Global,
-        message: &Message,
+        message: Message,
         canon: &Canon,
         context_path: &str,
         cookie_settings: &CookieSettings,
@@ -108,25 +108,32 @@ impl Exchange {
         sessions: Sessions,
     ) -> Result<Exchange, BeginFault>
         ensures { MatchResult result
-            (λ exchange. exchange ≡ begun message.now canon.now context_path.now cookie_settings.now moment words held sessions)
+            (λ exchange. exchange ≡ begun message canon.now context_path.now cookie_settings.now moment words held sessions)
             (λ fault. fault.sessions ≡ sessions) }
     {
         let Ok(cookie) = held_cookie(alloc, cookie_settings, context_path, &sessions, &held) else {
             return Err(BeginFault { sessions });
         };
-        let Ok(asked) = Asked::copy_of(alloc, message, canon, context_path, cookie_settings) else {
+        let Ok(asked) = Asked::copy_of(alloc, canon, context_path, cookie_settings) else {
             return Err(BeginFault { sessions });
         };
         let (session, caller) = parts_of(held);
+        let Message {
+            method,
+            minor,
+            fields,
+            body,
+            ..
+        } = message;
         Ok(Exchange {
             alloc,
-            method: asked.method,
+            method,
             context_path: asked.context_path,
             cookie_settings: asked.cookie_settings,
-            request_fields: asked.fields,
-            body: asked.body,
+            request_fields: fields.into_vec(),
+            body,
             moment,
-            reads_chunks: message.minor == 1,
+            reads_chunks: minor == 1,
             client: asked.client,
             dispatches: Vec::new(alloc),
             attributes: Vec::new(alloc),

@@ -1,32 +1,16 @@
 //! Fields by name.
 
 ghost use Rattle.std.specs.Prelude.{◌≡◌, ◌<◌, length, position, IfOk, IfSome, IsTrue, OnOk, OnErr, Some};
-ghost use Rattle.http_header.specs.FieldName.{IsFieldName};
-ghost use Rattle.http_header.specs.Token.{is_token_byte, is_value_byte, lowercase};
+ghost use Rattle.http_header.specs.Token.{is_token_byte, is_value_byte};
 ghost use Rattle.std.specs.List.{insert, list_all};
 ghost use Rattle.sv_exchange.specs.Fields.{add_field, field_of, is_called, is_field, is_field_name, is_reserved_field, set_field, without};
 ghost use Rattle.sv_text.specs.Gives.{GivesAnswer};
 
-use crate::frequent::frequent_value;
 use crate::limits::MAX_FIELD_NAME_LEN;
-use http_header::{HeaderName, HeaderNameError, HeaderValue, is_token_char};
+use http_header::is_token_char;
 use std::alloc::Global;
 use sv_head::Field;
 use sv_text::NoMemory;
-
-/// Copies fields.
-pub(crate) fn copies(alloc: Global, fields: &[Field]) -> Result<Vec<Field>, NoMemory>
-    ensures { IfOk result (λ copies. copies.items ≡ fields.now) }
-{
-    let mut copies = Vec::with_capacity(alloc, fields.len())?;
-    for field in fields {
-        copies.push(Field {
-            name: field.name.clone()?,
-            value: field.value.clone()?,
-        })?;
-    }
-    Ok(copies)
-}
 
 /// Whether the field has that name, in any case.
 pub(crate) fn is_called(name: &str, field: &Field) -> bool
@@ -134,20 +118,5 @@ fn field_of(alloc: Global, name: &str, value: &str) -> Result<Field, NoMemory>
     requires { IsTrue (is_field name.now value.now) }
     ensures { GivesAnswer result (field_of name.now value.now) }
 {
-    let Some(kept) = frequent_value(value) else {
-        return Field::copy_of(alloc, name.as_bytes(), value.as_bytes());
-    };
-    with_value(alloc, name, kept)
-}
-
-// A field of that value, whose name is valid.
-fn with_value(alloc: Global, name: &str, value: HeaderValue) -> Result<Field, NoMemory>
-    requires { IsFieldName name.now }
-    ensures { GivesAnswer result (record { name = lowercase name.now; value = value }) }
-{
-    match HeaderName::from_bytes(alloc, name.as_bytes()) {
-        Ok(name) => Ok(Field { name, value }),
-        Err(HeaderNameError::OutOfMemory) => Err(NoMemory),
-        Err(HeaderNameError::Invalid) => unreachable!(),
-    }
+    Field::copy_of(alloc, name.as_bytes(), value.as_bytes())
 }

@@ -14,7 +14,6 @@ mod exchange;
 mod exchange_fault;
 mod fields;
 mod flushed;
-mod frequent;
 mod held_session;
 mod holding;
 mod kept_error;
