@@ -1,10 +1,10 @@
 //! The journal.
 
-ghost use Rattle.std.specs.Prelude.{◌≡◌, true, is_err};
+ghost use Rattle.std.specs.Prelude.{◌≡◌, cond};
 ghost use Rattle.sv_text.specs.Gives.{GivesAnswer};
 
 use crate::entry::Entry;
-use std::alloc::{AllocFailed, Global};
+use std::alloc::Global;
 use std::marker::Model;
 use sv_text::NoMemory;
 
@@ -24,7 +24,7 @@ impl Model for Journal {
 }
 
 impl Journal {
-    ghost use Rattle.sv_journal.specs.Journal.{Notes, Takes, new_journal};
+    ghost use Rattle.sv_journal.specs.Journal.{Notes, Takes, new_journal, with_entry};
     ghost use Rattle.sv_journal.specs.declared.entry.Entry.{Entry as EntryData};
 
     /// An empty journal.
@@ -65,31 +65,29 @@ impl Journal {
     fn do_note(&mut self, entry: Result<Entry, NoMemory>)
         ensures { Notes self.old entry self.new }
     {
-        if self.whole {
-            match entry {
-                Ok(entry) => self.add(entry),
-                Err(_) => self.whole = false,
-            }
+        if !self.whole {
+            let_go(entry);
+            return;
+        }
+        match entry {
+            Ok(entry) => self.whole = self.finds_room(entry),
+            Err(_) => self.whole = false,
         }
     }
 
-    // Adds the entry to a whole journal, or breaks it.
-    fn add(&mut self, entry: Entry)
-        requires { self.old.whole ≡ true }
-        ensures { Takes self.old entry self.new }
+    // Adds the entry, and answers whether it finds room. One that finds none is let go.
+    fn finds_room(&mut self, entry: Entry) -> bool
+        ensures { cond result (self.new ≡ with_entry entry self.old) (self.new ≡ self.old) }
     {
-        if is_refused(self.entries.push(entry)) {
-            self.whole = false;
-        }
+        let Err(failed) = self.entries.push(entry) else {
+            return true;
+        };
+        let_go(failed);
+        false
     }
 }
 
-// Whether there was no room. What found none is let go here, whatever it holds.
-fn is_refused<T: Drop>(pushed: Result<(), AllocFailed<T>>) -> bool
-    ensures { result ≡ is_err pushed }
-{
-    match pushed {
-        Ok(()) => false,
-        Err(_) => true,
-    }
-}
+// Lets go of what holds an entry. It stands apart, so that an entry that is noted is moved as a whole.
+#[cold]
+#[inline(never)]
+fn let_go<T: Drop>(_value: T) {}
