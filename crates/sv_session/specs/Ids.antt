@@ -1,8 +1,10 @@
 -- Jakarta Servlet 6.0, section 7.1: the ids of the sessions that live differ, and an index of them.
 use Rattle.std.specs.Prelude.{◌≡◌, ◌≢◌, ℕ, ◌≤◌, List, [], ◌∷◌, Option}
 use Rattle.std.specs.HashMap.{get_by}
+use Rattle.std.specs.Option.{option_and_then}
 use Rattle.std.specs.Str.{bytes_eq}
 use Rattle.sv_session.specs.declared.ids.Ids.{Ids}
+use Rattle.sv_session.specs.declared.index.Index.{Index}
 use Rattle.sv_session.specs.Id.{id_text}
 use Rattle.sv_session.specs.Store.{Session}
 
@@ -21,5 +23,9 @@ IdsDiffer bound [] = Unit {0}
 IdsDiffer bound (x ∷ xs) = IsGiven bound x.id × NoneHas x.id xs × IdsDiffer bound xs
 
 -- the number that an index has for an id
+abbrev pub number_at : Index → List ℕ → Option ℕ
+number_at index id = get_by (λ key. bytes_eq id key.items) index.numbers
+
+-- there is an index once an id was entered
 abbrev pub number_in : Ids → List ℕ → Option ℕ
-number_in ids id = get_by (λ key. bytes_eq id key.items) ids.numbers
+number_in ids id = option_and_then (λ index. number_at index.value id) ids.index

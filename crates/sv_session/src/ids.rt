@@ -1,34 +1,34 @@
 //! The ids of the sessions that live, for look-ups.
 
-ghost use Rattle.std.specs.Prelude.{◌≡◌, ℕ, List, None, OnErr, OnOk, Some, if◌then◌else◌};
+ghost use Rattle.std.specs.Prelude.{◌≡◌, ℕ, List, IfOk, None, OnErr, OnOk, Some, if◌then◌else◌};
 ghost use Rattle.std.specs.Str.{bytes_eq};
-ghost use Rattle.sv_session.specs.Ids.{number_in};
+ghost use Rattle.sv_session.specs.Ids.{number_at, number_in};
 
+use crate::index::Index;
 use std::alloc::Global;
-use std::collections::HashMap;
 use sv_text::NoMemory;
 
-/// The number of the session of each id. A look-up takes as long among many as among few: no client chooses an id that is kept.
-#[derive(Drop)]
+/// The number of the session of each id. The index has memory of its own from the first id on: sessions are lent by value, and stay small.
 pub(crate) struct Ids {
-    numbers: HashMap<Vec<u8>, u64>,
+    index: Option<Box<Index>>,
 }
 
 impl Ids {
     /// No ids. It takes no memory.
-    pub(crate) fn new(alloc: Global) -> Ids
+    pub(crate) fn new() -> Ids
         ensures { (id : List ℕ) → number_in result id ≡ None }
     {
-        Ids {
-            numbers: HashMap::new(alloc),
-        }
+        Ids { index: None }
     }
 
     /// The number of the session of an id.
     pub(crate) fn get(&self, id: &[u8]) -> Option<u64>
         ensures { result ≡ number_in self.now id.now }
     {
-        self.numbers.get(id).copied()
+        match &self.index {
+            Some(index) => index.get(id),
+            None => None,
+        }
     }
 
     /// Enters the number of an id. Nothing changes where memory is wanted.
@@ -36,10 +36,10 @@ impl Ids {
         ensures entered { OnOk result ((other : List ℕ) → number_in self.new other ≡ (if bytes_eq id.now other then Some number else number_in self.old other)) }
         ensures refused { OnErr result ((other : List ℕ) → number_in self.new other ≡ number_in self.old other) }
     {
-        let key = Vec::from_slice(alloc, id.as_bytes())?;
-        let Ok(_) = self.numbers.insert(key, number) else {
-            return Err(NoMemory);
-        };
+        if let Some(index) = &mut self.index {
+            return index.enter(alloc, id, number);
+        }
+        self.index = Some(first(alloc, id, number)?);
         Ok(())
     }
 
@@ -47,6 +47,24 @@ impl Ids {
     pub(crate) fn remove(&mut self, id: &str)
         ensures { (other : List ℕ) → number_in self.new other ≡ (if bytes_eq id.now other then None else number_in self.old other) }
     {
-        self.numbers.remove(id.as_bytes());
+        if let Some(index) = &mut self.index {
+            index.remove(id);
+        }
     }
+}
+
+impl Drop for Ids {
+    fn drop(self) {
+        let Ids { index } = self;
+        drop(index);
+    }
+}
+
+// An index of one id.
+fn first(alloc: Global, id: &str, number: u64) -> Result<Box<Index>, NoMemory>
+    ensures { IfOk result (λ index. (other : List ℕ) → number_at index.value other ≡ (if bytes_eq id.now other then Some number else None)) }
+{
+    let mut index = Index::new(alloc);
+    index.enter(alloc, id, number)?;
+    Ok(Box::new(alloc, index)?)
 }

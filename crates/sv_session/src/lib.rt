@@ -7,6 +7,7 @@ mod ended_session;
 mod ended_sessions;
 mod id;
 mod ids;
+mod index;
 mod kept;
 mod laws;
 mod limits;

@@ -64,7 +64,7 @@ impl Sessions {
             serial: 0,
             count: 0,
             slots: Vec::new(alloc),
-            ids: Ids::new(alloc),
+            ids: Ids::new(),
             queue: Queue::new(alloc),
             judged: 0,
         }
@@ -211,7 +211,7 @@ impl Sessions {
         ensures left { self.new ≡ record self.old { sessions = [] } }
     {
         self.count = 0;
-        self.ids = Ids::new(self.alloc);
+        self.ids = Ids::new();
         self.queue = Queue::new(self.alloc);
         let slots = mem::replace(&mut self.slots, Vec::new(self.alloc));
         EndedSessions::of(self.alloc, slots)
