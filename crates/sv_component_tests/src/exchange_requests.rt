@@ -46,7 +46,7 @@ pub fn exchange(alloc: Global, request: Request<'_>) -> Result<Exchange, NoMemor
     let message = message(alloc, request)?;
     let canon = canon(alloc, request.query)?;
     let settings = settings(alloc, request.cookie)?;
-    exchange_of(alloc, &message, &canon, &settings, request.session)
+    exchange_of(alloc, message, &canon, &settings, request.session)
 }
 
 fn settings(alloc: Global, cookie: Cookie<'_>) -> Result<CookieSettings, NoMemory> {
@@ -64,7 +64,7 @@ fn settings(alloc: Global, cookie: Cookie<'_>) -> Result<CookieSettings, NoMemor
 
 fn exchange_of(
     alloc: Global,
-    message: &Message,
+    message: Message,
     canon: &Canon,
     settings: &CookieSettings,
     session: &str,

@@ -41,7 +41,7 @@ pub fn add_seen<S: Sees>(
 
 fn ask<S: Sees>(alloc: Global, row: &str, calls: &str, sees: &S, seen: &mut Draft) {
     match app_request(alloc) {
-        Ok(request) => begin(alloc, row, calls, &request, sees, seen),
+        Ok(request) => begin(alloc, row, calls, request, sees, seen),
         Err(_) => seen.fail(),
     }
 }
@@ -50,18 +50,22 @@ fn begin<S: Sees>(
     alloc: Global,
     row: &str,
     calls: &str,
-    request: &Request,
+    request: Request,
     sees: &S,
     seen: &mut Draft,
 ) {
-    let (message, canon, settings) = (&request.message, &request.canon, &request.cookie_settings);
+    let Request {
+        message,
+        canon,
+        cookie_settings,
+    } = request;
     let sessions = Sessions::new(alloc, 0, 0);
     match Exchange::begin(
         alloc,
         message,
-        canon,
+        &canon,
         "/app",
-        settings,
+        &cookie_settings,
         7,
         (0, 0),
         None,

@@ -59,27 +59,31 @@ pub fn make_all(
     told: &mut Draft,
 ) {
     match request_of_root(alloc) {
-        Ok(request) => make_on(alloc, &request, calls, live, journal, told),
+        Ok(request) => make_on(alloc, request, calls, live, journal, told),
         Err(_) => told.fail(),
     }
 }
 
 fn make_on(
     alloc: Global,
-    request: &Request,
+    request: Request,
     calls: &str,
     live: &mut TestLive,
     journal: &mut Journal,
     told: &mut Draft,
 ) {
-    let (message, canon, settings) = (&request.message, &request.canon, &request.cookie_settings);
+    let Request {
+        message,
+        canon,
+        cookie_settings,
+    } = request;
     let sessions = Sessions::new(alloc, 0, 0);
     match Exchange::begin(
         alloc,
         message,
-        canon,
+        &canon,
         "",
-        settings,
+        &cookie_settings,
         7,
         (0, 0),
         None,

@@ -14,12 +14,12 @@ pub fn exchange(alloc: Global, method: &str, lines: &str) -> Result<Exchange, No
     let message = message(alloc, method, lines)?;
     let canon = canon(alloc)?;
     let settings = CookieSettings::standard(alloc)?;
-    exchange_of(alloc, &message, &canon, &settings)
+    exchange_of(alloc, message, &canon, &settings)
 }
 
 fn exchange_of(
     alloc: Global,
-    message: &Message,
+    message: Message,
     canon: &Canon,
     settings: &CookieSettings,
 ) -> Result<Exchange, NoMemory> {
