@@ -7,6 +7,7 @@ use Rattle.std.proofs.lemmas.Map.{lookup-set_value}
 use Rattle.sv_front.specs.Asking.{EditsOnce}
 use Rattle.sv_front.specs.Course.{Along}
 use Rattle.sv_front.specs.Fronts.{Moves}
+use Rattle.sv_front.specs.Holding.{weight, weight_in, weight_or_none}
 use Rattle.sv_front.specs.Known.{AreAtRest, DrivesOne, EndsOne, Known, OpensNext, OthersStay, found, held_or_over, knows, place_in, Ticked, tick_result}
 use Rattle.sv_front.specs.Notes.{Edits, Goes, Of, Talks, Ticks, deeds_of}
 use Rattle.sv_front.specs.Places.{Deed, Ends, Open, Opens, Over, Place, Standing, Unused, fresh}
@@ -313,6 +314,25 @@ module _ {R C S : Type 0} (ways : Ways S) (steps : Reacting R) (tells : C → �
     drove known view result drives =
         let P : Known S → Type 0 = λ k. DrivesOne ways steps tells number before clock k result after clock_after new in
         subst P view (drove_here result drives)
+
+    -- it holds no more than before, where its weight says so
+    pub no_heavier : (known : Known S) → record { next = next; entries = entries } ≡ known → weight at_after ≤ weight at
+        → weight_in (record { next = next; entries = entries_after }) number ≤ weight_in known number
+    no_heavier known view lighter =
+        let is_now : found new number ≡ Some at_after =
+        at_each number ∙ cond-true (nat_eq number number) (Some at_after) (found old number) (same_number number) in
+        let W : Option (Standing S) → Type 0 = λ o. weight at_after ≤ weight_or_none o in
+        let O : Option (Standing S) → Type 0 = λ o. weight_or_none o ≤ weight_in old number in
+        let P : Known S → Type 0 = λ k. weight_in new number ≤ weight_in k number in
+        subst P view (subst O (sym is_now) (subst W is lighter))
+
+-- where nothing changed it holds no more
+pub as_heavy : {S : Type 0} (number next : ℕ) (entries entries_after : List (ℕ × Standing S)) (known : Known S) → record { next = next; entries = entries } ≡ known
+    → entries_after ≡ entries → weight_in (record { next = next; entries = entries_after }) number ≤ weight_in known number
+as_heavy {S = S} number next entries entries_after known view same =
+    let P : Known S → Type 0 = λ k. weight_in (record { next = next; entries = entries_after }) number ≤ weight_in k number in
+    let Q : List (ℕ × Standing S) → Type 0 = λ es. weight_in (record { next = next; entries = es }) number ≤ weight_in (record { next = next; entries = entries }) number in
+    subst P view (subst Q (sym same) (omega arith))
 
 closed_place : {S : Type 0} (b : Bool) (at : Standing S) → cond b Over Unused ≡ Open at → ⊥
 closed_place true at is = cc

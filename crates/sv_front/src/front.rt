@@ -44,7 +44,7 @@ impl<P> Model for Front<P> {
 
 impl<P: Peer + Drop> Front<P> {
     ghost use Rattle.sv_front.specs.Known as spec;
-    ghost use Rattle.std.specs.Prelude.{[], ◌<◌, ◌≤◌, ◌-◌, ◌^◌, IsTrue, OnOk};
+    ghost use Rattle.std.specs.Prelude.{[], ◌<◌, ◌≤◌, ◌-◌, ◌^◌, IfOk, IsTrue, OnOk, false};
 
     /// None is known.
     pub fn new(alloc: Global, limits: Limits) -> Front<P>
@@ -131,13 +131,10 @@ impl<P: Peer + Drop> Front<P> {
         ensures moves { Moves P.ways R.steps C.tells reactor.old clock.old self.old result reactor.new clock.new self.new }
         ensures within { OnOk result (HoldsWithin most number self.old self.new) }
     {
-        let before = self.weight_of(number);
         match self.serve_one(number, reactor, clock, network) {
-            Ok(()) => {}
+            Ok(true) => {}
+            Ok(false) => return Ok(()),
             Err(fault) => return Err(fault),
-        }
-        if self.weight_of(number) <= before {
-            return Ok(());
         }
         self.ease(most, reactor, clock, network)
     }
@@ -168,16 +165,6 @@ impl<P: Peer + Drop> Front<P> {
         Err(StepFault::NoMemory)
     }
 
-    // How many bytes the connection of a number holds, none where it is not known.
-    fn weight_of(&self, number: u64) -> u64
-        ensures { result ≡ weight_in self.now number }
-    {
-        match self.connections.get(&number) {
-            Some(connection) => connection.weight(),
-            None => 0,
-        }
-    }
-
     // How many bytes all connections hold together.
     fn held(&self) -> u64
         ensures { result ≡ held self.now }
@@ -200,40 +187,53 @@ impl<P: Peer + Drop> Front<P> {
         found
     }
 
-    // Drives the connection of a number, where it is known, and ends it where it is over.
+    // Drives the connection of a number, where it is known, and ends it where it is over. Says whether it then holds more than before.
     fn serve_one<R: Reactor, C: Clock, N: Network<Peer = P>>(
         &mut self,
         number: u64,
         reactor: &mut R,
         clock: &mut C,
         network: &mut N,
-    ) -> Result<(), StepFault>
-        ensures { Moves P.ways R.steps C.tells reactor.old clock.old self.old result reactor.new clock.new self.new }
+    ) -> Result<bool, StepFault>
+        ensures moves { Moves P.ways R.steps C.tells reactor.old clock.old self.old result reactor.new clock.new self.new }
+        ensures grows { IfOk result (λ grows. grows ≡ false → weight_in self.new number ≤ weight_in self.old number) }
     {
-        match self.drive(number, reactor, clock, network.seconds()) {
-            Ok(None) => Ok(()),
-            Ok(Some(cause)) => self.end(number, cause, reactor, network),
+        let mut grows = false;
+        match self.drive(number, reactor, clock, network.seconds(), &mut grows) {
+            Ok(None) => Ok(grows),
+            Ok(Some(cause)) => match self.end(number, cause, reactor, network) {
+                Ok(()) => Ok(false),
+                Err(fault) => Err(fault),
+            },
             Err(fault) => Err(fault),
         }
     }
 
-    // Drives the connection of a number, where it is known.
+    // Drives the connection of a number, where it is known, and notes whether it then holds more than before.
     fn drive<R: Reactor, C: Clock>(
         &mut self,
         number: u64,
         reactor: &mut R,
         clock: &mut C,
         now: u64,
+        grows: &mut bool,
     ) -> Result<Option<Cause>, StepFault>
-        ensures { DrivesOne P.ways R.steps C.tells number reactor.old clock.old self.old result reactor.new clock.new self.new }
+        ensures drives { DrivesOne P.ways R.steps C.tells number reactor.old clock.old self.old result reactor.new clock.new self.new }
+        ensures grows { grows.new ≡ false → weight_in self.new number ≤ weight_in self.old number }
     {
+        *grows = false;
         if number >= self.next {
             return Ok(None);
         }
         self.turns = self.turns.saturating_add(1);
         let turn = self.turns;
         match self.connections.get_mut(&number) {
-            Some(connection) => return connection.drive_at(now, turn, number, reactor, clock),
+            Some(connection) => {
+                let before = connection.weight();
+                let driven = connection.drive_at(now, turn, number, reactor, clock);
+                *grows = connection.weight() > before;
+                return driven;
+            }
             None => {}
         }
         Ok(None)

@@ -1,7 +1,7 @@
 //! Bytes that wait.
 
 ghost use Rattle.std.specs.Prelude.{◌≡◌, ◌<◌, ◌≤◌, [], drop, length, vec_items};
-ghost use Rattle.sv_front.specs.Ways.{ReadsPiece};
+ghost use Rattle.sv_front.specs.Ways.{TriesRead};
 
 use crate::limits::FIRST_READ_BYTES;
 use crate::peer::{Peer, Tried};
@@ -9,21 +9,23 @@ use std::alloc::Global;
 use std::marker::Model;
 use sv_text::{Bytes, NoMemory};
 
-/// Bytes that wait to be handed on or to be written. Contracts see their list. No more is kept than twice as many bytes as wait, or the room of a first read.
+/// Bytes that wait to be handed on or to be written. Contracts see their list. No more is kept than twice as many bytes as wait, or the room of a first
+/// read. Behind them stands what is left of the room of a read, which is made once.
 #[derive(Drop)]
 pub(crate) struct Pending {
     bytes: Vec<u8>,
     at: usize,
+    end: usize,
 }
 
 impl Model for Pending {
-    ghost use Rattle.std.specs.Prelude.{ℕ, List, drop, ◌+◌, ◌≤◌, vec_len};
+    ghost use Rattle.std.specs.Prelude.{ℕ, List, drop, take, ◌+◌, ◌≤◌, vec_len};
 
     ghost Value = { List ℕ };
 
-    ghost view = { λ p. drop p.at p.bytes.items };
+    ghost view = { λ p. drop p.at (take p.end p.bytes.items) };
 
-    ghost invariant = { λ p. p.at + p.at ≤ vec_len p.bytes };
+    ghost invariant = { λ p. (p.at + p.at ≤ p.end) × (p.end ≤ vec_len p.bytes) };
 }
 
 impl Pending {
@@ -37,6 +39,7 @@ impl Pending {
         Pending {
             bytes: Vec::new(alloc),
             at: 0,
+            end: 0,
         }
     }
 
@@ -44,10 +47,9 @@ impl Pending {
     pub fn of(bytes: Bytes) -> Pending
         ensures { result ≡ bytes }
     {
-        Pending {
-            bytes: bytes.into_vec(),
-            at: 0,
-        }
+        let bytes = bytes.into_vec();
+        let end = bytes.len();
+        Pending { bytes, at: 0, end }
     }
 
     /// Whether no bytes wait.
@@ -68,7 +70,8 @@ impl Pending {
     pub fn as_slice(&self) -> &[u8]
         ensures { result.now ≡ self.now }
     {
-        self.bytes.as_slice().split_at(self.at).1
+        let bytes = self.bytes.as_slice().split_at(self.end).0;
+        bytes.split_at(self.at).1
     }
 
     /// The first of the bytes, so many at most.
@@ -90,9 +93,14 @@ impl Pending {
         ensures { self.new ≡ drop count self.old }
     {
         let at = self.at + count;
-        if at > self.bytes.len() - at {
+        if at == self.end && self.bytes.capacity() <= FIRST_READ_BYTES {
+            self.at = 0;
+            self.end = 0;
+        } else if at > self.end - at {
+            self.bytes.truncate(self.end);
             keep_rest(&mut self.bytes, at);
             self.at = 0;
+            self.end = self.bytes.len();
         } else {
             self.at = at;
         }
@@ -107,13 +115,20 @@ impl Pending {
         requires room { 0 < most }
         ensures { Refills P.ways peer.old result peer.new self.new }
     {
-        self.bytes.clear();
         self.at = 0;
+        self.end = 0;
         if peer.would_wait() {
             return Ok(Tried::Paused);
         }
         self.bytes.resize(most, 0)?;
-        Ok(read_piece(peer, &mut self.bytes))
+        match read_into(peer, &mut self.bytes) {
+            Tried::Done(count) => {
+                self.end = count;
+                Ok(Tried::Done(count))
+            }
+            Tried::Paused => Ok(Tried::Paused),
+            Tried::Failed => Ok(Tried::Failed),
+        }
     }
 }
 
@@ -130,22 +145,19 @@ fn keep_rest(bytes: &mut Vec<u8>, at: usize)
     }
 }
 
-// Reads once into a piece, which then holds what came.
-fn read_piece<P: Peer>(peer: &mut P, piece: &mut Vec<u8>) -> Tried
-    requires { 0 < length (vec_items piece.old) }
-    ensures { ReadsPiece P.ways peer.old result peer.new (vec_items piece.new) }
+// Reads once into all of a room, at whose front what came then stands. Where nothing comes, the room is given back.
+fn read_into<P: Peer>(peer: &mut P, room: &mut Vec<u8>) -> Tried
+    requires { 0 < length (vec_items room.old) }
+    ensures { TriesRead P.ways peer.old result (vec_items room.new) peer.new }
 {
-    match peer.read(piece.as_mut_slice()) {
-        Tried::Done(count) => {
-            piece.truncate(count);
-            Tried::Done(count)
-        }
+    match peer.read(room.as_mut_slice()) {
+        Tried::Done(count) => Tried::Done(count),
         Tried::Paused => {
-            *piece = Vec::new(*piece.allocator());
+            *room = Vec::new(*room.allocator());
             Tried::Paused
         }
         Tried::Failed => {
-            *piece = Vec::new(*piece.allocator());
+            *room = Vec::new(*room.allocator());
             Tried::Failed
         }
     }

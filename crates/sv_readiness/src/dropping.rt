@@ -4,7 +4,7 @@ ghost use Rattle.std.specs.Prelude.{◌≡◌, ◌<◌, length};
 ghost use Rattle.sv_readiness.specs.Dropping.{Drops};
 
 use crate::calls::try_read;
-use crate::limits::{DROPPED_READ_BYTES, MAX_DROPPED_READS};
+use crate::limits::{DROPPED_READ_BYTES, FIRST_DROPPED_READ_BYTES, MAX_DROPPED_READS};
 use std::io::Read;
 use sv_front::Tried;
 
@@ -23,8 +23,20 @@ pub(crate) enum Dropped {
 pub(crate) fn drop_some<R: Read>(reader: &mut R, left: &mut usize) -> Dropped
     ensures { Drops (R.remaining reader.old) left.old left.new (R.remaining reader.new) }
 {
+    let mut buffer = [0; FIRST_DROPPED_READ_BYTES];
+    match drop_once(reader, &mut buffer, left) {
+        Dropped::Some => drop_more(reader, left),
+        Dropped::UntilPaused => Dropped::UntilPaused,
+        Dropped::All => Dropped::All,
+    }
+}
+
+// Reads on where something had come, in one read fewer than may be made.
+fn drop_more<R: Read>(reader: &mut R, left: &mut usize) -> Dropped
+    ensures { Drops (R.remaining reader.old) left.old left.new (R.remaining reader.new) }
+{
     let mut buffer = [0; DROPPED_READ_BYTES];
-    for _ in 0..MAX_DROPPED_READS {
+    for _ in 1..MAX_DROPPED_READS {
         match drop_once(reader, &mut buffer, left) {
             Dropped::Some => {}
             Dropped::UntilPaused => return Dropped::UntilPaused,

@@ -3,8 +3,9 @@
 ghost use Rattle.std.specs.Prelude.{◌≡◌};
 
 use crate::limits::{
-    ASKED_AT_ONCE, DROPPED_READ_BYTES, EVENTS_AT_ONCE, LINGER_SECONDS, MAX_ASKING_SECONDS,
-    MAX_DROPPED_BYTES, MAX_DROPPED_READS, MAX_LINE_BYTES, MAX_LINGERING, MAX_READY_BEFORE_ACCEPT,
+    ASKED_AT_ONCE, DROPPED_READ_BYTES, EVENTS_AT_ONCE, FIRST_DROPPED_READ_BYTES, LINGER_SECONDS,
+    MAX_ASKING_SECONDS, MAX_DROPPED_BYTES, MAX_DROPPED_READS, MAX_LINE_BYTES, MAX_LINGERING,
+    MAX_READY_BEFORE_ACCEPT,
 };
 
 /// The limits of this crate as numbers. What is dropped of a connection that is over is 1 MiB at a time, and 16 MiB in all, at most.
@@ -19,4 +20,5 @@ pub fn limits_are_as_stated()
     ensures asked { ASKED_AT_ONCE ≡ 1024 }
     ensures asking { MAX_ASKING_SECONDS ≡ 2 }
     ensures read { DROPPED_READ_BYTES ≡ 16384 }
+    ensures first { FIRST_DROPPED_READ_BYTES ≡ 256 }
 {}

@@ -29,6 +29,8 @@ pub struct Sockets<'a, C> {
     lingering: Lingering<TcpStream>,
     control: Option<Control<'a>>,
     second: u64,
+    rest: Duration,
+    is_read: bool,
     told: u32,
     crowd: Crowd,
     may_come: bool,
@@ -64,6 +66,8 @@ impl<'a, C: Clock> Sockets<'a, C> {
             lingering: Lingering::new(alloc),
             control: control_of(alloc, registry, control),
             second: 0,
+            rest: Duration::ZERO,
+            is_read: false,
             told: 0,
             crowd: Crowd::None,
             may_come: false,
@@ -133,12 +137,12 @@ impl<'a, C: Clock> Sockets<'a, C> {
         self.told >= MAX_READY_BEFORE_ACCEPT || (self.may_come && has_told_all)
     }
 
-    // Waits until something is reported, or the second is over; not at all, where a connection may have come.
+    // Waits until something is reported, or the second that was read last is over; not at all, where a connection may have come.
     fn report(&mut self) -> io::Result<()> {
         let rest = if self.may_come {
             Duration::ZERO
         } else {
-            self.rest_of_second()
+            self.rest
         };
         self.poll.poll(&mut self.events, Some(rest))?;
         self.has_reported = true;
@@ -146,25 +150,15 @@ impl<'a, C: Clock> Sockets<'a, C> {
         Ok(())
     }
 
-    // How long it takes until the second is over.
-    fn rest_of_second(&self) -> Duration {
-        match self.clock.monotonic() {
-            Ok(time) => {
-                Duration::from_millis(1000_u64.saturating_sub(u64::from(time.subsec_millis())))
-            }
-            Err(_) => Duration::from_secs(1),
-        }
-    }
-
-    // What is told where nothing reported is left to be: that a second is over, unless it is what is heard at the socket file, and with the next then; that
-    // no more can be reported; or nothing yet.
+    // What is told where nothing reported is left to be: that no more can be reported; that a second is over, unless it is what is heard at the socket
+    // file, and with the next then; or nothing yet, and what is reported now is told behind that. So the clock is read once for a wait.
     fn report_next(&mut self) -> Option<Told> {
-        if self.has_second_passed() {
-            return self.expire().or(Some(Told::Second));
-        }
         if self.report().is_err() {
             self.has_failed = true;
             return Some(Told::Stop);
+        }
+        if self.has_second_passed() {
+            return self.expire().or(Some(Told::Second));
         }
         None
     }
@@ -176,13 +170,28 @@ impl<'a, C: Clock> Sockets<'a, C> {
 
     // Whether another second than before is told.
     fn has_second_passed(&mut self) -> bool {
-        let second = self.seconds();
+        let second = self.read_clock();
         let has_passed = second != self.second;
         if has_passed {
             self.crowd = self.crowd.second();
         }
         self.second = second;
+        self.is_read = true;
         has_passed
+    }
+
+    // The second that it is by the clock, where that can be read, and how long it takes until it is over.
+    fn read_clock(&mut self) -> u64 {
+        match self.clock.monotonic() {
+            Ok(time) => {
+                self.rest = rest_of_second(time);
+                time.as_secs()
+            }
+            Err(_) => {
+                self.rest = Duration::from_secs(1);
+                self.second
+            }
+        }
     }
 
     // Whether it is to be told that the system has no room for one who came. Behind that all who came are taken anew, those at the socket file first.
@@ -247,6 +256,7 @@ impl<'a, C: Clock> Network for Sockets<'a, C> {
     type Peer = StreamPeer<'a, TcpStream>;
 
     fn wait(&mut self) -> Told {
+        self.is_read = false;
         self.note_refused_asker();
         if self.tells_crowd() {
             return Told::Crowded;
@@ -327,7 +337,12 @@ impl<'a, C: Clock> Network for Sockets<'a, C> {
         }
     }
 
+    // The first time behind a wait that reported, the second that was read then: nothing was done since. Else the clock is read.
     fn seconds(&mut self) -> u64 {
+        if self.is_read {
+            self.is_read = false;
+            return self.second;
+        }
         match self.clock.monotonic() {
             Ok(time) => time.as_secs(),
             Err(_) => self.second,
@@ -345,6 +360,11 @@ fn control_of(
         Some(listener) => Some(Control::new(alloc, registry, listener)),
         None => None,
     }
+}
+
+// How long it takes from that time on until the second is over.
+fn rest_of_second(time: Duration) -> Duration {
+    Duration::from_millis(1000_u64.saturating_sub(u64::from(time.subsec_millis())))
 }
 
 // What a token tells: the connection of that number may be ready, or one may have come.

@@ -1,11 +1,12 @@
+use Rattle.std.proofs.Common.{Bool, true}
 use Rattle.sv_front.proofs.Fronting.{moves_join}
 use Rattle.sv_front.proofs.HoldingLemmas.{eased}
 use Rattle.sv_front.proofs.front.Front.serve_within.Goals as goal
 
 pub returns-clause-moves : goal.returns-clause-moves
 returns-clause-moves g c =
-    moves_join g.P.Peer.ways g.R.Reactor.steps g.C.Clock.tells {A = Unit {0}} {B = Unit {0}} tt c.args.reactor.now c.serve_one.new.reactor c.ease.new.reactor c.args.clock.now c.serve_one.new.clock c.ease.new.clock
-    c.args.self.now c.serve_one.new.self c.ease.new.self c.in-Ok.ensures c.ease.result c.ease.ensures.moves
+    moves_join g.P.Peer.ways g.R.Reactor.steps g.C.Clock.tells {A = Bool} {B = Unit {0}} true c.args.reactor.now c.serve_one.new.reactor c.ease.new.reactor c.args.clock.now c.serve_one.new.clock c.ease.new.clock
+    c.args.self.now c.serve_one.new.self c.ease.new.self c.in-Ok-true.ensures.moves c.ease.result c.ease.ensures.moves
 
 pub returns-clause-within : goal.returns-clause-within
 returns-clause-within g c = eased c.args.most c.args.number c.args.self.now c.ease.new.self c.ease.result c.ease.ensures.within
