@@ -1,6 +1,6 @@
 //! What dispatches do to an exchange, which components cannot.
 
-ghost use Rattle.std.specs.Prelude.{◌≡◌, ◌<◌, [], length, OnOk, OnErr, Some};
+ghost use Rattle.std.specs.Prelude.{◌≡◌, ◌<◌, [], length, OnOk, OnErr, Some, vec_capacity, vec_len};
 ghost use Rattle.std.specs.Option.{option_copied};
 ghost use Rattle.sv_text.specs.Gives.{GivesAnswer};
 
@@ -48,11 +48,11 @@ impl Exchange {
             Kind::Request => {
                 let servlet_path = copied(self.alloc, Some(servlet_path))?;
                 let path_info = copied(self.alloc, path_info)?;
-                self.dispatches.push(dispatch)?;
+                self.dispatches.push_reserved(dispatch);
                 self.client.servlet_path = servlet_path;
                 self.client.path_info = path_info;
             }
-            Kind::Forward | Kind::Include | Kind::Error => self.dispatches.push(dispatch)?,
+            Kind::Forward | Kind::Include | Kind::Error => self.dispatches.push_reserved(dispatch),
         }
         Ok(())
     }
@@ -148,12 +148,15 @@ impl Exchange {
     }
 }
 
-// Gives a list of no dispatches room for one: most requests have no more, and a dispatch is large.
+// Makes room for one dispatch more. The first one gets no more room than its own: most requests have no other, and a dispatch is large.
 fn make_room(dispatches: &mut Vec<Dispatch>) -> Result<(), NoMemory>
-    ensures { dispatches.new.items ≡ dispatches.old.items }
+    ensures stays { dispatches.new.items ≡ dispatches.old.items }
+    ensures room { OnOk result (vec_len dispatches.new < vec_capacity dispatches.new) }
 {
     if dispatches.capacity() == 0 {
         dispatches.reserve_exact(1)?;
+    } else {
+        dispatches.reserve(1)?;
     }
     Ok(())
 }
