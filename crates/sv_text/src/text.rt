@@ -13,7 +13,6 @@ use std::marker::Model;
 const SHORT_LEN: usize = 24;
 
 /// A text in UTF-8. Contracts see the list of its bytes, so that a struct with a `Text` field is plain data to them. A short one takes no memory.
-#[derive(Drop)]
 pub struct Text {
     inner: Inner,
 }
@@ -108,6 +107,17 @@ impl Text {
         ensures { result.now ≡ self.now }
     {
         self.as_str().as_bytes()
+    }
+}
+
+// Written out, so that what holds texts lets each go by a call, wherever its bytes lie.
+impl Drop for Text {
+    fn drop(self) {
+        let Text { inner } = self;
+        match inner {
+            Inner::Short(_) => {}
+            Inner::Long(text) => drop(text),
+        }
     }
 }
 
