@@ -32,8 +32,8 @@ invariant_of-self c =
 pub invariant_of-self-2 : goal.invariant_of-self-2
 invariant_of-self-2 c =
     kept_renamed c.self.inside.serial c.self.inside.count c.args.number c.in-Some.place c.self.inside.slots.items c.self.inside.ids c.self.inside.queue c.index_mut.result.now c.self.invariant c.index_mut.ensures.value (at_there c.args.number c.self.inside.serial c.self.inside.slots.items c.as_slice.result.now c.in-Some.place c.index_mut.result.now c.as_slice.ensures.value c.self.invariant.rise c.in-Some.ensures.place c.index_mut.ensures.value) c.args.words c.rename.new.self (c.rename.ensures ∙ ap (λ id. record c.index_mut.result.now.kept { id = id }) c.in-Ok.ensures) (omega (arith, c.self.invariant.fits, c.if-self.false)) c.remove.new.self
-    (come_and_gone c.args.number c.self.inside.ids c.enter.new.self c.remove.new.self (id_text c.args.words (c.self.inside.serial + 1)) c.index_mut.result.now.kept.id c.as_str.result.now c.id-2.result.now
-    (c.as_str.ensures ∙ c.in-Ok.ensures) (c.id-2.ensures ∙ ap (λ (s : Slot). s.kept.id) (same_slot c.self.inside.slots.items c.in-Some.place c.index.result.now c.index_mut.result.now (subst (λ all. c.in-Some.place < length all) c.as_slice.ensures.value c.in-Some.ensures.bound) c.index.ensures c.index_mut.ensures.value)) c.in-Ok-enter.ensures.entered c.remove.ensures)
+    (come_and_gone c.args.number c.self.inside.ids c.enter.new.self c.remove.new.self (id_text c.args.words (c.self.inside.serial + 1)) c.index_mut.result.now.kept.id c.as_str.result.now c.id.result.now
+    (c.as_str.ensures ∙ c.in-Ok.ensures) (c.id.ensures ∙ ap (λ (s : Slot). s.kept.id) (same_slot c.self.inside.slots.items c.in-Some.place c.index.result.now c.index_mut.result.now (subst (λ all. c.in-Some.place < length all) c.as_slice.ensures.value c.in-Some.ensures.bound) c.index.ensures c.index_mut.ensures.value)) c.in-Ok-enter.ensures.entered c.remove.ensures)
 
 pub returns : goal.returns
 returns c = (
