@@ -46,6 +46,16 @@ module _ (C : Type 0) (moment : ℕ) (message : Message) (start : Reaction) wher
         ∙ (λ i. record (then_brings start (answered {Context = C} entry sends.0 (closes_behind message response))) { edited = sym (first-at_none start.edited) i }),
   )
 
+  -- the answer that was given is the one that is meant
+  pub answered_as : {T E : Type 0} (result : Result T E) (entry : Entry) (given meant : Response) (end : Reaction) → given ≡ meant
+      → IfOk result (λ _. (text : List ℕ) × IsAnswerTo message moment given text
+      × (end ≡ then_brings start (answered {Context = C} entry text (closes_behind message given))))
+      → IfOk result (λ _. (text : List ℕ) × IsAnswerTo message moment meant text
+      × (end ≡ then_brings start (answered {Context = C} entry text (closes_behind message meant))))
+  answered_as result entry given meant end same sends =
+      subst (λ response. IfOk result (λ _. (text : List ℕ) × IsAnswerTo message moment response text
+      × (end ≡ then_brings start (answered {Context = C} entry text (closes_behind message response))))) same sends
+
 module _ {C W : Type 0} (theory : Theory C W) (moment : ℕ) (message : Message) (words : ℕ × ℕ) (before : List C) (start : Reaction) where
   pub handles_at : (place : ℕ) (canon : Canon) (old new : C) (response : Response) (middle end : Reaction) (entries : List Entry) (text : List ℕ)
       → place < length before → old ≡ slice_index_or before place old
@@ -98,15 +108,15 @@ module _ {C W : Type 0} (theory : Theory C W) (moment : ℕ) (message : Message)
   sent (Ok done) place canon old new response middle end entries within is handles notes sends =
       handles_at place canon old new response middle end entries sends.0 within is handles notes sends.1 sends.2
 
-  pub answers_itself : {T E : Type 0} (result : Result T E) (entry : Entry) (given meant : Response) (end : Reaction) → given ≡ meant
-      → IfOk result (λ _. (text : List ℕ) × IsAnswerTo message moment given text
-      × (end ≡ then_brings start (answered {Context = C} entry text (closes_behind message given))))
-      → IfOk result (λ _. AnswersMessage theory moment (Itself entry meant) message words before before start end)
-  answers_itself (Err fault) entry given meant end same sends = tt
-  answers_itself (Ok done) entry given meant end same sends = (
-    answered entry sends.0 (closes_behind message meant),
-    (sends.0, subst (λ response. IsAnswerTo message moment response sends.0) same sends.1, refl, refl),
-    sends.2 ∙ ap (λ response. then_brings start (answered {Context = C} entry sends.0 (closes_behind message response))) same,
+  pub answers_itself : {T E : Type 0} (result : Result T E) (entry : Entry) (response : Response) (end : Reaction)
+      → IfOk result (λ _. (text : List ℕ) × IsAnswerTo message moment response text
+      × (end ≡ then_brings start (answered {Context = C} entry text (closes_behind message response))))
+      → IfOk result (λ _. AnswersMessage theory moment (Itself entry response) message words before before start end)
+  answers_itself (Err fault) entry response end sends = tt
+  answers_itself (Ok done) entry response end sends = (
+    answered entry sends.0 (closes_behind message response),
+    (sends.0, sends.1, refl, refl),
+    sends.2,
   )
 
   pub same_fault : {T E : Type 0} (result : Result T E) (given : Response) (end : Reaction) (fault same : PathFault) → same ≡ fault

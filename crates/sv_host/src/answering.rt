@@ -21,13 +21,14 @@ use sv_head::Field;
 use sv_journal::{Entry, RefusalCause};
 use sv_message::{Body, Message, Response};
 use sv_text::{Bytes, Listed, NoMemory};
+use sv_uri::fault::PathFault;
 use sv_wire::write_response;
 use sv_wire_fault::WireFault;
 
 const CONTINUE: &[u8] = b"HTTP/1.1 100 Continue\r\n\r\n";
 
 // A response without fields or a body.
-pub(crate) fn empty_response(alloc: Global) -> Response
+fn empty_response(alloc: Global) -> Response
     ensures { result ≡ empty_response }
 {
     Response {
@@ -39,7 +40,7 @@ pub(crate) fn empty_response(alloc: Global) -> Response
 }
 
 // The status and its phrase, as plain text.
-pub(crate) fn plain_response(alloc: Global, status: u16) -> Result<Response, NoMemory>
+fn plain_response(alloc: Global, status: u16) -> Result<Response, NoMemory>
     requires { IsStatusCode status }
     ensures { GivesAnswer result (plain_response status) }
 {
@@ -117,7 +118,7 @@ pub(crate) fn is_head(message: &Message) -> bool
 }
 
 // Answers a message that no context handles.
-pub(crate) fn answer_itself<C>(
+fn answer_itself<C>(
     message: &Message,
     entry: Entry,
     response: &Response,
@@ -132,7 +133,62 @@ pub(crate) fn answer_itself<C>(
     send(is_head(message), message.keep, response, moment, output)
 }
 
+// Answers a message that asks for the server itself. This and the two below stand apart since a function fills the rooms of all its
+// locals where it begins, and few messages are answered so.
+#[cold]
+#[inline(never)]
+pub(crate) fn answer_star<C>(
+    alloc: Global,
+    message: &Message,
+    moment: u64,
+    output: &mut Output,
+) -> Result<(), NoMemory>
+    ensures { IfOk result (λ _. (text : List ℕ) × IsAnswerTo message.now moment empty_response text
+        × Adds {Context = C} output.old (answered (entries.Refused causes.Star) text (closes_behind message.now empty_response)) output.new) }
+{
+    let response = empty_response(alloc);
+    let entry = Entry::Refused(RefusalCause::Star);
+    answer_itself::<C>(message, entry, &response, moment, output)
+}
+
+// Answers a message whose target has no canonical path.
+#[cold]
+#[inline(never)]
+pub(crate) fn answer_bad_path<C>(
+    alloc: Global,
+    message: &Message,
+    fault: PathFault,
+    moment: u64,
+    output: &mut Output,
+) -> Result<(), NoMemory>
+    ensures { IfOk result (λ _. (text : List ℕ) × IsAnswerTo message.now moment (plain_response 400) text
+        × Adds {Context = C} output.old (answered (entries.Refused (causes.Path fault)) text (closes_behind message.now (plain_response 400))) output.new) }
+{
+    let response = plain_response(alloc, 400)?;
+    let entry = Entry::Refused(RefusalCause::Path(fault));
+    answer_itself::<C>(message, entry, &response, moment, output)
+}
+
+// Answers a message whose path no context serves.
+#[cold]
+#[inline(never)]
+pub(crate) fn answer_hidden<C>(
+    alloc: Global,
+    message: &Message,
+    moment: u64,
+    output: &mut Output,
+) -> Result<(), NoMemory>
+    ensures { IfOk result (λ _. (text : List ℕ) × IsAnswerTo message.now moment (plain_response 404) text
+        × Adds {Context = C} output.old (answered (entries.Hidden causes.NoContext) text (closes_behind message.now (plain_response 404))) output.new) }
+{
+    let response = plain_response(alloc, 404)?;
+    let entry = Entry::Hidden(RefusalCause::NoContext);
+    answer_itself::<C>(message, entry, &response, moment, output)
+}
+
 // Answers what was refused before it was a message. The connection closes.
+#[cold]
+#[inline(never)]
 pub(crate) fn refuse<C>(
     alloc: Global,
     fault: WireFault,

@@ -11,11 +11,10 @@ ghost use Rattle.sv_run.specs.Messages.{destination, destination_in, place_for};
 ghost use Rattle.sv_run.specs.State.{world_of};
 ghost use Rattle.sv_wire.specs.declared.item.Item.TheVariants as item;
 
-use crate::answering::{answer_itself, empty_response, plain_response};
+use crate::answering::{answer_bad_path, answer_hidden, answer_star};
 use crate::indexed::Indexed;
 use crate::output::Output;
 use std::alloc::Global;
-use sv_journal::{Entry, RefusalCause};
 use sv_message::{Message, Target};
 use sv_run::{Context, Words};
 use sv_text::NoMemory;
@@ -62,19 +61,13 @@ fn respond<C: Context, W: Words>(
     ensures moves { MovesAll C.conduct contexts.old contexts.new }
 {
     match &message.target {
-        Target::Star => {
-            let response = empty_response(alloc);
-            let entry = Entry::Refused(RefusalCause::Star);
-            answer_itself::<C>(&message, entry, &response, moment, output)
-        }
+        Target::Star => answer_star::<C>(alloc, &message, moment, output),
         Target::Path(target) => match canon(alloc, target.as_slice()) {
             Ok(canon) => {
                 respond_at::<C, W>(alloc, contexts, moment, message, &canon, words, output)
             }
             Err(CanonFault::Path(fault)) => {
-                let response = plain_response(alloc, 400)?;
-                let entry = Entry::Refused(RefusalCause::Path(fault));
-                answer_itself::<C>(&message, entry, &response, moment, output)
+                answer_bad_path::<C>(alloc, &message, fault, moment, output)
             }
             Err(CanonFault::NoMemory) => Err(NoMemory),
         },
@@ -106,10 +99,6 @@ fn respond_at<C: Context, W: Words>(
         Some(place) => {
             contexts.handle_at::<W>(alloc, place, moment, message, canon, words, output)
         }
-        None => {
-            let response = plain_response(alloc, 404)?;
-            let entry = Entry::Hidden(RefusalCause::NoContext);
-            answer_itself::<C>(&message, entry, &response, moment, output)
-        }
+        None => answer_hidden::<C>(alloc, &message, moment, output),
     }
 }

@@ -9,9 +9,6 @@ use Rattle.sv_host.proofs.Handling.{answers_itself, at_fault, at_star, same_faul
 use Rattle.sv_host.specs.Output.{reaction_of}
 use Rattle.sv_host.proofs.messages.respond.Goals as goal
 
-pub returns-in_err-response-in-Err-Path-clause-moves : goal.returns-in_err-response-in-Err-Path-clause-moves
-returns-in_err-response-in-Err-Path-clause-moves g c = moves_none g.C.Context.conduct g.met.C.Context.is_motion c.args.contexts.now
-
 pub returns-in-Star-clause-moves : goal.returns-in-Star-clause-moves
 returns-in-Star-clause-moves g c = moves_none g.C.Context.conduct g.met.C.Context.is_motion c.args.contexts.now
 
@@ -26,12 +23,11 @@ returns-in-Star-clause-responds g c =
     let theory = theory_of g.C.HasContextPath.path_of g.C.Context.conduct g.W.Words.draws in
     let before = c.args.contexts.now in
     let message = c.args.message in
-    sent_to theory c.args.moment message c.args.words before (reaction_of c.args.output.now) c.answer_itself.result
+    sent_to theory c.args.moment message c.args.words before (reaction_of c.args.output.now) c.answer_star.result
     (destination theory before message.target) (Itself (Refused causes.Star) empty_response) before
-    (reaction_of c.answer_itself.new.output) (at_star theory before message.target c.in-Star.is)
-    (answers_itself theory c.args.moment message c.args.words before (reaction_of c.args.output.now) c.answer_itself.result
-    (Refused causes.Star) c.empty_response-response.result empty_response (reaction_of c.answer_itself.new.output)
-    c.empty_response-response.ensures c.answer_itself.ensures)
+    (reaction_of c.answer_star.new.output) (at_star theory before message.target c.in-Star.is)
+    (answers_itself theory c.args.moment message c.args.words before (reaction_of c.args.output.now) c.answer_star.result
+    (Refused causes.Star) empty_response (reaction_of c.answer_star.new.output) c.answer_star.ensures)
 
 pub returns-in-Err-Path-clause-responds : goal.returns-in-Err-Path-clause-responds
 returns-in-Err-Path-clause-responds g c =
@@ -39,33 +35,26 @@ returns-in-Err-Path-clause-responds g c =
     let before = c.args.contexts.now in
     let message = c.args.message in
     let reads = rw c.in-Err-Path.field-0-is at c.in-Err-Path.ensures in
-    sent_to theory c.args.moment message c.args.words before (reaction_of c.args.output.now) c.answer_itself-in-Err-Path.result
+    sent_to theory c.args.moment message c.args.words before (reaction_of c.args.output.now) c.answer_bad_path.result
     (destination theory before message.target) (Itself (Refused (causes.Path c.in-Err-Path.fault)) (plain_response 400)) before
-    (reaction_of c.answer_itself-in-Err-Path.new.output)
+    (reaction_of c.answer_bad_path.new.output)
     (at_fault theory before message.target c.in-Path.target c.as_slice.result.now c.in-Err-Path.fault c.in-Path.is c.as_slice.ensures reads)
-    (answers_itself theory c.args.moment message c.args.words before (reaction_of c.args.output.now) c.answer_itself-in-Err-Path.result
-    (Refused (causes.Path c.in-Err-Path.fault)) c.in_ok-response-in-Err-Path.response (plain_response 400)
-    (reaction_of c.answer_itself-in-Err-Path.new.output) c.in_ok-response-in-Err-Path.ensures
-    (same_fault theory c.args.moment message c.args.words before (reaction_of c.args.output.now) c.answer_itself-in-Err-Path.result
-    c.in_ok-response-in-Err-Path.response (reaction_of c.answer_itself-in-Err-Path.new.output) _ c.in-Err-Path.fault (sym c.in-Err-Path.fault-is)
-    c.answer_itself-in-Err-Path.ensures))
-
-pub returns-in_err-response-in-Err-Path-clause-breaks : goal.returns-in_err-response-in-Err-Path-clause-breaks
-returns-in_err-response-in-Err-Path-clause-breaks g c =
-    let theory = theory_of g.C.HasContextPath.path_of g.C.Context.conduct g.W.Words.draws in
-    if_err _
-    (none_given theory c.args.moment c.args.message c.args.words c.args.contexts.now (destination theory c.args.contexts.now c.args.message.target))
+    (answers_itself theory c.args.moment message c.args.words before (reaction_of c.args.output.now) c.answer_bad_path.result
+    (Refused (causes.Path c.in-Err-Path.fault)) (plain_response 400) (reaction_of c.answer_bad_path.new.output)
+    (same_fault theory c.args.moment message c.args.words before (reaction_of c.args.output.now) c.answer_bad_path.result
+    (plain_response 400) (reaction_of c.answer_bad_path.new.output) _ c.in-Err-Path.fault (sym c.in-Err-Path.fault-is)
+    c.answer_bad_path.ensures))
 
 pub returns-in-Star-clause-breaks : goal.returns-in-Star-clause-breaks
 returns-in-Star-clause-breaks g c =
     let theory = theory_of g.C.HasContextPath.path_of g.C.Context.conduct g.W.Words.draws in
-    none_given_if theory c.args.moment c.args.message c.args.words c.args.contexts.now c.answer_itself.result
+    none_given_if theory c.args.moment c.args.message c.args.words c.args.contexts.now c.answer_star.result
     (destination theory c.args.contexts.now c.args.message.target)
 
 pub returns-in-Err-Path-clause-breaks : goal.returns-in-Err-Path-clause-breaks
 returns-in-Err-Path-clause-breaks g c =
     let theory = theory_of g.C.HasContextPath.path_of g.C.Context.conduct g.W.Words.draws in
-    none_given_if theory c.args.moment c.args.message c.args.words c.args.contexts.now c.answer_itself-in-Err-Path.result
+    none_given_if theory c.args.moment c.args.message c.args.words c.args.contexts.now c.answer_bad_path.result
     (destination theory c.args.contexts.now c.args.message.target)
 
 pub returns-clause-breaks : goal.returns-clause-breaks

@@ -9,11 +9,8 @@ use Rattle.sv_host.proofs.Handling.{answers_itself, sent_to}
 use Rattle.sv_host.specs.Output.{reaction_of}
 use Rattle.sv_host.proofs.messages.respond_at.Goals as goal
 
-pub returns-in_err-response-in-None-clause-moves : goal.returns-in_err-response-in-None-clause-moves
-returns-in_err-response-in-None-clause-moves g c = moves_none g.C.Context.conduct g.met.C.Context.is_motion c.args.contexts.now
-
-pub returns-in_ok-response-in-None-clause-moves : goal.returns-in_ok-response-in-None-clause-moves
-returns-in_ok-response-in-None-clause-moves g c = moves_none g.C.Context.conduct g.met.C.Context.is_motion c.args.contexts.now
+pub returns-in-None-clause-moves : goal.returns-in-None-clause-moves
+returns-in-None-clause-moves g c = moves_none g.C.Context.conduct g.met.C.Context.is_motion c.args.contexts.now
 
 pub returns-in-Some-clause-responds : goal.returns-in-Some-clause-responds
 returns-in-Some-clause-responds g c =
@@ -24,17 +21,16 @@ returns-in-Some-clause-responds g c =
     (destination_in canon (place_for theory before canon.path)) (Within c.in-Some.place canon) c.handle_at.new.self (reaction_of c.handle_at.new.output)
     (ap (destination_in canon) (ap (place_for theory before) (sym c.as_str.ensures) ∙ sym c.place.ensures.chosen ∙ c.in-Some.is)) c.handle_at.ensures.responds
 
-pub returns-in_ok-response-in-None-clause-responds : goal.returns-in_ok-response-in-None-clause-responds
-returns-in_ok-response-in-None-clause-responds g c =
+pub returns-in-None-clause-responds : goal.returns-in-None-clause-responds
+returns-in-None-clause-responds g c =
     let theory = theory_of g.C.HasContextPath.path_of g.C.Context.conduct g.W.Words.draws in
     let before = c.args.contexts.now in
     let canon = c.args.canon.now in
-    sent_to theory c.args.moment c.args.message c.args.words before (reaction_of c.args.output.now) c.answer_itself.result
+    sent_to theory c.args.moment c.args.message c.args.words before (reaction_of c.args.output.now) c.answer_hidden.result
     (destination_in canon (place_for theory before canon.path)) (Itself (Hidden causes.NoContext) (plain_response 404)) before
-    (reaction_of c.answer_itself.new.output) (ap (destination_in canon) (ap (place_for theory before) (sym c.as_str.ensures) ∙ sym c.place.ensures.chosen ∙ c.in-None.is))
-    (answers_itself theory c.args.moment c.args.message c.args.words before (reaction_of c.args.output.now) c.answer_itself.result
-    (Hidden causes.NoContext) c.in_ok-response-in-None.response (plain_response 404) (reaction_of c.answer_itself.new.output)
-    c.in_ok-response-in-None.ensures c.answer_itself.ensures)
+    (reaction_of c.answer_hidden.new.output) (ap (destination_in canon) (ap (place_for theory before) (sym c.as_str.ensures) ∙ sym c.place.ensures.chosen ∙ c.in-None.is))
+    (answers_itself theory c.args.moment c.args.message c.args.words before (reaction_of c.args.output.now) c.answer_hidden.result
+    (Hidden causes.NoContext) (plain_response 404) (reaction_of c.answer_hidden.new.output) c.answer_hidden.ensures)
 
 pub returns-in-Some-clause-breaks : goal.returns-in-Some-clause-breaks
 returns-in-Some-clause-breaks g c =
@@ -45,15 +41,8 @@ returns-in-Some-clause-breaks g c =
     (destination_in canon (place_for theory before canon.path)) (Within c.in-Some.place canon) c.handle_at.new.self
     (ap (destination_in canon) (ap (place_for theory before) (sym c.as_str.ensures) ∙ sym c.place.ensures.chosen ∙ c.in-Some.is)) c.handle_at.ensures.breaks
 
-pub returns-in_err-response-in-None-clause-breaks : goal.returns-in_err-response-in-None-clause-breaks
-returns-in_err-response-in-None-clause-breaks g c =
+pub returns-in-None-clause-breaks : goal.returns-in-None-clause-breaks
+returns-in-None-clause-breaks g c =
     let theory = theory_of g.C.HasContextPath.path_of g.C.Context.conduct g.W.Words.draws in
-    if_err _
-    (none_given theory c.args.moment c.args.message c.args.words c.args.contexts.now
-    (destination_in c.args.canon.now (place_for theory c.args.contexts.now c.args.canon.now.path)))
-
-pub returns-in_ok-response-in-None-clause-breaks : goal.returns-in_ok-response-in-None-clause-breaks
-returns-in_ok-response-in-None-clause-breaks g c =
-    let theory = theory_of g.C.HasContextPath.path_of g.C.Context.conduct g.W.Words.draws in
-    none_given_if theory c.args.moment c.args.message c.args.words c.args.contexts.now c.answer_itself.result
+    none_given_if theory c.args.moment c.args.message c.args.words c.args.contexts.now c.answer_hidden.result
     (destination_in c.args.canon.now (place_for theory c.args.contexts.now c.args.canon.now.path))
