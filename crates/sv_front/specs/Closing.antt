@@ -1,13 +1,20 @@
 -- How a connection that is over is closed (RFC 9112, section 9.6).
+use Rattle.std.specs.Prelude.{◌||◌, cond, length, nat_eq, not}
+use Rattle.sv_front.specs.Places.{Standing}
 use Rattle.sv_front.specs.declared.cause.Cause.{Cause}
 use Rattle.sv_front.specs.declared.cause.Cause.TheVariants.{PeerEnded, AnswerCloses, ReadFails, WriteFails, GivenUp}
 use Rattle.sv_front.specs.declared.closing.Closing.{Closing}
-use Rattle.sv_front.specs.declared.closing.Closing.TheVariants.{AtOnce, InStages}
+use Rattle.sv_front.specs.declared.closing.Closing.TheVariants.{AtOnce, Answered, InStages}
 
--- at once where its peer has ended or is gone, else in stages: its peer may still send
-abbrev pub closing_of : Cause → Closing
-closing_of PeerEnded = AtOnce
-closing_of AnswerCloses = InStages
-closing_of ReadFails = AtOnce
-closing_of WriteFails = AtOnce
-closing_of GivenUp = InStages
+module _ {S : Type 0} where
+  -- behind an answer that closes: a peer whose message was refused may still send it, and one of which more came sends on
+  abbrev pub behind_answer : Standing S → Closing
+  behind_answer at = cond (at.refused || not (nat_eq (length at.ahead) 0)) InStages Answered
+
+  -- at once where its peer has ended or is gone; where it is given up in stages, since its peer may still send
+  abbrev pub closing_of : Standing S → Cause → Closing
+  closing_of at PeerEnded = AtOnce
+  closing_of at AnswerCloses = behind_answer at
+  closing_of at ReadFails = AtOnce
+  closing_of at WriteFails = AtOnce
+  closing_of at GivenUp = InStages

@@ -1,6 +1,6 @@
 -- Where a connection stands, and what may come next.
-use Rattle.std.specs.Prelude.{◌≡◌, ◌⊎◌, ℕ, ◌+◌, ◌<◌, Bool, false, true, cond, List, [], ◌++◌, length, min}
-use Rattle.sv_front.specs.Ending.{ends_message}
+use Rattle.std.specs.Prelude.{◌≡◌, ◌⊎◌, ℕ, ◌+◌, ◌<◌, ◌&&◌, Bool, false, true, cond, List, [], ◌++◌, length, min}
+use Rattle.sv_front.specs.Ending.{ends_message, has_refusal}
 use Rattle.sv_front.specs.Pieces.{IsPiece}
 use Rattle.sv_front.specs.Ways.{Ways}
 use Rattle.sv_front.specs.declared.cause.Cause.{Cause}
@@ -10,7 +10,8 @@ use Rattle.sv_run.specs.declared.reaction.Reaction.{Reaction}
 use Rattle.sv_streams.specs.Calls.{Gave, ReadFailed, Took, WriteFailed}
 
 -- the stream of a connection, what was read of it and not handed on, what waits to be written to it, whether it closes behind that, whether
--- nothing was done since a call would have had to wait or the peer was armed, and how many bytes of a message were handed on that is not over
+-- nothing was done since a call would have had to wait or the peer was armed, how many bytes of a message were handed on that is not over, and
+-- whether it closes behind the refusal of a message, of which more may come
 pub record Standing (S : Type 0) : Type 0 where
   pub stream : S
   pub ahead : List ℕ
@@ -18,6 +19,7 @@ pub record Standing (S : Type 0) : Type 0 where
   pub closes : Bool
   pub rests : Bool
   pub under_way : ℕ
+  pub refused : Bool
 
 -- of a number: no connection had it, one has it, or the one that had it is over
 pub data Place (S : Type 0) : Type 0 where
@@ -46,10 +48,14 @@ pub data Deed : Type 0 where
 abbrev pub under_way_behind : ℕ → ℕ → Reaction → ℕ
 under_way_behind before count reaction = cond (ends_message reaction.journal.entries reaction.sends) 0 (min (before + count) MAX_UNDER_WAY)
 
+-- whether what a piece brought closes the connection behind the refusal of a message
+abbrev pub closes_refused : Reaction → Bool
+closes_refused reaction = reaction.closes && has_refusal reaction.journal.entries
+
 module _ {S : Type 0} where
   -- a connection that was opened
   abbrev pub fresh : S → Standing S
-  fresh stream = record { stream = stream; ahead = []; unsent = []; closes = false; rests = true; under_way = 0 }
+  fresh stream = record { stream = stream; ahead = []; unsent = []; closes = false; rests = true; under_way = 0; refused = false }
 
   -- nothing waits to be handed on or to be written
   abbrev pub IsIdle : Standing S → Type 0
@@ -87,6 +93,7 @@ module _ {S : Type 0} where
           closes = reaction.closes;
           rests = false;
           under_way = under_way_behind at.under_way (length bytes) reaction;
+          refused = closes_refused reaction;
         })
     Leads (Open at) (Writes bytes) (Open after) =
         (0 < length bytes) × ways.makes at.stream (Took bytes) after.stream × (at.unsent ≡ bytes ++ after.unsent)

@@ -1,10 +1,5 @@
 //! Why a connection is over.
 
-ghost use Rattle.std.specs.Prelude.{◌≡◌};
-ghost use Rattle.sv_front.specs.Closing.{closing_of};
-
-use crate::closing::Closing;
-
 /// Why a connection is over.
 #[derive(Clone, Copy, Debug, PartialEq, Eq)]
 pub enum Cause {
@@ -18,16 +13,4 @@ pub enum Cause {
     WriteFails,
     /// The connection was given up: it took too long, it made room for another, or it could not be armed.
     GivenUp,
-}
-
-impl Cause {
-    /// How a connection is closed that is over for it: at once where its peer has ended or is gone, else in stages, since its peer may still send.
-    pub(crate) fn closing(self) -> Closing
-        ensures { result ≡ closing_of self }
-    {
-        match self {
-            Cause::PeerEnded | Cause::ReadFails | Cause::WriteFails => Closing::AtOnce,
-            Cause::AnswerCloses | Cause::GivenUp => Closing::InStages,
-        }
-    }
 }

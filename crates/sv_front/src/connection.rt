@@ -7,7 +7,8 @@ ghost use Rattle.sv_front.specs.Steps.{Drives, HandsOn, IsArmed, SendsOn, StepsO
 
 use crate::allowance::Allowance;
 use crate::cause::Cause;
-use crate::ending::ends_message;
+use crate::closing::Closing;
+use crate::ending::{ends_message, has_refusal};
 use crate::limits::{BYTES_A_WINDOW, FIRST_READ_BYTES, MAX_UNDER_WAY, READ_BYTES, WINDOW_SECONDS};
 use crate::peer::{Peer, Tried};
 use crate::pending::Pending;
@@ -28,6 +29,7 @@ pub(crate) struct Connection<P> {
     unsent: Pending,
     closes: bool,
     rests: bool,
+    refused: bool,
     under_way: u64,
     begun: bool,
     flows: bool,
@@ -44,19 +46,20 @@ impl<P> Model for Connection<P> {
 
     ghost Value = { Standing P };
 
-    ghost view = { λ c. record { stream = c.stream; ahead = c.ahead; unsent = c.unsent; closes = c.closes; rests = c.rests; under_way = c.under_way } };
+    ghost view = { λ c. record { stream = c.stream; ahead = c.ahead; unsent = c.unsent; closes = c.closes; rests = c.rests; under_way = c.under_way; refused = c.refused } };
 }
 
 impl<P: Peer> Connection<P> {
     ghost use Rattle.std.specs.Prelude.{◌≡◌, [], false, true, IsTrue, ◌↔◌};
+    ghost use Rattle.sv_front.specs.Closing.{behind_answer, closing_of};
     ghost use Rattle.sv_front.specs.Finishing.{is_writing};
     ghost use Rattle.sv_front.specs.Holding.{weight};
-    ghost use Rattle.sv_front.specs.Places.{under_way_behind};
+    ghost use Rattle.sv_front.specs.Places.{closes_refused, under_way_behind};
 
     /// A connection that was opened at that time in seconds and in that turn, whose stream is armed. Where it stands between requests it is to be given up
     /// after so many seconds.
     pub fn new(alloc: Global, stream: P, now: u64, idle_seconds: u64, turn: u64) -> Connection<P>
-        ensures { result ≡ record { stream = stream; ahead = []; unsent = []; closes = false; rests = true; under_way = 0 } }
+        ensures { result ≡ record { stream = stream; ahead = []; unsent = []; closes = false; rests = true; under_way = 0; refused = false } }
     {
         Connection {
             stream,
@@ -64,6 +67,7 @@ impl<P: Peer> Connection<P> {
             unsent: Pending::new(alloc),
             closes: false,
             rests: true,
+            refused: false,
             under_way: 0,
             begun: false,
             flows: false,
@@ -81,6 +85,28 @@ impl<P: Peer> Connection<P> {
         ensures { result ≡ self.stream }
     {
         self.stream
+    }
+
+    /// How it is closed where it is over for that cause (RFC 9112, section 9.6): at once where its peer has ended or is gone, and in stages where it may
+    /// still send.
+    pub fn closing(&self, cause: Cause) -> Closing
+        ensures { result ≡ closing_of self.now cause }
+    {
+        match cause {
+            Cause::PeerEnded | Cause::ReadFails | Cause::WriteFails => Closing::AtOnce,
+            Cause::AnswerCloses => self.closing_behind_answer(),
+            Cause::GivenUp => Closing::InStages,
+        }
+    }
+
+    // How it is closed behind an answer.
+    fn closing_behind_answer(&self) -> Closing
+        ensures { result ≡ behind_answer self.now }
+    {
+        if self.refused || !self.ahead.is_empty() {
+            return Closing::InStages;
+        }
+        Closing::Answered
     }
 
     /// When it is to be given up, in seconds.
@@ -335,6 +361,7 @@ impl<P: Peer> Connection<P> {
           closes = reaction.closes;
           rests = false;
           under_way = under_way_behind self.old.under_way count reaction;
+          refused = closes_refused reaction;
         } }
     {
         let Reaction {
@@ -352,6 +379,7 @@ impl<P: Peer> Connection<P> {
                 .saturating_add(count as u64)
                 .min(MAX_UNDER_WAY)
         };
+        self.refused = closes && has_refusal(journal.entries());
         self.unsent = Pending::of(sends);
         self.closes = closes;
         self.rests = false;

@@ -15,6 +15,20 @@ pub(crate) fn ends_message(entries: &[Entry], sends: &[u8]) -> bool
     has_outcome(entries) && !asks_for_more(sends)
 }
 
+/// Whether a message is refused: what is left of it may still come.
+pub(crate) fn has_refusal(entries: &[Entry]) -> bool
+    ensures { result ≡ spec.has_refusal entries.now }
+{
+    entries.iter().any(|entry| is_refusal(entry))
+}
+
+// Whether an entry tells that a message is refused.
+fn is_refusal(entry: &Entry) -> bool
+    ensures { result ≡ spec.is_refusal entry.now }
+{
+    matches!(entry, Entry::Refused(_))
+}
+
 fn has_outcome(entries: &[Entry]) -> bool
     ensures { result ≡ spec.has_outcome entries.now }
 {

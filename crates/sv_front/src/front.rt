@@ -244,7 +244,8 @@ impl<P: Peer + Drop> Front<P> {
         ensures { ForgetsOne number self.old self.new }
     {
         if let Some(connection) = self.connections.remove(&number) {
-            network.part(number, connection.into_stream(), cause.closing());
+            let closing = connection.closing(cause);
+            network.part(number, connection.into_stream(), closing);
         }
     }
 

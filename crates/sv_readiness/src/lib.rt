@@ -19,7 +19,7 @@ mod stream_peer;
 pub use laws::limits_are_as_stated;
 pub use limits::{
     EVENTS_AT_ONCE, LINGER_SECONDS, MAX_ASKING_SECONDS, MAX_DROPPED_BYTES, MAX_DROPPED_READS,
-    MAX_LINE_BYTES, MAX_LINGERING, MAX_READY_BEFORE_ACCEPT,
+    MAX_LINE_BYTES, MAX_LINGERING, MAX_READY_BEFORE_ACCEPT, MAX_SENT_AT_ONCE,
 };
 pub use listening::Listening;
 pub use sockets::Sockets;

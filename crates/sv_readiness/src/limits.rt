@@ -6,6 +6,10 @@ pub const EVENTS_AT_ONCE: usize = 256;
 /// Behind as many connections that were told as ready it is told that one may have come, so that those that come do not wait for all that are ready.
 pub const MAX_READY_BEFORE_ACCEPT: u32 = 32;
 
+/// So many bytes of all that was written to a peer have left at once: the first window of a connection has ten segments (RFC 6928, section 2), of 536
+/// bytes at least (RFC 9293, section 3.7.1).
+pub const MAX_SENT_AT_ONCE: usize = 4_096;
+
 /// As many streams of connections that are over are read on at once.
 pub const MAX_LINGERING: usize = 256;
 

@@ -7,6 +7,7 @@ use crate::lingering::Lingering;
 use crate::listening::{LISTENER, Listening};
 use crate::ready::Ready;
 use crate::stream_peer::StreamPeer;
+use mio::event::Source;
 use mio::net::{TcpListener, TcpStream, UnixListener};
 use mio::{Events, Interest, Poll, Registry, Token};
 use std::alloc::{AllocError, Global};
@@ -244,8 +245,8 @@ impl<'a, C: Clock> Sockets<'a, C> {
     fn peer_of(&self, stream: TcpStream, number: u64) -> Option<StreamPeer<'a, TcpStream>> {
         let mut stream = stream;
         let token = Token(number as usize);
-        let both = Interest::READABLE | Interest::WRITABLE;
-        if token.0 >= ASKER || self.registry.register(&mut stream, token, both).is_err() {
+        let comes = Interest::READABLE;
+        if token.0 >= ASKER || self.registry.register(&mut stream, token, comes).is_err() {
             return None;
         }
         Some(StreamPeer::new(stream, self.registry, token))
@@ -309,9 +310,9 @@ impl<'a, C: Clock> Network for Sockets<'a, C> {
     }
 
     fn part(&mut self, number: u64, peer: StreamPeer<'a, TcpStream>, closing: Closing) {
-        let stream = peer.into_stream();
         // What is dropped is closed: so is what makes room. A peer that is gone is sent no end.
-        let lingers = closing == Closing::InStages && self.crowd != Crowd::Told;
+        let lingers = may_send_on(closing, &peer) && self.crowd != Crowd::Told;
+        let stream = peer.into_stream();
         if lingers && stream.shutdown(Shutdown::Write).is_ok() {
             let now = self.seconds();
             self.lingering.take(number, stream, now, self.registry);
@@ -359,6 +360,15 @@ fn control_of(
     match listener {
         Some(listener) => Some(Control::new(alloc, registry, listener)),
         None => None,
+    }
+}
+
+// Whether a peer whose connection is closed so may send on: what it sends is dropped then.
+fn may_send_on<T: Source>(closing: Closing, peer: &StreamPeer<'_, T>) -> bool {
+    match closing {
+        Closing::AtOnce => false,
+        Closing::Answered => !peer.is_settled(),
+        Closing::InStages => true,
     }
 }
 

@@ -1,8 +1,10 @@
 //! The stream of a connection whose calls do not wait.
 
-ghost use Rattle.std.specs.Prelude.{◌≡◌, false};
+ghost use Rattle.std.specs.Prelude.{◌≡◌, ◌&&◌, ◌⊎◌, false, nat_le};
+ghost use Rattle.sv_readiness.specs.declared.limits.TheConstants.{MAX_SENT_AT_ONCE};
 
 use crate::calls::{try_read, try_write};
+use crate::limits::MAX_SENT_AT_ONCE;
 use mio::event::Source;
 use mio::{Interest, Registry, Token};
 use std::io::{Read, Write};
@@ -12,28 +14,41 @@ use sv_front::{Peer, Tried};
 ///
 /// A read that leaves room in its buffer has taken all that had come. The next read answers that it would have to wait, without asking the system,
 /// unless the stream rests in between: a write that would have to wait, and being told anew, are where a connection rests. What comes behind such a
-/// read is reported, and an end that had come with it is told once more (see `Ready`).
+/// read is reported, and an end that had come with it is told once more (see `Ready`). Room to write is reported from the first write on that would have
+/// to wait, since most answers find room, and a new connection would be told of its room before anything has come.
 #[derive(Drop)]
 pub struct StreamPeer<'a, T> {
     stream: T,
     registry: &'a Registry,
     token: Token,
     is_drained: bool,
+    is_told_of_room: bool,
+    written: usize,
 }
 
 impl<'a, T: Source> StreamPeer<'a, T> {
-    /// The stream, whose readiness this registry reports under the token.
+    /// The stream, of which this registry reports under the token what comes.
     pub fn new(stream: T, registry: &'a Registry, token: Token) -> StreamPeer<'a, T>
         ensures stream { result.stream ≡ stream }
         ensures token { result.token ≡ token }
         ensures drained { result.is_drained ≡ false }
+        ensures written { result.written ≡ 0 }
     {
         StreamPeer {
             stream,
             registry,
             token,
             is_drained: false,
+            is_told_of_room: false,
+            written: 0,
         }
+    }
+
+    /// Whether the last read left room, so that nothing had come behind what it gave, and no more was written than has left at once.
+    pub fn is_settled(&self) -> bool
+        ensures { result ≡ (self.now.is_drained && nat_le self.now.written MAX_SENT_AT_ONCE) }
+    {
+        self.is_drained && self.written <= MAX_SENT_AT_ONCE
     }
 
     /// Gives the stream up.
@@ -42,15 +57,41 @@ impl<'a, T: Source> StreamPeer<'a, T> {
     {
         self.stream
     }
+
+    // Asks to be told of what comes and of room to write, also of what was there before.
+    fn ask_for_both(&mut self) -> bool
+        ensures { T.keeps self.old.stream self.new.stream }
+    {
+        self.is_drained = false;
+        let both = Interest::READABLE | Interest::WRITABLE;
+        self.is_told_of_room = self
+            .registry
+            .reregister(&mut self.stream, self.token, both)
+            .is_ok();
+        self.is_told_of_room
+    }
+
+    // Is told of room to write from now on. Where that cannot be had, the connection is given up when its time is over.
+    fn wait_for_room(&mut self)
+        ensures { (self.new.stream ≡ self.old.stream) ⊎ T.keeps self.old.stream self.new.stream }
+    {
+        self.is_drained = false;
+        if !self.is_told_of_room {
+            self.ask_for_both();
+        }
+    }
 }
 
 impl<T: Read + Write + Source> Peer for StreamPeer<'_, T> {
+    ghost use Rattle.std.specs.Prelude.{◌≡◌, ◌⊎◌};
     ghost use Rattle.sv_readiness.specs.Calls.{Pauses};
     ghost use Rattle.sv_streams.specs.Standard.{IsCallOf};
 
     ghost ways = { record {
       makes = λ before call after. IsCallOf (T.remaining before.stream) (T.contents before.stream) call (T.remaining after.stream) (T.contents after.stream);
-      pauses = λ before after. Pauses (T.remaining before.stream) (T.contents before.stream) (T.remaining after.stream) (T.contents after.stream);
+      pauses = λ before after. Pauses (T.remaining before.stream) (T.contents before.stream) (T.remaining after.stream) (T.contents after.stream)
+          ⊎ ((between : T) × Pauses (T.remaining before.stream) (T.contents before.stream) (T.remaining between) (T.contents between)
+          × T.keeps between after.stream);
       arms = λ before after. T.keeps before.stream after.stream;
     } };
 
@@ -74,18 +115,16 @@ impl<T: Read + Write + Source> Peer for StreamPeer<'_, T> {
 
     fn write(&mut self, bytes: &[u8]) -> Tried {
         let tried = try_write(&mut self.stream, bytes);
-        if tried == Tried::Paused {
-            self.is_drained = false;
+        match tried {
+            Tried::Done(count) => self.written = self.written.saturating_add(count),
+            Tried::Paused => self.wait_for_room(),
+            Tried::Failed => {}
         }
         tried
     }
 
     fn arm(&mut self) -> bool {
-        self.is_drained = false;
-        let both = Interest::READABLE | Interest::WRITABLE;
-        self.registry
-            .reregister(&mut self.stream, self.token, both)
-            .is_ok()
+        self.ask_for_both()
     }
 }
 
