@@ -103,6 +103,7 @@ fn login_outcome(
 }
 
 // What the constraints decide.
+#[inline(always)]
 fn decided(
     alloc: Global,
     app: &WebApp,

@@ -5,6 +5,7 @@ use std::alloc::Global;
 use sv_exchange::{Exchange, ExchangeFault};
 use sv_mapping::Kind;
 use sv_rows::Draft;
+use sv_session::Sessions;
 use sv_text::NoMemory;
 
 /// Writes the answers to calls that are made one after another, with semicolons between them, and behind a bar the cookie of the
@@ -17,21 +18,21 @@ pub fn answer_all(
 ) -> Result<(), NoMemory> {
     let mut told = Draft::new(alloc);
     match exchange(alloc, request) {
-        Ok(exchange) => tell_all(exchange, calls, &mut told),
+        Ok(exchange) => tell_all(alloc, exchange, calls, &mut told),
         Err(_) => told.fail(),
     }
     told.add_to(answer)
 }
 
-fn tell_all(mut exchange: Exchange, calls: &str, told: &mut Draft) {
+fn tell_all(alloc: Global, mut exchange: Exchange, calls: &str, told: &mut Draft) {
     for call in calls.split(';') {
         tell_call(&mut exchange, call.trim_start(), told);
     }
-    tell_cookie(exchange, told);
+    tell_cookie(alloc, exchange, told);
 }
 
-fn tell_cookie(exchange: Exchange, told: &mut Draft) {
-    let (response, _sessions) = exchange.finish();
+fn tell_cookie(alloc: Global, mut exchange: Exchange, told: &mut Draft) {
+    let response = exchange.finish(&mut Sessions::new(alloc, 0, 0));
     if let Some(cookie) = &response.cookie {
         told.add(" | ");
         told.add(cookie.name.as_str());

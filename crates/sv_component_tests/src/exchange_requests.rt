@@ -64,20 +64,26 @@ fn settings(alloc: Global, cookie: Cookie<'_>) -> Result<CookieSettings, NoMemor
 
 fn exchange_of(
     alloc: Global,
-    message: Message,
+    mut message: Message,
     canon: &Canon,
     settings: &CookieSettings,
     session: &str,
 ) -> Result<Exchange, NoMemory> {
     let held = held(alloc, session)?;
-    let sessions = sessions(alloc, if session == "full" { 1 } else { 2 });
+    let mut sessions = sessions(alloc, if session == "full" { 1 } else { 2 });
     let words = (0, 1);
-    match Exchange::begin(
-        alloc, message, canon, "/app", settings, 7, words, held, sessions,
-    ) {
-        Ok(exchange) => Ok(exchange),
-        Err(_) => Err(NoMemory),
-    }
+    let mut exchange = Exchange::new(alloc);
+    exchange.begin(
+        &mut message,
+        canon,
+        "/app",
+        settings,
+        7,
+        words,
+        held,
+        &mut sessions,
+    )?;
+    Ok(exchange)
 }
 
 fn canon(alloc: Global, query: &str) -> Result<Canon, NoMemory> {

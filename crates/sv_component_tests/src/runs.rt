@@ -55,23 +55,23 @@ fn begin<S: Sees>(
     seen: &mut Draft,
 ) {
     let Request {
-        message,
+        mut message,
         canon,
         cookie_settings,
     } = request;
-    let sessions = Sessions::new(alloc, 0, 0);
-    match Exchange::begin(
-        alloc,
-        message,
+    let mut sessions = Sessions::new(alloc, 0, 0);
+    let mut exchange = Exchange::new(alloc);
+    match exchange.begin(
+        &mut message,
         &canon,
         "/app",
         &cookie_settings,
         7,
         (0, 0),
         None,
-        sessions,
+        &mut sessions,
     ) {
-        Ok(exchange) => run(alloc, row, calls, exchange, sees, seen),
+        Ok(()) => run(alloc, row, calls, exchange, sees, seen),
         Err(_) => seen.fail(),
     }
 }
@@ -86,6 +86,6 @@ fn run<S: Sees>(
 ) {
     let said = call_all(alloc, &mut exchange, calls);
     sees.add_exchange(alloc, row, said, &mut exchange, seen);
-    let (response, _sessions) = exchange.finish();
+    let response = exchange.finish(&mut Sessions::new(alloc, 0, 0));
     sees.add_response(alloc, &response, seen);
 }

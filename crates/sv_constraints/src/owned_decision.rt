@@ -36,6 +36,7 @@ pub struct OwnedWhy {
 
 impl OwnedDecision {
     /// Copies a decision.
+    #[inline(always)]
     pub fn copy_of(alloc: Global, decision: Decision<'_>) -> Result<OwnedDecision, NoMemory>
         ensures { GivesAnswer result (seen decision.entry) }
     {
@@ -70,6 +71,7 @@ impl OwnedDecision {
 
 impl OwnedWhy {
     /// Copies a reason.
+    #[inline(always)]
     pub fn copy_of(alloc: Global, why: Why<'_>) -> Result<OwnedWhy, NoMemory>
         ensures { GivesAnswer result (seen_why why.entry) }
     {

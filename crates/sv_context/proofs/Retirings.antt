@@ -1,13 +1,13 @@
 -- Which servlets the calls of an answer put out of service for good.
 use Rattle.std.specs.Prelude.{codes}
-use Rattle.std.proofs.Common.{◌≡◌, ℕ, zero, suc, Bool, true, false, inl, inr, eqb, List, [], ◌∷◌, ◌++◌, Option, None, Some, refl, sym, ap, ◌∙◌, subst, append-nil, slice_get, slice_index_or, slice_set, if◌then◌else◌, unwrap_or}
-use Rattle.std.specs.List.{AllByRecursion, list_any}
+use Rattle.std.proofs.Common.{◌≡◌, ℕ, zero, suc, Bool, true, false, eqb, List, [], ◌∷◌, ◌++◌, Option, None, Some, refl, sym, ap, ◌∙◌, subst, append-nil, slice_index_or, slice_set, if◌then◌else◌}
+use Rattle.std.specs.List.{list_any}
 use Rattle.std.proofs.lemmas.Bool.{eqb-true, eqb-false}
 use Rattle.sv_admission.specs.declared.answer.Answer.{Answer}
 use Rattle.sv_admission.specs.declared.answer.Answer.TheVariants as answers
 use Rattle.sv_admission.specs.declared.limits.TheConstants.{SEE_OTHER}
 use Rattle.sv_component.specs.Call.{Call, Destroyed, Serviced}
-use Rattle.sv_component.specs.Runs.{OfFilter, OfListener, OfServlet, Record}
+use Rattle.sv_component.specs.Runs.{OfServlet, Record}
 use Rattle.sv_component.specs.Standing.{is_gone, standing_now}
 use Rattle.sv_component.specs.declared.answers.Step.{Step}
 use Rattle.sv_component.specs.declared.answers.Step.TheVariants as steps
@@ -15,7 +15,7 @@ use Rattle.sv_component.specs.declared.standing.Standing.{Standing}
 use Rattle.sv_component.specs.declared.standing.Standing.TheVariants.{Serving, Gone, Away}
 use Rattle.sv_context.specs.Answered.{Answered, Answers, Requested, SendsTo, Tells}
 use Rattle.sv_context.specs.Expiry.{ends_told}
-use Rattle.sv_context.specs.Retiring.{EndsSo, Retires, call_of, calls_of, gone_at, is_destroy, is_destroy_of_filter}
+use Rattle.sv_context.specs.Retiring.{EndsSo, Retires, calls_of, gone_at, is_destroy_of_filter}
 use Rattle.sv_context.specs.Retirement.{ends_none, retires_join, retires_none}
 use Rattle.sv_exchange.specs.Changing.{SetHeader, SetStatus}
 use Rattle.sv_event.specs.declared.event.Event.{Event}

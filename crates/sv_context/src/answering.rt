@@ -83,6 +83,7 @@ fn answer_by<S: Servlet, F: Filter, L: Listener>(
 }
 
 // A dispatch of a request, of which the listeners hear.
+#[inline(always)]
 fn request<S: Servlet, F: Filter, L: Listener>(
     alloc: Global,
     live: &mut Live<S, F, L>,

@@ -3,6 +3,7 @@
 ghost use Rattle.std.specs.Prelude.{◌≡◌, length};
 
 use std::marker::Model;
+use sv_exchange::Exchange;
 use sv_live::Live;
 use sv_policy::Policy;
 use sv_realm::Realm;
@@ -19,6 +20,8 @@ pub struct Context<S, F, L> {
     pub(crate) policy: Policy,
     pub(crate) live: Live<S, F, L>,
     pub(crate) sessions: Sessions,
+    // What each request is asked and answered in, one after another. Contracts see nothing of it.
+    pub(crate) exchange: Exchange,
 }
 
 impl<S, F, L> Model for Context<S, F, L> {

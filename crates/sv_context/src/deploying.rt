@@ -14,6 +14,7 @@ use std::alloc::Global;
 use sv_chain::Chains;
 use sv_component::{Filter, Listener, Servlet};
 use sv_descriptor::Descriptor;
+use sv_exchange::Exchange;
 use sv_journal::Journal;
 use sv_lifecycle::{Deployment, StartCode, StartFault, fits};
 use sv_live::Live;
@@ -51,6 +52,7 @@ impl<S: Servlet, F: Filter, L: Listener> Context<S, F, L> {
             policy: _,
             live,
             mut sessions,
+            exchange: _,
         } = self;
         let parts = live.stop(alloc, &mut sessions, journal);
         let (path, descriptor, files) = site.into_parts();
@@ -106,6 +108,7 @@ fn start<S: Servlet, F: Filter, L: Listener>(
                 policy,
                 live,
                 sessions,
+                exchange: Exchange::new(alloc),
             })
         }
         Err(StartFault { code, parts }) => Err(DeployFault {

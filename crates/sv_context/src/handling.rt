@@ -1,7 +1,7 @@
 //! How a context handles a message.
 
 ghost use Rattle.sv_component.specs.Steps.{steps_of};
-ghost use Rattle.std.specs.Prelude.{◌≡◌, IfOk, IsTrue, List, MatchResult, OnOk, true};
+ghost use Rattle.std.specs.Prelude.{◌≡◌, IfOk, IsTrue, List, OnErr, OnOk, true};
 ghost use Rattle.std.specs.Option.{option_copied};
 ghost use Rattle.http.specs.StatusCode.{IsStatusCode};
 ghost use Rattle.sv_admission.specs.Admission.{settled_in};
@@ -22,11 +22,10 @@ ghost use Rattle.sv_context.specs.State.{AreComponentsOf, context_of};
 use crate::answering::respond;
 use crate::context::Context;
 use std::alloc::Global;
-use std::mem;
 use sv_admission::{Admission, Answer, admit};
 use sv_component::{Event, Exchange, Filter, Listener, Servlet};
 use sv_context_path::path_within;
-use sv_exchange::{BeginFault, HeldSession};
+use sv_exchange::HeldSession;
 use sv_journal::{Entry, Journal};
 use sv_live::Live;
 use sv_message::{Message, Response};
@@ -39,23 +38,24 @@ use sv_uri::path::Canon;
 
 impl<S: Servlet, F: Filter, L: Listener> Context<S, F, L> {
     /// Handles a message whose target has that canonical path, which the context serves, at a moment in seconds since 1970, with the two random
-    /// words of the message, which it has for good: it is admitted, noted, and answered by the servlet or the file of its path, by a page, plainly, or by sending the
+    /// words of the message, of which nothing is said then: it is admitted, noted, and answered by the servlet or the file of its path, by a page, plainly, or by sending the
     /// client elsewhere (Jakarta Servlet 6.0, sections 3.5, 10.9, 11.3 and 13.6.3). The sessions that have expired have ended before.
     ///
     /// # Errors
     /// `NoMemory` where a growth was refused, a component wanted memory, or the journal is broken: the calls made so far were made. All that was
     /// deployed is there then, and the context can be undeployed; nothing is said of its sessions.
+    #[inline(always)]
     pub fn handle(
         &mut self,
         alloc: Global,
-        message: Message,
+        message: &mut Message,
         canon: &Canon,
         moment: u64,
         words: (u64, u64),
         journal: &mut Journal,
     ) -> Result<Response, NoMemory>
         requires { IsTrue (is_at_or_below self.old.content.context_path canon.now.path) }
-        ensures handles { HandlesMessage (steps_of S.servlet_step F.filter_step L.listener_step) (asked_by message (within self.old canon.now) moment words)
+        ensures handles { HandlesMessage (steps_of S.servlet_step F.filter_step L.listener_step) (asked_by message.old (within self.old canon.now) moment words)
             self.old journal.old (seen result) self.new journal.new }
         ensures status { IfOk result (λ response. IsStatusCode response.status) }
     {
@@ -66,12 +66,20 @@ impl<S: Servlet, F: Filter, L: Listener> Context<S, F, L> {
             &self.users,
             &mut self.live,
             &mut self.sessions,
+            &mut self.exchange,
             message,
             canon,
             moment,
             words,
             journal,
         )
+    }
+
+    /// Takes the memory of a response that was written.
+    pub fn recycle(&mut self, response: Response)
+        ensures { self.new ≡ self.old }
+    {
+        self.exchange.recycle(response);
     }
 }
 
@@ -83,7 +91,8 @@ fn handle_in<S: Servlet, F: Filter, L: Listener>(
     users: &Realm,
     live: &mut Live<S, F, L>,
     sessions: &mut Sessions,
-    message: Message,
+    exchange: &mut Exchange,
+    message: &mut Message,
     canon: &Canon,
     moment: u64,
     words: (u64, u64),
@@ -92,7 +101,7 @@ fn handle_in<S: Servlet, F: Filter, L: Listener>(
     requires below { IsTrue (is_at_or_below site.old.context_path canon.now.path) }
     requires components { AreComponentsOf site.old live.old }
     ensures handles { HandlesMessage (steps_of S.servlet_step F.filter_step L.listener_step)
-        (asked_by message (within (context_of site.old policy.now users.now live.old sessions.old) canon.now) moment words)
+        (asked_by message.old (within (context_of site.old policy.now users.now live.old sessions.old) canon.now) moment words)
         (context_of site.old policy.now users.now live.old sessions.old) journal.old (seen result)
         (context_of site.old policy.now users.now live.new sessions.new) journal.new }
     ensures components { AreComponentsOf site.old live.new }
@@ -104,14 +113,16 @@ fn handle_in<S: Servlet, F: Filter, L: Listener>(
     }
     if is_path_within(site.context_path(), canon) {
         return handle_at(
-            alloc, site, policy, users, live, sessions, message, canon, moment, words, journal,
+            alloc, site, policy, users, live, sessions, exchange, message, canon, moment, words,
+            journal,
         );
     }
     let Ok(canon) = within(alloc, site.context_path(), canon) else {
         return Err(NoMemory);
     };
     handle_at(
-        alloc, site, policy, users, live, sessions, message, &canon, moment, words, journal,
+        alloc, site, policy, users, live, sessions, exchange, message, &canon, moment, words,
+        journal,
     )
 }
 
@@ -123,7 +134,8 @@ fn handle_at<S: Servlet, F: Filter, L: Listener>(
     users: &Realm,
     live: &mut Live<S, F, L>,
     sessions: &mut Sessions,
-    message: Message,
+    exchange: &mut Exchange,
+    message: &mut Message,
     canon: &Canon,
     moment: u64,
     words: (u64, u64),
@@ -131,7 +143,7 @@ fn handle_at<S: Servlet, F: Filter, L: Listener>(
 ) -> Result<Response, NoMemory>
     requires components { AreComponentsOf site.old live.old }
     requires whole { journal.old.whole ≡ true }
-    ensures handles { HandlesMessage (steps_of S.servlet_step F.filter_step L.listener_step) (asked_by message canon.now moment words)
+    ensures handles { HandlesMessage (steps_of S.servlet_step F.filter_step L.listener_step) (asked_by message.old canon.now moment words)
         (context_of site.old policy.now users.now live.old sessions.old) journal.old (seen result)
         (context_of site.old policy.now users.now live.new sessions.new) journal.new }
     ensures components { AreComponentsOf site.old live.new }
@@ -139,12 +151,12 @@ fn handle_at<S: Servlet, F: Filter, L: Listener>(
     ensures site { site.new ≡ site.old }
 {
     let Ok(admission) = admit(
-        alloc, site, policy, users, &message, canon, moment, words, sessions,
+        alloc, site, policy, users, message, canon, moment, words, sessions,
     ) else {
         return Err(NoMemory);
     };
     answer(
-        alloc, site, live, sessions, message, canon, moment, words, admission, journal,
+        alloc, site, live, sessions, exchange, message, canon, moment, words, admission, journal,
     )
 }
 
@@ -180,7 +192,8 @@ fn answer<S: Servlet, F: Filter, L: Listener>(
     site: &mut Site,
     live: &mut Live<S, F, L>,
     sessions: &mut Sessions,
-    message: Message,
+    exchange: &mut Exchange,
+    message: &mut Message,
     canon: &Canon,
     moment: u64,
     words: (u64, u64),
@@ -190,9 +203,9 @@ fn answer<S: Servlet, F: Filter, L: Listener>(
     requires components { AreComponentsOf site.old live.old }
     requires whole { journal.old.whole ≡ true }
     ensures handles { (policy : Standing) (users : List User) (store : Store)
-        → admission ≡ admitted (context_of site.old policy users live.old store) (asked_by message canon.now moment words)
-        → sessions.old ≡ (settled_in site.old policy users (asked_by message canon.now moment words) store).store
-        → HandlesMessage (steps_of S.servlet_step F.filter_step L.listener_step) (asked_by message canon.now moment words)
+        → admission ≡ admitted (context_of site.old policy users live.old store) (asked_by message.old canon.now moment words)
+        → sessions.old ≡ (settled_in site.old policy users (asked_by message.old canon.now moment words) store).store
+        → HandlesMessage (steps_of S.servlet_step F.filter_step L.listener_step) (asked_by message.old canon.now moment words)
         (context_of site.old policy users live.old store) journal.old (seen result) (context_of site.old policy users live.new sessions.new) journal.new }
     ensures components { AreComponentsOf site.old live.new }
     ensures status { IfOk result (λ response. IsStatusCode response.status) }
@@ -204,15 +217,13 @@ fn answer<S: Servlet, F: Filter, L: Listener>(
         session,
         event,
     } = admission;
-    let lent = mem::replace(sessions, Sessions::new(alloc, 0, 0));
-    match begin(alloc, site, message, canon, moment, words, session, lent) {
-        Ok(exchange) => answer_begun(
+    match begin(
+        exchange, site, message, canon, moment, words, session, sessions,
+    ) {
+        Ok(()) => answer_begun(
             alloc, site, live, sessions, exchange, canon, entry, event, answer, journal,
         ),
-        Err(BeginFault { sessions: back }) => {
-            *sessions = back;
-            Err(NoMemory)
-        }
+        Err(NoMemory) => Err(NoMemory),
     }
 }
 
@@ -222,7 +233,7 @@ fn answer_begun<S: Servlet, F: Filter, L: Listener>(
     site: &mut Site,
     live: &mut Live<S, F, L>,
     sessions: &mut Sessions,
-    exchange: Exchange,
+    exchange: &mut Exchange,
     canon: &Canon,
     entry: Entry,
     event: Option<Event>,
@@ -232,15 +243,14 @@ fn answer_begun<S: Servlet, F: Filter, L: Listener>(
     requires components { AreComponentsOf site.old live.old }
     requires whole { journal.old.whole ≡ true }
     ensures ends { EndsExchange (steps_of S.servlet_step F.filter_step L.listener_step) (site_of site.old) canon.now entry event answer
-        live.old exchange journal.old (seen result) live.new sessions.new journal.new }
+        live.old exchange.old journal.old (seen result) live.new sessions.new journal.new }
     ensures components { AreComponentsOf site.old live.new }
     ensures site { site.new ≡ site.old }
 {
-    let mut exchange = exchange;
     let done = respond_noted(
         alloc,
         live,
-        &mut exchange,
+        exchange,
         site,
         canon,
         entry,
@@ -248,8 +258,7 @@ fn answer_begun<S: Servlet, F: Filter, L: Listener>(
         &answer,
         journal,
     );
-    let (response, back) = exchange.finish();
-    *sessions = back;
+    let response = exchange.finish(sessions);
     match done {
         Ok(()) => Ok(response),
         Err(refusal) => Err(refusal),
@@ -285,22 +294,20 @@ fn respond_noted<S: Servlet, F: Filter, L: Listener>(
 
 // Begins the exchange of a message in its context.
 fn begin(
-    alloc: Global,
+    exchange: &mut Exchange,
     site: &Site,
-    message: Message,
+    message: &mut Message,
     canon: &Canon,
     moment: u64,
     words: (u64, u64),
     held: Option<HeldSession>,
-    sessions: Sessions,
-) -> Result<Exchange, BeginFault>
-    ensures { MatchResult result
-        (λ exchange. exchange ≡ begun message canon.now site.now.context_path site.now.app.session.cookie moment words held sessions)
-        (λ fault. fault.sessions ≡ sessions) }
+    sessions: &mut Sessions,
+) -> Result<(), NoMemory>
+    ensures begun { OnOk result (exchange.new ≡ begun message.old canon.now site.now.context_path site.now.app.session.cookie moment words held sessions.old) }
+    ensures kept { OnErr result (sessions.new ≡ sessions.old) }
 {
     let settings = &site.descriptor().web_app().session.cookie;
-    Exchange::begin(
-        alloc,
+    exchange.begin(
         message,
         canon,
         site.context_path(),

@@ -25,16 +25,21 @@ impl<S: Servlet, F: Filter, L: Listener> sv_run::Context for Context<S, F, L> {
 
     ghost conduct = { conduct_by (steps_of S.servlet_step F.filter_step L.listener_step) };
 
+    #[inline(always)]
     fn handle(
         &mut self,
         alloc: Global,
-        message: Message,
+        message: &mut Message,
         canon: &Canon,
         moment: u64,
         words: (u64, u64),
         journal: &mut Journal,
     ) -> Result<Response, NoMemory> {
         self.handle(alloc, message, canon, moment, words, journal)
+    }
+
+    fn recycle(&mut self, response: Response) {
+        self.recycle(response);
     }
 
     fn expire(&mut self, alloc: Global, moment: u64, journal: &mut Journal) {

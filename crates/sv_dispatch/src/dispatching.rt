@@ -193,6 +193,7 @@ fn turns<M: Machine, T: Tables>(
 
 // A turn of a servlet, and how it ended the dispatch; none where the servlet goes on.
 #[cycle(dispatching)]
+#[inline(always)]
 fn turn<M: Machine, T: Tables>(
     alloc: Global,
     machine: &mut M,

@@ -21,6 +21,7 @@ pub(crate) struct Passed {
 }
 
 /// Calls the filters of a chain from a place on, up to the first that does not pass (Jakarta Servlet 6.0, section 6.2.1).
+#[inline(always)]
 pub(crate) fn befores<M: Machine, T: Tables>(
     alloc: Global,
     machine: &mut M,
@@ -81,6 +82,7 @@ pub(crate) fn befores<M: Machine, T: Tables>(
 }
 
 /// Calls the first filters of a chain once more, the last first.
+#[inline(always)]
 pub(crate) fn afters<M: Machine>(
     machine: &mut M,
     chain: &[usize],

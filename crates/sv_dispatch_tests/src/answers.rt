@@ -155,8 +155,9 @@ fn ask(
 }
 
 /// Tells the response of an exchange, and gives its sessions back.
-fn finish(alloc: Global, exchange: Exchange, told: &mut Draft) -> Sessions {
-    let (response, sessions) = exchange.finish();
+fn finish(alloc: Global, mut exchange: Exchange, told: &mut Draft) -> Sessions {
+    let mut sessions = Sessions::new(alloc, 0, 0);
+    let response = exchange.finish(&mut sessions);
     add_response(alloc, told, &response);
     sessions
 }

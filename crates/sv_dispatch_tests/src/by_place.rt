@@ -73,23 +73,23 @@ fn make_on(
     told: &mut Draft,
 ) {
     let Request {
-        message,
+        mut message,
         canon,
         cookie_settings,
     } = request;
-    let sessions = Sessions::new(alloc, 0, 0);
-    match Exchange::begin(
-        alloc,
-        message,
+    let mut sessions = Sessions::new(alloc, 0, 0);
+    let mut exchange = Exchange::new(alloc);
+    match exchange.begin(
+        &mut message,
         &canon,
         "",
         &cookie_settings,
         7,
         (0, 0),
         None,
-        sessions,
+        &mut sessions,
     ) {
-        Ok(exchange) => make_each(alloc, calls, live, exchange, journal, told),
+        Ok(()) => make_each(alloc, calls, live, exchange, journal, told),
         Err(_) => told.fail(),
     }
 }
@@ -106,7 +106,7 @@ fn make_each(
         told.add(make(alloc, live, &mut exchange, journal, call));
         told.add(" ");
     }
-    let _ended = exchange.finish();
+    let _response = exchange.finish(&mut Sessions::new(alloc, 0, 0));
 }
 
 fn make(

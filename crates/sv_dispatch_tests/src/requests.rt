@@ -113,22 +113,25 @@ fn begun(
     canon: &Canon,
     context: &str,
     values: ((Message, Option<HeldSession>), CookieSettings),
-    sessions: Sessions,
+    mut sessions: Sessions,
 ) -> Option<Exchange> {
     let (asked, settings) = values;
-    let (message, held) = asked;
-    let begun = Exchange::begin(
-        alloc,
-        message,
+    let (mut message, held) = asked;
+    let mut exchange = Exchange::new(alloc);
+    let begun = exchange.begin(
+        &mut message,
         canon,
         context,
         &settings,
         moment,
         (0, 1),
         held,
-        sessions,
+        &mut sessions,
     );
-    begun.ok()
+    match begun {
+        Ok(()) => Some(exchange),
+        Err(_) => None,
+    }
 }
 
 fn message(alloc: Global, request: Request<'_>) -> Result<Message, NoMemory> {

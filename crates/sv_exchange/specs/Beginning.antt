@@ -1,8 +1,8 @@
 -- How an exchange begins, and the response that it ends with.
-use Rattle.std.specs.Prelude.{ℕ, ◌==◌, Bool, true, false, List, [], ◌++◌, Option, None, if◌then◌else◌}
+use Rattle.std.specs.Prelude.{ℕ, ◌==◌, Bool, true, false, List, [], ◌++◌, Option, None, codes, if◌then◌else◌}
 use Rattle.std.specs.Option.{option_and_then, option_map}
 use Rattle.sv_session.specs.Calls.{id_of}
-use Rattle.sv_session.specs.Store.{Store}
+use Rattle.sv_session.specs.Store.{Store, empty_store}
 use Rattle.sv_uri.specs.declared.path.Canon.{Canon}
 use Rattle.sv_message.specs.Chunking.{piece_of}
 use Rattle.sv_message.specs.declared.body.Body.{Body}
@@ -21,6 +21,39 @@ use Rattle.sv_exchange.specs.State.{State}
 abbrev pub renewed_cookie : CookieSettings → List ℕ → Store → HeldSession → Option Cookie
 renewed_cookie settings context_path store held =
     if held.is_renewed then option_map (cookie_of settings context_path) (id_of held.number store) else None
+
+-- a cookie without a name
+abbrev pub no_settings : CookieSettings
+no_settings = record { name = []; path = None; http_only = false; max_age = None }
+
+-- nothing was asked yet, and nothing said
+abbrev pub unasked : State
+unasked = record {
+  method = codes "GET";
+  context_path = [];
+  cookie_settings = no_settings;
+  request_fields = [];
+  body = [];
+  moment = 0;
+  reads_chunks = false;
+  client = paths_at [] [] None None None;
+  dispatches = [];
+  attributes = [];
+  status = OK;
+  fields = [];
+  flushed = [];
+  buffer = [];
+  committed = false;
+  broken = false;
+  calls = 0;
+  kept = None;
+  words = (0, 0);
+  store = empty_store 0 0;
+  session = None;
+  caller = None;
+  cookie = None;
+  events = [];
+}
 
 -- no dispatch is under way, nothing was said yet, and there is nothing to tell
 abbrev pub begun : Message → Canon → List ℕ → CookieSettings → ℕ → ℕ × ℕ → Option HeldSession → Store → State

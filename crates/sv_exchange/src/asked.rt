@@ -1,39 +1,72 @@
-//! What an exchange copies of its context and of the path that a client asked it for.
+//! What an exchange keeps of its context from one request to the next.
 
-ghost use Rattle.std.specs.Prelude.{◌≡◌, IfOk, None};
-ghost use Rattle.sv_exchange.specs.Dispatches.{paths_at};
+ghost use Rattle.std.specs.Prelude.{◌≡◌, [], IsTrue, OnOk};
+ghost use Rattle.sv_exchange.specs.Beginning.{no_settings};
 
-use crate::dispatch::{Paths, shown};
 use std::alloc::Global;
 use sv_message::CookieSettings;
 use sv_text::{NoMemory, Text};
-use sv_uri::path::Canon;
 
-/// The context that a client asked, how its session cookie is set there, and the paths of what was asked for.
-#[derive(Drop)]
-pub(crate) struct Asked {
-    pub(crate) context_path: Text,
-    pub(crate) cookie_settings: CookieSettings,
-    pub(crate) client: Paths,
+/// A text of no bytes, which takes no memory.
+pub(crate) fn no_text(alloc: Global) -> Text
+    ensures { result ≡ [] }
+{
+    Text::from_string(String::new(alloc))
 }
 
-impl Asked {
-    /// Copies them.
-    pub(crate) fn copy_of(
-        alloc: Global,
-        canon: &Canon,
-        context_path: &str,
-        cookie_settings: &CookieSettings,
-    ) -> Result<Asked, NoMemory>
-        ensures context_path { IfOk result (λ asked. asked.context_path ≡ context_path.now) }
-        ensures cookie_settings { IfOk result (λ asked. asked.cookie_settings ≡ cookie_settings.now) }
-        ensures client { IfOk result (λ asked. asked.client ≡ paths_at context_path.now canon.now.path None None canon.now.query) }
-    {
-        let query = shown(&canon.query);
-        Ok(Asked {
-            context_path: Text::copy_of(alloc, context_path)?,
-            cookie_settings: CookieSettings::copy_of(alloc, cookie_settings)?,
-            client: Paths::copy_of(alloc, context_path, canon.path.as_str(), None, None, query)?,
-        })
+/// Settings of a cookie without a name.
+pub(crate) fn no_settings(alloc: Global) -> CookieSettings
+    ensures { result ≡ no_settings }
+{
+    CookieSettings {
+        name: no_text(alloc),
+        path: None,
+        http_only: false,
+        max_age: None,
+    }
+}
+
+/// Has a text be another. Where it is that already, it takes no memory.
+pub(crate) fn set_text(alloc: Global, text: &mut Text, other: &str) -> Result<(), NoMemory>
+    ensures { OnOk result (text.new ≡ other.now) }
+{
+    if text.as_str() != other {
+        *text = Text::copy_of(alloc, other)?;
+    }
+    Ok(())
+}
+
+/// Has settings be others. Where they are that already, it takes no memory.
+pub(crate) fn set_settings(
+    alloc: Global,
+    settings: &mut CookieSettings,
+    others: &CookieSettings,
+) -> Result<(), NoMemory>
+    ensures { OnOk result (settings.new ≡ others.now) }
+{
+    if !are_same(settings, others) {
+        *settings = CookieSettings::copy_of(alloc, others)?;
+    }
+    Ok(())
+}
+
+// Whether settings say the same.
+fn are_same(settings: &CookieSettings, others: &CookieSettings) -> bool
+    ensures { IsTrue result → settings.now ≡ others.now }
+{
+    settings.name.as_str() == others.name.as_str()
+        && is_same(&settings.path, &others.path)
+        && settings.http_only == others.http_only
+        && settings.max_age == others.max_age
+}
+
+// Whether a text that may be absent is another.
+fn is_same(text: &Option<Text>, other: &Option<Text>) -> bool
+    ensures { IsTrue result → text.now ≡ other.now }
+{
+    match (text, other) {
+        (Some(text), Some(other)) => text.as_str() == other.as_str(),
+        (None, None) => true,
+        _ => false,
     }
 }

@@ -87,6 +87,7 @@ impl Exchange {
     }
 
     // Whether a field of that name can be set.
+    #[inline(always)]
     fn is_free(&self, name: &str) -> bool
         ensures { result ≡ is_free name.now self.now }
     {
@@ -139,6 +140,7 @@ impl Exchange {
         Ok(true)
     }
 
+    #[inline(always)]
     fn do_write(&mut self, bytes: &[u8]) -> Result<bool, ExchangeFault>
         ensures { Does (Write bytes.now) result self.old self.new }
     {

@@ -1,10 +1,11 @@
 //! A dispatch, and the paths that it sets.
 
-ghost use Rattle.std.specs.Prelude.{◌≡◌, ◌++◌};
+ghost use Rattle.std.specs.Prelude.{◌≡◌, [], ◌++◌, None};
 ghost use Rattle.std.specs.Option.{option_copied};
 ghost use Rattle.sv_text.specs.Gives.{GivesAnswer};
 ghost use Rattle.sv_exchange.specs.Dispatches.{is_include, paths_at};
 
+use crate::asked::no_text;
 use crate::rare::Rare;
 use crate::told_error::ToldError;
 use std::alloc::Global;
@@ -36,6 +37,19 @@ pub struct Paths {
 }
 
 impl Paths {
+    /// No path.
+    pub(crate) fn empty(alloc: Global) -> Paths
+        ensures { result ≡ paths_at [] [] None None None }
+    {
+        Paths {
+            uri: no_text(alloc),
+            path: no_text(alloc),
+            servlet_path: None,
+            path_info: None,
+            query: None,
+        }
+    }
+
     /// Copies the paths of a context's request.
     #[inline(always)]
     pub(crate) fn copy_of(
@@ -69,6 +83,7 @@ impl Dispatch {
 }
 
 /// Copies a text that may be absent.
+#[inline(always)]
 pub(crate) fn copied(alloc: Global, text: Option<&str>) -> Result<Option<Text>, NoMemory>
     ensures { GivesAnswer result (option_copied text.entry) }
 {

@@ -1,27 +1,29 @@
 //! An exchange: how it begins and ends.
 
-ghost use Rattle.std.specs.Prelude.{◌≡◌, MatchResult};
+ghost use Rattle.std.specs.Prelude.{◌≡◌, ◌==◌, [], None, OnErr, OnOk, false};
+ghost use Rattle.sv_exchange.specs.Dispatches.{paths_at};
+ghost use Rattle.sv_exchange.specs.declared.limits.TheConstants.{OK};
 
-use crate::asked::Asked;
+use crate::asked::{no_settings, no_text, set_settings, set_text};
 use crate::attribute::Attribute;
-use crate::begin_fault::BeginFault;
-use crate::dispatch::{Dispatch, Paths};
+use crate::dispatch::{Dispatch, Paths, shown};
 use crate::flushed::{Flushed, body_of};
 use crate::held_session::HeldSession;
 use crate::holding::{held_cookie, parts_of};
 use crate::kept_error::KeptError;
-use crate::limits::OK;
+use crate::limits::{MAX_KEPT_BYTES, MAX_KEPT_FIELDS, OK};
 use crate::rare::Rare;
 use http::Method;
 use std::alloc::Global;
 use std::collections::VecDeque;
 use std::marker::Model;
+use std::mem;
 use sv_event::Event;
 use sv_head::Field;
-use sv_message::{Cookie, CookieSettings, Message, Response};
+use sv_message::{Body, Cookie, CookieSettings, Message, Response};
 use sv_realm::Caller;
 use sv_session::Sessions;
-use sv_text::{Bytes, Listed, Text};
+use sv_text::{Bytes, Listed, NoMemory, Text};
 use sv_uri::path::Canon;
 
 /// A request with the answer that components make of it (Jakarta Servlet 6.0, chapters 3 and 5). Contracts see it as a `State`.
@@ -88,53 +90,22 @@ impl Model for Exchange {
 }
 
 impl Exchange {
-    ghost use Rattle.sv_exchange.specs.Beginning.{begun, finished};
+    ghost use Rattle.sv_exchange.specs.Beginning.{begun, finished, unasked};
 
-    /// Begins an exchange of a request to the context with that path, whose session cookie is set so, and of which nothing was said yet.
-    /// It has the message for good, whose fields and body are not copied. The path of the `Canon` is the one in the context, the moment is in seconds since 1970, and the words are the two random ones of the message. The context's
-    /// sessions are lent to the exchange until [`finish`](Exchange::finish), and the session that the request holds is one of them.
-    ///
-    /// # Errors
-    /// [`BeginFault`]: a growth was refused; it gives the sessions back.
-    pub fn begin(
-        alloc: Global,
-        message: Message,
-        canon: &Canon,
-        context_path: &str,
-        cookie_settings: &CookieSettings,
-        moment: u64,
-        words: (u64, u64),
-        held: Option<HeldSession>,
-        sessions: Sessions,
-    ) -> Result<Exchange, BeginFault>
-        ensures { MatchResult result
-            (λ exchange. exchange ≡ begun message canon.now context_path.now cookie_settings.now moment words held sessions)
-            (λ fault. fault.sessions ≡ sessions) }
+    /// An exchange of which nothing was asked yet. It takes no memory.
+    pub fn new(alloc: Global) -> Exchange
+        ensures { result ≡ unasked }
     {
-        let Ok(cookie) = held_cookie(alloc, cookie_settings, context_path, &sessions, &held) else {
-            return Err(BeginFault { sessions });
-        };
-        let Ok(asked) = Asked::copy_of(alloc, canon, context_path, cookie_settings) else {
-            return Err(BeginFault { sessions });
-        };
-        let (session, caller) = parts_of(held);
-        let Message {
-            method,
-            minor,
-            fields,
-            body,
-            ..
-        } = message;
-        Ok(Exchange {
+        Exchange {
             alloc,
-            method,
-            context_path: asked.context_path,
-            cookie_settings: asked.cookie_settings,
-            request_fields: fields.into_vec(),
-            body,
-            moment,
-            reads_chunks: minor == 1,
-            client: asked.client,
+            method: Method::GET,
+            context_path: no_text(alloc),
+            cookie_settings: no_settings(alloc),
+            request_fields: Vec::new(alloc),
+            body: Bytes::from_vec(Vec::new(alloc)),
+            moment: 0,
+            reads_chunks: false,
+            client: Paths::empty(alloc),
             dispatches: Vec::new(alloc),
             attributes: Vec::new(alloc),
             status: OK,
@@ -145,35 +116,183 @@ impl Exchange {
             broken: false,
             calls: 0,
             kept: Rare::none(),
-            words,
-            sessions,
-            session,
-            caller,
-            cookie,
+            words: (0, 0),
+            sessions: Sessions::new(alloc, 0, 0),
+            session: None,
+            caller: None,
+            cookie: Rare::none(),
             events: VecDeque::new(alloc),
-        })
+        }
     }
 
-    /// Ends the exchange with its response and gives the context's sessions back, without taking memory. The response sets the cookie
-    /// of the session that the message opened or renamed last, where that still lived when the response was committed, or lives at its end.
-    /// What was flushed leaves in pieces, and behind them what was written since, unless the answer broke off.
-    pub fn finish(self) -> (Response, Sessions)
-        ensures response { result.0 ≡ finished self }
-        ensures sessions { result.1 ≡ self.store }
+    /// Begins with a request to the context with that path, whose session cookie is set so, and of which nothing was said yet; what was asked and said before is
+    /// let go. It takes what stands in the message, of which nothing is said then: its fields and body are not copied. The path of the `Canon` is the one in the
+    /// context, the moment is in seconds since 1970, and the words are the two random ones of the message. The context's sessions are lent to the exchange until
+    /// [`finish`](Exchange::finish), for those that it had, and the session that the request holds is one of them. The context's path and settings are copied
+    /// only where they are others than before, and lists keep their memory.
+    ///
+    /// # Errors
+    /// `NoMemory` where a growth was refused: the sessions are as they were. Nothing is said of the exchange then, which can be begun again.
+    pub fn begin(
+        &mut self,
+        message: &mut Message,
+        canon: &Canon,
+        context_path: &str,
+        cookie_settings: &CookieSettings,
+        moment: u64,
+        words: (u64, u64),
+        held: Option<HeldSession>,
+        sessions: &mut Sessions,
+    ) -> Result<(), NoMemory>
+        ensures begun { OnOk result (self.new ≡ begun message.old canon.now context_path.now cookie_settings.now moment words held sessions.old) }
+        ensures lent { OnOk result (sessions.new ≡ self.old.store) }
+        ensures kept { OnErr result (sessions.new ≡ sessions.old) }
+    {
+        let cookie = held_cookie(self.alloc, cookie_settings, context_path, sessions, &held)?;
+        self.ask(canon, context_path, cookie_settings)?;
+        self.take(message);
+        let (session, caller) = parts_of(held);
+        self.moment = moment;
+        self.words = words;
+        mem::swap(&mut self.sessions, sessions);
+        self.session = session;
+        self.caller = caller;
+        self.cookie = cookie;
+        self.forget();
+        Ok(())
+    }
+
+    // Takes what stands in a message.
+    fn take(&mut self, message: &mut Message)
+        ensures { self.new ≡ record self.old {
+          method = message.old.method;
+          request_fields = message.old.fields;
+          body = message.old.body;
+          reads_chunks = message.old.minor == 1;
+        } }
+    {
+        let no_fields = Listed::from_vec(Vec::new(self.alloc));
+        mem::swap(&mut self.method, &mut message.method);
+        mem::swap(&mut self.body, &mut message.body);
+        self.request_fields = mem::replace(&mut message.fields, no_fields).into_vec();
+        self.reads_chunks = message.minor == 1;
+    }
+
+    // Has it ask for a path of a context whose session cookie is set so.
+    fn ask(
+        &mut self,
+        canon: &Canon,
+        context_path: &str,
+        cookie_settings: &CookieSettings,
+    ) -> Result<(), NoMemory>
+        ensures { OnOk result (self.new ≡ record self.old {
+          context_path = context_path.now;
+          cookie_settings = cookie_settings.now;
+          client = paths_at context_path.now canon.now.path None None canon.now.query;
+        }) }
+    {
+        let query = shown(&canon.query);
+        let path = canon.path.as_str();
+        self.client = Paths::copy_of(self.alloc, context_path, path, None, None, query)?;
+        set_text(self.alloc, &mut self.context_path, context_path)?;
+        set_settings(self.alloc, &mut self.cookie_settings, cookie_settings)
+    }
+
+    // Lets go what was said.
+    fn forget(&mut self)
+        ensures { self.new ≡ record self.old {
+          dispatches = [];
+          attributes = [];
+          status = OK;
+          fields = [];
+          flushed = [];
+          buffer = [];
+          committed = false;
+          broken = false;
+          calls = 0;
+          kept = None;
+          events = [];
+        } }
+    {
+        clear(&mut self.dispatches);
+        clear(&mut self.attributes);
+        self.status = OK;
+        clear(&mut self.fields);
+        self.flushed = Flushed::new(self.alloc);
+        clear(&mut self.buffer);
+        self.committed = false;
+        self.broken = false;
+        self.calls = 0;
+        self.kept = Rare::none();
+        self.events = VecDeque::new(self.alloc);
+    }
+
+    /// Ends the exchange with its response and gives the context's sessions back, for those that it is handed, without taking memory. The response sets the
+    /// cookie of the session that the message opened or renamed last, where that still lived when the response was committed, or lives at its end.
+    /// What was flushed leaves in pieces, and behind them what was written since, unless the answer broke off. Of the exchange nothing is said then but that
+    /// it can be begun again; it keeps nothing of the caller, of what came, or of attributes.
+    pub fn finish(&mut self, sessions: &mut Sessions) -> Response
+        ensures response { result ≡ finished self.old }
+        ensures sessions { sessions.new ≡ self.old.store }
     {
         let body = body_of(
             self.committed,
-            self.flushed,
-            self.buffer,
+            mem::replace(&mut self.flushed, Flushed::new(self.alloc)),
+            mem::replace(&mut self.buffer, Vec::new(self.alloc)),
             self.reads_chunks,
             self.broken,
         );
-        let response = Response {
+        let fields = mem::replace(&mut self.fields, Vec::new(self.alloc));
+        let cookie = mem::replace(&mut self.cookie, Rare::none());
+        mem::swap(sessions, &mut self.sessions);
+        clear(&mut self.request_fields);
+        clear(&mut self.attributes);
+        self.body = Bytes::from_vec(Vec::new(self.alloc));
+        self.caller = None;
+        Response {
             status: self.status,
-            fields: Listed::from_vec(self.fields),
-            cookie: self.cookie.into_option(),
+            fields: Listed::from_vec(fields),
+            cookie: cookie.into_option(),
             body,
-        };
-        (response, self.sessions)
+        }
+    }
+
+    /// Takes the memory of a response that was written for the next one, where it is for no more than [`MAX_KEPT_FIELDS`] fields and
+    /// [`MAX_KEPT_BYTES`] bytes of a body. What was said is let go.
+    pub fn recycle(&mut self, response: Response)
+        ensures { self.new ≡ record self.old { fields = []; buffer = [] } }
+    {
+        let Response { fields, body, .. } = response;
+        self.fields = emptied(self.alloc, fields.into_vec(), MAX_KEPT_FIELDS);
+        self.buffer = emptied(self.alloc, bytes_of(self.alloc, body), MAX_KEPT_BYTES);
+    }
+}
+
+// The memory of a body that is whole.
+fn bytes_of(alloc: Global, body: Body) -> Vec<u8> {
+    match body {
+        Body::Whole(bytes) => bytes.into_vec(),
+        Body::Flushed { .. } => Vec::new(alloc),
+    }
+}
+
+// A list without its items, and without its memory where that is for more than so many.
+fn emptied<T: Drop>(alloc: Global, list: Vec<T>, most: usize) -> Vec<T>
+    ensures { result.items ≡ [] }
+{
+    if list.capacity() > most {
+        return Vec::new(alloc);
+    }
+    let mut list = list;
+    clear(&mut list);
+    list
+}
+
+// Lets go of the items of a list, which keeps its memory.
+fn clear<T: Drop>(list: &mut Vec<T>)
+    ensures { list.new.items ≡ [] }
+{
+    if !list.is_empty() {
+        list.clear();
     }
 }

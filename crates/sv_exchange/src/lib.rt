@@ -5,7 +5,6 @@ mod answered;
 mod asked;
 mod attribute;
 mod attributes;
-mod begin_fault;
 mod changing;
 mod dispatch;
 mod dispatching;
@@ -28,7 +27,6 @@ mod sessions;
 mod told_error;
 
 pub use attribute::Attribute;
-pub use begin_fault::BeginFault;
 pub use dispatch::{Dispatch, Paths};
 pub use exchange::Exchange;
 pub use exchange_fault::ExchangeFault;

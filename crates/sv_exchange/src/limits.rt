@@ -6,6 +6,12 @@ pub const MAX_BODY_LEN: usize = 4_194_304;
 /// For how many bytes a body has room once something is written.
 pub(crate) const FIRST_ROOM: usize = 256;
 
+/// For how many bytes the body of a response may have room that is kept for the next one.
+pub(crate) const MAX_KEPT_BYTES: usize = 4_096;
+
+/// For how many fields a response may have room that is kept for the next one.
+pub(crate) const MAX_KEPT_FIELDS: usize = 16;
+
 /// The longest name of a field, in bytes.
 pub(crate) const MAX_FIELD_NAME_LEN: usize = 65_535;
 

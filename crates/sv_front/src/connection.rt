@@ -178,6 +178,7 @@ impl<P: Peer> Connection<P> {
     }
 
     // Puts the moment off at which it is to be given up, where it moved enough bytes or came to stand between requests.
+    #[inline(always)]
     fn pace(&mut self, now: u64, turn: u64)
         ensures { self.new ≡ self.old }
     {
@@ -272,6 +273,7 @@ impl<P: Peer> Connection<P> {
     }
 
     // Reads once, unless others have their turn: behind many pieces the next read is a short one, so that they have it soon again.
+    #[inline(always)]
     fn take_in(&mut self, left: &mut Allowance) -> Result<Step, NoMemory>
         requires { IsIdle self.old }
         ensures { TakesIn P.ways self.old left.old result self.new left.new }
@@ -302,6 +304,7 @@ impl<P: Peer> Connection<P> {
     }
 
     // Writes once, unless others have their turn.
+    #[inline(always)]
     fn send_on(&mut self, left: &mut Allowance) -> Step
         requires { 0 < length self.old.unsent }
         ensures { SendsOn P.ways self.old left.old result self.new left.new }
@@ -355,6 +358,7 @@ impl<P: Peer> Connection<P> {
     }
 
     // What a piece of so many bytes brought waits to be written. A message is under way until its answer was brought; `100 Continue` is none.
+    #[inline(always)]
     fn keep(&mut self, count: usize, reaction: Reaction)
         ensures { self.new ≡ record self.old {
           unsent = reaction.sends;

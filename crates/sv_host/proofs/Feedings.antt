@@ -1,5 +1,5 @@
 -- The entries of a map, as connections.
-use Rattle.std.proofs.Common.{◌≡◌, ℕ, Bool, true, false, List, [], ◌++◌, Some, Result, Ok, Err, IfOk, IsOkAnd, IsSome, refl, sym, ap, ◌∙◌, subst, nat_eq}
+use Rattle.std.proofs.Common.{◌≡◌, ℕ, Bool, true, false, List, [], ◌++◌, Some, Result, Ok, Err, IsOk, OnOk, IsSome, refl, sym, ap, ◌∙◌, subst, nat_eq}
 use Rattle.std.specs.Cmp.{nat_eq_equiv}
 use Rattle.std.specs.Map.{lookup, set_value}
 use Rattle.std.proofs.lemmas.Bool.{eqb-true}
@@ -21,13 +21,13 @@ set_one entries number held left found =
       known = length-set_value (nat_eq number) entries left i;
     }
 
-pub feeds_one : {A E : Type 0} (items_of : A → List Item) (entries : List (ℕ × Held)) (number : ℕ) (piece : List ℕ) (result : Result A E) (held left : Held) (after : List (ℕ × Held))
+pub feeds_one : {T E : Type 0} (entries : List (ℕ × Held)) (number : ℕ) (piece : List ℕ) (result : Result T E) (items : List Item) (held left : Held) (after : List (ℕ × Held))
     → after ≡ set_value (nat_eq number) entries left → Some held ≡ lookup (nat_eq number) entries
-    → (held.spent ≡ false → IfOk result (λ items. Reads held.owed (held.rest ++ piece) (items_of items) left.owed left.rest × (left.spent ≡ are_ended (items_of items))))
-    → (held.spent ≡ true → IsOkAnd result (λ items. items_of items ≡ []) × (left ≡ held))
-    → IfOk result (λ items. FeedsOne (connections_of entries) number piece (items_of items) (connections_of after))
-feeds_one items_of entries number piece (Err e) held left after is_after found reads spent = tt
-feeds_one items_of entries number piece (Ok items) held left after is_after found reads spent =
+    → (held.spent ≡ false → OnOk result (Reads held.owed (held.rest ++ piece) items left.owed left.rest × (left.spent ≡ are_ended items)))
+    → (held.spent ≡ true → IsOk result × (items ≡ []) × (left ≡ held))
+    → OnOk result (FeedsOne (connections_of entries) number piece items (connections_of after))
+feeds_one entries number piece (Err e) items held left after is_after found reads spent = tt
+feeds_one entries number piece (Ok done) items held left after is_after found reads spent =
     record {
       held = held;
       left = left;
@@ -36,6 +36,6 @@ feeds_one items_of entries number piece (Ok items) held left after is_after foun
       is_after = ap connections_of is_after ∙ set_one entries number held left found;
     }
   where
-    by_spent : (t : Bool) → held.spent ≡ t → Feeds held piece (items_of items) left
-    by_spent true is = MatchBool-from_true held.spent _ _ is ((spent is).0, (spent is).1)
+    by_spent : (t : Bool) → held.spent ≡ t → Feeds held piece items left
+    by_spent true is = MatchBool-from_true held.spent _ _ is ((spent is).1, (spent is).2)
     by_spent false is = MatchBool-from_false held.spent _ _ is (reads is)

@@ -5,5 +5,6 @@ mod EditedContexts
 mod Feedings
 mod Handling
 mod Happening
+mod Iterating
 mod Places
 mod Taking

@@ -1,6 +1,6 @@
 //! The known connections of a container, by their numbers.
 
-ghost use Rattle.std.specs.Prelude.{◌≡◌, List, ℕ, None, IfOk, IsSome, is_some};
+ghost use Rattle.std.specs.Prelude.{◌≡◌, List, ℕ, None, IfOk, IsSome, OnOk, is_some};
 ghost use Rattle.sv_host.specs.Connections.{FeedsOne};
 ghost use Rattle.sv_run.specs.Connections.{connections_of, forgotten, no_connections, opened, with_held};
 ghost use Rattle.sv_wire.specs.Inbox.{Held, spent_for_good};
@@ -69,16 +69,17 @@ impl Connections {
         self.inboxes.remove(&number);
     }
 
-    /// Reads a piece of a connection: the items that it completes, in order.
+    /// Reads a piece of a connection into a list, which holds the items that it completes, in order, in place of what it held before.
     ///
     /// # Errors
     /// `NoMemory` where a growth was refused: nothing is said of the connections then, and their container is stopped.
-    pub fn feed(&mut self, number: u64, piece: &[u8]) -> Result<Vec<Item>, NoMemory>
+    #[inline(always)]
+    pub fn feed(&mut self, number: u64, piece: &[u8], items: &mut Vec<Item>) -> Result<(), NoMemory>
         requires { IsSome ((connections_of self.old).held number) }
-        ensures { IfOk result (λ items. FeedsOne (connections_of self.old) number piece.now items.items (connections_of self.new)) }
+        ensures { OnOk result (FeedsOne (connections_of self.old) number piece.now items.new.items (connections_of self.new)) }
     {
         match self.inboxes.get_mut(&number) {
-            Some(inbox) => inbox.feed(piece),
+            Some(inbox) => inbox.feed(piece, items),
             None => unreachable!(),
         }
     }

@@ -24,6 +24,7 @@ use sv_context_path::HasContextPath;
 use sv_policy::Edit;
 use sv_run::{Context, Happening, Reaction, Reactor, StepFault, Words};
 use sv_text::NoMemory;
+use sv_wire::Item;
 
 /// Contexts behind connections, with a source of random words.
 #[derive(Drop)]
@@ -34,6 +35,8 @@ pub struct Host<C: HasContextPath, W> {
     contexts: Indexed<C>,
     words: W,
     connections: Connections,
+    // What a piece brought, while it is handled. The list keeps its memory.
+    items: Vec<Item>,
 }
 
 impl<C: HasContextPath, W> Host<C, W> {
@@ -50,6 +53,7 @@ impl<C: HasContextPath, W> Host<C, W> {
             contexts: Indexed::new(contexts, index),
             words,
             connections: Connections::new(alloc),
+            items: Vec::new(alloc),
         }
     }
 
@@ -184,15 +188,16 @@ impl<C: Context, W: Words> Host<C, W> {
             ⊎ BreaksPiece (theory_of C.path_of C.conduct W.draws) (state_of self.old) number piece.now given (state_of self.new).world)) }
         ensures moves { MovesAll C.conduct (state_of self.old).world.contexts (state_of self.new).world.contexts }
     {
-        let items = self.connections.feed(number, piece)?;
+        self.connections.feed(number, piece, &mut self.items)?;
         take_items::<C, W>(
             self.alloc,
             &mut self.contexts,
             &mut self.words,
             self.moment,
-            items,
+            &mut self.items,
             output,
         )?;
+        self.items.clear();
         if !output.closes {
             return Ok(());
         }

@@ -111,7 +111,7 @@ impl<C: Context> Indexed<C> {
         alloc: Global,
         place: usize,
         moment: u64,
-        message: Message,
+        message: &mut Message,
         canon: &Canon,
         words: (u64, u64),
         output: &mut Output,
@@ -119,10 +119,10 @@ impl<C: Context> Indexed<C> {
         requires there { place < length self.old }
         requires serves { (context : C) → slice_get self.old place ≡ Some context → IsTrue (is_at_or_below (C.path_of context) canon.now.path) }
         ensures responds { IfOk result (λ _. (effect : Effect C)
-            × Responds (theory_of C.path_of C.conduct W.draws) moment (Within place canon.now) message words self.old effect self.new
+            × Responds (theory_of C.path_of C.conduct W.draws) moment (Within place canon.now) message.old words self.old effect self.new
             × Adds output.old effect output.new) }
         ensures breaks { IfErr result (λ _. (given : List (Given C))
-            × BreaksAnswer (theory_of C.path_of C.conduct W.draws) moment (Within place canon.now) message words self.old given self.new) }
+            × BreaksAnswer (theory_of C.path_of C.conduct W.draws) moment (Within place canon.now) message.old words self.old given self.new) }
         ensures moves { MovesAll C.conduct self.old self.new }
     {
         handle_at::<C, W>(

@@ -24,14 +24,14 @@ fn take_item<C: Context, W: Words>(
     contexts: &mut Indexed<C>,
     words: &mut W,
     moment: u64,
-    item: Item,
+    item: &mut Item,
     output: &mut Output,
 ) -> Result<(), NoMemory>
     ensures takes { IfOk result (λ _. (effect : Effect C)
-        × TakesItem (theory_of C.path_of C.conduct W.draws) moment item (world_of contexts.old words.old) effect (world_of contexts.new words.new)
+        × TakesItem (theory_of C.path_of C.conduct W.draws) moment item.old (world_of contexts.old words.old) effect (world_of contexts.new words.new)
         × Adds output.old effect output.new) }
     ensures breaks { IfErr result (λ _. (given : List (Given C))
-        × BreaksItem (theory_of C.path_of C.conduct W.draws) moment item (world_of contexts.old words.old) given (world_of contexts.new words.new)) }
+        × BreaksItem (theory_of C.path_of C.conduct W.draws) moment item.old (world_of contexts.old words.old) given (world_of contexts.new words.new)) }
     ensures moves { MovesAll C.conduct contexts.old contexts.new }
 {
     match item {
@@ -39,28 +39,28 @@ fn take_item<C: Context, W: Words>(
         Item::Message(message) => {
             take_message::<C, W>(alloc, contexts, words, moment, message, output)
         }
-        Item::Refuse(fault) => refuse::<C>(alloc, fault, moment, output),
+        Item::Refuse(fault) => refuse::<C>(alloc, *fault, moment, output),
     }
 }
 
-// Handles items in their order, and none behind one that closes the connection (RFC 9112, section 9.6).
+// Handles items in their order, of which nothing is said then, and none behind one that closes the connection (RFC 9112, section 9.6).
 pub(crate) fn take_items<C: Context, W: Words>(
     alloc: Global,
     contexts: &mut Indexed<C>,
     words: &mut W,
     moment: u64,
-    items: Vec<Item>,
+    items: &mut Vec<Item>,
     output: &mut Output,
 ) -> Result<(), NoMemory>
     requires { output.old.closes ≡ false }
     ensures takes { IfOk result (λ _. (effect : Effect C)
-        × Takes (theory_of C.path_of C.conduct W.draws) moment items.items (world_of contexts.old words.old) effect (world_of contexts.new words.new)
+        × Takes (theory_of C.path_of C.conduct W.draws) moment items.old.items (world_of contexts.old words.old) effect (world_of contexts.new words.new)
         × Adds output.old effect output.new) }
     ensures breaks { IfErr result (λ _. (given : List (Given C))
-        × BreaksItems (theory_of C.path_of C.conduct W.draws) moment items.items (world_of contexts.old words.old) given (world_of contexts.new words.new)) }
+        × BreaksItems (theory_of C.path_of C.conduct W.draws) moment items.old.items (world_of contexts.old words.old) given (world_of contexts.new words.new)) }
     ensures moves { MovesAll C.conduct contexts.old contexts.new }
 {
-    for item in items {
+    for item in items.iter_mut() {
         take_item::<C, W>(alloc, contexts, words, moment, item, output)?;
         if output.closes {
             return Ok(());

@@ -28,14 +28,14 @@ pub(crate) fn take_message<C: Context, W: Words>(
     contexts: &mut Indexed<C>,
     words: &mut W,
     moment: u64,
-    message: Message,
+    message: &mut Message,
     output: &mut Output,
 ) -> Result<(), NoMemory>
     ensures takes { IfOk result (λ _. (effect : Effect C)
-        × TakesMessage (theory_of C.path_of C.conduct W.draws) moment message (world_of contexts.old words.old) effect (world_of contexts.new words.new)
+        × TakesMessage (theory_of C.path_of C.conduct W.draws) moment message.old (world_of contexts.old words.old) effect (world_of contexts.new words.new)
         × Adds output.old effect output.new) }
     ensures breaks { IfErr result (λ _. (given : List (Given C))
-        × BreaksItem (theory_of C.path_of C.conduct W.draws) moment (item.Message message) (world_of contexts.old words.old) given (world_of contexts.new words.new)) }
+        × BreaksItem (theory_of C.path_of C.conduct W.draws) moment (item.Message message.old) (world_of contexts.old words.old) given (world_of contexts.new words.new)) }
     ensures moves { MovesAll C.conduct contexts.old contexts.new }
 {
     let pair = words.pair();
@@ -47,27 +47,27 @@ fn respond<C: Context, W: Words>(
     alloc: Global,
     contexts: &mut Indexed<C>,
     moment: u64,
-    message: Message,
+    message: &mut Message,
     words: (u64, u64),
     output: &mut Output,
 ) -> Result<(), NoMemory>
     ensures responds { IfOk result (λ _. (effect : Effect C)
-        × Responds (theory_of C.path_of C.conduct W.draws) moment (destination (theory_of C.path_of C.conduct W.draws) contexts.old message.target)
-        message words contexts.old effect contexts.new
+        × Responds (theory_of C.path_of C.conduct W.draws) moment (destination (theory_of C.path_of C.conduct W.draws) contexts.old message.old.target)
+        message.old words contexts.old effect contexts.new
         × Adds output.old effect output.new) }
     ensures breaks { IfErr result (λ _. (given : List (Given C))
-        × BreaksAnswer (theory_of C.path_of C.conduct W.draws) moment (destination (theory_of C.path_of C.conduct W.draws) contexts.old message.target)
-        message words contexts.old given contexts.new) }
+        × BreaksAnswer (theory_of C.path_of C.conduct W.draws) moment (destination (theory_of C.path_of C.conduct W.draws) contexts.old message.old.target)
+        message.old words contexts.old given contexts.new) }
     ensures moves { MovesAll C.conduct contexts.old contexts.new }
 {
     match &message.target {
-        Target::Star => answer_star::<C>(alloc, &message, moment, output),
+        Target::Star => answer_star::<C>(alloc, message, moment, output),
         Target::Path(target) => match canon(alloc, target.as_slice()) {
             Ok(canon) => {
                 respond_at::<C, W>(alloc, contexts, moment, message, &canon, words, output)
             }
             Err(CanonFault::Path(fault)) => {
-                answer_bad_path::<C>(alloc, &message, fault, moment, output)
+                answer_bad_path::<C>(alloc, message, fault, moment, output)
             }
             Err(CanonFault::NoMemory) => Err(NoMemory),
         },
@@ -79,7 +79,7 @@ fn respond_at<C: Context, W: Words>(
     alloc: Global,
     contexts: &mut Indexed<C>,
     moment: u64,
-    message: Message,
+    message: &mut Message,
     canon: &Canon,
     words: (u64, u64),
     output: &mut Output,
@@ -87,18 +87,18 @@ fn respond_at<C: Context, W: Words>(
     ensures responds { IfOk result (λ _. (effect : Effect C)
         × Responds (theory_of C.path_of C.conduct W.draws) moment
         (destination_in canon.now (place_for (theory_of C.path_of C.conduct W.draws) contexts.old canon.now.path))
-        message words contexts.old effect contexts.new
+        message.old words contexts.old effect contexts.new
         × Adds output.old effect output.new) }
     ensures breaks { IfErr result (λ _. (given : List (Given C))
         × BreaksAnswer (theory_of C.path_of C.conduct W.draws) moment
         (destination_in canon.now (place_for (theory_of C.path_of C.conduct W.draws) contexts.old canon.now.path))
-        message words contexts.old given contexts.new) }
+        message.old words contexts.old given contexts.new) }
     ensures moves { MovesAll C.conduct contexts.old contexts.new }
 {
     match contexts.place(canon.path.as_str()) {
         Some(place) => {
             contexts.handle_at::<W>(alloc, place, moment, message, canon, words, output)
         }
-        None => answer_hidden::<C>(alloc, &message, moment, output),
+        None => answer_hidden::<C>(alloc, message, moment, output),
     }
 }

@@ -24,7 +24,7 @@ pub(crate) fn handle_at<C: Context, W: Words>(
     contexts: &mut [C],
     place: usize,
     moment: u64,
-    message: Message,
+    message: &mut Message,
     canon: &Canon,
     words: (u64, u64),
     output: &mut Output,
@@ -32,21 +32,17 @@ pub(crate) fn handle_at<C: Context, W: Words>(
     requires there { place < length contexts.old }
     requires serves { (context : C) → slice_get contexts.old place ≡ Some context → IsTrue (is_at_or_below (C.path_of context) canon.now.path) }
     ensures responds { IfOk result (λ _. (effect : Effect C)
-        × Responds (theory_of C.path_of C.conduct W.draws) moment (Within place canon.now) message words contexts.old effect contexts.new
+        × Responds (theory_of C.path_of C.conduct W.draws) moment (Within place canon.now) message.old words contexts.old effect contexts.new
         × Adds output.old effect output.new) }
     ensures breaks { IfErr result (λ _. (given : List (Given C))
-        × BreaksAnswer (theory_of C.path_of C.conduct W.draws) moment (Within place canon.now) message words contexts.old given contexts.new) }
+        × BreaksAnswer (theory_of C.path_of C.conduct W.draws) moment (Within place canon.now) message.old words contexts.old given contexts.new) }
     ensures moves { MovesAll C.conduct contexts.old contexts.new }
 {
-    let head_only = is_head(&message);
+    let head_only = is_head(message);
     let keep = message.keep;
-    let response = contexts[place].handle(
-        alloc,
-        message,
-        canon,
-        moment,
-        words,
-        &mut output.journal,
-    )?;
-    send(head_only, keep, &response, moment, output)
+    let context = &mut contexts[place];
+    let response = context.handle(alloc, message, canon, moment, words, &mut output.journal)?;
+    let sent = send(head_only, keep, &response, moment, output);
+    context.recycle(response);
+    sent
 }

@@ -54,6 +54,7 @@ impl Entry {
     }
 
     /// The entry of a servlet's call. Want of memory for the answer is want of memory for the entry.
+    #[inline(always)]
     pub fn of_servlet(
         alloc: Global,
         context: &str,

@@ -52,6 +52,7 @@ impl Journal {
     }
 
     /// Adds the entry, or breaks the journal where the entry could not be made or finds no room. A broken journal stays as it is.
+    #[inline(always)]
     pub fn note(&mut self, entry: Result<Entry, NoMemory>)
         ensures notes { Notes self.old entry self.new }
         ensures takes { (meant : EntryData) → GivesAnswer entry meant → Takes self.old meant self.new }
@@ -62,6 +63,7 @@ impl Journal {
     /// Lets go of the journal. Who calls it drops none of what the entries hold, and is proved without that.
     pub fn let_go(self) {}
 
+    #[inline(always)]
     fn do_note(&mut self, entry: Result<Entry, NoMemory>)
         ensures { Notes self.old entry self.new }
     {
@@ -76,6 +78,7 @@ impl Journal {
     }
 
     // Adds the entry, and answers whether it finds room. One that finds none is let go.
+    #[inline(always)]
     fn finds_room(&mut self, entry: Entry) -> bool
         ensures { cond result (self.new ≡ with_entry entry self.old) (self.new ≡ self.old) }
     {

@@ -35,17 +35,18 @@ impl Reading {
             refusal: None,
             end: "",
         };
-        reading.feed(&mut inbox, front);
+        let mut items = Vec::new(alloc);
+        reading.feed(&mut inbox, front, &mut items);
         for piece in back.chunks(size) {
-            reading.feed(&mut inbox, piece);
+            reading.feed(&mut inbox, piece, &mut items);
         }
         reading.end = end_of(&mut inbox);
         reading
     }
 
-    fn feed(&mut self, inbox: &mut Inbox, piece: &[u8]) {
-        match inbox.feed(piece) {
-            Ok(items) => self.take(items.as_slice()),
+    fn feed(&mut self, inbox: &mut Inbox, piece: &[u8], items: &mut Vec<Item>) {
+        match inbox.feed(piece, items) {
+            Ok(()) => self.take(items.as_slice()),
             Err(_) => self.items.fail(),
         }
     }

@@ -58,13 +58,19 @@ impl PatternTable {
 
     /// The best match for a path: the place of the pattern that [`best`](sv_mapping::best) finds. An exact match comes first,
     /// then the longest prefix, then an extension, then the default pattern; of equal patterns the first. It takes no memory,
-    /// and at most one look-up for each slash of the path, and one more.
+    /// and at most one look-up for each slash of the path, and one more. Among no patterns nothing is looked up.
     pub fn lookup(&self, path: &str) -> Looked
         ensures best { result.best ≡ best self.now path.now }
         ensures within { IfSome result.best (λ place. place < length self.now) }
         ensures text { option_and_then (λ place. slice_get self.now place) result.best ≡ best_pattern self.now path.now }
         ensures probes { result.probes ≤ segments path.now + 1 }
     {
+        if self.texts().is_empty() {
+            return Looked {
+                best: None,
+                probes: 0,
+            };
+        }
         self.index.find(path)
     }
 }

@@ -105,6 +105,7 @@ impl Policy {
     /// Decides a request as [`decide_plain`](sv_constraints::decide_plain) does by the constraints as they stand, and counts
     /// its look-ups. The path is any text, and is compared as it stands. It takes no memory, and the constraints are not
     /// gone over.
+    #[inline(always)]
     pub fn decide<'a>(&'a self, method: &str, path: &str, caller: Option<&Caller>) -> Decided<'a>
         ensures decision { seen result.decision ≡ verdict self.now.constraints self.now.rules method.now path.now (option_copied caller.entry) }
         ensures probes { result.probes ≤ segments path.now + 2 }

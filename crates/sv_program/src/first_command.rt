@@ -72,7 +72,8 @@ pub fn first_line(alloc: Global, input: &[u8], deny_uncovered: bool) -> Result<S
     ensures { IfOk result (λ line. IsFirstLine input.now deny_uncovered (string_bytes line)) }
 {
     let mut inbox = Inbox::new(alloc);
-    let items = inbox.feed(input)?;
+    let mut items = Vec::new(alloc);
+    inbox.feed(input, &mut items)?;
     item_line(alloc, first_item(items.as_slice()), deny_uncovered)
 }
 

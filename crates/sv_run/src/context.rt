@@ -22,14 +22,14 @@ pub trait Context: HasContextPath + Sized {
     ghost conduct: { Conduct Self };
 
     /// Handles a message whose target has that canonical path, which the context serves. The moment is the container's, and the words are the
-    /// message's own. It has the message for good: what stands in it need not be copied.
+    /// message's own. It may take what stands in the message, of which nothing is said then: none of it need be copied.
     ///
     /// `NoMemory` says that a growth was refused, or that a component wants memory: the handling was cut short, and the context can then be
     /// undeployed, and no more.
     fn handle(
         &mut self,
         alloc: Global,
-        message: Message,
+        message: &mut Message,
         canon: &Canon,
         moment: u64,
         words: (u64, u64),
@@ -39,15 +39,19 @@ pub trait Context: HasContextPath + Sized {
         ensures handles { IfOk result (λ response. (entries : List Entry)
             × conduct.Handles (record {
               context = self.old;
-              request = request_of message canon.now moment words;
+              request = request_of message.old canon.now moment words;
               entries = entries;
               response = response;
               after = self.new;
             })
             × (journal.new ≡ noting entries journal.old)) }
         ensures status { IfOk result (λ response. IsStatusCode response.status) }
-        ensures cut_short { IfErr result (λ _. conduct.CutsShort self.old (request_of message canon.now moment words) self.new) }
+        ensures cut_short { IfErr result (λ _. conduct.CutsShort self.old (request_of message.old canon.now moment words) self.new) }
         ensures moves { conduct.Moves self.old self.new };
+
+    /// Takes the memory of a response that was written.
+    fn recycle(&mut self, response: Response)
+        ensures { self.new ≡ self.old };
 
     /// Ends the sessions that have expired at the moment. It takes no memory but the journal's, and ends them also where that breaks.
     fn expire(&mut self, alloc: Global, moment: u64, journal: &mut Journal)

@@ -5,6 +5,7 @@ use std::alloc::Global;
 use sv_mapping::Kind;
 use sv_message::{Body, Response};
 use sv_rows::{Draft, cell};
+use sv_session::Sessions;
 use sv_web::{
     Exchange, ExchangeFault, Fault, Field, NewCookie, NoMemory, RedirectKind, SameSite, Text, Verb,
     asked_verb, cookie, link_to, redirect, redirect_elsewhere, send, send_html, send_text,
@@ -79,7 +80,7 @@ fn tell_cookie(value: Option<&[u8]>, told: &mut Draft) {
 fn tell_all(alloc: Global, mut exchange: Exchange, call: Call, row: &str, told: &mut Draft) {
     prepare(&mut exchange, cell(row, 0), told);
     tell_call(alloc, &mut exchange, call, row, told);
-    let (response, _sessions) = exchange.finish();
+    let response = exchange.finish(&mut Sessions::new(alloc, 0, 0));
     tell_response(&response, told);
 }
 

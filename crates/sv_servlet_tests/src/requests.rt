@@ -19,18 +19,24 @@ pub fn exchange(alloc: Global, method: &str, lines: &str) -> Result<Exchange, No
 
 fn exchange_of(
     alloc: Global,
-    message: Message,
+    mut message: Message,
     canon: &Canon,
     settings: &CookieSettings,
 ) -> Result<Exchange, NoMemory> {
-    let sessions = Sessions::new(alloc, 1, 0);
+    let mut sessions = Sessions::new(alloc, 1, 0);
     let words = (0, 1);
-    match Exchange::begin(
-        alloc, message, canon, "/app", settings, 7, words, None, sessions,
-    ) {
-        Ok(exchange) => Ok(exchange),
-        Err(_) => Err(NoMemory),
-    }
+    let mut exchange = Exchange::new(alloc);
+    exchange.begin(
+        &mut message,
+        canon,
+        "/app",
+        settings,
+        7,
+        words,
+        None,
+        &mut sessions,
+    )?;
+    Ok(exchange)
 }
 
 fn canon(alloc: Global) -> Result<Canon, NoMemory> {

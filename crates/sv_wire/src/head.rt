@@ -266,6 +266,7 @@ fn set_hosts(
 }
 
 /// What a target in that form asks for. It shares the text of the target.
+#[inline(always)]
 fn read_target(
     alloc: Global,
     form: TargetForm,
@@ -314,6 +315,7 @@ fn read_fields(
 }
 
 /// Copies a method, which is a token.
+#[inline(always)]
 fn read_method(alloc: Global, bytes: &[u8]) -> Result<Method, NoMemory>
     requires { IsToken bytes.now }
     ensures { GivesAnswer result bytes.now }

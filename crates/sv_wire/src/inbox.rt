@@ -1,6 +1,6 @@
 //! The inbox of a connection: bytes in, items out.
 
-ghost use Rattle.std.specs.Prelude.{◌≡◌, true, false, None, Some, [], ◌++◌, IfOk, IsOkAnd, OnErr};
+ghost use Rattle.std.specs.Prelude.{◌≡◌, true, false, None, Some, [], ◌++◌, IfOk, IsOk, OnErr, OnOk};
 ghost use Rattle.sv_wire.specs.Inbox.{nothing_held, spent_for_good, end_of};
 ghost use Rattle.sv_wire.specs.Items.{are_ended};
 ghost use Rattle.sv_wire.specs.Pending.{IsSound, owed_by, rest_of};
@@ -10,7 +10,7 @@ ghost use Rattle.sv_text.specs.declared.front.Cut.TheVariants.{Unended};
 
 use crate::item::Item;
 use crate::pending::PendingBox;
-use crate::reading::{Reading, Rest, read_items};
+use crate::reading::{Rest, read_items};
 use std::alloc::Global;
 use std::marker::Model;
 use std::mem;
@@ -72,32 +72,29 @@ impl Inbox {
         }
     }
 
-    /// Reads a piece of the stream: the items that it completes, in order. What no item holds is kept for the next piece.
-    /// No cut of the stream into pieces changes the items.
+    /// Reads a piece of the stream into a list, which holds the items that it completes, in order, in place of what it held before.
+    /// What no item holds is kept for the next piece. No cut of the stream into pieces changes the items.
     ///
     /// Behind a refusal, or a message that does not keep the connection, nothing is read: the inbox is spent. A spent
     /// inbox answers no items and stays as it is. `NoMemory` says that a growth was refused: the inbox is spent then too,
-    /// and the items of the piece are lost.
-    pub fn feed(&mut self, piece: &[u8]) -> Result<Vec<Item>, NoMemory>
-        ensures reads { self.old.spent ≡ false → IfOk result (λ items.
-            Reads self.old.owed (self.old.rest ++ piece.now) items.items self.new.owed self.new.rest
-            × (self.new.spent ≡ are_ended items.items)) }
+    /// and nothing is said of the list.
+    #[inline(always)]
+    pub fn feed(&mut self, piece: &[u8], items: &mut Vec<Item>) -> Result<(), NoMemory>
+        ensures reads { self.old.spent ≡ false → OnOk result
+            (Reads self.old.owed (self.old.rest ++ piece.now) items.new.items self.new.owed self.new.rest
+            × (self.new.spent ≡ are_ended items.new.items)) }
         ensures no_memory { OnErr result (self.new ≡ spent_for_good) }
-        ensures spent { self.old.spent ≡ true → IsOkAnd result (λ items. items.items ≡ []) × (self.new ≡ self.old) }
+        ensures spent { self.old.spent ≡ true → IsOk result × (items.new.items ≡ []) × (self.new ≡ self.old) }
     {
-        match mem::replace(&mut self.state, State::Spent) {
-            State::Spent => Ok(Vec::new(self.alloc)),
-            State::Head(held) => {
-                let (items, state) = read_on(self.alloc, held, piece)?;
-                self.state = state;
-                Ok(items)
-            }
-            State::Body(pending) => {
-                let (items, state) = read_behind(self.alloc, pending, piece)?;
-                self.state = state;
-                Ok(items)
-            }
+        if !items.is_empty() {
+            items.clear();
         }
+        match mem::replace(&mut self.state, State::Spent) {
+            State::Spent => {}
+            State::Head(held) => self.state = read_on(self.alloc, held, piece, items)?,
+            State::Body(pending) => self.state = read_behind(self.alloc, pending, piece, items)?,
+        }
+        Ok(())
     }
 
     /// Says what the end of the stream means. The inbox is spent afterwards.
@@ -125,37 +122,41 @@ fn end_of(state: &State) -> Ended
 }
 
 /// Reads a piece behind the bytes of a head. What was read is not kept: a buffer holds a head alone.
-fn read_on(alloc: Global, held: Vec<u8>, piece: &[u8]) -> Result<(Vec<Item>, State), NoMemory>
-    requires { cut_head held.items ≡ Unended }
-    ensures { IfOk result (λ read. ReadsTo None (held.items ++ piece.now) read.0.items read.1) }
+#[inline(always)]
+fn read_on(
+    alloc: Global,
+    held: Vec<u8>,
+    piece: &[u8],
+    items: &mut Vec<Item>,
+) -> Result<State, NoMemory>
+    requires unended { cut_head held.items ≡ Unended }
+    requires empty { items.old.items ≡ [] }
+    ensures { IfOk result (λ state. ReadsTo None (held.items ++ piece.now) items.new.items state) }
 {
     if held.is_empty() {
-        return read_alone(alloc, piece);
+        return read_alone(alloc, piece, items);
     }
     let mut stream = held;
     let from = stream.len() + 1;
     stream.extend_from_slice(piece)?;
-    let Reading { items, rest } = read_items(alloc, &stream, from)?;
-    match rest {
-        Rest::Ended => Ok((items, State::Spent)),
-        Rest::Head(0) => Ok((items, State::Head(stream))),
-        Rest::Head(at) => {
-            let held = Vec::from_slice(alloc, &stream[at..])?;
-            Ok((items, State::Head(held)))
-        }
-        Rest::Body(pending) => Ok((items, State::Body(pending))),
+    match read_items(alloc, &stream, from, items)? {
+        Rest::Ended => Ok(State::Spent),
+        Rest::Head(0) => Ok(State::Head(stream)),
+        Rest::Head(at) => Ok(State::Head(Vec::from_slice(alloc, &stream[at..])?)),
+        Rest::Body(pending) => Ok(State::Body(pending)),
     }
 }
 
 /// Reads a piece before which no byte of a head has come. It is copied where it holds the front of a head alone.
-fn read_alone(alloc: Global, piece: &[u8]) -> Result<(Vec<Item>, State), NoMemory>
-    ensures { IfOk result (λ read. ReadsTo None piece.now read.0.items read.1) }
+#[inline(always)]
+fn read_alone(alloc: Global, piece: &[u8], items: &mut Vec<Item>) -> Result<State, NoMemory>
+    requires { items.old.items ≡ [] }
+    ensures { IfOk result (λ state. ReadsTo None piece.now items.new.items state) }
 {
-    let Reading { items, rest } = read_items(alloc, piece, 0)?;
-    match rest {
-        Rest::Ended => Ok((items, State::Spent)),
-        Rest::Head(at) => Ok((items, State::Head(Vec::from_slice(alloc, &piece[at..])?))),
-        Rest::Body(pending) => Ok((items, State::Body(pending))),
+    match read_items(alloc, piece, 0, items)? {
+        Rest::Ended => Ok(State::Spent),
+        Rest::Head(at) => Ok(State::Head(Vec::from_slice(alloc, &piece[at..])?)),
+        Rest::Body(pending) => Ok(State::Body(pending)),
     }
 }
 
@@ -164,13 +165,15 @@ fn read_behind(
     alloc: Global,
     mut pending: PendingBox,
     piece: &[u8],
-) -> Result<(Vec<Item>, State), NoMemory>
-    requires { IsSound pending }
-    ensures { IfOk result (λ read. ReadsTo (owed_by (Some pending)) (rest_of (Some pending) ++ piece.now) read.0.items read.1) }
+    items: &mut Vec<Item>,
+) -> Result<State, NoMemory>
+    requires sound { IsSound pending }
+    requires empty { items.old.items ≡ [] }
+    ensures { IfOk result (λ state. ReadsTo (owed_by (Some pending)) (rest_of (Some pending) ++ piece.now) items.new.items state) }
 {
     match pending.read(piece)? {
-        Progress::Awaits => Ok((Vec::new(alloc), State::Body(pending))),
-        Progress::Ended(end, len) => read_after(alloc, pending, end, &piece[len..]),
+        Progress::Awaits => Ok(State::Body(pending)),
+        Progress::Ended(end, len) => read_after(alloc, pending, end, &piece[len..], items),
     }
 }
 
@@ -180,15 +183,17 @@ fn read_after(
     pending: PendingBox,
     end: BodyEnd,
     behind: &[u8],
-) -> Result<(Vec<Item>, State), NoMemory>
-    ensures { IfOk result (λ read. ReadsAfter (item_of pending.owed end) behind.now read.0.items read.1) }
+    items: &mut Vec<Item>,
+) -> Result<State, NoMemory>
+    requires { items.old.items ≡ [] }
+    ensures { IfOk result (λ state. ReadsAfter (item_of pending.owed end) behind.now items.new.items state) }
 {
     let item = pending.into_item(end);
-    let (mut items, state) = if item.is_last() {
-        (Vec::new(alloc), State::Spent)
+    let state = if item.is_last() {
+        State::Spent
     } else {
-        read_on(alloc, Vec::new(alloc), behind)?
+        read_on(alloc, Vec::new(alloc), behind, items)?
     };
     items.insert(0, item)?;
-    Ok((items, state))
+    Ok(state)
 }

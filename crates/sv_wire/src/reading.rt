@@ -1,6 +1,6 @@
 //! The items of a stream, one after another.
 
-ghost use Rattle.std.specs.Prelude.{◌≡◌, ℕ, ◌<◌, ◌≤◌, false, None, Some, length, take, drop, IfOk};
+ghost use Rattle.std.specs.Prelude.{◌≡◌, ℕ, ◌<◌, ◌≤◌, [], false, None, Some, length, take, drop, IfOk};
 ghost use Rattle.sv_wire.specs.Head.{ends_head};
 ghost use Rattle.sv_wire.specs.Items.{are_ended};
 ghost use Rattle.sv_wire.specs.Next.{ComesNext, IsHeadAt, IsSoundRest, bytes_behind, is_ended, owed_behind};
@@ -42,48 +42,34 @@ pub(crate) enum Rest {
     Body(PendingBox),
 }
 
-/// What a stream was read as.
-#[derive(Drop)]
-pub(crate) struct Reading {
-    pub(crate) items: Vec<Item>,
-    pub(crate) rest: Rest,
-}
-
-/// Reads the items of a stream, of which no front of fewer than `from` bytes ends a head.
-pub(crate) fn read_items(alloc: Global, stream: &[u8], mut from: usize) -> Result<Reading, NoMemory>
-    requires { (k : ℕ) → k < from → ends_head (take k stream.now) ≡ false }
-    ensures reads { IfOk result (λ reading.
-        Reads None stream.now reading.items.items (owed_behind reading.rest) (bytes_behind stream.now reading.rest)) }
-    ensures ended { IfOk result (λ reading. are_ended reading.items.items ≡ is_ended reading.rest) }
-    ensures rest { IfOk result (λ reading. IsSoundRest stream.now reading.rest) }
+/// Reads the items of a stream into a list, which is empty, and what follows them. No front of fewer than `from` bytes of the stream
+/// ends a head.
+pub(crate) fn read_items(
+    alloc: Global,
+    stream: &[u8],
+    mut from: usize,
+    items: &mut Vec<Item>,
+) -> Result<Rest, NoMemory>
+    requires before { (k : ℕ) → k < from → ends_head (take k stream.now) ≡ false }
+    requires empty { items.old.items ≡ [] }
+    ensures reads { IfOk result (λ rest. Reads None stream.now items.new.items (owed_behind rest) (bytes_behind stream.now rest)) }
+    ensures ended { IfOk result (λ rest. are_ended items.new.items ≡ is_ended rest) }
+    ensures rest { IfOk result (λ rest. IsSoundRest stream.now rest) }
 {
-    let mut items = Vec::new(alloc);
     let mut body = None;
     let mut at = 0;
     loop {
         match next_item(alloc, body, stream, at, from)? {
-            Next::AwaitsHead(start) => return Ok(Reading {
-                items,
-                rest: Rest::Head(start),
-            }),
-            Next::AwaitsBody(pending) => return Ok(Reading {
-                items,
-                rest: Rest::Body(pending),
-            }),
+            Next::AwaitsHead(start) => return Ok(Rest::Head(start)),
+            Next::AwaitsBody(pending) => return Ok(Rest::Body(pending)),
             Next::Found(item, next, end) => {
                 let is_last = item.is_last();
                 items.push(item)?;
                 if is_last {
-                    return Ok(Reading {
-                        items,
-                        rest: Rest::Ended,
-                    });
+                    return Ok(Rest::Ended);
                 }
                 if next.is_none() && end == stream.len() {
-                    return Ok(Reading {
-                        items,
-                        rest: Rest::Head(end),
-                    });
+                    return Ok(Rest::Head(end));
                 }
                 body = next;
                 at = end;

@@ -119,6 +119,7 @@ fn append_content(output: &mut Vec<u8>, head: Vec<u8>, body: &Body) -> Result<()
 }
 
 // Appends both texts, or neither.
+#[inline(always)]
 fn append_both(output: &mut Vec<u8>, first: Vec<u8>, second: &[u8]) -> Result<(), AllocError>
     ensures ok { OnOk result (output.new.items ≡ output.old.items ++ first.items ++ second.now) }
     ensures err { OnErr result (output.new.items ≡ output.old.items) }

@@ -9,7 +9,7 @@ pub returns-in-Ok-clause-ends : goal.returns-in-Ok-clause-ends
 returns-in-Ok-clause-ends g c = (
   c.respond_noted-done.new.exchange,
   subst (λ (event : Option Event). RespondsNoted (steps_of g.S.Servlet.servlet_step g.F.Filter.filter_step g.L.Listener.listener_step) (site_of c.args.site.now) c.args.canon.now
-      c.args.entry event c.args.answer c.args.live.now c.args.exchange c.args.journal.now (Some tt)
+      c.args.entry event c.args.answer c.args.live.now c.args.exchange.now c.args.journal.now (Some tt)
       c.respond_noted-done.new.live c.respond_noted-done.new.exchange c.respond_noted-done.new.journal) c.as_ref.ensures.value c.in-Ok.ensures.responds,
   c.finish-response.ensures.response,
   c.finish-response.ensures.sessions,
@@ -20,6 +20,6 @@ pub returns-clause-ends : goal.returns-clause-ends
 returns-clause-ends g c = (
   c.respond_noted-done.new.exchange,
   subst (λ (event : Option Event). RespondsNoted (steps_of g.S.Servlet.servlet_step g.F.Filter.filter_step g.L.Listener.listener_step) (site_of c.args.site.now) c.args.canon.now
-      c.args.entry event c.args.answer c.args.live.now c.args.exchange c.args.journal.now None
+      c.args.entry event c.args.answer c.args.live.now c.args.exchange.now c.args.journal.now None
       c.respond_noted-done.new.live c.respond_noted-done.new.exchange c.respond_noted-done.new.journal) c.as_ref.ensures.value c.in-Err.ensures.responds,
 )

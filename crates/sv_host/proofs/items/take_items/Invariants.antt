@@ -1,5 +1,4 @@
-use Rattle.std.proofs.Common.{◌≡◌, ◌++◌, false}
-use Rattle.std.specs.Vec.Iter.{into_iter_items}
+use Rattle.std.proofs.Common.{◌≡◌, false, take, drop}
 use Rattle.sv_host.specs.Output.{Adds}
 use Rattle.sv_host.proofs.Taking.{TakesOn}
 use Rattle.sv_run.specs.Contexts.{theory_of}
@@ -11,12 +10,12 @@ use Rattle.sv_host.proofs.items.take_items.Given as goal
 
 abbrev pub invariant-loop-item : goal.invariant-loop-item
 invariant-loop-item g l = record {
-  are : l.yielded ++ into_iter_items l.item-iterator ≡ l.fn.items.items;
+  left : drop l.item-index l.item-items ≡ drop l.item-index l.fn.items.items;
   takes : (front : Effect g.row.C.Denot)
       × TakesOn (theory_of g.C.HasContextPath.path_of g.C.Context.conduct g.W.Words.draws) l.moment l.fn.items.items
-      (world_of l.fn.contexts l.fn.words) front (world_of l.contexts l.words) (into_iter_items l.item-iterator)
+      (world_of l.fn.contexts l.fn.words) front (world_of l.contexts l.words) (drop l.item-index l.fn.items.items)
       × Adds l.fn.output front l.output
-      × Takes (theory_of g.C.HasContextPath.path_of g.C.Context.conduct g.W.Words.draws) l.moment l.yielded
+      × Takes (theory_of g.C.HasContextPath.path_of g.C.Context.conduct g.W.Words.draws) l.moment (take l.item-index l.fn.items.items)
       (world_of l.fn.contexts l.fn.words) front (world_of l.contexts l.words);
   stays : l.output.closes ≡ false;
   moves : MovesAll g.C.Context.conduct l.fn.contexts l.contexts;

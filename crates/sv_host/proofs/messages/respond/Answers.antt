@@ -4,7 +4,7 @@ use Rattle.sv_journal.specs.declared.refusal_cause.RefusalCause.TheVariants as c
 use Rattle.sv_run.specs.Contexts.{theory_of}
 use Rattle.sv_run.specs.Messages.{Itself, destination, empty_response, plain_response}
 use Rattle.sv_host.proofs.Breaking.{none_given, none_given_if}
-use Rattle.sv_host.proofs.Contexts.{if_err, moves_none}
+use Rattle.sv_host.proofs.Contexts.{moves_none}
 use Rattle.sv_host.proofs.Handling.{answers_itself, at_fault, at_star, same_fault, sent_to}
 use Rattle.sv_host.specs.Output.{reaction_of}
 use Rattle.sv_host.proofs.messages.respond.Goals as goal
@@ -15,14 +15,14 @@ returns-in-Star-clause-moves g c = moves_none g.C.Context.conduct g.met.C.Contex
 pub returns-in-Err-Path-clause-moves : goal.returns-in-Err-Path-clause-moves
 returns-in-Err-Path-clause-moves g c = moves_none g.C.Context.conduct g.met.C.Context.is_motion c.args.contexts.now
 
-pub returns-clause-moves : goal.returns-clause-moves
-returns-clause-moves g c = moves_none g.C.Context.conduct g.met.C.Context.is_motion c.args.contexts.now
+pub returns-in-Err-NoMemory-clause-moves : goal.returns-in-Err-NoMemory-clause-moves
+returns-in-Err-NoMemory-clause-moves g c = moves_none g.C.Context.conduct g.met.C.Context.is_motion c.args.contexts.now
 
 pub returns-in-Star-clause-responds : goal.returns-in-Star-clause-responds
 returns-in-Star-clause-responds g c =
     let theory = theory_of g.C.HasContextPath.path_of g.C.Context.conduct g.W.Words.draws in
     let before = c.args.contexts.now in
-    let message = c.args.message in
+    let message = c.args.message.now in
     sent_to theory c.args.moment message c.args.words before (reaction_of c.args.output.now) c.answer_star.result
     (destination theory before message.target) (Itself (Refused causes.Star) empty_response) before
     (reaction_of c.answer_star.new.output) (at_star theory before message.target c.in-Star.is)
@@ -33,7 +33,7 @@ pub returns-in-Err-Path-clause-responds : goal.returns-in-Err-Path-clause-respon
 returns-in-Err-Path-clause-responds g c =
     let theory = theory_of g.C.HasContextPath.path_of g.C.Context.conduct g.W.Words.draws in
     let before = c.args.contexts.now in
-    let message = c.args.message in
+    let message = c.args.message.now in
     let reads = rw c.in-Err-Path.field-0-is at c.in-Err-Path.ensures in
     sent_to theory c.args.moment message c.args.words before (reaction_of c.args.output.now) c.answer_bad_path.result
     (destination theory before message.target) (Itself (Refused (causes.Path c.in-Err-Path.fault)) (plain_response 400)) before
@@ -48,16 +48,16 @@ returns-in-Err-Path-clause-responds g c =
 pub returns-in-Star-clause-breaks : goal.returns-in-Star-clause-breaks
 returns-in-Star-clause-breaks g c =
     let theory = theory_of g.C.HasContextPath.path_of g.C.Context.conduct g.W.Words.draws in
-    none_given_if theory c.args.moment c.args.message c.args.words c.args.contexts.now c.answer_star.result
-    (destination theory c.args.contexts.now c.args.message.target)
+    none_given_if theory c.args.moment c.args.message.now c.args.words c.args.contexts.now c.answer_star.result
+    (destination theory c.args.contexts.now c.args.message.now.target)
 
 pub returns-in-Err-Path-clause-breaks : goal.returns-in-Err-Path-clause-breaks
 returns-in-Err-Path-clause-breaks g c =
     let theory = theory_of g.C.HasContextPath.path_of g.C.Context.conduct g.W.Words.draws in
-    none_given_if theory c.args.moment c.args.message c.args.words c.args.contexts.now c.answer_bad_path.result
-    (destination theory c.args.contexts.now c.args.message.target)
+    none_given_if theory c.args.moment c.args.message.now c.args.words c.args.contexts.now c.answer_bad_path.result
+    (destination theory c.args.contexts.now c.args.message.now.target)
 
-pub returns-clause-breaks : goal.returns-clause-breaks
-returns-clause-breaks g c =
+pub returns-in-Err-NoMemory-clause-breaks : goal.returns-in-Err-NoMemory-clause-breaks
+returns-in-Err-NoMemory-clause-breaks g c =
     let theory = theory_of g.C.HasContextPath.path_of g.C.Context.conduct g.W.Words.draws in
-    none_given theory c.args.moment c.args.message c.args.words c.args.contexts.now (destination theory c.args.contexts.now c.args.message.target)
+    none_given theory c.args.moment c.args.message.now c.args.words c.args.contexts.now (destination theory c.args.contexts.now c.args.message.now.target)

@@ -24,7 +24,7 @@ returns-clause-moves g c =
     let before = c.args.contexts.now in
     let old = slice_index_or before c.args.place c.index-contexts-place.result in
     let is_old : old ≡ slice_index_or before c.args.place old = ap (λ d. slice_index_or before c.args.place d) c.index-contexts-place.is in
-    moves_next conduct motion c.args.place before before old c.handle.new.self c.requires.there is_old (moves_none conduct motion before) c.handle.ensures.moves
+    rw c.recycle.ensures (moves_next conduct motion c.args.place before before old c.handle.new.self c.requires.there is_old (moves_none conduct motion before) c.handle.ensures.moves)
 
 pub returns-clause-responds : goal.returns-clause-responds
 returns-clause-responds g c =
@@ -35,12 +35,12 @@ returns-clause-responds g c =
     let handled = c.in_ok-response.ensures.handles in
     let start = reaction_of c.args.output.now in
     let middle : Reaction = record start { journal = c.handle.new.journal } in
-    sent theory c.args.moment c.args.message c.args.words before start c.send.result c.args.place c.args.canon.now old c.handle.new.self
-    c.in_ok-response.response middle (reaction_of c.send.new.output) handled.0 c.requires.there is_old handled.1
+    rw c.recycle.ensures (sent theory c.args.moment c.args.message.now c.args.words before start c.send-sent.result c.args.place c.args.canon.now old c.handle.new.self
+    c.in_ok-response.response middle (reaction_of c.send-sent.new.output) handled.0 c.requires.there is_old handled.1
     (λ i. record start { journal = handled.2 i })
-    (subst (λ head_only. IfOk c.send.result (λ _. (text : List ℕ) × IsTextAt c.args.moment c.in_ok-response.response head_only c.args.message.keep text
-    × (reaction_of c.send.new.output ≡ record middle { sends = middle.sends ++ text; closes = middle.closes || closes_behind c.args.message c.in_ok-response.response })))
-    c.is_head-head_only.ensures c.send.ensures)
+    (subst (λ head_only. IfOk c.send-sent.result (λ _. (text : List ℕ) × IsTextAt c.args.moment c.in_ok-response.response head_only c.args.message.now.keep text
+    × (reaction_of c.send-sent.new.output ≡ record middle { sends = middle.sends ++ text; closes = middle.closes || closes_behind c.args.message.now c.in_ok-response.response })))
+    c.is_head-head_only.ensures c.send-sent.ensures))
 
 pub returns-in_err-response-clause-breaks : goal.returns-in_err-response-clause-breaks
 returns-in_err-response-clause-breaks g c =
@@ -49,7 +49,7 @@ returns-in_err-response-clause-breaks g c =
     let old = slice_index_or before c.args.place c.index-contexts-place.result in
     let is_old : old ≡ slice_index_or before c.args.place old = ap (λ d. slice_index_or before c.args.place d) c.index-contexts-place.is in
     if_err c.from_residual.result
-    (cut_at theory c.args.moment c.args.message c.args.words before c.args.place c.args.canon.now old c.handle.new.self c.requires.there is_old
+    (cut_at theory c.args.moment c.args.message.now c.args.words before c.args.place c.args.canon.now old c.handle.new.self c.requires.there is_old
     c.in_err-response.ensures.cut_short)
 
 pub returns-clause-breaks : goal.returns-clause-breaks
@@ -59,5 +59,5 @@ returns-clause-breaks g c =
     let old = slice_index_or before c.args.place c.index-contexts-place.result in
     let is_old : old ≡ slice_index_or before c.args.place old = ap (λ d. slice_index_or before c.args.place d) c.index-contexts-place.is in
     let handled = c.in_ok-response.ensures.handles in
-    unsent theory c.args.moment c.args.message c.args.words before c.args.place c.args.canon.now old c.handle.new.self c.requires.there is_old
-    c.send.result c.in_ok-response.response handled.0 handled.1
+    rw c.recycle.ensures (unsent theory c.args.moment c.args.message.now c.args.words before c.args.place c.args.canon.now old c.handle.new.self c.requires.there is_old
+    c.send-sent.result c.in_ok-response.response handled.0 handled.1)

@@ -15,7 +15,7 @@ returns-in-Awaits c =
     let after = c.read.new.self in
     let piece = c.args.piece.now in
     let reads : ReadsPiece pending piece Awaits after = subst (λ p. ReadsPiece pending piece p after) c.in-Awaits.is c.in_ok-read.ensures in
-    rw c.new.ensures.items (body_goes_on pending piece after (body_awaits pending piece 0 (omega arith) c.requires after reads))
+    rw c.requires.empty (body_goes_on pending piece after (body_awaits pending piece 0 (omega arith) c.requires.sound after reads))
 
 pub returns-in-Ended : goal.returns-in-Ended
 returns-in-Ended c =
@@ -25,9 +25,9 @@ returns-in-Ended c =
     let reads : ReadsPiece pending piece (Ended c.in-Ended.end c.in-Ended.len) after =
     subst (λ p. ReadsPiece pending piece p after) c.in-Ended.is c.in_ok-read.ensures in
     let item = item_of after.owed c.in-Ended.end in
-    let next = body_ended pending piece 0 (omega arith) c.requires c.in-Ended.end c.in-Ended.len item
+    let next = body_ended pending piece 0 (omega arith) c.requires.sound c.in-Ended.end c.in-Ended.len item
     (ap (λ (p : Pending). item_of p.owed c.in-Ended.end) reads.1) after.reader reads.0 in
     if_ok_map _ _ c.read_after.result
-    (λ read behind. body_ends pending piece item c.in-Ended.len read.0.items read.1 next
-    (subst (λ t. ReadsAfter item t read.0.items read.1) (take_rest piece c.in-Ended.len) behind))
+    (λ state behind. body_ends pending piece item c.in-Ended.len c.read_after.new.items.items state next
+    (subst (λ t. ReadsAfter item t c.read_after.new.items.items state) (take_rest piece c.in-Ended.len) behind))
     c.read_after.ensures

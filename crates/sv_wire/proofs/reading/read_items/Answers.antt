@@ -6,22 +6,22 @@ use Rattle.sv_wire.proofs.reading.read_items.Goals as goal
 
 pub returns-in-AwaitsHead-clause-reads : goal.returns-in-AwaitsHead-clause-reads
 returns-in-AwaitsHead-clause-reads c =
-    let next : ComesNext c.loop-items.body c.args.stream.now c.loop-items.at (AwaitsHead c.in-AwaitsHead.start) =
-    subst (λ n. ComesNext c.loop-items.body c.args.stream.now c.loop-items.at n) c.in-AwaitsHead.is c.in_ok-start.ensures in
-    read_to_head c.args.stream.now c.loop-items.items.items c.loop-items.body c.loop-items.at c.loop-items.invariant.0 c.in-AwaitsHead.start next
+    let next : ComesNext c.loop-start.body c.args.stream.now c.loop-start.at (AwaitsHead c.in-AwaitsHead.start) =
+    subst (λ n. ComesNext c.loop-start.body c.args.stream.now c.loop-start.at n) c.in-AwaitsHead.is c.in_ok-start.ensures in
+    read_to_head c.args.stream.now c.loop-start.items.items c.loop-start.body c.loop-start.at c.loop-start.invariant.0 c.in-AwaitsHead.start next
 
 pub returns-in-AwaitsBody-clause-reads : goal.returns-in-AwaitsBody-clause-reads
 returns-in-AwaitsBody-clause-reads c =
-    let next : ComesNext c.loop-items.body c.args.stream.now c.loop-items.at (AwaitsBody c.in-AwaitsBody.pending) =
-    subst (λ n. ComesNext c.loop-items.body c.args.stream.now c.loop-items.at n) c.in-AwaitsBody.is c.in_ok-start.ensures in
-    read_to_body c.args.stream.now c.loop-items.items.items c.loop-items.body c.loop-items.at c.loop-items.invariant.0 c.in-AwaitsBody.pending next
+    let next : ComesNext c.loop-start.body c.args.stream.now c.loop-start.at (AwaitsBody c.in-AwaitsBody.pending) =
+    subst (λ n. ComesNext c.loop-start.body c.args.stream.now c.loop-start.at n) c.in-AwaitsBody.is c.in_ok-start.ensures in
+    read_to_body c.args.stream.now c.loop-start.items.items c.loop-start.body c.loop-start.at c.loop-start.invariant.0 c.in-AwaitsBody.pending next
 
-pub loop-items-preserved : goal.loop-items-preserved
-loop-items-preserved c =
-    let next : ComesNext c.loop-items.body c.args.stream.now c.loop-items.at (Found c.in-Found.item c.in-Found.next c.in-Found.end) =
-    subst (λ n. ComesNext c.loop-items.body c.args.stream.now c.loop-items.at n) c.in-Found.is c.in_ok-start.ensures in
+pub loop-start-preserved : goal.loop-start-preserved
+loop-start-preserved c =
+    let next : ComesNext c.loop-start.body c.args.stream.now c.loop-start.at (Found c.in-Found.item c.in-Found.next c.in-Found.end) =
+    subst (λ n. ComesNext c.loop-start.body c.args.stream.now c.loop-start.at n) c.in-Found.is c.in_ok-start.ensures in
     rw c.in_ok-push-in-Found.ensures.items (
-      read_more c.args.stream.now c.loop-items.items.items c.loop-items.body c.loop-items.at c.loop-items.invariant.0
+      read_more c.args.stream.now c.loop-start.items.items c.loop-start.body c.loop-start.at c.loop-start.invariant.0
           c.in-Found.item c.in-Found.next c.in-Found.end next (sym c.if-is_last.ensures),
       λ k below. absurd (omega arith),
     )

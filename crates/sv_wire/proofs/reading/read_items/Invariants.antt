@@ -4,9 +4,9 @@ use Rattle.sv_wire.specs.Next.{weight}
 use Rattle.sv_wire.proofs.ReadingLemmas.{HasRead}
 use Rattle.sv_wire.proofs.reading.read_items.Given as goal
 
-abbrev pub invariant-loop-items : goal.invariant-loop-items
-invariant-loop-items l =
+abbrev pub invariant-loop-start : goal.invariant-loop-start
+invariant-loop-start l =
     HasRead l.stream l.items.items l.body l.at × ((k : ℕ) → k < l.from → ends_head (take k (drop l.at l.stream)) ≡ false)
 
-abbrev pub decreases-loop-items : goal.decreases-loop-items
-decreases-loop-items l = weight l.body (length l.stream - l.at)
+abbrev pub decreases-loop-start : goal.decreases-loop-start
+decreases-loop-start l = weight l.body (length l.stream - l.at)

@@ -1,4 +1,4 @@
-use Rattle.std.proofs.Common.{List, ℕ, IfOk, subst}
+use Rattle.std.proofs.Common.{List, ℕ, OnOk, subst}
 use Rattle.sv_wire.specs.Inbox.{Held}
 use Rattle.sv_host.specs.Connections.{FeedsOne}
 use Rattle.sv_run.specs.Connections.{connections_of}
@@ -7,8 +7,8 @@ use Rattle.sv_host.proofs.connections.Connections.feed.Goals as goal
 
 pub returns : goal.returns
 returns c =
-    subst (λ (entries : List (ℕ × Held)). IfOk c.feed.result (λ items. FeedsOne (connections_of entries) c.args.number c.args.piece.now items.items (connections_of (c.get_mut.follows.lender c.feed.new.self).entries)))
+    subst (λ (entries : List (ℕ × Held)). OnOk c.feed.result (FeedsOne (connections_of entries) c.args.number c.args.piece.now c.feed.new.items.items (connections_of (c.get_mut.follows.lender c.feed.new.self).entries)))
     c.self.view_is
-    (feeds_one (λ items. items.items) c.self.inside.inboxes.entries c.args.number c.args.piece.now c.feed.result c.in-Some.inbox.now c.feed.new.self
+    (feeds_one c.self.inside.inboxes.entries c.args.number c.args.piece.now c.feed.result c.feed.new.items.items c.in-Some.inbox.now c.feed.new.self
     (c.get_mut.follows.lender c.feed.new.self).entries (c.get_mut.follows.holds c.feed.new.self).0
     c.in-Some.ensures.value c.feed.ensures.reads c.feed.ensures.spent)
