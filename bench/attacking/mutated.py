@@ -12,20 +12,29 @@ from attacking.responses import judged
 from attacking.site import HIDDEN, MARK
 
 AT_ONCE = 12
+# A connection whose head takes 10 seconds is given up: where we were held up for as long ourselves, what comes back tells nothing.
+MOST_SENDING = 5
 # So many of all messages have no end of writing for a second.
 LATE = 0.02
 DIFFERS = "whole it is answered"
 REPEATED = re.compile(r"(.{1,60}?)\1{9,}")
 
 
+class HeldUp(Exception):
+    """What was to be sent took so long that the server may have given the connection up."""
+
+
 async def exchange(port, chance, parts):
     """What comes back for these parts, behind which writing ends, at times a second later."""
     async with Peer(port) as peer:
+        begun = time.monotonic()
         for part in parts:
             if not await peer.send(part):
                 break
             if len(parts) > 1:
                 await asyncio.sleep(chance.choice([0, 0.001, 0.01]))
+        if time.monotonic() - begun > MOST_SENDING:
+            raise HeldUp
         first, ended = await peer.read_to_end(1) if chance.random() < LATE else (b"", False)
         if ended:
             return first, True
@@ -68,9 +77,13 @@ async def attacked(port, seed, tally, made, until):
         chance = random.Random(f"{seed} {number}")
         text, names = made(chance)
         cuts = pieces(chance, text)
-        wrong = await judged_both(port, chance, tally, text, cuts)
-        if wrong and wrong.startswith(DIFFERS):
+        try:
             wrong = await judged_both(port, chance, tally, text, cuts)
+            if wrong and wrong.startswith(DIFFERS):
+                wrong = await judged_both(port, chance, tally, text, cuts)
+        except HeldUp:
+            tally.back["held up ourselves"] += 1
+            continue
         if wrong:
             tally.miss(f"{wrong}; by {', '.join(names)}; sent {shown(text)}")
 
