@@ -12,8 +12,8 @@ from attacking.responses import judged
 from attacking.site import HIDDEN, MARK
 
 AT_ONCE = 12
-# A connection whose head takes 10 seconds is given up: where we were held up for as long ourselves, what comes back tells nothing.
-MOST_SENDING = 5
+# A connection whose head takes 10 seconds is given up: where our own process stands still for half of that between two parts, what comes back tells nothing.
+MOST_HELD_UP = 5
 # So many of all messages have no end of writing for a second.
 LATE = 0.02
 DIFFERS = "whole it is answered"
@@ -21,19 +21,21 @@ REPEATED = re.compile(r"(.{1,60}?)\1{9,}")
 
 
 class HeldUp(Exception):
-    """What was to be sent took so long that the server may have given the connection up."""
+    """We stood still ourselves for so long that the server may have given the connection up."""
 
 
 async def exchange(port, chance, parts):
     """What comes back for these parts, behind which writing ends, at times a second later."""
     async with Peer(port) as peer:
-        begun = time.monotonic()
+        slept = 0
         for part in parts:
             if not await peer.send(part):
                 break
             if len(parts) > 1:
+                begun = time.monotonic()
                 await asyncio.sleep(chance.choice([0, 0.001, 0.01]))
-        if time.monotonic() - begun > MOST_SENDING:
+                slept += time.monotonic() - begun
+        if slept > MOST_HELD_UP:
             raise HeldUp
         first, ended = await peer.read_to_end(1) if chance.random() < LATE else (b"", False)
         if ended:
