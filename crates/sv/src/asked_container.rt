@@ -16,6 +16,7 @@ use std::alloc::Global;
 use sv_component::{Filter, Listener, Servlet};
 use sv_container::{Container, ExplainFault, Explanation};
 use sv_front::Consulted;
+use sv_journal::Journal;
 use sv_run::{Happening, Reaction, Reactor, StepFault, Words};
 use sv_text::{Bytes, NoMemory};
 
@@ -64,6 +65,10 @@ impl<S: Servlet, F: Filter, L: Listener, W: Words> Reactor for AskedContainer<S,
     fn step(&mut self, happening: Happening) -> Result<Reaction, StepFault> {
         self.events = self.events.saturating_add(1);
         self.container.step(happening)
+    }
+
+    fn recycle(&self, bytes: Vec<u8>, journal: Journal) {
+        self.container.recycle(bytes, journal);
     }
 }
 

@@ -10,6 +10,7 @@ ghost use Rattle.sv_run.specs.Seen.{happening_of};
 
 use crate::container::Container;
 use sv_component::{Filter, Listener, Servlet};
+use sv_journal::Journal;
 use sv_run::{Happening, Reaction, Reactor, StepFault, Words};
 
 impl<S: Servlet, F: Filter, L: Listener, W: Words> Container<S, F, L, W> {
@@ -27,6 +28,11 @@ impl<S: Servlet, F: Filter, L: Listener, W: Words> Container<S, F, L, W> {
     {
         self.host.step(happening)
     }
+
+    /// Takes the memory of what an event brought, of which nothing is needed any more, for what those to come bring: what is little of it is kept.
+    pub fn recycle(&self, bytes: Vec<u8>, journal: Journal) {
+        self.host.recycle(bytes, journal);
+    }
 }
 
 impl<S: Servlet, F: Filter, L: Listener, W: Words> Reactor for Container<S, F, L, W> {
@@ -35,5 +41,9 @@ impl<S: Servlet, F: Filter, L: Listener, W: Words> Reactor for Container<S, F, L
 
     fn step(&mut self, happening: Happening) -> Result<Reaction, StepFault> {
         Container::<S, F, L, W>::step(self, happening)
+    }
+
+    fn recycle(&self, bytes: Vec<u8>, journal: Journal) {
+        Container::<S, F, L, W>::recycle(self, bytes, journal);
     }
 }

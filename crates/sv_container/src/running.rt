@@ -23,6 +23,10 @@ impl<S: Servlet, F: Filter, L: Listener, W: Words> Reactor for Running<S, F, L, 
     fn step(&mut self, happening: Happening) -> Result<Reaction, StepFault> {
         self.container.step(happening)
     }
+
+    fn recycle(&self, bytes: Vec<u8>, journal: Journal) {
+        self.container.recycle(bytes, journal);
+    }
 }
 
 impl<S: Servlet, F: Filter, L: Listener, W: Words + Drop> Stops for Running<S, F, L, W> {

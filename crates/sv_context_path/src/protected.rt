@@ -7,6 +7,7 @@ ghost use Rattle.sv_context_path.specs.Protected.{is_protected};
 
 /// Whether the first segment of a path within a context names a folder that is served to no client, in letters of either
 /// case.
+#[inline(always)]
 pub fn is_protected(path: &str) -> bool
     ensures { result ≡ is_protected path.now }
 {

@@ -232,6 +232,7 @@ fn turn<M: Machine, T: Tables>(
 
 // What follows a servlet's answer.
 #[cycle(dispatching)]
+#[inline(always)]
 fn stepped<M: Machine, T: Tables>(
     alloc: Global,
     machine: &mut M,

@@ -28,6 +28,7 @@ use sv_uri::path::Canon;
 /// # Errors
 /// `NoMemory` where memory ended the answer, or the journal broke: the calls made so far were made, and the dispatches that were under way
 /// still are. Where the journal is broken before, nothing is called, and all is as it was.
+#[inline(always)]
 pub fn serve<S: Servlet, F: Filter, L: Listener>(
     alloc: Global,
     live: &mut Live<S, F, L>,

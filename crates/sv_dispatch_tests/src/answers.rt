@@ -318,8 +318,11 @@ fn add_response(alloc: Global, told: &mut Draft, response: &Response) {
 
 /// Adds what is sent behind the head of a response.
 fn add_sent(alloc: Global, told: &mut Draft, response: &Response) {
+    let room = Vec::new(alloc);
     let mut sent = Vec::new(alloc);
-    if !response.has_status_code() || write_response(response, false, true, 0, &mut sent).is_err() {
+    if !response.has_status_code()
+        || write_response(response, false, true, 0, room, &mut sent).is_err()
+    {
         told.fail();
         return;
     }

@@ -5,3 +5,4 @@ pub mod Naming
 pub mod Reaching
 pub mod Replacing
 pub mod Telling
+pub mod Testing

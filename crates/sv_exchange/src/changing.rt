@@ -6,7 +6,7 @@ ghost use Rattle.sv_exchange.specs.Changing.{is_settable};
 use crate::attributes::{is_reserved_attribute, set_value};
 use crate::exchange::Exchange;
 use crate::exchange_fault::ExchangeFault;
-use crate::fields::{add_field, is_field, is_reserved_field, set_field};
+use crate::fields::{add_field, is_reserved_field, set_field};
 use crate::limits::{
     FIRST_ROOM, LEAST_STATUS, MAX_BODY_LEN, MAX_STATUS, NOT_MODIFIED, RESET_CONTENT,
 };
@@ -120,10 +120,9 @@ impl Exchange {
         if !self.is_free(name) {
             return Ok(false);
         }
-        if !is_field(name, value) {
+        if !set_field(self.alloc, name, value, &mut self.fields)? {
             return Err(ExchangeFault::BadHeader);
         }
-        set_field(self.alloc, name, value, &mut self.fields)?;
         Ok(true)
     }
 
@@ -133,10 +132,9 @@ impl Exchange {
         if !self.is_free(name) {
             return Ok(false);
         }
-        if !is_field(name, value) {
+        if !add_field(self.alloc, name, value, &mut self.fields)? {
             return Err(ExchangeFault::BadHeader);
         }
-        add_field(self.alloc, name, value, &mut self.fields)?;
         Ok(true)
     }
 

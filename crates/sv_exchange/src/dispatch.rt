@@ -1,11 +1,11 @@
 //! A dispatch, and the paths that it sets.
 
-ghost use Rattle.std.specs.Prelude.{◌≡◌, [], ◌++◌, None};
+ghost use Rattle.std.specs.Prelude.{◌≡◌, [], ◌++◌, None, OnOk};
 ghost use Rattle.std.specs.Option.{option_copied};
 ghost use Rattle.sv_text.specs.Gives.{GivesAnswer};
 ghost use Rattle.sv_exchange.specs.Dispatches.{is_include, paths_at};
 
-use crate::asked::no_text;
+use crate::asked::{no_text, set_text};
 use crate::rare::Rare;
 use crate::told_error::ToldError;
 use std::alloc::Global;
@@ -71,6 +71,25 @@ impl Paths {
             query: copied(alloc, query)?,
         })
     }
+
+    /// Has them be those of a path in a context for which no servlet was chosen yet. Where the path is the one before, it is not copied; nor is the
+    /// URI where that is the path.
+    pub(crate) fn set(
+        &mut self,
+        alloc: Global,
+        context_path: &str,
+        path: &str,
+        query: Option<&str>,
+    ) -> Result<(), NoMemory>
+        ensures { OnOk result (self.new ≡ paths_at context_path.now path.now None None (option_copied query.entry)) }
+    {
+        set_joined(alloc, &mut self.uri, context_path, path)?;
+        set_text(alloc, &mut self.path, path)?;
+        self.servlet_path = None;
+        self.path_info = None;
+        self.query = copied(alloc, query)?;
+        Ok(())
+    }
 }
 
 impl Dispatch {
@@ -103,7 +122,19 @@ pub(crate) fn shown(text: &Option<Text>) -> Option<&str>
     }
 }
 
+// Has a text be both, one behind the other. Where the front is empty and the text is the back already, it takes no memory.
+fn set_joined(alloc: Global, text: &mut Text, front: &str, back: &str) -> Result<(), NoMemory>
+    ensures { OnOk result (text.new ≡ front.now ++ back.now) }
+{
+    if front.is_empty() {
+        return set_text(alloc, text, back);
+    }
+    *text = joined(alloc, front, back)?;
+    Ok(())
+}
+
 // Both texts, one behind the other.
+#[inline(always)]
 fn joined(alloc: Global, front: &str, back: &str) -> Result<Text, NoMemory>
     ensures { GivesAnswer result (front.now ++ back.now) }
 {

@@ -193,7 +193,7 @@ impl Exchange {
     {
         let query = shown(&canon.query);
         let path = canon.path.as_str();
-        self.client = Paths::copy_of(self.alloc, context_path, path, None, None, query)?;
+        self.client.set(self.alloc, context_path, path, query)?;
         set_text(self.alloc, &mut self.context_path, context_path)?;
         set_settings(self.alloc, &mut self.cookie_settings, cookie_settings)
     }

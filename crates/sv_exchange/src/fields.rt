@@ -1,13 +1,10 @@
 //! Fields by name.
 
-ghost use Rattle.std.specs.Prelude.{◌≡◌, ◌<◌, length, position, IfOk, IfSome, IsTrue, OnOk, OnErr, Some};
-ghost use Rattle.http_header.specs.Token.{is_token_byte, is_value_byte};
-ghost use Rattle.std.specs.List.{insert, list_all};
-ghost use Rattle.sv_exchange.specs.Fields.{add_field, field_of, is_called, is_field, is_field_name, is_reserved_field, set_field, without};
+ghost use Rattle.std.specs.Prelude.{◌≡◌, ◌<◌, length, position, IfOk, IfSome, IsTrue, None, OnErr, Some, if◌then◌else◌};
+ghost use Rattle.std.specs.List.{insert};
+ghost use Rattle.sv_exchange.specs.Fields.{add_field, field_of, is_called, is_field, is_reserved_field, set_field, without};
 ghost use Rattle.sv_text.specs.Gives.{GivesAnswer};
 
-use crate::limits::MAX_FIELD_NAME_LEN;
-use http_header::is_token_char;
 use std::alloc::Global;
 use sv_head::Field;
 use sv_text::NoMemory;
@@ -47,76 +44,52 @@ pub(crate) fn is_reserved_field(name: &str) -> bool
         || name.eq_ignore_ascii_case("connection")
 }
 
-/// Whether a field can have that name and that value.
-pub(crate) fn is_field(name: &str, value: &str) -> bool
-    ensures { result ≡ is_field name.now value.now }
-{
-    is_field_name(name.as_bytes()) && is_field_value(value.as_bytes())
-}
-
-fn is_field_name(name: &[u8]) -> bool
-    ensures { result ≡ is_field_name name.now }
-{
-    !name.is_empty() && has_token_bytes(name) && name.len() <= MAX_FIELD_NAME_LEN
-}
-
-fn has_token_bytes(name: &[u8]) -> bool
-    ensures { result ≡ list_all is_token_byte name.now }
-{
-    name.iter().all(|b| is_token_char(*b))
-}
-
-fn is_field_value(value: &[u8]) -> bool
-    ensures { result ≡ list_all is_value_byte value.now }
-{
-    value.iter().all(|b| is_value_byte(*b))
-}
-
-/// Whether a field's value can hold the byte.
-fn is_value_byte(b: u8) -> bool
-    ensures { result ≡ is_value_byte b }
-{
-    b == b'\t' || (b' ' <= b && b != 0x7f)
-}
-
-/// Makes a field the first and only one of its name, or adds it. After a refusal the fields are as they were.
+/// Makes a field the first and only one of its name, or adds it, and says whether there can be such a field. Where there cannot, and after a refusal,
+/// the fields are as they were.
 pub(crate) fn set_field(
     alloc: Global,
     name: &str,
     value: &str,
     fields: &mut Vec<Field>,
-) -> Result<(), NoMemory>
-    requires { IsTrue (is_field name.now value.now) }
-    ensures set { OnOk result (fields.new.items ≡ set_field name.now value.now fields.old.items) }
-    ensures refused { OnErr result (fields.new.items ≡ fields.old.items) }
+) -> Result<bool, NoMemory>
+    ensures told { IfOk result (λ can. can ≡ is_field name.now value.now) }
+    ensures set { IfOk result (λ can. fields.new.items ≡ (if can then set_field name.now value.now fields.old.items else fields.old.items)) }
+    ensures kept { OnErr result (fields.new.items ≡ fields.old.items) }
+    ensures no_memory { OnErr result (IsTrue (is_field name.now value.now)) }
 {
-    let field = field_of(alloc, name, value)?;
+    let Some(field) = field_of(alloc, name, value)? else {
+        return Ok(false);
+    };
     match place_of(name, fields) {
         Some(place) => put_for_all(place, name, field, fields),
         None => fields.push(field)?,
     }
-    Ok(())
+    Ok(true)
 }
 
-/// Adds a field. After a refusal the fields are as they were.
+/// Adds a field, and says whether there can be such a field. Where there cannot, and after a refusal, the fields are as they were.
 pub(crate) fn add_field(
     alloc: Global,
     name: &str,
     value: &str,
     fields: &mut Vec<Field>,
-) -> Result<(), NoMemory>
-    requires { IsTrue (is_field name.now value.now) }
-    ensures added { OnOk result (fields.new.items ≡ add_field name.now value.now fields.old.items) }
-    ensures refused { OnErr result (fields.new.items ≡ fields.old.items) }
+) -> Result<bool, NoMemory>
+    ensures told { IfOk result (λ can. can ≡ is_field name.now value.now) }
+    ensures added { IfOk result (λ can. fields.new.items ≡ (if can then add_field name.now value.now fields.old.items else fields.old.items)) }
+    ensures kept { OnErr result (fields.new.items ≡ fields.old.items) }
+    ensures no_memory { OnErr result (IsTrue (is_field name.now value.now)) }
 {
-    let field = field_of(alloc, name, value)?;
+    let Some(field) = field_of(alloc, name, value)? else {
+        return Ok(false);
+    };
     fields.push(field)?;
-    Ok(())
+    Ok(true)
 }
 
-fn field_of(alloc: Global, name: &str, value: &str) -> Result<Field, NoMemory>
-    requires { IsTrue (is_field name.now value.now) }
-    ensures { GivesAnswer result (field_of name.now value.now) }
+// The field of that name and that value, where there can be one.
+fn field_of(alloc: Global, name: &str, value: &str) -> Result<Option<Field>, NoMemory>
+    ensures found { GivesAnswer result (if is_field name.now value.now then Some (field_of name.now value.now) else None) }
+    ensures no_memory { OnErr result (IsTrue (is_field name.now value.now)) }
 {
-    Field::copy_of(alloc, name.as_bytes(), value.as_bytes())
+    Field::checked_copy_of(alloc, name.as_bytes(), value.as_bytes())
 }

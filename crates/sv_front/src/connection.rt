@@ -17,6 +17,8 @@ use crate::sent::Sent;
 use crate::step::Step;
 use std::alloc::Global;
 use std::marker::Model;
+use std::mem;
+use sv_journal::Journal;
 use sv_run::{Happening, Reaction, Reactor, StepFault};
 use sv_streams::Clock;
 use sv_text::NoMemory;
@@ -350,16 +352,18 @@ impl<P: Peer> Connection<P> {
         match reactor.step(piece) {
             Ok(reaction) => {
                 self.ahead.skip(count);
-                self.keep(count, reaction);
+                let (written, journal) = self.keep(count, reaction);
+                reactor.recycle(written, journal);
                 Ok(())
             }
             Err(fault) => Err(fault),
         }
     }
 
-    // What a piece of so many bytes brought waits to be written. A message is under way until its answer was brought; `100 Continue` is none.
+    // What a piece of so many bytes brought waits to be written. A message is under way until its answer was brought; `100 Continue` is none. Gives what
+    // it needs no more.
     #[inline(always)]
-    fn keep(&mut self, count: usize, reaction: Reaction)
+    fn keep(&mut self, count: usize, reaction: Reaction) -> (Vec<u8>, Journal)
         ensures { self.new ≡ record self.old {
           unsent = reaction.sends;
           closes = reaction.closes;
@@ -384,9 +388,10 @@ impl<P: Peer> Connection<P> {
                 .min(MAX_UNDER_WAY)
         };
         self.refused = closes && has_refusal(journal.entries());
-        self.unsent = Pending::of(sends);
         self.closes = closes;
         self.rests = false;
+        let written = mem::replace(&mut self.unsent, Pending::of(sends));
+        (written.into_vec(), journal)
     }
 
     // Asks to be told anew of what is ready; where that cannot be had, the connection is given up.

@@ -52,7 +52,13 @@ impl Pending {
         Pending { bytes, at: 0, end }
     }
 
+    /// Its memory.
+    pub fn into_vec(self) -> Vec<u8> {
+        self.bytes
+    }
+
     /// Whether no bytes wait.
+    #[inline(always)]
     pub fn is_empty(&self) -> bool
         ensures { result ≡ (length self.now == 0) }
     {
@@ -67,6 +73,7 @@ impl Pending {
     }
 
     /// The bytes.
+    #[inline(always)]
     pub fn as_slice(&self) -> &[u8]
         ensures { result.now ≡ self.now }
     {
@@ -88,6 +95,7 @@ impl Pending {
     }
 
     /// Passes over so many bytes. Where that is more than half of all, their memory is given back, but for the room of a first read.
+    #[inline(always)]
     pub fn skip(&mut self, count: usize)
         requires { count ≤ length self.old }
         ensures { self.new ≡ drop count self.old }
@@ -110,6 +118,7 @@ impl Pending {
     ///
     /// # Errors
     /// Memory ran out, and nothing was read.
+    #[inline(always)]
     pub fn refill<P: Peer>(&mut self, peer: &mut P, most: usize) -> Result<Tried, NoMemory>
         requires idle { self.old ≡ [] }
         requires room { 0 < most }
@@ -146,6 +155,7 @@ fn keep_rest(bytes: &mut Vec<u8>, at: usize)
 }
 
 // Reads once into all of a room, at whose front what came then stands. Where nothing comes, the room is given back.
+#[inline(always)]
 fn read_into<P: Peer>(peer: &mut P, room: &mut Vec<u8>) -> Tried
     requires { 0 < length (vec_items room.old) }
     ensures { TriesRead P.ways peer.old result (vec_items room.new) peer.new }

@@ -2,6 +2,7 @@
 
 use crate::consulted::Consulted;
 use std::alloc::Global;
+use sv_journal::Journal;
 use sv_run::{Happening, Reaction, Reactor, StepFault};
 use sv_text::{Bytes, NoMemory};
 
@@ -34,6 +35,10 @@ impl<R: Reactor> Reactor for Unasked<R> {
 
     fn step(&mut self, happening: Happening) -> Result<Reaction, StepFault> {
         self.within.step(happening)
+    }
+
+    fn recycle(&self, bytes: Vec<u8>, journal: Journal) {
+        self.within.recycle(bytes, journal);
     }
 }
 

@@ -1,3 +1,4 @@
 pub mod FieldsLemmas
 pub mod PartsLemmas
 pub mod HostLemmas
+pub mod NamesLemmas

@@ -1,13 +1,16 @@
 //! Values that answers give often.
 
-ghost use Rattle.std.specs.Prelude.{◌≡◌, IfSome};
+ghost use Rattle.std.specs.Prelude.{◌≡◌, IfSome, IsTrue};
+ghost use Rattle.std.specs.List.{list_all};
 ghost use Rattle.http_header.specs.FieldValue.{plain_value};
+ghost use Rattle.http_header.specs.Token.{is_value_byte};
 
 use http_header::HeaderValue;
 
 /// The value of those bytes where it is one of a few, which takes no memory then.
 pub(crate) fn common_value(bytes: &[u8]) -> Option<HeaderValue>
-    ensures { IfSome result (λ value. value ≡ plain_value bytes.now) }
+    ensures same { IfSome result (λ value. value ≡ plain_value bytes.now) }
+    ensures valid { IfSome result (λ value. IsTrue (list_all is_value_byte bytes.now)) }
 {
     if bytes == b"text/plain".as_slice() {
         return Some(HeaderValue::from_static("text/plain"));

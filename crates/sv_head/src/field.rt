@@ -1,16 +1,17 @@
 //! One field of a message.
 
-ghost use Rattle.std.specs.Prelude.{◌≡◌, true, length, OnOk, OnErr};
-ghost use Rattle.http_header.specs.FieldName.{IsFieldName};
+ghost use Rattle.std.specs.Prelude.{◌≡◌, ◌&&◌, true, length, IfSome, IsTrue, None, OnOk, OnErr, Some, if◌then◌else◌};
+ghost use Rattle.std.specs.List.{list_all};
+ghost use Rattle.http_header.specs.FieldName.{IsFieldName, is_field_name};
 ghost use Rattle.http_header.specs.FieldValue.{IsFieldValue, plain_value};
-ghost use Rattle.http_header.specs.Token.{lowercase};
+ghost use Rattle.http_header.specs.Token.{is_value_byte, lowercase};
 ghost use Rattle.httparse.specs.Spans.{IsHeaderWithin, IsWithin, span_bytes};
 ghost use Rattle.sv_head.specs.Fields.{has_field};
 ghost use Rattle.sv_text.specs.Gives.{GivesAnswer};
 
 use crate::common::common_value;
 use bytes::Bytes;
-use http_header::{HeaderName, HeaderNameError, HeaderValue, HeaderValueError};
+use http_header::{HeaderName, HeaderNameError, HeaderValue};
 use httparse::spans::{HeaderSpan, Span};
 use std::alloc::Global;
 use sv_text::NoMemory;
@@ -37,14 +38,30 @@ impl Field {
             Err(HeaderNameError::OutOfMemory) => return Err(NoMemory),
             Err(HeaderNameError::Invalid) => unreachable!(),
         };
-        if let Some(value) = common_value(value) {
-            return Ok(Field { name, value });
+        let value = value_of(alloc, common_value(value), value)?;
+        Ok(Field { name, value })
+    }
+
+    /// Copies a field, where one can have that name and that value (RFC 9110, sections 5.1 and 5.5), and is `None` where none can. Memory is wanted as by
+    /// [`copy_of`](Field::copy_of), and only where there is a field. Neither a standard name nor a value that is given often is tested byte by byte.
+    pub fn checked_copy_of(
+        alloc: Global,
+        name: &[u8],
+        value: &[u8],
+    ) -> Result<Option<Field>, NoMemory>
+        ensures found { GivesAnswer result (if is_field_name name.now && list_all is_value_byte value.now
+            then Some (record { name = lowercase name.now; value = plain_value value.now }) else None) }
+        ensures no_memory { OnErr result (IsTrue (is_field_name name.now && list_all is_value_byte value.now)) }
+    {
+        let common = common_value(value);
+        if !is_valid(&common, value) {
+            return Ok(None);
         }
-        match HeaderValue::from_bytes(alloc, value) {
-            Ok(value) => Ok(Field { name, value }),
-            Err(HeaderValueError::OutOfMemory) => Err(NoMemory),
-            Err(HeaderValueError::Invalid) => unreachable!(),
-        }
+        let Some(name) = checked_name(alloc, name)? else {
+            return Ok(None);
+        };
+        let value = value_of(alloc, common, value)?;
+        Ok(Some(Field { name, value }))
     }
 
     /// The field of a head whose valid name and value stand at those spans of the head's text. It shares the text: nothing is
@@ -82,7 +99,7 @@ impl Field {
         ensures no_memory { OnErr result (self.new ≡ self.old) }
     {
         if self.is_named("host") {
-            self.value = read_host(alloc, host)?;
+            self.value = read_value(alloc, host)?;
         }
         Ok(())
     }
@@ -105,16 +122,63 @@ fn name_at(alloc: Global, text: &Bytes, span: Span) -> Result<HeaderName, NoMemo
     }
 }
 
-/// Copies a host, which is a valid value.
-fn read_host(alloc: Global, host: &[u8]) -> Result<HeaderValue, NoMemory>
-    requires { IsFieldValue host.now }
-    ensures { GivesAnswer result (plain_value host.now) }
+/// Copies a name in lower case, where a field can have it.
+fn checked_name(alloc: Global, name: &[u8]) -> Result<Option<HeaderName>, NoMemory>
+    ensures found { GivesAnswer result (if is_field_name name.now then Some (lowercase name.now) else None) }
+    ensures no_memory { OnErr result (IsTrue (is_field_name name.now)) }
 {
-    match HeaderValue::from_bytes(alloc, host) {
-        Ok(value) => Ok(value),
-        Err(HeaderValueError::OutOfMemory) => Err(NoMemory),
-        Err(HeaderValueError::Invalid) => unreachable!(),
+    match HeaderName::from_bytes(alloc, name) {
+        Ok(name) => Ok(Some(name)),
+        Err(HeaderNameError::OutOfMemory) => Err(NoMemory),
+        Err(HeaderNameError::Invalid) => Ok(None),
     }
+}
+
+/// Whether a field's value can hold those bytes, which are those of a common value if there is one.
+fn is_valid(common: &Option<HeaderValue>, bytes: &[u8]) -> bool
+    requires { IfSome common.now (λ value. IsTrue (list_all is_value_byte bytes.now)) }
+    ensures { result ≡ list_all is_value_byte bytes.now }
+{
+    common.is_some() || is_field_value(bytes)
+}
+
+/// Whether a field's value can hold those bytes.
+fn is_field_value(bytes: &[u8]) -> bool
+    ensures { result ≡ list_all is_value_byte bytes.now }
+{
+    bytes.iter().all(|b| is_value_byte(*b))
+}
+
+/// Whether a field's value can hold the byte.
+fn is_value_byte(b: u8) -> bool
+    ensures { result ≡ is_value_byte b }
+{
+    b == b'\t' || (b' ' <= b && b != 0x7f)
+}
+
+/// The valid value of those bytes, which takes no memory where it is a common one.
+fn value_of(
+    alloc: Global,
+    common: Option<HeaderValue>,
+    bytes: &[u8],
+) -> Result<HeaderValue, NoMemory>
+    requires common { IfSome common (λ value. value ≡ plain_value bytes.now) }
+    requires valid { IsFieldValue bytes.now }
+    ensures { GivesAnswer result (plain_value bytes.now) }
+{
+    match common {
+        Some(value) => Ok(value),
+        None => read_value(alloc, bytes),
+    }
+}
+
+/// Copies a value, which is valid.
+fn read_value(alloc: Global, bytes: &[u8]) -> Result<HeaderValue, NoMemory>
+    requires { IsFieldValue bytes.now }
+    ensures { GivesAnswer result (plain_value bytes.now) }
+{
+    let copy = Bytes::copy_from_slice(alloc, bytes)?;
+    Ok(HeaderValue::from_known_valid(copy))
 }
 
 /// Whether there is a field of that name, which is in lower case.

@@ -17,6 +17,7 @@ ghost use Rattle.sv_wire_fault.specs.WireFault.{fault_status};
 use crate::output::Output;
 use http::StatusCode;
 use std::alloc::Global;
+use std::mem;
 use sv_head::Field;
 use sv_journal::{Entry, RefusalCause};
 use sv_message::{Body, Message, Response};
@@ -98,9 +99,16 @@ pub(crate) fn send(
           closes = output.old.closes || (not keep || ends_connection response.now.body);
         })) }
 {
-    write_response(response, head_only, keep, moment, &mut output.sends)?;
+    let room = taken(&mut output.room);
+    write_response(response, head_only, keep, moment, room, &mut output.sends)?;
     output.closes |= closes_behind(keep, &response.body);
     Ok(())
+}
+
+// Takes room, and leaves none.
+fn taken(room: &mut Vec<u8>) -> Vec<u8> {
+    let none = Vec::new(*room.allocator());
+    mem::replace(room, none)
 }
 
 // Whether the connection closes behind a body, of a message that keeps it or does not: one of them ends it.
@@ -200,7 +208,8 @@ pub(crate) fn refuse<C>(
 {
     note(Entry::Refused(RefusalCause::Wire(fault)), output)?;
     let response = plain_response(alloc, fault.status())?;
-    write_response(&response, false, false, moment, &mut output.sends)?;
+    let room = taken(&mut output.room);
+    write_response(&response, false, false, moment, room, &mut output.sends)?;
     output.closes = true;
     Ok(())
 }

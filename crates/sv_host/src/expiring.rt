@@ -11,6 +11,7 @@ use sv_run::Context;
 
 /// Ends the sessions that have expired at the moment, context by context. It takes no memory but the journal's, and ends them also where that
 /// breaks.
+#[inline(always)]
 pub fn expire_all<C: Context>(alloc: Global, contexts: &mut [C], moment: u64, journal: &mut Journal)
     ensures expires { (told : List Entry) × ExpiresAll C.conduct contexts.old moment told contexts.new
         × (journal.new.whole ≡ true → journal.new ≡ noting told journal.old) }

@@ -20,6 +20,7 @@ pub fn moment_after(before: u64, happening: Happening) -> u64
 }
 
 /// What refuses an event of a container that is not stopped, but for want of memory.
+#[inline(always)]
 pub fn fault_of(connections: &Connections, happening: Happening) -> Option<StepFault>
     ensures { result ≡ fault_of (connections_of connections.now) (happening_of happening.entry) }
 {

@@ -1,8 +1,9 @@
 //! Contexts behind connections.
 
-ghost use Rattle.std.specs.Prelude.{◌≡◌, ◌⊎◌, List, None, IfErr, IfOk, IsSome, false, map};
+ghost use Rattle.std.specs.Prelude.{◌≡◌, ◌⊎◌, [], List, None, IfErr, IfOk, IsSome, false, map};
 ghost use Rattle.sv_host.specs.Host.{StepsSo, opening, state_of};
-ghost use Rattle.sv_host.specs.Output.{Adds};
+ghost use Rattle.sv_host.specs.Output.{Adds, reaction_of};
+ghost use Rattle.sv_journal.specs.Journal.{new_journal};
 ghost use Rattle.sv_journal.specs.declared.entry.Entry.{Entry};
 ghost use Rattle.sv_run.specs.Breaking.{BreaksPiece, DoesNothing, Given};
 ghost use Rattle.sv_run.specs.Contexts.{theory_of};
@@ -18,9 +19,11 @@ use crate::faults::{fault_of, moment_after};
 use crate::indexed::Indexed;
 use crate::items::take_items;
 use crate::output::Output;
+use crate::spare::Spare;
 use std::alloc::Global;
 use sv_context_index::ContextIndex;
 use sv_context_path::HasContextPath;
+use sv_journal::Journal;
 use sv_policy::Edit;
 use sv_run::{Context, Happening, Reaction, Reactor, StepFault, Words};
 use sv_text::NoMemory;
@@ -37,6 +40,7 @@ pub struct Host<C: HasContextPath, W> {
     connections: Connections,
     // What a piece brought, while it is handled. The list keeps its memory.
     items: Vec<Item>,
+    spare: Spare,
 }
 
 impl<C: HasContextPath, W> Host<C, W> {
@@ -54,6 +58,7 @@ impl<C: HasContextPath, W> Host<C, W> {
             words,
             connections: Connections::new(alloc),
             items: Vec::new(alloc),
+            spare: Spare::new(alloc),
         }
     }
 
@@ -114,7 +119,7 @@ impl<C: Context, W: Words> Host<C, W> {
         ensures moves { IfErr result (λ _. MovesAll C.conduct (state_of self.old).world.contexts (state_of self.new).world.contexts) }
         ensures alters { AltersAll C.conduct (state_of self.old).world.contexts (state_of self.new).world.contexts }
     {
-        let mut output = Output::new(self.alloc);
+        let mut output = self.output();
         self.moment = moment_after(self.moment, happening);
         self.contexts
             .expire_all(self.alloc, self.moment, &mut output.journal);
@@ -125,6 +130,19 @@ impl<C: Context, W: Words> Host<C, W> {
             return Err(NoMemory);
         };
         Ok(output.into_reaction())
+    }
+
+    // What an event has brought before it happens.
+    fn output(&self) -> Output
+        ensures { reaction_of result ≡ record { sends = []; closes = false; journal = new_journal; edited = None } }
+    {
+        let room = self.spare.take_room(self.alloc);
+        Output::new(self.alloc, room, self.spare.take_journal(self.alloc))
+    }
+
+    /// Takes the memory of what an event brought, of which nothing is needed any more, for what those to come bring: what is little of it is kept.
+    pub fn recycle(&self, room: Vec<u8>, journal: Journal) {
+        self.spare.keep(room, journal);
     }
 
     // The event itself, at its moment.
@@ -222,5 +240,9 @@ impl<C: Context, W: Words> Reactor for Host<C, W> {
 
     fn step(&mut self, happening: Happening) -> Result<Reaction, StepFault> {
         Host::<C, W>::step(self, happening)
+    }
+
+    fn recycle(&self, room: Vec<u8>, journal: Journal) {
+        Host::<C, W>::recycle(self, room, journal);
     }
 }

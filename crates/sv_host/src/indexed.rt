@@ -82,6 +82,7 @@ impl<C: HasContextPath> Indexed<C> {
 
 impl<C: Context> Indexed<C> {
     /// Ends the sessions that have expired at the moment, context by context.
+    #[inline(always)]
     pub(crate) fn expire_all(&mut self, alloc: Global, moment: u64, journal: &mut Journal)
         ensures expires { (told : List Entry) × ExpiresAll C.conduct self.old moment told self.new
             × (journal.new.whole ≡ true → journal.new ≡ noting told journal.old) }

@@ -10,9 +10,11 @@ mod faults;
 mod host;
 mod indexed;
 mod items;
+mod limits;
 mod messages;
 mod output;
 mod serving;
+mod spare;
 
 pub use connections::Connections;
 pub use expiring::expire_all;

@@ -11,9 +11,10 @@ use sv_policy::EditFault;
 use sv_run::Reaction;
 use sv_text::Bytes;
 
-/// A reaction that grows.
+/// A reaction that grows, and room for its bytes, of which nothing is said.
 #[derive(Drop)]
 pub struct Output {
+    pub(crate) room: Vec<u8>,
     pub(crate) sends: Vec<u8>,
     pub(crate) closes: bool,
     pub(crate) journal: Journal,
@@ -21,14 +22,16 @@ pub struct Output {
 }
 
 impl Output {
-    /// Nothing yet. It takes no memory.
-    pub fn new(alloc: Global) -> Output
+    /// Nothing yet, with that room and that journal, which is empty. It takes no memory.
+    pub fn new(alloc: Global, room: Vec<u8>, journal: Journal) -> Output
+        requires { journal ≡ new_journal }
         ensures { reaction_of result ≡ record { sends = []; closes = false; journal = new_journal; edited = None } }
     {
         Output {
+            room,
             sends: Vec::new(alloc),
             closes: false,
-            journal: Journal::new(alloc),
+            journal,
             edited: None,
         }
     }
@@ -49,6 +52,7 @@ impl Output {
             closes,
             journal,
             edited,
+            ..
         } = self;
         Reaction {
             sends: Bytes::from_vec(sends),

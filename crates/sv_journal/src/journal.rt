@@ -51,6 +51,20 @@ impl Journal {
         self.entries.as_slice()
     }
 
+    /// An empty journal in the memory of this one.
+    pub fn emptied(self) -> Journal
+        ensures { result ≡ new_journal }
+    {
+        let Journal { mut entries, .. } = self;
+        if !entries.is_empty() {
+            entries.clear();
+        }
+        Journal {
+            entries,
+            whole: true,
+        }
+    }
+
     /// Adds the entry, or breaks the journal where the entry could not be made or finds no room. A broken journal stays as it is.
     #[inline(always)]
     pub fn note(&mut self, entry: Result<Entry, NoMemory>)

@@ -5,6 +5,7 @@ use crate::place::connection_of;
 use crate::record::Record;
 use std::alloc::Global;
 use sv_front::Consulted;
+use sv_journal::Journal;
 use sv_run::{Happening, Reaction, Reactor, StepFault};
 use sv_streams::Sink;
 use sv_text::{Bytes, NoMemory};
@@ -55,6 +56,10 @@ impl<R: Reactor, O: Sink, A: Alarm> Reactor for Recorder<R, O, A> {
             }
             Err(fault) => Err(fault),
         }
+    }
+
+    fn recycle(&self, bytes: Vec<u8>, journal: Journal) {
+        self.within.recycle(bytes, journal);
     }
 }
 

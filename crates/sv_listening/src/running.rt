@@ -2,15 +2,15 @@
 
 use crate::sockets::{file_fault, front_fault_of};
 use std::alloc::Global;
+use std::cell::Cell;
 use std::io::Write;
 use std::net::{Net, SocketAddr};
 use std::rt::Files;
 use std::time::Clock;
 use sv_front::{Consulted, Limits, Unasked, run_front};
 use sv_program::{CommandFault, print_line};
-use sv_readiness::{Listening, Sockets};
+use sv_readiness::{Listening, RoundClock, Sockets};
 use sv_run::Reactor;
-use sv_streams::SystemClock;
 
 /// Listens at the address, where port 0 stands for any that is free, writes the line `listening ADDRESS:PORT`, and serves all connections that come,
 /// none waiting for another and within the limits of a site that sets none, until the process is ended from outside. The reactor is given back.
@@ -114,20 +114,21 @@ fn run_listening<H: Net + Clock, R: Reactor + Consulted>(
     let Ok(registry) = listening.registry() else {
         return Err(CommandFault::Socket);
     };
-    let Ok(mut sockets) = Sockets::new(alloc, host, &registry, listening) else {
+    let moment = Cell::new(0);
+    let Ok(mut sockets) = Sockets::new(alloc, host, &registry, listening, &moment) else {
         return Err(CommandFault::NoMemory);
     };
-    run_sockets(alloc, host, &mut sockets, limits, reactor)
+    run_sockets(alloc, &moment, &mut sockets, limits, reactor)
 }
 
 fn run_sockets<H: Clock, R: Reactor + Consulted>(
     alloc: Global,
-    host: &H,
+    moment: &Cell<u64>,
     sockets: &mut Sockets<'_, H>,
     limits: Limits,
     reactor: &mut R,
 ) -> Result<(), CommandFault> {
-    let mut clock = SystemClock::new(host);
+    let mut clock = RoundClock::new(moment);
     let ran = run_front(alloc, limits, reactor, sockets, &mut clock);
     sockets.read_out();
     match ran {

@@ -12,6 +12,18 @@ fn a_field_is_copied(rt: HostRuntime) {
 }
 
 #[test]
+fn a_field_is_copied_where_one_can_be(rt: HostRuntime) {
+    let field = Field::checked_copy_of(rt.alloc(), b"HOST", b"h");
+    assert!(rt;
+        matches!(&field, Ok(Some(field)) if field.name.as_str() == "host" && field.value.as_bytes() == b"h".as_slice())
+    );
+    let no_name = Field::checked_copy_of(rt.alloc(), b"", b"h");
+    assert!(rt; matches!(&no_name, Ok(None)));
+    let no_value = Field::checked_copy_of(rt.alloc(), b"HOST", b"\n");
+    assert!(rt; matches!(&no_value, Ok(None)));
+}
+
+#[test]
 fn a_field_takes_a_host(rt: HostRuntime) {
     let Ok(field) = Field::copy_of(rt.alloc(), b"HOST", b"h") else {
         panic!(rt; "the field is missing");

@@ -26,10 +26,11 @@ fn written(alloc: Global, response: &Response, manner: &str) -> Result<Vec<u8>, 
     let (part, rest) = manner.split_once(' ').unwrap_or((manner, ""));
     let (after, moment) = rest.split_once(' ').unwrap_or((rest, ""));
     let moment = moment.parse::<u64>().unwrap_or(0);
+    let room = b"what it held before".to_vec(alloc)?;
     let mut output = b"before ".to_vec(alloc)?;
     if response.has_status_code() {
         let (is_head, keeps) = (part == "head", after == "keep");
-        write_response(response, is_head, keeps, moment, &mut output)?;
+        write_response(response, is_head, keeps, moment, room, &mut output)?;
     }
     Ok(output)
 }

@@ -7,6 +7,7 @@ use std::io::{ErrorKind, Read, Write};
 use sv_front::Tried;
 
 /// Reads once. A read that was interrupted is made again.
+#[inline(always)]
 pub(crate) fn try_read<R: Read>(reader: &mut R, buffer: &mut [u8]) -> Tried
     requires { 0 < length buffer.old }
     ensures { ReadsSome (R.remaining reader.old) result buffer.new (R.remaining reader.new) }
@@ -23,6 +24,7 @@ pub(crate) fn try_read<R: Read>(reader: &mut R, buffer: &mut [u8]) -> Tried
 }
 
 /// Writes once. A write that was interrupted is made again, and one that takes nothing has failed.
+#[inline(always)]
 pub(crate) fn try_write<W: Write>(writer: &mut W, bytes: &[u8]) -> Tried
     ensures { WritesSome (W.contents writer.old) result bytes.now (W.contents writer.new) }
 {

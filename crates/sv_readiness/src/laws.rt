@@ -5,13 +5,14 @@ ghost use Rattle.std.specs.Prelude.{◌≡◌};
 use crate::limits::{
     ASKED_AT_ONCE, DROPPED_READ_BYTES, EVENTS_AT_ONCE, FIRST_DROPPED_READ_BYTES, LINGER_SECONDS,
     MAX_ASKING_SECONDS, MAX_DROPPED_BYTES, MAX_DROPPED_READS, MAX_LINE_BYTES, MAX_LINGERING,
-    MAX_READY_BEFORE_ACCEPT, MAX_SENT_AT_ONCE,
+    MAX_READY_BEFORE_ACCEPT, MAX_READY_BEFORE_READING, MAX_SENT_AT_ONCE,
 };
 
 /// The limits of this crate as numbers. What is dropped of a connection that is over is 1 MiB at a time, and 16 MiB in all, at most.
 pub fn limits_are_as_stated()
     ensures events { EVENTS_AT_ONCE ≡ 256 }
-    ensures ready { MAX_READY_BEFORE_ACCEPT ≡ 32 }
+    ensures ready { MAX_READY_BEFORE_ACCEPT ≡ 128 }
+    ensures told { MAX_READY_BEFORE_READING ≡ 16 }
     ensures sent { MAX_SENT_AT_ONCE ≡ 4096 }
     ensures streams { MAX_LINGERING ≡ 256 }
     ensures seconds { LINGER_SECONDS ≡ 2 }

@@ -4,7 +4,10 @@
 pub const EVENTS_AT_ONCE: usize = 256;
 
 /// Behind as many connections that were told as ready it is told that one may have come, so that those that come do not wait for all that are ready.
-pub const MAX_READY_BEFORE_ACCEPT: u32 = 32;
+pub const MAX_READY_BEFORE_ACCEPT: u32 = 128;
+
+/// Behind as many that were told the time is read again: all of them count as served at one time.
+pub const MAX_READY_BEFORE_READING: u32 = 16;
 
 /// So many bytes of all that was written to a peer have left at once: the first window of a connection has ten segments (RFC 6928, section 2), of 536
 /// bytes at least (RFC 9293, section 3.7.1).

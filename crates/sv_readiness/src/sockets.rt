@@ -2,7 +2,7 @@
 
 use crate::control::{ASKER, CONTROL, Control};
 use crate::crowd::{Crowd, lacks_room};
-use crate::limits::{EVENTS_AT_ONCE, MAX_READY_BEFORE_ACCEPT};
+use crate::limits::{EVENTS_AT_ONCE, MAX_READY_BEFORE_ACCEPT, MAX_READY_BEFORE_READING};
 use crate::lingering::Lingering;
 use crate::listening::{LISTENER, Listening};
 use crate::ready::Ready;
@@ -11,12 +11,14 @@ use mio::event::Source;
 use mio::net::{TcpListener, TcpStream, UnixListener};
 use mio::{Events, Interest, Poll, Registry, Token};
 use std::alloc::{AllocError, Global};
+use std::cell::Cell;
 use std::io;
 use std::io::ErrorKind;
 use std::net::Shutdown;
 use std::time::{Clock, Duration};
 use sv_front::{Closing, Consulted, Figures, Network, Told};
 use sv_run::{Reactor, StepFault};
+use sv_streams::{Clock as _, SystemClock};
 
 /// A listener and its connections. What the system fails to do for one of them ends that one alone, or is tried again within a second.
 #[derive(Drop)]
@@ -29,9 +31,11 @@ pub struct Sockets<'a, C> {
     ready: Ready,
     lingering: Lingering<TcpStream>,
     control: Option<Control<'a>>,
+    // The moment that was read last, for who is told what is ready; the second that was read last; and that behind which one has passed.
+    moment: &'a Cell<u64>,
+    now: u64,
     second: u64,
     rest: Duration,
-    is_read: bool,
     told: u32,
     crowd: Crowd,
     may_come: bool,
@@ -41,7 +45,8 @@ pub struct Sockets<'a, C> {
 }
 
 impl<'a, C: Clock> Sockets<'a, C> {
-    /// The connections of a listener, whose registry this is, by the time of a clock.
+    /// The connections of a listener, whose registry this is, by the time of a clock. Whenever that is read, the cell is given the moment, in seconds
+    /// since 1970.
     ///
     /// # Errors
     /// Memory ran out.
@@ -50,6 +55,7 @@ impl<'a, C: Clock> Sockets<'a, C> {
         clock: &'a C,
         registry: &'a Registry,
         listening: Listening,
+        moment: &'a Cell<u64>,
     ) -> Result<Sockets<'a, C>, AllocError> {
         let Listening {
             poll,
@@ -66,9 +72,10 @@ impl<'a, C: Clock> Sockets<'a, C> {
             ready: Ready::new(),
             lingering: Lingering::new(alloc),
             control: control_of(alloc, registry, control),
+            moment,
+            now: 0,
             second: 0,
             rest: Duration::ZERO,
-            is_read: false,
             told: 0,
             crowd: Crowd::None,
             may_come: false,
@@ -103,6 +110,9 @@ impl<'a, C: Clock> Sockets<'a, C> {
         }
         self.has_come = self.has_come || token == LISTENER;
         self.told = self.told.saturating_add(1);
+        if self.told % MAX_READY_BEFORE_READING == 0 {
+            self.read_time();
+        }
         Some(told_by(token))
     }
 
@@ -171,14 +181,20 @@ impl<'a, C: Clock> Sockets<'a, C> {
 
     // Whether another second than before is told.
     fn has_second_passed(&mut self) -> bool {
-        let second = self.read_clock();
-        let has_passed = second != self.second;
+        self.read_time();
+        let has_passed = self.now != self.second;
         if has_passed {
             self.crowd = self.crowd.second();
         }
-        self.second = second;
-        self.is_read = true;
+        self.second = self.now;
         has_passed
+    }
+
+    // Reads the time, at which what is told counts as done until it is read again.
+    fn read_time(&mut self) {
+        self.now = self.read_clock();
+        let mut clock = SystemClock::new(self.clock);
+        self.moment.set(clock.now());
     }
 
     // The second that it is by the clock, where that can be read, and how long it takes until it is over.
@@ -190,7 +206,7 @@ impl<'a, C: Clock> Sockets<'a, C> {
             }
             Err(_) => {
                 self.rest = Duration::from_secs(1);
-                self.second
+                self.now
             }
         }
     }
@@ -257,7 +273,6 @@ impl<'a, C: Clock> Network for Sockets<'a, C> {
     type Peer = StreamPeer<'a, TcpStream>;
 
     fn wait(&mut self) -> Told {
-        self.is_read = false;
         self.note_refused_asker();
         if self.tells_crowd() {
             return Told::Crowded;
@@ -338,16 +353,9 @@ impl<'a, C: Clock> Network for Sockets<'a, C> {
         }
     }
 
-    // The first time behind a wait that reported, the second that was read then: nothing was done since. Else the clock is read.
+    // The second that was read last, behind which little was done: the clock is read behind each wait, and behind so many that were told.
     fn seconds(&mut self) -> u64 {
-        if self.is_read {
-            self.is_read = false;
-            return self.second;
-        }
-        match self.clock.monotonic() {
-            Ok(time) => time.as_secs(),
-            Err(_) => self.second,
-        }
+        self.now
     }
 }
 

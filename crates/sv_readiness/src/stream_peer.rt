@@ -113,6 +113,7 @@ impl<T: Read + Write + Source> Peer for StreamPeer<'_, T> {
         true
     }
 
+    #[inline(always)]
     fn write(&mut self, bytes: &[u8]) -> Tried {
         let tried = try_write(&mut self.stream, bytes);
         match tried {

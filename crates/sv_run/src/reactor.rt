@@ -8,6 +8,7 @@ use crate::context::{Context, Words};
 use crate::happening::Happening;
 use crate::reaction::Reaction;
 use crate::step_fault::StepFault;
+use sv_journal::Journal;
 
 /// What takes the events of a container one by one, as a container does.
 pub trait Reactor {
@@ -22,6 +23,10 @@ pub trait Reactor {
     /// Why the event is refused, as [`StepFault`] says.
     fn step(&mut self, happening: Happening) -> Result<Reaction, StepFault>
         ensures { steps self.old (happening_of happening.entry) result self.new };
+
+    /// Takes the memory of bytes and of a journal that events brought, and of which nothing is needed any more, for what those to come bring. Left out,
+    /// it is let go.
+    fn recycle(&self, _bytes: Vec<u8>, _journal: Journal) {}
 }
 
 /// What takes each event as the run of a container says takes events one after another as a run.

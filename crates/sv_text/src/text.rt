@@ -72,6 +72,7 @@ impl Text {
     }
 
     /// Adds a text behind it. After [`NoMemory`] nothing has changed.
+    #[inline(always)]
     pub fn push_str(&mut self, alloc: Global, text: &str) -> Result<(), NoMemory>
         ensures pushed { OnOk result (self.new ≡ self.old ++ text.now) }
         ensures refused { OnErr result (self.new ≡ self.old) }

@@ -67,6 +67,7 @@ fn walked(alloc: Global, target: &[u8]) -> Result<Canon, CanonFault>
 /// segments and `.` are dropped, `..` removes the name before it, and where the last segment is empty, `.` or `..` the path ends in `/`.
 /// The target may hold any bytes; a wrong one is answered with the first of its faults, in the order of [`PathFault`], and
 /// `CanonFault::NoMemory` comes only where a growth was refused. The work is linear in the length of the target.
+#[inline(always)]
 pub fn canon(alloc: Global, target: &[u8]) -> Result<Canon, CanonFault>
     ensures { Gives path_fault result (canonical target.now) }
 {

@@ -44,6 +44,7 @@ pub(crate) enum Rest {
 
 /// Reads the items of a stream into a list, which is empty, and what follows them. No front of fewer than `from` bytes of the stream
 /// ends a head.
+#[inline(always)]
 pub(crate) fn read_items(
     alloc: Global,
     stream: &[u8],

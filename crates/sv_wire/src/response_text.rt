@@ -11,7 +11,7 @@ ghost use Rattle.sv_wire.specs.ResponseText.{IsDateAt, ResponseTextsAreUnique, a
 use http::StatusCode;
 use httpdate::HttpDate;
 use itoa::Buffer;
-use std::alloc::{AllocError, Global};
+use std::alloc::AllocError;
 use sv_head::Field;
 use sv_message::{Body, Cookie, Response, flushed_content};
 use sv_text::NoMemory;
@@ -37,12 +37,14 @@ const TEXT_ROOM: usize = 512;
 /// 204 there is no body either.
 ///
 /// The moment is in seconds since 1970; behind the year 9999 each counts as that year's last second. The output grows
-/// before the first byte is written: after [`NoMemory`] it is as it was.
+/// before the first byte is written: after [`NoMemory`] it is as it was. The text is made in the room, of which nothing is said, and which an output of
+/// no bytes then has for its own.
 pub fn write_response(
     response: &Response,
     head_only: bool,
     keep: bool,
     moment: u64,
+    room: Vec<u8>,
     output: &mut Vec<u8>,
 ) -> Result<(), NoMemory>
     requires { IsStatusCode response.now.status }
@@ -51,7 +53,7 @@ pub fn write_response(
     ensures no_memory { OnErr result (output.new.items ≡ output.old.items) }
     ensures room { OnErr result (vec_capacity output.new ≡ vec_capacity output.old) }
 {
-    let head = head_of(*output.allocator(), response, keep, date_at(moment))?;
+    let head = head_of(room, response, keep, date_at(moment))?;
     append_text(output, head, response, head_only)?;
     Ok(())
 }
@@ -63,7 +65,7 @@ pub fn response_texts_are_unique()
 
 #[tactic(auto, unfolding(crate::specs::ResponseText::response_head))]
 fn head_of(
-    alloc: Global,
+    room: Vec<u8>,
     response: &Response,
     keep: bool,
     date: HttpDate,
@@ -71,7 +73,9 @@ fn head_of(
     requires { IsStatusCode response.now.status }
     ensures { IfOk result (λ head. head.items ≡ response_head response.now keep date) }
 {
-    let mut head = Vec::with_capacity(alloc, TEXT_ROOM)?;
+    let mut head = room;
+    head.clear();
+    head.reserve(TEXT_ROOM)?;
     push_status_line(&mut head, response.status)?;
     push_field_line(&mut head, b"date", &date.to_bytes())?;
     push_field_lines(&mut head, response.fields.as_slice())?;
@@ -172,6 +176,7 @@ fn phrase_of(code: StatusCode) -> &'static [u8]
     code.canonical_reason().unwrap_or("").as_bytes()
 }
 
+#[inline(always)]
 fn push_field_line(head: &mut Vec<u8>, name: &[u8], value: &[u8]) -> Result<(), AllocError>
     ensures { OnOk result (head.new.items ≡ head.old.items ++ field_line name.now value.now) }
 {

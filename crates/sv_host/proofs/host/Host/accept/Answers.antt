@@ -38,7 +38,7 @@ returns-clause-accepts g c =
       joined (telling told.0) happened.0,
       accepts_at theory (state_of c.args.self.now) (happening_of c.args.happening) (state_of c.happen.new.self) c.moment_after-self.result told.0
           c.expire_all.new.self happened.0 c.moment_after-self.ensures c.requires.runs c.requires.fits told.1 happened.1,
-      c.into_reaction.ensures ∙ brings_all c.new-output.result c.expire_all.new.journal told.0 happened.0 _ c.new-output.ensures noted happened.2,
+      c.into_reaction.ensures ∙ brings_all c.output-output.result c.expire_all.new.journal told.0 happened.0 _ c.output-output.ensures noted happened.2,
     )
 
 pub returns-then-not-whole-clause-breaks : goal.returns-then-not-whole-clause-breaks
