@@ -41,13 +41,8 @@ pub(crate) fn handle_at<C: Context, W: Words>(
     let head_only = is_head(message);
     let keep = message.keep;
     let context = &mut contexts[place];
-    // Matched, the response is not moved.
-    match context.handle(alloc, message, canon, moment, words, &mut output.journal) {
-        Ok(response) => {
-            let sent = send(head_only, keep, &response, moment, output);
-            context.recycle(response);
-            sent
-        }
-        Err(NoMemory) => Err(NoMemory),
-    }
+    let response = context.handle(alloc, message, canon, moment, words, &mut output.journal)?;
+    let sent = send(head_only, keep, &response, moment, output);
+    context.recycle(response);
+    sent
 }
