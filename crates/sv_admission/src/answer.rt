@@ -10,6 +10,7 @@ use crate::limits::FORBIDDEN;
 use std::alloc::Global;
 use sv_descriptor::FormLogin;
 use sv_journal::{Entry, RefusalCause};
+use sv_message::{Apart, Rare};
 use sv_outcome::Outcome;
 use sv_site::Site;
 use sv_text::{NoMemory, Text};
@@ -24,9 +25,9 @@ pub enum Answer {
     /// By the filters and the servlet or the file of its path.
     Entered,
     /// By a page of form login, to which it is forwarded (Jakarta Servlet 6.0, section 13.6.3).
-    Page(Canon),
+    Page(Apart<Canon>),
     /// By an error of this status, with its page where the context has one (section 10.9).
-    Error(u16, Option<Canon>),
+    Error(u16, Rare<Canon>),
     /// The client is sent to this location, to fetch it by GET (RFC 9110, section 15.4.4).
     SeeOther(Text),
 }
@@ -87,8 +88,10 @@ pub(crate) fn concluded(
 fn error_with(alloc: Global, site: &Site, status: u16) -> Result<Answer, NoMemory>
     ensures { GivesAnswer result (error_with site.now status) }
 {
-    let page = site.page(alloc, status, None)?;
-    Ok(Answer::Error(status, page))
+    match site.page(alloc, status, None)? {
+        Some(page) => Ok(Answer::Error(status, Rare::some(alloc, page)?)),
+        None => Ok(Answer::Error(status, Rare::none())),
+    }
 }
 
 // The target that was saved, or else the root of the context.
@@ -128,7 +131,14 @@ fn login_error_page(login: &Option<FormLogin>) -> Option<&str>
 }
 
 // The path and the query of a page of form login.
-fn page_at(alloc: Global, page: Option<&str>) -> Result<Canon, NoMemory>
+fn page_at(alloc: Global, page: Option<&str>) -> Result<Apart<Canon>, NoMemory>
+    ensures { GivesAnswer result (page_at (option_copied page.entry)) }
+{
+    let page = canon_at(alloc, page)?;
+    Apart::new(alloc, page)
+}
+
+fn canon_at(alloc: Global, page: Option<&str>) -> Result<Canon, NoMemory>
     ensures { GivesAnswer result (page_at (option_copied page.entry)) }
 {
     let Some(page) = page else {

@@ -13,7 +13,7 @@ use crate::judging::caller_held;
 use std::alloc::Global;
 use sv_event::Event;
 use sv_exchange::HeldSession;
-use sv_message::Message;
+use sv_message::{Message, Rare};
 use sv_outcome::Outcome;
 use sv_realm::{Caller, Realm};
 use sv_session::{SessionFault, Sessions};
@@ -190,11 +190,11 @@ pub(crate) fn session_of(
     }))
 }
 
-fn copied(alloc: Global, caller: Option<&Caller>) -> Result<Option<Caller>, NoMemory>
+fn copied(alloc: Global, caller: Option<&Caller>) -> Result<Rare<Caller>, NoMemory>
     ensures { GivesAnswer result (option_copied caller.entry) }
 {
     match caller {
-        Some(caller) => Ok(Some(Caller::copy_of(alloc, caller)?)),
-        None => Ok(None),
+        Some(caller) => Rare::some(alloc, Caller::copy_of(alloc, caller)?),
+        None => Ok(Rare::none()),
     }
 }

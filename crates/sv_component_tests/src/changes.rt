@@ -7,7 +7,7 @@ use sv_head::Field;
 use sv_message::{Body, Response};
 use sv_rows::{Asks, Draft, Strays, cell, hold};
 use sv_text::NoMemory;
-use sv_wire::write_response;
+use sv_wire::{DateText, write_response};
 
 /// Calls, the answer to the last one, and the response: its status, its fields, its body.
 const STATUSES: &str = r#"
@@ -176,7 +176,7 @@ fn add_sent(alloc: Global, text: &mut Draft, response: &Response) {
     let room = Vec::new(alloc);
     let mut sent = Vec::new(alloc);
     if !response.has_status_code()
-        || write_response(response, false, true, 0, room, &mut sent).is_err()
+        || write_response(response, false, true, &DateText::at(0), room, &mut sent).is_err()
     {
         text.fail();
         return;

@@ -33,7 +33,7 @@ fn tell_all(alloc: Global, mut exchange: Exchange, calls: &str, told: &mut Draft
 
 fn tell_cookie(alloc: Global, mut exchange: Exchange, told: &mut Draft) {
     let response = exchange.finish(&mut Sessions::new(alloc, 0, 0));
-    if let Some(cookie) = &response.cookie {
+    if let Some(cookie) = response.cookie.get() {
         told.add(" | ");
         told.add(cookie.name.as_str());
         told.add("=");

@@ -5,7 +5,7 @@ use http::Method;
 use std::alloc::Global;
 use sv_exchange::{Exchange, HeldSession};
 use sv_head::Field;
-use sv_message::{CookieSettings, Message, Target};
+use sv_message::{CookieSettings, Message, Rare, Target};
 use sv_realm::Caller;
 use sv_session::Sessions;
 use sv_text::{Bytes, Listed, NoMemory, Text};
@@ -133,7 +133,7 @@ fn held(alloc: Global, session: &str) -> Result<Option<HeldSession>, NoMemory> {
         Ok(Some(HeldSession {
             number: 1,
             is_renewed: session == "renewed",
-            caller: Some(ann(alloc)?),
+            caller: Rare::some(alloc, ann(alloc)?)?,
         }))
     } else {
         Ok(None)

@@ -76,8 +76,24 @@ fn answer_by<S: Servlet, F: Filter, L: Listener>(
 {
     match answer {
         Answer::Entered => request(alloc, live, exchange, site, Kind::Request, canon, journal),
-        Answer::Page(page) => request(alloc, live, exchange, site, Kind::Forward, page, journal),
-        Answer::Error(status, page) => error(alloc, live, exchange, site, *status, page, journal),
+        Answer::Page(page) => request(
+            alloc,
+            live,
+            exchange,
+            site,
+            Kind::Forward,
+            page.get(),
+            journal,
+        ),
+        Answer::Error(status, page) => error(
+            alloc,
+            live,
+            exchange,
+            site,
+            *status,
+            page.get(),
+            journal,
+        ),
         Answer::SeeOther(location) => send_to(exchange, location.as_str()),
     }
 }
@@ -117,14 +133,14 @@ fn error<S: Servlet, F: Filter, L: Listener>(
     exchange: &mut Exchange,
     site: &mut Site,
     status: u16,
-    page: &Option<Canon>,
+    page: Option<&Canon>,
     journal: &mut Journal,
 ) -> Result<(), NoMemory>
     requires servlets { length live.old.parts.servlets.items ≡ length site.old.app.servlets }
     requires filters { length live.old.parts.filters.items ≡ length site.old.app.filters }
     requires listeners { length live.old.parts.listeners.items ≡ length site.old.app.listeners }
     requires whole { journal.old.whole ≡ true }
-    ensures answered { (canon : CanonData) → ServedBy (steps_of S.servlet_step F.filter_step L.listener_step) (Answers (site_of site.old) canon (Error status page.now))
+    ensures answered { (canon : CanonData) → ServedBy (steps_of S.servlet_step F.filter_step L.listener_step) (Answers (site_of site.old) canon (Error status (option_copied page.entry)))
         live.old exchange.old journal.old (seen result) live.new exchange.new journal.new }
     ensures whole { OnOk result (journal.new.whole ≡ true) }
     ensures site { site.new ≡ site.old }

@@ -1,7 +1,7 @@
 //! How a context handles a message.
 
 ghost use Rattle.sv_component.specs.Steps.{steps_of};
-ghost use Rattle.std.specs.Prelude.{◌≡◌, IfOk, IsTrue, List, OnErr, OnOk, true};
+ghost use Rattle.std.specs.Prelude.{◌≡◌, IfOk, IsTrue, List, OnErr, OnOk, true, unwrap_or};
 ghost use Rattle.std.specs.Option.{option_copied};
 ghost use Rattle.http.specs.StatusCode.{IsStatusCode};
 ghost use Rattle.sv_admission.specs.Admission.{settled_in};
@@ -44,7 +44,6 @@ impl<S: Servlet, F: Filter, L: Listener> Context<S, F, L> {
     /// # Errors
     /// `NoMemory` where a growth was refused, a component wanted memory, or the journal is broken: the calls made so far were made. All that was
     /// deployed is there then, and the context can be undeployed; nothing is said of its sessions.
-    #[inline(always)]
     pub fn handle(
         &mut self,
         alloc: Global,
@@ -84,6 +83,7 @@ impl<S: Servlet, F: Filter, L: Listener> Context<S, F, L> {
 }
 
 // Handles a message in the parts of a context.
+#[inline(always)]
 fn handle_in<S: Servlet, F: Filter, L: Listener>(
     alloc: Global,
     site: &mut Site,
@@ -111,22 +111,18 @@ fn handle_in<S: Servlet, F: Filter, L: Listener>(
     if !journal.whole() {
         return Err(NoMemory);
     }
-    if is_path_within(site.context_path(), canon) {
-        return handle_at(
-            alloc, site, policy, users, live, sessions, exchange, message, canon, moment, words,
-            journal,
-        );
-    }
-    let Ok(canon) = within(alloc, site.context_path(), canon) else {
+    let Ok(made) = within(alloc, site.context_path(), canon) else {
         return Err(NoMemory);
     };
+    let canon = either(&made, canon);
     handle_at(
-        alloc, site, policy, users, live, sessions, exchange, message, &canon, moment, words,
+        alloc, site, policy, users, live, sessions, exchange, message, canon, moment, words,
         journal,
     )
 }
 
 // Handles a message to that path in the context.
+#[inline(always)]
 fn handle_at<S: Servlet, F: Filter, L: Listener>(
     alloc: Global,
     site: &mut Site,
@@ -167,14 +163,29 @@ fn is_path_within(context_path: &str, canon: &Canon) -> bool
     context_path.is_empty() && !canon.path.as_str().is_empty()
 }
 
-// The path in the context, with the query.
-fn within(alloc: Global, context_path: &str, canon: &Canon) -> Result<Canon, NoMemory>
+// The path in the context, with the query, where that is another than the whole path.
+#[inline(always)]
+fn within(alloc: Global, context_path: &str, canon: &Canon) -> Result<Option<Canon>, NoMemory>
     requires { IsTrue (is_at_or_below context_path.now canon.now.path) }
-    ensures { GivesAnswer result (record canon.now { path = path_within context_path.now canon.now.path }) }
+    ensures { IfOk result (λ made. unwrap_or made canon.now ≡ record canon.now { path = path_within context_path.now canon.now.path }) }
 {
+    if is_path_within(context_path, canon) {
+        return Ok(None);
+    }
     let path = Text::copy_of(alloc, path_within(context_path, canon.path.as_str()))?;
     let query = copied(alloc, &canon.query)?;
-    Ok(Canon { path, query })
+    Ok(Some(Canon { path, query }))
+}
+
+// What was made, where it was, in the place of the other.
+#[inline(always)]
+fn either<'a>(made: &'a Option<Canon>, other: &'a Canon) -> &'a Canon
+    ensures { result.now ≡ unwrap_or made.now other.now }
+{
+    match made {
+        Some(made) => made,
+        None => other,
+    }
 }
 
 fn copied(alloc: Global, text: &Option<Text>) -> Result<Option<Text>, NoMemory>

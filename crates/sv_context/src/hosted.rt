@@ -38,6 +38,7 @@ impl<S: Servlet, F: Filter, L: Listener> sv_run::Context for Context<S, F, L> {
         self.handle(alloc, message, canon, moment, words, journal)
     }
 
+    #[inline(always)]
     fn recycle(&mut self, response: Response) {
         self.recycle(response);
     }

@@ -15,7 +15,7 @@ use sv_site::Site;
 use sv_text::NoMemory;
 use sv_tree::Finished;
 use sv_uri::path::Canon;
-use sv_wire::write_response;
+use sv_wire::{DateText, write_response};
 
 /// What is asked of a context.
 #[derive(Clone, Copy)]
@@ -303,7 +303,7 @@ fn add_response(alloc: Global, told: &mut Draft, response: &Response) {
         told.add(": ");
         told.add_bytes(field.value.as_bytes());
     }
-    if let Some(cookie) = &response.cookie {
+    if let Some(cookie) = response.cookie.get() {
         told.add(", cookie ");
         told.add(cookie.id.as_str());
         told.add(" ");
@@ -321,7 +321,7 @@ fn add_sent(alloc: Global, told: &mut Draft, response: &Response) {
     let room = Vec::new(alloc);
     let mut sent = Vec::new(alloc);
     if !response.has_status_code()
-        || write_response(response, false, true, 0, room, &mut sent).is_err()
+        || write_response(response, false, true, &DateText::at(0), room, &mut sent).is_err()
     {
         told.fail();
         return;

@@ -9,7 +9,7 @@ use std::alloc::Global;
 use sv_exchange::{Exchange, HeldSession};
 use sv_head::Field;
 use sv_mapping::Kind;
-use sv_message::{CookieSettings, Message, Target};
+use sv_message::{CookieSettings, Message, Rare, Target};
 use sv_realm::Caller;
 use sv_session::Sessions;
 use sv_text::{Bytes, Listed, NoMemory, Text};
@@ -187,13 +187,14 @@ fn held(alloc: Global, request: Request<'_>) -> Result<Option<HeldSession>, NoMe
     }))
 }
 
-fn caller(alloc: Global, name: &str) -> Result<Option<Caller>, NoMemory> {
+fn caller(alloc: Global, name: &str) -> Result<Rare<Caller>, NoMemory> {
     if name.is_empty() {
-        return Ok(None);
+        return Ok(Rare::none());
     }
-    Ok(Some(Caller {
+    let caller = Caller {
         number: 0,
         name: Text::copy_of(alloc, name)?,
         roles: Listed::from_vec(Vec::new(alloc)),
-    }))
+    };
+    Rare::some(alloc, caller)
 }

@@ -1,5 +1,6 @@
 pub mod Including
 pub mod Keeping
+pub mod Leaving
 pub mod Moving
 pub mod Naming
 pub mod Reaching

@@ -7,7 +7,7 @@ use Rattle.sv_mapping.specs.declared.kind.Kind.{Kind}
 use Rattle.sv_mapping.specs.declared.kind.Kind.TheVariants as kinds
 use Rattle.sv_exchange.specs.declared.attribute.Attribute.{Attribute}
 use Rattle.sv_exchange.specs.declared.dispatch.Dispatch.{Dispatch}
-use Rattle.sv_exchange.specs.declared.dispatch.Paths.{Paths}
+use Rattle.sv_exchange.specs.Paths.{Paths}
 use Rattle.sv_exchange.specs.declared.told_error.ToldError.{ToldError}
 use Rattle.sv_exchange.specs.State.{State}
 

@@ -5,7 +5,7 @@ use Rattle.std.specs.Option.{option_map}
 use Rattle.sv_mapping.specs.declared.kind.Kind.{Kind}
 use Rattle.sv_mapping.specs.declared.kind.Kind.TheVariants as kinds
 use Rattle.sv_exchange.specs.declared.dispatch.Dispatch.{Dispatch}
-use Rattle.sv_exchange.specs.declared.dispatch.Paths.{Paths}
+use Rattle.sv_exchange.specs.Paths.{Paths}
 use Rattle.sv_exchange.specs.declared.kept_error.KeptError.{KeptError}
 use Rattle.sv_exchange.specs.declared.told_error.ToldError.{ToldError}
 use Rattle.sv_exchange.specs.State.{State}
@@ -81,6 +81,10 @@ entered kind paths before = record before {
   client = client_in kind paths before.client;
   dispatches = before.dispatches ++ (record { kind = kind; paths = paths; error = error_in kind before.kept }) ∷ [];
 }
+
+-- the last one of a list goes
+abbrev pub LeavesOne : List Dispatch → List Dispatch → Type 0
+LeavesOne before after = (dispatch : Dispatch) × (before ≡ after ++ dispatch ∷ [])
 
 -- the innermost dispatch ends, and what it set is taken back
 abbrev pub Leaves : State → State → Type 0

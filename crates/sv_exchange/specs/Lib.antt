@@ -8,6 +8,7 @@ pub mod Fields
 pub mod Keeping
 pub mod Laws
 pub mod Parameters
+pub mod Paths
 pub mod Request
 pub mod Sessions
 pub mod State

@@ -10,7 +10,7 @@ use Rattle.sv_message.specs.declared.cookie_settings.CookieSettings.{CookieSetti
 use Rattle.sv_message.specs.declared.response.Cookie.{Cookie}
 use Rattle.sv_exchange.specs.declared.attribute.Attribute.{Attribute}
 use Rattle.sv_exchange.specs.declared.dispatch.Dispatch.{Dispatch}
-use Rattle.sv_exchange.specs.declared.dispatch.Paths.{Paths}
+use Rattle.sv_exchange.specs.Paths.{Paths}
 use Rattle.sv_exchange.specs.declared.kept_error.KeptError.{KeptError}
 
 pub record State : Type 0 where

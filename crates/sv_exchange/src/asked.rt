@@ -27,6 +27,7 @@ pub(crate) fn no_settings(alloc: Global) -> CookieSettings
 }
 
 /// Has a text be another. Where it is that already, it takes no memory.
+#[inline(always)]
 pub(crate) fn set_text(alloc: Global, text: &mut Text, other: &str) -> Result<(), NoMemory>
     ensures { OnOk result (text.new ≡ other.now) }
 {

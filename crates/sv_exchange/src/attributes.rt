@@ -125,7 +125,7 @@ fn told_by<'a>(dispatch: &'a Dispatch, exchange: &'a Exchange, rest: &[u8]) -> O
         Kind::Include => told_of(rest, &exchange.context_path, &dispatch.paths),
         Kind::Error => {
             if rest == REQUEST_URI {
-                Some(exchange.client.uri.as_str())
+                Some(exchange.client.uri())
             } else {
                 let error = dispatch.error.get()?;
                 told_of_error(rest, error)
@@ -152,7 +152,7 @@ fn told_of<'a>(rest: &[u8], context_path: &'a Text, paths: &'a Paths) -> Option<
     ensures { option_copied result ≡ told_of rest.now context_path.now paths.now }
 {
     if rest == REQUEST_URI {
-        Some(paths.uri.as_str())
+        Some(paths.uri())
     } else if rest == CONTEXT_PATH {
         Some(context_path.as_str())
     } else if rest == SERVLET_PATH {

@@ -83,7 +83,10 @@ impl Exchange {
     pub fn is_within_include(&self) -> bool
         ensures { result ≡ is_within_include self.now }
     {
-        self.dispatches.iter().any(|dispatch| dispatch.is_include())
+        self.dispatches
+            .as_slice()
+            .iter()
+            .any(|dispatch| dispatch.is_include())
     }
 
     // Whether a field of that name can be set.

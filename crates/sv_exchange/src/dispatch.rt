@@ -1,15 +1,16 @@
 //! A dispatch, and the paths that it sets.
 
-ghost use Rattle.std.specs.Prelude.{◌≡◌, [], ◌++◌, None, OnOk};
+ghost use Rattle.std.specs.Prelude.{◌≡◌, [], ◌++◌, None, OnOk, unwrap_or};
 ghost use Rattle.std.specs.Option.{option_copied};
 ghost use Rattle.sv_text.specs.Gives.{GivesAnswer};
 ghost use Rattle.sv_exchange.specs.Dispatches.{is_include, paths_at};
 
 use crate::asked::{no_text, set_text};
-use crate::rare::Rare;
 use crate::told_error::ToldError;
 use std::alloc::Global;
+use std::marker::Model;
 use sv_mapping::Kind;
+use sv_message::Rare;
 use sv_text::{NoMemory, Text};
 
 /// A dispatch that is under way: its kind, and what it is asked for (Jakarta Servlet 6.0, chapter 9).
@@ -24,8 +25,8 @@ pub struct Dispatch {
 /// The paths of a request or of a dispatch (Jakarta Servlet 6.0, section 3.5).
 #[derive(Debug, Drop)]
 pub struct Paths {
-    /// The context path with the path.
-    pub uri: Text,
+    // The context path with the path; `None` where that is the path alone.
+    uri: Option<Text>,
     /// The canonical path in the context.
     pub path: Text,
     /// The part of the path that the servlet's pattern names; `None` before a servlet was chosen.
@@ -36,13 +37,28 @@ pub struct Paths {
     pub query: Option<Text>,
 }
 
+impl Model for Paths {
+    ghost use Rattle.std.specs.Prelude.{unwrap_or};
+    ghost use Rattle.sv_exchange.specs.Paths.{Paths};
+
+    ghost Value = { Paths };
+
+    ghost view = { λ paths. record {
+      uri = unwrap_or paths.uri paths.path;
+      path = paths.path;
+      servlet_path = paths.servlet_path;
+      path_info = paths.path_info;
+      query = paths.query;
+    } };
+}
+
 impl Paths {
     /// No path.
     pub(crate) fn empty(alloc: Global) -> Paths
         ensures { result ≡ paths_at [] [] None None None }
     {
         Paths {
-            uri: no_text(alloc),
+            uri: None,
             path: no_text(alloc),
             servlet_path: None,
             path_info: None,
@@ -50,45 +66,42 @@ impl Paths {
         }
     }
 
-    /// Copies the paths of a context's request.
+    /// Has them be those of a path in a context. What is as before is not copied, and in the root context neither is the URI.
     #[inline(always)]
-    pub(crate) fn copy_of(
+    pub(crate) fn set(
+        &mut self,
         alloc: Global,
         context_path: &str,
         path: &str,
         servlet_path: Option<&str>,
         path_info: Option<&str>,
         query: Option<&str>,
-    ) -> Result<Paths, NoMemory>
-        ensures { GivesAnswer result (paths_at context_path.now path.now
+    ) -> Result<(), NoMemory>
+        ensures { OnOk result (self.new ≡ paths_at context_path.now path.now
             (option_copied servlet_path.entry) (option_copied path_info.entry) (option_copied query.entry)) }
     {
-        Ok(Paths {
-            uri: joined(alloc, context_path, path)?,
-            path: Text::copy_of(alloc, path)?,
-            servlet_path: copied(alloc, servlet_path)?,
-            path_info: copied(alloc, path_info)?,
-            query: copied(alloc, query)?,
-        })
+        set_uri(alloc, &mut self.uri, context_path, path)?;
+        set_text(alloc, &mut self.path, path)?;
+        set_option(alloc, &mut self.servlet_path, servlet_path)?;
+        set_option(alloc, &mut self.path_info, path_info)?;
+        set_option(alloc, &mut self.query, query)
     }
 
-    /// Has them be those of a path in a context for which no servlet was chosen yet. Where the path is the one before, it is not copied; nor is the
-    /// URI where that is the path.
-    pub(crate) fn set(
-        &mut self,
-        alloc: Global,
-        context_path: &str,
-        path: &str,
-        query: Option<&str>,
-    ) -> Result<(), NoMemory>
-        ensures { OnOk result (self.new ≡ paths_at context_path.now path.now None None (option_copied query.entry)) }
+    /// The query, `None` where there is none.
+    pub(crate) fn query(&self) -> &Option<Text>
+        ensures { result.now ≡ self.now.query }
     {
-        set_joined(alloc, &mut self.uri, context_path, path)?;
-        set_text(alloc, &mut self.path, path)?;
-        self.servlet_path = None;
-        self.path_info = None;
-        self.query = copied(alloc, query)?;
-        Ok(())
+        &self.query
+    }
+
+    /// The context path with the path.
+    pub fn uri(&self) -> &str
+        ensures { result.now ≡ self.now.uri }
+    {
+        match &self.uri {
+            Some(uri) => uri.as_str(),
+            None => self.path.as_str(),
+        }
     }
 }
 
@@ -122,25 +135,44 @@ pub(crate) fn shown(text: &Option<Text>) -> Option<&str>
     }
 }
 
-// Has a text be both, one behind the other. Where the front is empty and the text is the back already, it takes no memory.
-fn set_joined(alloc: Global, text: &mut Text, front: &str, back: &str) -> Result<(), NoMemory>
-    ensures { OnOk result (text.new ≡ front.now ++ back.now) }
+// Has a text that may be absent be another. Where it is that already, it takes no memory.
+#[inline(always)]
+fn set_option(alloc: Global, text: &mut Option<Text>, other: Option<&str>) -> Result<(), NoMemory>
+    ensures { OnOk result (text.new ≡ option_copied other.entry) }
 {
-    if front.is_empty() {
-        return set_text(alloc, text, back);
+    let Some(other) = other else {
+        *text = None;
+        return Ok(());
+    };
+    if let Some(text) = text {
+        return set_text(alloc, text, other);
     }
-    *text = joined(alloc, front, back)?;
+    *text = Some(Text::copy_of(alloc, other)?);
+    Ok(())
+}
+
+// Has what is kept of a URI be that of a path in a context. In the root context it is the path, and nothing is kept.
+#[inline(always)]
+fn set_uri(
+    alloc: Global,
+    uri: &mut Option<Text>,
+    context_path: &str,
+    path: &str,
+) -> Result<(), NoMemory>
+    ensures { OnOk result (unwrap_or uri.new path.now ≡ context_path.now ++ path.now) }
+{
+    *uri = if context_path.is_empty() {
+        None
+    } else {
+        Some(joined(alloc, context_path, path)?)
+    };
     Ok(())
 }
 
 // Both texts, one behind the other.
-#[inline(always)]
 fn joined(alloc: Global, front: &str, back: &str) -> Result<Text, NoMemory>
     ensures { GivesAnswer result (front.now ++ back.now) }
 {
-    if front.is_empty() {
-        return Text::copy_of(alloc, back);
-    }
     let mut text = Text::with_room(alloc, front.len() + back.len())?;
     text.push_str(alloc, front)?;
     text.push_str(alloc, back)?;

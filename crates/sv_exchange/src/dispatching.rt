@@ -1,15 +1,15 @@
 //! What dispatches do to an exchange, which components cannot.
 
-ghost use Rattle.std.specs.Prelude.{◌≡◌, ◌<◌, [], length, OnOk, OnErr, Some, vec_capacity, vec_len};
+ghost use Rattle.std.specs.Prelude.{◌≡◌, ◌<◌, [], length, OnOk, OnErr, Some};
 ghost use Rattle.std.specs.Option.{option_copied};
 ghost use Rattle.sv_text.specs.Gives.{GivesAnswer};
 
-use crate::dispatch::{Dispatch, Paths, copied};
+use crate::dispatch::copied;
 use crate::exchange::Exchange;
 use crate::kept_error::{KeptError, KeptField};
-use crate::rare::Rare;
 use crate::told_error::ToldError;
 use sv_mapping::Kind;
+use sv_message::Rare;
 use sv_text::{NoMemory, Text};
 
 impl Exchange {
@@ -32,27 +32,26 @@ impl Exchange {
             (paths_at self.old.context_path path.now (Some servlet_path.now) (option_copied path_info.entry) (option_copied query.entry)) self.old) }
         ensures refused { OnErr result (self.new ≡ self.old) }
     {
-        make_room(&mut self.dispatches)?;
+        let error = self.error_in(kind)?;
+        let servlet_path_of_client = copied(self.alloc, Some(servlet_path))?;
+        let path_info_of_client = copied(self.alloc, path_info)?;
         let context_path = self.context_path.as_str();
-        let paths = Paths::copy_of(
+        self.dispatches.push(
             self.alloc,
+            kind,
             context_path,
             path,
-            Some(servlet_path),
+            servlet_path,
             path_info,
             query,
+            error,
         )?;
-        let error = self.error_in(kind)?;
-        let dispatch = Dispatch { kind, paths, error };
         match kind {
             Kind::Request => {
-                let servlet_path = copied(self.alloc, Some(servlet_path))?;
-                let path_info = copied(self.alloc, path_info)?;
-                self.dispatches.push_reserved(dispatch);
-                self.client.servlet_path = servlet_path;
-                self.client.path_info = path_info;
+                self.client.servlet_path = servlet_path_of_client;
+                self.client.path_info = path_info_of_client;
             }
-            Kind::Forward | Kind::Include | Kind::Error => self.dispatches.push_reserved(dispatch),
+            Kind::Forward | Kind::Include | Kind::Error => {}
         }
         Ok(())
     }
@@ -62,7 +61,7 @@ impl Exchange {
         requires { 0 < length self.old.dispatches }
         ensures { Leaves self.old self.new }
     {
-        drop(self.dispatches.pop());
+        self.dispatches.pop();
     }
 
     /// Empties what was written behind the last flush, without taking memory.
@@ -146,17 +145,4 @@ impl Exchange {
             _ => Ok(Rare::none()),
         }
     }
-}
-
-// Makes room for one dispatch more. The first one gets no more room than its own: most requests have no other, and a dispatch is large.
-fn make_room(dispatches: &mut Vec<Dispatch>) -> Result<(), NoMemory>
-    ensures stays { dispatches.new.items ≡ dispatches.old.items }
-    ensures room { OnOk result (vec_len dispatches.new < vec_capacity dispatches.new) }
-{
-    if dispatches.capacity() == 0 {
-        dispatches.reserve_exact(1)?;
-    } else {
-        dispatches.reserve(1)?;
-    }
-    Ok(())
 }

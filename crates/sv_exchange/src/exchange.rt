@@ -6,13 +6,13 @@ ghost use Rattle.sv_exchange.specs.declared.limits.TheConstants.{OK};
 
 use crate::asked::{no_settings, no_text, set_settings, set_text};
 use crate::attribute::Attribute;
-use crate::dispatch::{Dispatch, Paths, shown};
+use crate::dispatch::{Paths, shown};
+use crate::dispatches::Dispatches;
 use crate::flushed::{Flushed, body_of};
 use crate::held_session::HeldSession;
 use crate::holding::{held_cookie, parts_of};
 use crate::kept_error::KeptError;
 use crate::limits::{MAX_KEPT_BYTES, MAX_KEPT_FIELDS, OK};
-use crate::rare::Rare;
 use http::Method;
 use std::alloc::Global;
 use std::collections::VecDeque;
@@ -20,7 +20,7 @@ use std::marker::Model;
 use std::mem;
 use sv_event::Event;
 use sv_head::Field;
-use sv_message::{Body, Cookie, CookieSettings, Message, Response};
+use sv_message::{Body, Cookie, CookieSettings, Message, Rare, Response};
 use sv_realm::Caller;
 use sv_session::Sessions;
 use sv_text::{Bytes, Listed, NoMemory, Text};
@@ -38,7 +38,7 @@ pub struct Exchange {
     pub(crate) moment: u64,
     pub(crate) reads_chunks: bool,
     pub(crate) client: Paths,
-    pub(crate) dispatches: Vec<Dispatch>,
+    pub(crate) dispatches: Dispatches,
     pub(crate) attributes: Vec<Attribute>,
     pub(crate) status: u16,
     pub(crate) fields: Vec<Field>,
@@ -51,7 +51,7 @@ pub struct Exchange {
     pub(crate) words: (u64, u64),
     pub(crate) sessions: Sessions,
     pub(crate) session: Option<u64>,
-    pub(crate) caller: Option<Caller>,
+    pub(crate) caller: Rare<Caller>,
     pub(crate) cookie: Rare<Cookie>,
     pub(crate) events: VecDeque<Event>,
 }
@@ -70,7 +70,7 @@ impl Model for Exchange {
       moment = e.moment;
       reads_chunks = e.reads_chunks;
       client = e.client;
-      dispatches = e.dispatches.items;
+      dispatches = e.dispatches;
       attributes = e.attributes.items;
       status = e.status;
       fields = e.fields.items;
@@ -106,7 +106,7 @@ impl Exchange {
             moment: 0,
             reads_chunks: false,
             client: Paths::empty(alloc),
-            dispatches: Vec::new(alloc),
+            dispatches: Dispatches::new(alloc),
             attributes: Vec::new(alloc),
             status: OK,
             fields: Vec::new(alloc),
@@ -119,7 +119,7 @@ impl Exchange {
             words: (0, 0),
             sessions: Sessions::new(alloc, 0, 0),
             session: None,
-            caller: None,
+            caller: Rare::none(),
             cookie: Rare::none(),
             events: VecDeque::new(alloc),
         }
@@ -171,10 +171,13 @@ impl Exchange {
           reads_chunks = message.old.minor == 1;
         } }
     {
-        let no_fields = Listed::from_vec(Vec::new(self.alloc));
+        let fields = mem::replace(&mut self.request_fields, Vec::new(self.alloc));
         mem::swap(&mut self.method, &mut message.method);
         mem::swap(&mut self.body, &mut message.body);
-        self.request_fields = mem::replace(&mut message.fields, no_fields).into_vec();
+        self.request_fields = mem::replace(
+            &mut message.fields,
+            Listed::from_vec(fields),
+        ).into_vec();
         self.reads_chunks = message.minor == 1;
     }
 
@@ -193,7 +196,8 @@ impl Exchange {
     {
         let query = shown(&canon.query);
         let path = canon.path.as_str();
-        self.client.set(self.alloc, context_path, path, query)?;
+        self.client
+            .set(self.alloc, context_path, path, None, None, query)?;
         set_text(self.alloc, &mut self.context_path, context_path)?;
         set_settings(self.alloc, &mut self.cookie_settings, cookie_settings)
     }
@@ -214,7 +218,7 @@ impl Exchange {
           events = [];
         } }
     {
-        clear(&mut self.dispatches);
+        self.dispatches.clear();
         clear(&mut self.attributes);
         self.status = OK;
         clear(&mut self.fields);
@@ -248,11 +252,11 @@ impl Exchange {
         clear(&mut self.request_fields);
         clear(&mut self.attributes);
         self.body = Bytes::from_vec(Vec::new(self.alloc));
-        self.caller = None;
+        self.caller = Rare::none();
         Response {
             status: self.status,
             fields: Listed::from_vec(fields),
-            cookie: cookie.into_option(),
+            cookie,
             body,
         }
     }

@@ -1,5 +1,6 @@
 //! The session with which a request comes.
 
+use sv_message::Rare;
 use sv_realm::Caller;
 
 /// The session that a request holds when its exchange begins (Jakarta Servlet 6.0, section 7.1).
@@ -9,5 +10,5 @@ pub struct HeldSession {
     /// Whether the request's own message opened or renamed it, so that the response sets its cookie.
     pub is_renewed: bool,
     /// The caller whom the session holds.
-    pub caller: Option<Caller>,
+    pub caller: Rare<Caller>,
 }

@@ -9,9 +9,8 @@ ghost use Rattle.sv_exchange.specs.Sessions.{context_cookie_path, cookie_of, coo
 
 use crate::exchange::Exchange;
 use crate::held_session::HeldSession;
-use crate::rare::Rare;
 use std::alloc::Global;
-use sv_message::{Cookie, CookieSettings};
+use sv_message::{Cookie, CookieSettings, Rare};
 use sv_realm::Caller;
 use sv_session::{Attribute, Sessions};
 use sv_text::{NoMemory, Text};
@@ -61,7 +60,7 @@ impl Exchange {
     pub fn caller(&self) -> Option<&Caller>
         ensures { option_copied result ≡ self.now.caller }
     {
-        self.caller.as_ref()
+        self.caller.get()
     }
 
     /// Whether the caller has the role, with case (Jakarta Servlet 6.0, section 13.3). Every authenticated caller is in the role `**`, and
@@ -69,7 +68,7 @@ impl Exchange {
     pub fn is_user_in_role(&self, role: &str) -> bool
         ensures { result ≡ is_in_role role.now self.now.caller }
     {
-        match &self.caller {
+        match self.caller.get() {
             Some(caller) => role == "**"
                 || (role != "*" && names_role(caller.roles.as_slice(), role)),
             None => false,
@@ -91,13 +90,13 @@ fn names_role(roles: &[Text], role: &str) -> bool
 }
 
 /// The number and the caller of the session that a request holds.
-pub(crate) fn parts_of(held: Option<HeldSession>) -> (Option<u64>, Option<Caller>)
+pub(crate) fn parts_of(held: Option<HeldSession>) -> (Option<u64>, Rare<Caller>)
     ensures number { result.0 ≡ option_map (λ session. session.number) held }
     ensures caller { result.1 ≡ option_and_then (λ session. session.caller) held }
 {
     match held {
         Some(held) => (Some(held.number), held.caller),
-        None => (None, None),
+        None => (None, Rare::none()),
     }
 }
 

@@ -34,7 +34,7 @@ impl Exchange {
     fn first_of_client(&self, name: &str) -> Result<Option<Text>, NoMemory>
         ensures { GivesAnswer result (first_named name.now (client_parameters self.now)) }
     {
-        match first_of_shown(self.alloc, &self.client.query, name)? {
+        match first_of_shown(self.alloc, self.client.query(), name)? {
             Some(value) => Ok(Some(value)),
             None => self.first_of_body(name),
         }
@@ -59,7 +59,7 @@ fn first_of_dispatches(
     ensures { GivesAnswer result (first_named name.now (flat_map dispatch_parameters (reverse dispatches.now))) }
 {
     match dispatches.split_last() {
-        Some((dispatch, outer)) => match first_of_shown(alloc, &dispatch.paths.query, name)? {
+        Some((dispatch, outer)) => match first_of_shown(alloc, dispatch.paths.query(), name)? {
             Some(value) => Ok(Some(value)),
             None => first_of_dispatches(alloc, outer, name),
         },

@@ -54,7 +54,7 @@ impl Exchange {
     pub fn kind(&self) -> Kind
         ensures { result ≡ kind_of self.now }
     {
-        match self.dispatches.last() {
+        match self.dispatches.as_slice().last() {
             Some(dispatch) => dispatch.kind,
             None => Kind::Request,
         }

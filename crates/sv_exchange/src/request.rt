@@ -69,6 +69,6 @@ impl Exchange {
     pub fn client_uri(&self) -> &str
         ensures { result.now ≡ client_uri_of self.now }
     {
-        self.client.uri.as_str()
+        self.client.uri()
     }
 }

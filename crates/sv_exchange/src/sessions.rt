@@ -8,8 +8,8 @@ use crate::events::{ending_events, push};
 use crate::exchange::Exchange;
 use crate::exchange_fault::ExchangeFault;
 use crate::holding::cookie_of;
-use crate::rare::Rare;
 use sv_event::Event;
+use sv_message::Rare;
 use sv_text::Text;
 
 impl Exchange {
@@ -130,7 +130,7 @@ impl Exchange {
         self.events.append(&mut events)?;
         let _ended = self.sessions.end(number);
         self.session = None;
-        self.caller = None;
+        self.caller = Rare::none();
         if !self.committed {
             self.cookie = Rare::none();
         }
@@ -141,13 +141,13 @@ impl Exchange {
         ensures does { Does Logout result self.old self.new }
         ensures answered { result ≡ answer Logout self.old }
     {
-        if self.caller.is_none() {
+        if self.caller.get().is_none() {
             return Ok(true);
         }
         if let Some(number) = self.session() {
             let _was_there = self.sessions.enter_caller(number, None);
         }
-        self.caller = None;
+        self.caller = Rare::none();
         Ok(true)
     }
 }

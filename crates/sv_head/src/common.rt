@@ -1,11 +1,47 @@
-//! Values that answers give often.
+//! Names and values that are given often.
 
 ghost use Rattle.std.specs.Prelude.{◌≡◌, IfSome, IsTrue};
 ghost use Rattle.std.specs.List.{list_all};
+ghost use Rattle.http_header.specs.FieldName.{is_field_name};
 ghost use Rattle.http_header.specs.FieldValue.{plain_value};
-ghost use Rattle.http_header.specs.Token.{is_value_byte};
+ghost use Rattle.http_header.specs.Token.{is_value_byte, lowercase};
 
-use http_header::HeaderValue;
+use http_header::{
+    ACCEPT, ACCEPT_ENCODING, ACCEPT_LANGUAGE, CONNECTION, CONTENT_TYPE, COOKIE, HOST, HeaderName,
+    HeaderValue, USER_AGENT,
+};
+
+/// The name of those bytes where they are one of a few as most clients write it, or as answers do. It is found without a search among all standard names.
+pub(crate) fn common_name(bytes: &[u8]) -> Option<HeaderName>
+    ensures same { IfSome result (λ name. name ≡ lowercase bytes.now) }
+    ensures valid { IfSome result (λ name. IsTrue (is_field_name bytes.now)) }
+{
+    if bytes == b"Host".as_slice() {
+        return Some(HOST);
+    }
+    if bytes == b"content-type".as_slice() {
+        return Some(CONTENT_TYPE);
+    }
+    if bytes == b"Accept".as_slice() {
+        return Some(ACCEPT);
+    }
+    if bytes == b"Connection".as_slice() {
+        return Some(CONNECTION);
+    }
+    if bytes == b"User-Agent".as_slice() {
+        return Some(USER_AGENT);
+    }
+    if bytes == b"Accept-Encoding".as_slice() {
+        return Some(ACCEPT_ENCODING);
+    }
+    if bytes == b"Accept-Language".as_slice() {
+        return Some(ACCEPT_LANGUAGE);
+    }
+    if bytes == b"Cookie".as_slice() {
+        return Some(COOKIE);
+    }
+    None
+}
 
 /// The value of those bytes where it is one of a few, which takes no memory then.
 pub(crate) fn common_value(bytes: &[u8]) -> Option<HeaderValue>

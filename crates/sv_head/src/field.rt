@@ -9,7 +9,7 @@ ghost use Rattle.httparse.specs.Spans.{IsHeaderWithin, IsWithin, span_bytes};
 ghost use Rattle.sv_head.specs.Fields.{has_field};
 ghost use Rattle.sv_text.specs.Gives.{GivesAnswer};
 
-use crate::common::common_value;
+use crate::common::{common_name, common_value};
 use bytes::Bytes;
 use http_header::{HeaderName, HeaderNameError, HeaderValue};
 use httparse::spans::{HeaderSpan, Span};
@@ -89,7 +89,8 @@ impl Field {
     pub fn is_named(&self, name: &str) -> bool
         ensures { result ≡ is_named name.now self.now }
     {
-        self.name.as_str() == name
+        let own = self.name.as_str();
+        own.len() == name.len() && own == name
     }
 
     /// Gives a Host field that host in place of what it says. Another field stays as it is.
@@ -112,7 +113,11 @@ fn name_at(alloc: Global, text: &Bytes, span: Span) -> Result<HeaderName, NoMemo
     requires name { IsFieldName (span_bytes text.now span) }
     ensures { GivesAnswer result (lowercase (span_bytes text.now span)) }
 {
-    if let Some(name) = HeaderName::standard(span.of(text.as_slice())) {
+    let bytes = span.of(text.as_slice());
+    if let Some(name) = common_name(bytes) {
+        return Ok(name);
+    }
+    if let Some(name) = HeaderName::standard(bytes) {
         return Ok(name);
     }
     match HeaderName::from_shared(alloc, text.slice(span.start..span.end)?) {
@@ -127,6 +132,9 @@ fn checked_name(alloc: Global, name: &[u8]) -> Result<Option<HeaderName>, NoMemo
     ensures found { GivesAnswer result (if is_field_name name.now then Some (lowercase name.now) else None) }
     ensures no_memory { OnErr result (IsTrue (is_field_name name.now)) }
 {
+    if let Some(name) = common_name(name) {
+        return Ok(Some(name));
+    }
     match HeaderName::from_bytes(alloc, name) {
         Ok(name) => Ok(Some(name)),
         Err(HeaderNameError::OutOfMemory) => Err(NoMemory),

@@ -26,6 +26,11 @@ pub fed_known : (before after : Connections) (number : ℕ) (piece : List ℕ) (
 fed_known before after number piece items feeds =
     subst IsSome (sym (ap (λ (k : Connections). k.held number) feeds.is_after ∙ update_here before.held number (Some feeds.left))) refl
 
+-- the moment that is set is the one after the event
+pub raised_to : (happening : Happening) (date before moment after : ℕ) → before ≡ date → moment ≡ moment_after before happening → after ≡ moment
+    → after ≡ moment_after date happening
+raised_to happening date before moment after same raised given = given ∙ raised ∙ ap (λ m. moment_after m happening) same
+
 module _ {C W : Type 0} (theory : Theory C W) (state : State C W) where
   module _ (happening : Happening) (number : ℕ) (connections : Connections) where
     pub opens : happening ≡ Opened number → connections ≡ opened number state.connections

@@ -14,7 +14,7 @@ state_of host =
     record {
       stopped = host.stopped;
       world = world_of host.contexts host.words;
-      moment = host.moment;
+      moment = host.date;
       connections = connections_of host.connections;
     }
 

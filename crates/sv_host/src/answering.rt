@@ -20,10 +20,10 @@ use std::alloc::Global;
 use std::mem;
 use sv_head::Field;
 use sv_journal::{Entry, RefusalCause};
-use sv_message::{Body, Message, Response};
+use sv_message::{Body, Message, Rare, Response};
 use sv_text::{Bytes, Listed, NoMemory};
 use sv_uri::fault::PathFault;
-use sv_wire::write_response;
+use sv_wire::{DateText, write_response};
 use sv_wire_fault::WireFault;
 
 const CONTINUE: &[u8] = b"HTTP/1.1 100 Continue\r\n\r\n";
@@ -35,7 +35,7 @@ fn empty_response(alloc: Global) -> Response
     Response {
         status: 200,
         fields: Listed::from_vec(Vec::new(alloc)),
-        cookie: None,
+        cookie: Rare::none(),
         body: Body::Whole(Bytes::from_vec(Vec::new(alloc))),
     }
 }
@@ -50,7 +50,7 @@ fn plain_response(alloc: Global, status: u16) -> Result<Response, NoMemory>
     Ok(Response {
         status,
         fields: Listed::from_vec(fields),
-        cookie: None,
+        cookie: Rare::none(),
         body: Body::Whole(Bytes::from_vec(plain_text(alloc, status)?)),
     })
 }
@@ -89,18 +89,18 @@ pub(crate) fn send(
     head_only: bool,
     keep: bool,
     response: &Response,
-    moment: u64,
+    date: &DateText,
     output: &mut Output,
 ) -> Result<(), NoMemory>
     requires { IsStatusCode response.now.status }
-    ensures { IfOk result (λ _. (text : List ℕ) × IsTextAt moment response.now head_only keep text
+    ensures { IfOk result (λ _. (text : List ℕ) × IsTextAt date.now response.now head_only keep text
         × (reaction_of output.new ≡ record (reaction_of output.old) {
           sends = output.old.sends.items ++ text;
           closes = output.old.closes || (not keep || ends_connection response.now.body);
         })) }
 {
     let room = taken(&mut output.room);
-    write_response(response, head_only, keep, moment, room, &mut output.sends)?;
+    write_response(response, head_only, keep, date, room, &mut output.sends)?;
     output.closes |= closes_behind(keep, &response.body);
     Ok(())
 }
@@ -130,15 +130,15 @@ fn answer_itself<C>(
     message: &Message,
     entry: Entry,
     response: &Response,
-    moment: u64,
+    date: &DateText,
     output: &mut Output,
 ) -> Result<(), NoMemory>
     requires { IsStatusCode response.now.status }
-    ensures { IfOk result (λ _. (text : List ℕ) × IsAnswerTo message.now moment response.now text
+    ensures { IfOk result (λ _. (text : List ℕ) × IsAnswerTo message.now date.now response.now text
         × Adds {Context = C} output.old (answered entry text (closes_behind message.now response.now)) output.new) }
 {
     note(entry, output)?;
-    send(is_head(message), message.keep, response, moment, output)
+    send(is_head(message), message.keep, response, date, output)
 }
 
 // Answers a message that asks for the server itself. This and the two below stand apart since a function fills the rooms of all its
@@ -148,15 +148,15 @@ fn answer_itself<C>(
 pub(crate) fn answer_star<C>(
     alloc: Global,
     message: &Message,
-    moment: u64,
+    date: &DateText,
     output: &mut Output,
 ) -> Result<(), NoMemory>
-    ensures { IfOk result (λ _. (text : List ℕ) × IsAnswerTo message.now moment empty_response text
+    ensures { IfOk result (λ _. (text : List ℕ) × IsAnswerTo message.now date.now empty_response text
         × Adds {Context = C} output.old (answered (entries.Refused causes.Star) text (closes_behind message.now empty_response)) output.new) }
 {
     let response = empty_response(alloc);
     let entry = Entry::Refused(RefusalCause::Star);
-    answer_itself::<C>(message, entry, &response, moment, output)
+    answer_itself::<C>(message, entry, &response, date, output)
 }
 
 // Answers a message whose target has no canonical path.
@@ -166,15 +166,15 @@ pub(crate) fn answer_bad_path<C>(
     alloc: Global,
     message: &Message,
     fault: PathFault,
-    moment: u64,
+    date: &DateText,
     output: &mut Output,
 ) -> Result<(), NoMemory>
-    ensures { IfOk result (λ _. (text : List ℕ) × IsAnswerTo message.now moment (plain_response 400) text
+    ensures { IfOk result (λ _. (text : List ℕ) × IsAnswerTo message.now date.now (plain_response 400) text
         × Adds {Context = C} output.old (answered (entries.Refused (causes.Path fault)) text (closes_behind message.now (plain_response 400))) output.new) }
 {
     let response = plain_response(alloc, 400)?;
     let entry = Entry::Refused(RefusalCause::Path(fault));
-    answer_itself::<C>(message, entry, &response, moment, output)
+    answer_itself::<C>(message, entry, &response, date, output)
 }
 
 // Answers a message whose path no context serves.
@@ -183,15 +183,15 @@ pub(crate) fn answer_bad_path<C>(
 pub(crate) fn answer_hidden<C>(
     alloc: Global,
     message: &Message,
-    moment: u64,
+    date: &DateText,
     output: &mut Output,
 ) -> Result<(), NoMemory>
-    ensures { IfOk result (λ _. (text : List ℕ) × IsAnswerTo message.now moment (plain_response 404) text
+    ensures { IfOk result (λ _. (text : List ℕ) × IsAnswerTo message.now date.now (plain_response 404) text
         × Adds {Context = C} output.old (answered (entries.Hidden causes.NoContext) text (closes_behind message.now (plain_response 404))) output.new) }
 {
     let response = plain_response(alloc, 404)?;
     let entry = Entry::Hidden(RefusalCause::NoContext);
-    answer_itself::<C>(message, entry, &response, moment, output)
+    answer_itself::<C>(message, entry, &response, date, output)
 }
 
 // Answers what was refused before it was a message. The connection closes.
@@ -200,16 +200,16 @@ pub(crate) fn answer_hidden<C>(
 pub(crate) fn refuse<C>(
     alloc: Global,
     fault: WireFault,
-    moment: u64,
+    date: &DateText,
     output: &mut Output,
 ) -> Result<(), NoMemory>
-    ensures { IfOk result (λ _. (text : List ℕ) × IsTextAt moment (plain_response (fault_status fault)) false false text
+    ensures { IfOk result (λ _. (text : List ℕ) × IsTextAt date.now (plain_response (fault_status fault)) false false text
         × Adds {Context = C} output.old (answered (entries.Refused (causes.Wire fault)) text true) output.new) }
 {
     note(Entry::Refused(RefusalCause::Wire(fault)), output)?;
     let response = plain_response(alloc, fault.status())?;
     let room = taken(&mut output.room);
-    write_response(&response, false, false, moment, room, &mut output.sends)?;
+    write_response(&response, false, false, date, room, &mut output.sends)?;
     output.closes = true;
     Ok(())
 }

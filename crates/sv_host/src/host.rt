@@ -27,18 +27,18 @@ use sv_journal::Journal;
 use sv_policy::Edit;
 use sv_run::{Context, Happening, Reaction, Reactor, StepFault, Words};
 use sv_text::NoMemory;
-use sv_wire::Item;
+use sv_wire::{DateText, Item};
 
 /// Contexts behind connections, with a source of random words.
 #[derive(Drop)]
 pub struct Host<C: HasContextPath, W> {
     alloc: Global,
     stopped: bool,
-    moment: u64,
+    date: DateText,
     contexts: Indexed<C>,
     words: W,
     connections: Connections,
-    // What a piece brought, while it is handled. The list keeps its memory.
+    // What the last piece brought, of which nothing is said behind its event. The next has its memory.
     items: Vec<Item>,
     spare: Spare,
 }
@@ -53,7 +53,7 @@ impl<C: HasContextPath, W> Host<C, W> {
         Host {
             alloc,
             stopped: false,
-            moment: 0,
+            date: DateText::at(0),
             contexts: Indexed::new(contexts, index),
             words,
             connections: Connections::new(alloc),
@@ -120,9 +120,10 @@ impl<C: Context, W: Words> Host<C, W> {
         ensures alters { AltersAll C.conduct (state_of self.old).world.contexts (state_of self.new).world.contexts }
     {
         let mut output = self.output();
-        self.moment = moment_after(self.moment, happening);
+        let moment = moment_after(self.date.moment(), happening);
+        self.date.set(moment);
         self.contexts
-            .expire_all(self.alloc, self.moment, &mut output.journal);
+            .expire_all(self.alloc, moment, &mut output.journal);
         if !output.journal.whole() {
             return Err(NoMemory);
         }
@@ -211,11 +212,10 @@ impl<C: Context, W: Words> Host<C, W> {
             self.alloc,
             &mut self.contexts,
             &mut self.words,
-            self.moment,
+            &self.date,
             &mut self.items,
             output,
         )?;
-        self.items.clear();
         if !output.closes {
             return Ok(());
         }

@@ -28,6 +28,7 @@ use sv_policy::{Edit, EditFault};
 use sv_run::{Context, Words};
 use sv_text::NoMemory;
 use sv_uri::path::Canon;
+use sv_wire::DateText;
 
 /// Contexts in their order, with an index of their paths. Contracts see their list.
 #[derive(Drop)]
@@ -111,7 +112,7 @@ impl<C: Context> Indexed<C> {
         &mut self,
         alloc: Global,
         place: usize,
-        moment: u64,
+        date: &DateText,
         message: &mut Message,
         canon: &Canon,
         words: (u64, u64),
@@ -120,17 +121,17 @@ impl<C: Context> Indexed<C> {
         requires there { place < length self.old }
         requires serves { (context : C) → slice_get self.old place ≡ Some context → IsTrue (is_at_or_below (C.path_of context) canon.now.path) }
         ensures responds { IfOk result (λ _. (effect : Effect C)
-            × Responds (theory_of C.path_of C.conduct W.draws) moment (Within place canon.now) message.old words self.old effect self.new
+            × Responds (theory_of C.path_of C.conduct W.draws) date.now (Within place canon.now) message.old words self.old effect self.new
             × Adds output.old effect output.new) }
         ensures breaks { IfErr result (λ _. (given : List (Given C))
-            × BreaksAnswer (theory_of C.path_of C.conduct W.draws) moment (Within place canon.now) message.old words self.old given self.new) }
+            × BreaksAnswer (theory_of C.path_of C.conduct W.draws) date.now (Within place canon.now) message.old words self.old given self.new) }
         ensures moves { MovesAll C.conduct self.old self.new }
     {
         handle_at::<C, W>(
             alloc,
             self.contexts.as_mut_slice(),
             place,
-            moment,
+            date,
             message,
             canon,
             words,

@@ -16,30 +16,30 @@ use crate::output::Output;
 use std::alloc::Global;
 use sv_run::{Context, Words};
 use sv_text::NoMemory;
-use sv_wire::Item;
+use sv_wire::{DateText, Item};
 
 // Handles an item.
 fn take_item<C: Context, W: Words>(
     alloc: Global,
     contexts: &mut Indexed<C>,
     words: &mut W,
-    moment: u64,
+    date: &DateText,
     item: &mut Item,
     output: &mut Output,
 ) -> Result<(), NoMemory>
     ensures takes { IfOk result (λ _. (effect : Effect C)
-        × TakesItem (theory_of C.path_of C.conduct W.draws) moment item.old (world_of contexts.old words.old) effect (world_of contexts.new words.new)
+        × TakesItem (theory_of C.path_of C.conduct W.draws) date.now item.old (world_of contexts.old words.old) effect (world_of contexts.new words.new)
         × Adds output.old effect output.new) }
     ensures breaks { IfErr result (λ _. (given : List (Given C))
-        × BreaksItem (theory_of C.path_of C.conduct W.draws) moment item.old (world_of contexts.old words.old) given (world_of contexts.new words.new)) }
+        × BreaksItem (theory_of C.path_of C.conduct W.draws) date.now item.old (world_of contexts.old words.old) given (world_of contexts.new words.new)) }
     ensures moves { MovesAll C.conduct contexts.old contexts.new }
 {
     match item {
         Item::Continue => send_continue::<C>(output),
         Item::Message(message) => {
-            take_message::<C, W>(alloc, contexts, words, moment, message, output)
+            take_message::<C, W>(alloc, contexts, words, date, message, output)
         }
-        Item::Refuse(fault) => refuse::<C>(alloc, *fault, moment, output),
+        Item::Refuse(fault) => refuse::<C>(alloc, *fault, date, output),
     }
 }
 
@@ -48,20 +48,20 @@ pub(crate) fn take_items<C: Context, W: Words>(
     alloc: Global,
     contexts: &mut Indexed<C>,
     words: &mut W,
-    moment: u64,
+    date: &DateText,
     items: &mut Vec<Item>,
     output: &mut Output,
 ) -> Result<(), NoMemory>
     requires { output.old.closes ≡ false }
     ensures takes { IfOk result (λ _. (effect : Effect C)
-        × Takes (theory_of C.path_of C.conduct W.draws) moment items.old.items (world_of contexts.old words.old) effect (world_of contexts.new words.new)
+        × Takes (theory_of C.path_of C.conduct W.draws) date.now items.old.items (world_of contexts.old words.old) effect (world_of contexts.new words.new)
         × Adds output.old effect output.new) }
     ensures breaks { IfErr result (λ _. (given : List (Given C))
-        × BreaksItems (theory_of C.path_of C.conduct W.draws) moment items.old.items (world_of contexts.old words.old) given (world_of contexts.new words.new)) }
+        × BreaksItems (theory_of C.path_of C.conduct W.draws) date.now items.old.items (world_of contexts.old words.old) given (world_of contexts.new words.new)) }
     ensures moves { MovesAll C.conduct contexts.old contexts.new }
 {
     for item in items.iter_mut() {
-        take_item::<C, W>(alloc, contexts, words, moment, item, output)?;
+        take_item::<C, W>(alloc, contexts, words, date, item, output)?;
         if output.closes {
             return Ok(());
         }

@@ -21,53 +21,54 @@ use sv_text::NoMemory;
 use sv_uri::canon;
 use sv_uri::fault::CanonFault;
 use sv_uri::path::Canon;
+use sv_wire::DateText;
 
 // Handles a message, which draws a pair of words whoever answers it.
 pub(crate) fn take_message<C: Context, W: Words>(
     alloc: Global,
     contexts: &mut Indexed<C>,
     words: &mut W,
-    moment: u64,
+    date: &DateText,
     message: &mut Message,
     output: &mut Output,
 ) -> Result<(), NoMemory>
     ensures takes { IfOk result (λ _. (effect : Effect C)
-        × TakesMessage (theory_of C.path_of C.conduct W.draws) moment message.old (world_of contexts.old words.old) effect (world_of contexts.new words.new)
+        × TakesMessage (theory_of C.path_of C.conduct W.draws) date.now message.old (world_of contexts.old words.old) effect (world_of contexts.new words.new)
         × Adds output.old effect output.new) }
     ensures breaks { IfErr result (λ _. (given : List (Given C))
-        × BreaksItem (theory_of C.path_of C.conduct W.draws) moment (item.Message message.old) (world_of contexts.old words.old) given (world_of contexts.new words.new)) }
+        × BreaksItem (theory_of C.path_of C.conduct W.draws) date.now (item.Message message.old) (world_of contexts.old words.old) given (world_of contexts.new words.new)) }
     ensures moves { MovesAll C.conduct contexts.old contexts.new }
 {
     let pair = words.pair();
-    respond::<C, W>(alloc, contexts, moment, message, pair, output)
+    respond::<C, W>(alloc, contexts, date, message, pair, output)
 }
 
 // Answers a message, or has the context answer it that it is for.
 fn respond<C: Context, W: Words>(
     alloc: Global,
     contexts: &mut Indexed<C>,
-    moment: u64,
+    date: &DateText,
     message: &mut Message,
     words: (u64, u64),
     output: &mut Output,
 ) -> Result<(), NoMemory>
     ensures responds { IfOk result (λ _. (effect : Effect C)
-        × Responds (theory_of C.path_of C.conduct W.draws) moment (destination (theory_of C.path_of C.conduct W.draws) contexts.old message.old.target)
+        × Responds (theory_of C.path_of C.conduct W.draws) date.now (destination (theory_of C.path_of C.conduct W.draws) contexts.old message.old.target)
         message.old words contexts.old effect contexts.new
         × Adds output.old effect output.new) }
     ensures breaks { IfErr result (λ _. (given : List (Given C))
-        × BreaksAnswer (theory_of C.path_of C.conduct W.draws) moment (destination (theory_of C.path_of C.conduct W.draws) contexts.old message.old.target)
+        × BreaksAnswer (theory_of C.path_of C.conduct W.draws) date.now (destination (theory_of C.path_of C.conduct W.draws) contexts.old message.old.target)
         message.old words contexts.old given contexts.new) }
     ensures moves { MovesAll C.conduct contexts.old contexts.new }
 {
     match &message.target {
-        Target::Star => answer_star::<C>(alloc, message, moment, output),
+        Target::Star => answer_star::<C>(alloc, message, date, output),
         Target::Path(target) => match canon(alloc, target.as_slice()) {
             Ok(canon) => {
-                respond_at::<C, W>(alloc, contexts, moment, message, &canon, words, output)
+                respond_at::<C, W>(alloc, contexts, date, message, &canon, words, output)
             }
             Err(CanonFault::Path(fault)) => {
-                answer_bad_path::<C>(alloc, message, fault, moment, output)
+                answer_bad_path::<C>(alloc, message, fault, date, output)
             }
             Err(CanonFault::NoMemory) => Err(NoMemory),
         },
@@ -78,27 +79,27 @@ fn respond<C: Context, W: Words>(
 fn respond_at<C: Context, W: Words>(
     alloc: Global,
     contexts: &mut Indexed<C>,
-    moment: u64,
+    date: &DateText,
     message: &mut Message,
     canon: &Canon,
     words: (u64, u64),
     output: &mut Output,
 ) -> Result<(), NoMemory>
     ensures responds { IfOk result (λ _. (effect : Effect C)
-        × Responds (theory_of C.path_of C.conduct W.draws) moment
+        × Responds (theory_of C.path_of C.conduct W.draws) date.now
         (destination_in canon.now (place_for (theory_of C.path_of C.conduct W.draws) contexts.old canon.now.path))
         message.old words contexts.old effect contexts.new
         × Adds output.old effect output.new) }
     ensures breaks { IfErr result (λ _. (given : List (Given C))
-        × BreaksAnswer (theory_of C.path_of C.conduct W.draws) moment
+        × BreaksAnswer (theory_of C.path_of C.conduct W.draws) date.now
         (destination_in canon.now (place_for (theory_of C.path_of C.conduct W.draws) contexts.old canon.now.path))
         message.old words contexts.old given contexts.new) }
     ensures moves { MovesAll C.conduct contexts.old contexts.new }
 {
     match contexts.place(canon.path.as_str()) {
         Some(place) => {
-            contexts.handle_at::<W>(alloc, place, moment, message, canon, words, output)
+            contexts.handle_at::<W>(alloc, place, date, message, canon, words, output)
         }
-        None => answer_hidden::<C>(alloc, message, moment, output),
+        None => answer_hidden::<C>(alloc, message, date, output),
     }
 }

@@ -17,13 +17,14 @@ use sv_message::Message;
 use sv_run::{Context, Words};
 use sv_text::NoMemory;
 use sv_uri::path::Canon;
+use sv_wire::DateText;
 
 // Has the context at the place handle a message.
 pub(crate) fn handle_at<C: Context, W: Words>(
     alloc: Global,
     contexts: &mut [C],
     place: usize,
-    moment: u64,
+    date: &DateText,
     message: &mut Message,
     canon: &Canon,
     words: (u64, u64),
@@ -32,17 +33,24 @@ pub(crate) fn handle_at<C: Context, W: Words>(
     requires there { place < length contexts.old }
     requires serves { (context : C) → slice_get contexts.old place ≡ Some context → IsTrue (is_at_or_below (C.path_of context) canon.now.path) }
     ensures responds { IfOk result (λ _. (effect : Effect C)
-        × Responds (theory_of C.path_of C.conduct W.draws) moment (Within place canon.now) message.old words contexts.old effect contexts.new
+        × Responds (theory_of C.path_of C.conduct W.draws) date.now (Within place canon.now) message.old words contexts.old effect contexts.new
         × Adds output.old effect output.new) }
     ensures breaks { IfErr result (λ _. (given : List (Given C))
-        × BreaksAnswer (theory_of C.path_of C.conduct W.draws) moment (Within place canon.now) message.old words contexts.old given contexts.new) }
+        × BreaksAnswer (theory_of C.path_of C.conduct W.draws) date.now (Within place canon.now) message.old words contexts.old given contexts.new) }
     ensures moves { MovesAll C.conduct contexts.old contexts.new }
 {
     let head_only = is_head(message);
     let keep = message.keep;
     let context = &mut contexts[place];
-    let response = context.handle(alloc, message, canon, moment, words, &mut output.journal)?;
-    let sent = send(head_only, keep, &response, moment, output);
+    let response = context.handle(
+        alloc,
+        message,
+        canon,
+        date.moment(),
+        words,
+        &mut output.journal,
+    )?;
+    let sent = send(head_only, keep, &response, date, output);
     context.recycle(response);
     sent
 }

@@ -4,6 +4,7 @@ ghost use Rattle.std.specs.Prelude.{◌↔◌, IsTrue};
 ghost use Rattle.http.specs.StatusCode.{IsStatusCode};
 
 use crate::body::Body;
+use crate::rare::Rare;
 use sv_head::Field;
 use sv_text::{Listed, Text};
 
@@ -15,7 +16,7 @@ pub struct Response {
     /// The fields in the order of their lines, without those that `write_response` of `sv_wire` adds.
     pub fields: Listed<Field>,
     /// The session cookie that is set, where one is.
-    pub cookie: Option<Cookie>,
+    pub cookie: Rare<Cookie>,
     pub body: Body,
 }
 

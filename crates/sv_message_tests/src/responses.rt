@@ -2,10 +2,10 @@
 
 use http::{HeaderName, HeaderValue};
 use std::alloc::Global;
-use sv_message::{Body, Cookie, Pieces, Response};
+use sv_message::{Body, Cookie, Pieces, Rare, Response};
 use sv_rows::{Asks, cell, unescaped};
 use sv_text::{Bytes, Listed, NoMemory, Text};
-use sv_wire::{Field, write_response};
+use sv_wire::{DateText, Field, write_response};
 
 /// The text of a response, which is written behind a word.
 pub struct Responses;
@@ -30,7 +30,8 @@ fn written(alloc: Global, response: &Response, manner: &str) -> Result<Vec<u8>, 
     let mut output = b"before ".to_vec(alloc)?;
     if response.has_status_code() {
         let (is_head, keeps) = (part == "head", after == "keep");
-        write_response(response, is_head, keeps, moment, room, &mut output)?;
+        let date = DateText::at(moment);
+        write_response(response, is_head, keeps, &date, room, &mut output)?;
     }
     Ok(output)
 }
@@ -97,22 +98,23 @@ fn field_of(alloc: Global, line: &str) -> Result<Option<Field>, NoMemory> {
 }
 
 /// The cookie of a cell, if it has one: its name and id, its path, and words for the seconds that it is kept and that it is kept from scripts.
-fn cookie_of(alloc: Global, cell: &str) -> Result<Option<Cookie>, NoMemory> {
+fn cookie_of(alloc: Global, cell: &str) -> Result<Rare<Cookie>, NoMemory> {
     let Some((name, rest)) = cell.split_once('=') else {
-        return Ok(None);
+        return Ok(Rare::none());
     };
     let (id, rest) = rest.split_once(" at ").unwrap_or((rest, ""));
     let (path, words) = rest.split_once(' ').unwrap_or((rest, ""));
     let name = Text::copy_of(alloc, name)?;
     let id = Text::copy_of(alloc, id)?;
     let path = Text::copy_of(alloc, path)?;
-    Ok(Some(Cookie {
+    let cookie = Cookie {
         name,
         id,
         path,
         http_only: words.ends_with("HttpOnly"),
         max_age: first_word(words).parse::<u32>().ok(),
-    }))
+    };
+    Rare::some(alloc, cookie)
 }
 
 fn first_word(words: &str) -> &str {

@@ -2,7 +2,7 @@
 -- 6.2.4, 12.1 and 10.9.2).
 use Rattle.std.specs.Prelude.{ℕ, List, [], codes, find, map, Option, None, Some, slice_index_or}
 use Rattle.sv_exchange.specs.Dispatches.{entered, paths_at}
-use Rattle.sv_exchange.specs.declared.dispatch.Paths.{Paths}
+use Rattle.sv_exchange.specs.Paths.{Paths}
 use Rattle.sv_mapping.specs.BestMatch.{is_best}
 use Rattle.sv_mapping.specs.Split.{path_info, servlet_path}
 use Rattle.sv_mapping.specs.declared.kind.Kind.{Kind}

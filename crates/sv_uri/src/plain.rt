@@ -56,6 +56,7 @@ fn query_alone(text: &[u8]) -> Option<Option<&[u8]>>
 }
 
 /// The path and the query of a target as they were written, where the path is canonical so.
+#[inline(always)]
 pub(crate) fn plain_parts(target: &[u8]) -> Option<(&str, Option<&[u8]>)>
     ensures { IfSome result (λ parts. spec.HasParts target.now parts.0.now (option_copied parts.1)) }
 {

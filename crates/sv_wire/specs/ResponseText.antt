@@ -12,7 +12,8 @@ use Rattle.sv_message.specs.declared.body.Body.{Body}
 use Rattle.sv_message.specs.declared.body.Body.TheVariants.{Whole, Flushed}
 use Rattle.sv_message.specs.declared.response.Cookie.{Cookie}
 use Rattle.sv_message.specs.declared.response.Response.{Response}
-use Rattle.sv_wire.specs.declared.response_text.TheConstants.{LAST_SECOND, NO_CONTENT}
+use Rattle.sv_wire.specs.declared.date_text.TheConstants.{LAST_SECOND}
+use Rattle.sv_wire.specs.declared.response_text.TheConstants.{NO_CONTENT}
 
 -- the date shows the moment, or the last second of the year 9999 where the moment lies behind it
 abbrev pub IsDateAt : ℕ → HttpDate → Type 0

@@ -3,6 +3,7 @@
 ghost use Rattle.std.specs.Prelude.{◌≡◌, ◌+◌, ◌≤◌, false, length, map, All, IfOk, OnOk};
 ghost use Rattle.http_header.specs.Token.{IsToken};
 ghost use Rattle.httparse.specs.Grammar.{RequestHead};
+ghost use Rattle.httparse.specs.Spans.{IsWithin, span_bytes};
 ghost use Rattle.sv_head.specs.TargetForm.{FitsForm, with_slash};
 ghost use Rattle.sv_text.specs.Faults.{first_or};
 ghost use Rattle.sv_text.specs.Gives.{GivesAnswer};
@@ -16,8 +17,9 @@ use crate::owed_head::{Judgement, OwedHead, has_body};
 use http::Method;
 use http::method::MethodError;
 use httparse::Status;
-use httparse::spans::{EMPTY_HEADER_SPAN, HeaderSpan, RequestSpans, parse_request};
+use httparse::spans::{EMPTY_HEADER_SPAN, HeaderSpan, RequestSpans, Span, parse_request};
 use std::alloc::Global;
+use std::mem;
 use sv_body::{Framing, MAX_BODY_LEN};
 use sv_head::{
     Codings, Field, SCHEME_LEN, TargetForm, accepts_hosts, asks_to_continue, coding_kind,
@@ -27,18 +29,22 @@ use sv_message::{Message, Target};
 use sv_text::{Bytes, Listed, NoMemory};
 use sv_wire_fault::WireFault;
 
-/// Reads the whole text of a head, which is no longer than a head may be. Most heads have few fields and begin at once: of these
+/// Reads the whole text of a head, which is no longer than a head may be, with room for its fields, of which nothing is said. Most heads have few fields and begin at once: of these
 /// no line is counted, since a head has two lines more than it has fields.
-pub(crate) fn read_head(alloc: Global, text: &[u8]) -> Result<Judgement, NoMemory>
+pub(crate) fn read_head(
+    alloc: Global,
+    room: &mut Vec<Field>,
+    text: &[u8],
+) -> Result<Judgement, NoMemory>
     requires { length text.now ≤ MAX_HEAD_LEN }
     ensures { IfOk result (ReadsHead text.now) }
 {
     let mut spans = [EMPTY_HEADER_SPAN; FEW_FIELD_LINES];
     match parse_request(text, &mut spans) {
         Ok(Status::Complete(head)) if head.len == text.len() && begins_at_once(text) => {
-            judge(alloc, text, &head, &spans[..head.headers])
+            judge(alloc, room, text, &head, &spans[..head.headers])
         }
-        _ => read_many(alloc, text),
+        _ => read_many(alloc, room, text),
     }
 }
 
@@ -51,14 +57,14 @@ fn begins_at_once(text: &[u8]) -> bool
 
 /// Reads the text of a head of any number of lines. A function makes its places where it begins, so those for many fields stand in a
 /// function of their own.
-fn read_many(alloc: Global, text: &[u8]) -> Result<Judgement, NoMemory>
+fn read_many(alloc: Global, room: &mut Vec<Field>, text: &[u8]) -> Result<Judgement, NoMemory>
     requires { length text.now ≤ MAX_HEAD_LEN }
     ensures { IfOk result (ReadsHead text.now) }
 {
     if lines_of(text) > MAX_FIELD_LINES + 2 {
         return Ok(Judgement::Refused(WireFault::HeadTooLarge));
     }
-    read_lines(alloc, text, &mut [EMPTY_HEADER_SPAN; MAX_FIELD_LINES])
+    read_lines(alloc, room, text, &mut [EMPTY_HEADER_SPAN; MAX_FIELD_LINES])
 }
 
 /// How many lines the text of a head has.
@@ -69,7 +75,12 @@ fn lines_of(text: &[u8]) -> usize
 }
 
 /// Reads the text of a head that has no more lines than it may have, with places for as many fields as they may show.
-fn read_lines(alloc: Global, text: &[u8], spans: &mut [HeaderSpan]) -> Result<Judgement, NoMemory>
+fn read_lines(
+    alloc: Global,
+    room: &mut Vec<Field>,
+    text: &[u8],
+    spans: &mut [HeaderSpan],
+) -> Result<Judgement, NoMemory>
     requires short { length text.now ≤ MAX_HEAD_LEN }
     requires few { has_too_many_lines text.now ≡ false }
     requires room { lines text.now ≤ length spans.old + 2 }
@@ -77,7 +88,7 @@ fn read_lines(alloc: Global, text: &[u8], spans: &mut [HeaderSpan]) -> Result<Ju
 {
     match parse_request(text, spans) {
         Ok(Status::Complete(head)) if head.len == text.len() => {
-            judge(alloc, text, &head, &spans[..head.headers])
+            judge(alloc, room, text, &head, &spans[..head.headers])
         }
         Ok(Status::Complete(_)) => Ok(Judgement::Refused(WireFault::BadHead)),
         Ok(Status::Partial) => Ok(Judgement::Refused(WireFault::BadHead)),
@@ -88,6 +99,7 @@ fn read_lines(alloc: Global, text: &[u8], spans: &mut [HeaderSpan]) -> Result<Ju
 /// The judgement on a head that `httparse` has read.
 fn judge(
     alloc: Global,
+    room: &mut Vec<Field>,
     text: &[u8],
     head: &RequestSpans,
     spans: &[HeaderSpan],
@@ -97,9 +109,9 @@ fn judge(
         → GivesAnswer result (judge whole) }
 {
     let shared = bytes::Bytes::copy_from_slice(alloc, text)?;
-    let mut fields = read_fields(alloc, &shared, spans)?;
+    let mut fields = read_fields(alloc, room, &shared, spans)?;
     let method = head.method.of(text);
-    let target = shared.slice(head.path.start..head.path.end)?;
+    let target = at_span(shared, head.path);
     let form = target_form(method, target.as_slice());
     let told = tell_of_body(&fields);
     if let Err(fault) = accept(head.version, form, &fields, told) {
@@ -125,6 +137,18 @@ fn judge(
     })
 }
 
+/// What stands at a span of a text. It shares the text in the place of the whole one.
+#[inline(always)]
+fn at_span(text: bytes::Bytes, span: Span) -> bytes::Bytes
+    requires { IsWithin (length text) span }
+    ensures { result ≡ span_bytes text span }
+{
+    let mut text = text;
+    text.truncate(span.end);
+    text.advance(span.start);
+    text
+}
+
 /// Whether some field tells of a body. Of most heads none does, and then their fields are gone through once for all that such a field would say.
 fn tell_of_body(fields: &[Field]) -> bool
     ensures { result ≡ tell_of_body fields.now }
@@ -136,8 +160,9 @@ fn tell_of_body(fields: &[Field]) -> bool
 fn tells_of_body(field: &Field) -> bool
     ensures { result ≡ tells_of_body field.now }
 {
-    let name = field.name.as_str();
-    name == "content-length" || name == "transfer-encoding" || name == "expect"
+    field.is_named("content-length")
+        || field.is_named("transfer-encoding")
+        || field.is_named("expect")
 }
 
 /// Accepts a head, or answers the first of its faults in the order in which they are judged.
@@ -298,16 +323,21 @@ fn read_path(alloc: Global, behind: bytes::Bytes) -> Result<Target, NoMemory>
     Ok(Target::Path(bytes::Bytes::from_vec(path)?))
 }
 
-/// Reads the fields that the spans show in the text, which they share.
+/// Reads the fields that the spans show in the text, which they share. The room is for them.
 fn read_fields(
     alloc: Global,
+    room: &mut Vec<Field>,
     text: &bytes::Bytes,
     spans: &[HeaderSpan],
 ) -> Result<Vec<Field>, NoMemory>
     requires { All (IsFieldAt text.now) spans.now }
     ensures { IfOk result (λ fields. fields.items ≡ map (field_at text.now) spans.now) }
 {
-    let mut fields = Vec::with_capacity(alloc, spans.len())?;
+    let mut fields = mem::replace(room, Vec::new(alloc));
+    if !fields.is_empty() {
+        fields.clear();
+    }
+    fields.reserve(spans.len())?;
     for span in spans {
         fields.push(Field::at_span(alloc, text, span)?)?;
     }

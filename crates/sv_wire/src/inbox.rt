@@ -15,6 +15,7 @@ use std::alloc::Global;
 use std::marker::Model;
 use std::mem;
 use sv_body::{BodyEnd, Progress};
+use sv_head::Field;
 use sv_text::NoMemory;
 
 /// What the end of a stream means.
@@ -72,7 +73,7 @@ impl Inbox {
         }
     }
 
-    /// Reads a piece of the stream into a list, which holds the items that it completes, in order, in place of what it held before.
+    /// Reads a piece of the stream into a list, which holds the items that it completes, in order, in place of what it held before. The memory of that is used again.
     /// What no item holds is kept for the next piece. No cut of the stream into pieces changes the items.
     ///
     /// Behind a refusal, or a message that does not keep the connection, nothing is read: the inbox is spent. A spent
@@ -86,13 +87,13 @@ impl Inbox {
         ensures no_memory { OnErr result (self.new ≡ spent_for_good) }
         ensures spent { self.old.spent ≡ true → IsOk result × (items.new.items ≡ []) × (self.new ≡ self.old) }
     {
-        if !items.is_empty() {
-            items.clear();
-        }
+        let mut room = room_in(self.alloc, items);
         match mem::replace(&mut self.state, State::Spent) {
             State::Spent => {}
-            State::Head(held) => self.state = read_on(self.alloc, held, piece, items)?,
-            State::Body(pending) => self.state = read_behind(self.alloc, pending, piece, items)?,
+            State::Head(held) => self.state = read_on(self.alloc, held, piece, &mut room, items)?,
+            State::Body(pending) => self.state = read_behind(
+                self.alloc, pending, piece, &mut room, items,
+            )?,
         }
         Ok(())
     }
@@ -106,6 +107,21 @@ impl Inbox {
         self.state = State::Spent;
         ended
     }
+}
+
+/// The memory of the fields of the last of the items, where that is a message. The items are let go.
+#[inline(always)]
+fn room_in(alloc: Global, items: &mut Vec<Item>) -> Vec<Field>
+    ensures { items.new.items ≡ [] }
+{
+    let room = match items.pop() {
+        Some(Item::Message(message)) => message.fields.into_vec(),
+        _ => Vec::new(alloc),
+    };
+    if !items.is_empty() {
+        items.clear();
+    }
+    room
 }
 
 /// What the end of the stream means for what is awaited.
@@ -127,6 +143,7 @@ fn read_on(
     alloc: Global,
     held: Vec<u8>,
     piece: &[u8],
+    room: &mut Vec<Field>,
     items: &mut Vec<Item>,
 ) -> Result<State, NoMemory>
     requires unended { cut_head held.items ≡ Unended }
@@ -134,12 +151,12 @@ fn read_on(
     ensures { IfOk result (λ state. ReadsTo None (held.items ++ piece.now) items.new.items state) }
 {
     if held.is_empty() {
-        return read_alone(alloc, piece, items);
+        return read_alone(alloc, piece, room, items);
     }
     let mut stream = held;
     let from = stream.len() + 1;
     stream.extend_from_slice(piece)?;
-    match read_items(alloc, &stream, from, items)? {
+    match read_items(alloc, &stream, from, room, items)? {
         Rest::Ended => Ok(State::Spent),
         Rest::Head(0) => Ok(State::Head(stream)),
         Rest::Head(at) => Ok(State::Head(Vec::from_slice(alloc, &stream[at..])?)),
@@ -149,11 +166,16 @@ fn read_on(
 
 /// Reads a piece before which no byte of a head has come. It is copied where it holds the front of a head alone.
 #[inline(always)]
-fn read_alone(alloc: Global, piece: &[u8], items: &mut Vec<Item>) -> Result<State, NoMemory>
+fn read_alone(
+    alloc: Global,
+    piece: &[u8],
+    room: &mut Vec<Field>,
+    items: &mut Vec<Item>,
+) -> Result<State, NoMemory>
     requires { items.old.items ≡ [] }
     ensures { IfOk result (λ state. ReadsTo None piece.now items.new.items state) }
 {
-    match read_items(alloc, piece, 0, items)? {
+    match read_items(alloc, piece, 0, room, items)? {
         Rest::Ended => Ok(State::Spent),
         Rest::Head(at) => Ok(State::Head(Vec::from_slice(alloc, &piece[at..])?)),
         Rest::Body(pending) => Ok(State::Body(pending)),
@@ -165,6 +187,7 @@ fn read_behind(
     alloc: Global,
     mut pending: PendingBox,
     piece: &[u8],
+    room: &mut Vec<Field>,
     items: &mut Vec<Item>,
 ) -> Result<State, NoMemory>
     requires sound { IsSound pending }
@@ -173,7 +196,7 @@ fn read_behind(
 {
     match pending.read(piece)? {
         Progress::Awaits => Ok(State::Body(pending)),
-        Progress::Ended(end, len) => read_after(alloc, pending, end, &piece[len..], items),
+        Progress::Ended(end, len) => read_after(alloc, pending, end, &piece[len..], room, items),
     }
 }
 
@@ -183,6 +206,7 @@ fn read_after(
     pending: PendingBox,
     end: BodyEnd,
     behind: &[u8],
+    room: &mut Vec<Field>,
     items: &mut Vec<Item>,
 ) -> Result<State, NoMemory>
     requires { items.old.items ≡ [] }
@@ -192,7 +216,7 @@ fn read_after(
     let state = if item.is_last() {
         State::Spent
     } else {
-        read_on(alloc, Vec::new(alloc), behind, items)?
+        read_on(alloc, Vec::new(alloc), behind, room, items)?
     };
     items.insert(0, item)?;
     Ok(state)

@@ -2,6 +2,7 @@
 #![tactic(auto)]
 
 mod cut;
+mod date_text;
 mod empty_lines;
 mod head;
 mod inbox;
@@ -13,6 +14,7 @@ mod pending;
 mod reading;
 mod response_text;
 
+pub use date_text::DateText;
 pub use inbox::{Ended, Inbox};
 pub use item::Item;
 pub use laws::{

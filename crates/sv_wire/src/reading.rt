@@ -17,6 +17,7 @@ use crate::owed_head::{Judgement, OwedHead, has_body};
 use crate::pending::PendingBox;
 use std::alloc::Global;
 use sv_body::Progress;
+use sv_head::Field;
 use sv_text::{Cut, NoMemory};
 use sv_wire_fault::WireFault;
 
@@ -43,12 +44,13 @@ pub(crate) enum Rest {
 }
 
 /// Reads the items of a stream into a list, which is empty, and what follows them. No front of fewer than `from` bytes of the stream
-/// ends a head.
+/// ends a head. There is room for the fields of one, of which nothing is said.
 #[inline(always)]
 pub(crate) fn read_items(
     alloc: Global,
     stream: &[u8],
     mut from: usize,
+    room: &mut Vec<Field>,
     items: &mut Vec<Item>,
 ) -> Result<Rest, NoMemory>
     requires before { (k : ℕ) → k < from → ends_head (take k stream.now) ≡ false }
@@ -60,7 +62,7 @@ pub(crate) fn read_items(
     let mut body = None;
     let mut at = 0;
     loop {
-        match next_item(alloc, body, stream, at, from)? {
+        match next_item(alloc, body, stream, at, from, room)? {
             Next::AwaitsHead(start) => return Ok(Rest::Head(start)),
             Next::AwaitsBody(pending) => return Ok(Rest::Body(pending)),
             Next::Found(item, next, end) => {
@@ -81,12 +83,14 @@ pub(crate) fn read_items(
 }
 
 /// Reads what comes next at a place. No front of fewer than `from` bytes behind it ends a head.
+#[inline(always)]
 fn next_item(
     alloc: Global,
     body: Option<PendingBox>,
     stream: &[u8],
     at: usize,
     from: usize,
+    room: &mut Vec<Field>,
 ) -> Result<Next, NoMemory>
     requires within { at ≤ length stream.now }
     requires sound { AreSound body }
@@ -95,13 +99,19 @@ fn next_item(
 {
     match body {
         Some(pending) => next_in_body(pending, stream, at),
-        None => next_in_head(alloc, stream, at, from),
+        None => next_in_head(alloc, stream, at, from, room),
     }
 }
 
 /// Reads the head that begins at a place behind empty lines, and its body if it is not asked for. No front of fewer than
 /// `from` bytes behind the place ends a head.
-fn next_in_head(alloc: Global, stream: &[u8], at: usize, from: usize) -> Result<Next, NoMemory>
+fn next_in_head(
+    alloc: Global,
+    stream: &[u8],
+    at: usize,
+    from: usize,
+    room: &mut Vec<Field>,
+) -> Result<Next, NoMemory>
     requires within { at ≤ length stream.now }
     requires before { (k : ℕ) → k < from → ends_head (take k (drop at stream.now)) ≡ false }
     ensures { IfOk result (ComesNext None stream.now at) }
@@ -111,7 +121,7 @@ fn next_in_head(alloc: Global, stream: &[u8], at: usize, from: usize) -> Result<
     match cut_head(head, if start == at { from } else { 0 }) {
         Cut::Whole(len) => next_behind(
             alloc,
-            read_head(alloc, &head[..len])?,
+            read_head(alloc, room, &head[..len])?,
             stream,
             start,
             start + len,

@@ -1,23 +1,22 @@
 //! The text of a response.
 
 ghost use Rattle.std.specs.Prelude.{◌≡◌, [], ◌++◌, ◌&&◌, vec_capacity, IfOk, OnOk, OnErr, Some, codes, decimal};
+ghost use Rattle.std.specs.Option.{option_copied};
 ghost use Rattle.http.specs.StatusCode.{IsStatusCode};
+ghost use Rattle.httpdate.specs.Date.{date_text};
 ghost use Rattle.httpdate.specs.declared.date.HttpDate.{HttpDate as Date};
 ghost use Rattle.sv_message.specs.Content.{content, has_own_end};
 ghost use Rattle.sv_message.specs.Cookies.{cookie_pair, cookie_text, http_only_attribute, max_age_attribute, path_attribute};
 ghost use Rattle.sv_message.specs.Phrases.{phrase_of};
 ghost use Rattle.sv_wire.specs.ResponseText.{IsDateAt, ResponseTextsAreUnique, allows_content, connection_lines, cookie_line, cookie_lines, field_line, field_lines, framing_line, framing_lines, response_head, response_text, sent_body, status_line};
 
+use crate::date_text::DateText;
 use http::StatusCode;
-use httpdate::HttpDate;
 use itoa::Buffer;
 use std::alloc::AllocError;
 use sv_head::Field;
 use sv_message::{Body, Cookie, Response, flushed_content};
 use sv_text::NoMemory;
-
-/// The last second that a date can show: `Fri, 31 Dec 9999 23:59:59 GMT`.
-const LAST_SECOND: u64 = 253_402_300_799;
 
 /// The status of a response that has no content (RFC 9110, section 15.3.5).
 const NO_CONTENT: u16 = 204;
@@ -36,24 +35,23 @@ const TEXT_ROOM: usize = 512;
 /// body follow. With `head_only`, as in the answer to HEAD (RFC 9110, section 9.3.2), the body is left out and the lines are the same; with
 /// 204 there is no body either.
 ///
-/// The moment is in seconds since 1970; behind the year 9999 each counts as that year's last second. The output grows
-/// before the first byte is written: after [`NoMemory`] it is as it was. The text is made in the room, of which nothing is said, and which an output of
+/// The output grows before the first byte is written: after [`NoMemory`] it is as it was. The text is made in the room, of which nothing is said, and which an output of
 /// no bytes then has for its own.
 pub fn write_response(
     response: &Response,
     head_only: bool,
     keep: bool,
-    moment: u64,
+    date: &DateText,
     room: Vec<u8>,
     output: &mut Vec<u8>,
 ) -> Result<(), NoMemory>
     requires { IsStatusCode response.now.status }
-    ensures text { OnOk result ((date : Date) × IsDateAt moment date
-        × (output.new.items ≡ output.old.items ++ response_text response.now head_only keep date)) }
+    ensures text { OnOk result ((shown : Date) × IsDateAt date.now shown
+        × (output.new.items ≡ output.old.items ++ response_text response.now head_only keep shown)) }
     ensures no_memory { OnErr result (output.new.items ≡ output.old.items) }
     ensures room { OnErr result (vec_capacity output.new ≡ vec_capacity output.old) }
 {
-    let head = head_of(room, response, keep, date_at(moment))?;
+    let head = head_of(room, response, keep, date.as_bytes())?;
     append_text(output, head, response, head_only)?;
     Ok(())
 }
@@ -68,18 +66,18 @@ fn head_of(
     room: Vec<u8>,
     response: &Response,
     keep: bool,
-    date: HttpDate,
+    date: &[u8],
 ) -> Result<Vec<u8>, AllocError>
     requires { IsStatusCode response.now.status }
-    ensures { IfOk result (λ head. head.items ≡ response_head response.now keep date) }
+    ensures { (shown : Date) → date.now ≡ date_text shown → IfOk result (λ head. head.items ≡ response_head response.now keep shown) }
 {
     let mut head = room;
     head.clear();
     head.reserve(TEXT_ROOM)?;
     push_status_line(&mut head, response.status)?;
-    push_field_line(&mut head, b"date", &date.to_bytes())?;
+    push_field_line(&mut head, b"date", date)?;
     push_field_lines(&mut head, response.fields.as_slice())?;
-    push_cookie_lines(&mut head, &response.cookie)?;
+    push_cookie_lines(&mut head, response.cookie.get())?;
     push_framing_lines(&mut head, response)?;
     push_connection_lines(&mut head, is_kept(keep, &response.body))?;
     head.extend_from_slice(CRLF)?;
@@ -139,6 +137,7 @@ fn append_both(output: &mut Vec<u8>, first: Vec<u8>, second: &[u8]) -> Result<()
 }
 
 // Makes both texts the output, which is empty, or leaves it as it is.
+#[inline(always)]
 fn set_both(output: &mut Vec<u8>, first: Vec<u8>, second: &[u8]) -> Result<(), AllocError>
     requires { output.old.items ≡ [] }
     ensures ok { OnOk result (output.new.items ≡ first.items ++ second.now) }
@@ -148,12 +147,6 @@ fn set_both(output: &mut Vec<u8>, first: Vec<u8>, second: &[u8]) -> Result<(), A
     text.extend_from_slice(second)?;
     *output = text;
     Ok(())
-}
-
-fn date_at(moment: u64) -> HttpDate
-    ensures { IsDateAt moment result }
-{
-    HttpDate::from_unix_secs(moment.min(LAST_SECOND)).unwrap()
 }
 
 fn push_status_line(head: &mut Vec<u8>, status: u16) -> Result<(), AllocError>
@@ -196,8 +189,9 @@ fn push_field_lines(head: &mut Vec<u8>, fields: &[Field]) -> Result<(), AllocErr
     Ok(())
 }
 
-fn push_cookie_lines(head: &mut Vec<u8>, cookie: &Option<Cookie>) -> Result<(), AllocError>
-    ensures { OnOk result (head.new.items ≡ head.old.items ++ cookie_lines cookie.now) }
+#[inline(always)]
+fn push_cookie_lines(head: &mut Vec<u8>, cookie: Option<&Cookie>) -> Result<(), AllocError>
+    ensures { OnOk result (head.new.items ≡ head.old.items ++ cookie_lines (option_copied cookie.entry)) }
 {
     match cookie {
         Some(cookie) => push_cookie_line(head, cookie),
@@ -269,6 +263,7 @@ fn push_http_only_attribute(head: &mut Vec<u8>, http_only: bool) -> Result<(), A
     Ok(())
 }
 
+#[inline(always)]
 fn push_framing_lines(head: &mut Vec<u8>, response: &Response) -> Result<(), AllocError>
     ensures { OnOk result (head.new.items ≡ head.old.items ++ framing_lines response.now) }
 {
@@ -305,6 +300,7 @@ fn is_kept(keep: bool, body: &Body) -> bool
     keep && body.has_own_end()
 }
 
+#[inline(always)]
 fn push_connection_lines(head: &mut Vec<u8>, keep: bool) -> Result<(), AllocError>
     ensures { OnOk result (head.new.items ≡ head.old.items ++ connection_lines keep) }
 {

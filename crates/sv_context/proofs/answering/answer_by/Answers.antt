@@ -7,11 +7,17 @@ use Rattle.sv_context.specs.Answered.{Answers, SendsTo}
 use Rattle.sv_context.proofs.answering.answer_by.Goals as goal
 use Rattle.sv_component.specs.Steps.{steps_of}
 
+pub returns-in-Page-clause-answered : goal.returns-in-Page-clause-answered
+returns-in-Page-clause-answered g c =
+    subst (λ answer. ServedBy (steps_of g.S.Servlet.servlet_step g.F.Filter.filter_step g.L.Listener.listener_step) (Answers (site_of c.args.site.now) c.args.canon.now answer)
+    c.args.live.now c.args.exchange.now c.args.journal.now (seen c.request-in-Page.result) c.request-in-Page.new.live c.request-in-Page.new.exchange c.request-in-Page.new.journal)
+    (sym c.in-Page.is) (rw c.get.ensures at c.request-in-Page.ensures.answered)
+
 pub returns-in-Error-clause-answered : goal.returns-in-Error-clause-answered
 returns-in-Error-clause-answered g c =
     subst (λ answer. ServedBy (steps_of g.S.Servlet.servlet_step g.F.Filter.filter_step g.L.Listener.listener_step) (Answers (site_of c.args.site.now) c.args.canon.now answer)
     c.args.live.now c.args.exchange.now c.args.journal.now (seen c.error.result) c.error.new.live c.error.new.exchange c.error.new.journal)
-    (sym c.in-Error.is) (c.error.ensures.answered c.args.canon.now)
+    (sym c.in-Error.is) (rw c.get-in-Error.ensures at c.error.ensures.answered c.args.canon.now)
 
 pub returns-in-SeeOther-clause-answered : goal.returns-in-SeeOther-clause-answered
 returns-in-SeeOther-clause-answered g c =

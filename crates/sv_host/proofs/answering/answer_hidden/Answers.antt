@@ -7,5 +7,5 @@ use Rattle.sv_run.specs.Messages.{plain_response}
 
 pub returns : goal.returns
 returns g c =
-    answered_as g.row.C.Denot c.args.moment c.args.message.now (reaction_of c.args.output.now) c.answer_itself.result (entries.Hidden causes.NoContext) c.in_ok-response.response
+    answered_as g.row.C.Denot c.args.date.now c.args.message.now (reaction_of c.args.output.now) c.answer_itself.result (entries.Hidden causes.NoContext) c.in_ok-response.response
     (plain_response 404) (reaction_of c.answer_itself.new.output) c.in_ok-response.ensures c.answer_itself.ensures

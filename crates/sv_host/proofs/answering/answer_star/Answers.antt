@@ -7,5 +7,5 @@ use Rattle.sv_run.specs.Messages.{empty_response}
 
 pub returns : goal.returns
 returns g c =
-    answered_as g.row.C.Denot c.args.moment c.args.message.now (reaction_of c.args.output.now) c.answer_itself.result (entries.Refused causes.Star)
+    answered_as g.row.C.Denot c.args.date.now c.args.message.now (reaction_of c.args.output.now) c.answer_itself.result (entries.Refused causes.Star)
     c.empty_response-response.result empty_response (reaction_of c.answer_itself.new.output) c.empty_response-response.ensures c.answer_itself.ensures

@@ -20,8 +20,8 @@ returns-in-Continue-clause-takes g c =
     let world = world_of c.args.contexts.now c.args.words.now in
     let start = reaction_of c.args.output.now in
     let end = reaction_of c.send_continue.new.output in
-    takes_as theory c.args.moment c.send_continue.result world world start end c.args.item.now Continue c.in-Continue.is
-    (takes_continue theory c.args.moment c.send_continue.result world start end c.send_continue.ensures)
+    takes_as theory c.args.date.now c.send_continue.result world world start end c.args.item.now Continue c.in-Continue.is
+    (takes_continue theory c.args.date.now c.send_continue.result world start end c.send_continue.ensures)
 
 pub returns-in-Refuse-clause-takes : goal.returns-in-Refuse-clause-takes
 returns-in-Refuse-clause-takes g c =
@@ -29,19 +29,19 @@ returns-in-Refuse-clause-takes g c =
     let world = world_of c.args.contexts.now c.args.words.now in
     let start = reaction_of c.args.output.now in
     let end = reaction_of c.refuse.new.output in
-    takes_as theory c.args.moment c.refuse.result world world start end c.args.item.now (Refuse c.in-Refuse.fault) c.in-Refuse.is
-    (takes_refusal theory c.args.moment c.refuse.result world start end c.in-Refuse.fault c.refuse.ensures)
+    takes_as theory c.args.date.now c.refuse.result world world start end c.args.item.now (Refuse c.in-Refuse.fault) c.in-Refuse.is
+    (takes_refusal theory c.args.date.now c.refuse.result world start end c.in-Refuse.fault c.refuse.ensures)
 
 pub returns-in-Continue-clause-breaks : goal.returns-in-Continue-clause-breaks
 returns-in-Continue-clause-breaks g c =
     let theory = theory_of g.C.HasContextPath.path_of g.C.Context.conduct g.W.Words.draws in
     let world = world_of c.args.contexts.now c.args.words.now in
-    broken_as theory c.args.moment c.send_continue.result c.args.item.now Continue world world c.in-Continue.is
-    (none_done_if theory c.args.moment c.send_continue.result Continue world ([], (refl, refl)))
+    broken_as theory c.args.date.now c.send_continue.result c.args.item.now Continue world world c.in-Continue.is
+    (none_done_if theory c.args.date.now c.send_continue.result Continue world ([], (refl, refl)))
 
 pub returns-in-Refuse-clause-breaks : goal.returns-in-Refuse-clause-breaks
 returns-in-Refuse-clause-breaks g c =
     let theory = theory_of g.C.HasContextPath.path_of g.C.Context.conduct g.W.Words.draws in
     let world = world_of c.args.contexts.now c.args.words.now in
-    broken_as theory c.args.moment c.refuse.result c.args.item.now (Refuse c.in-Refuse.fault) world world c.in-Refuse.is
-    (none_done_if theory c.args.moment c.refuse.result (Refuse c.in-Refuse.fault) world ([], (refl, refl)))
+    broken_as theory c.args.date.now c.refuse.result c.args.item.now (Refuse c.in-Refuse.fault) world world c.in-Refuse.is
+    (none_done_if theory c.args.date.now c.refuse.result (Refuse c.in-Refuse.fault) world ([], (refl, refl)))

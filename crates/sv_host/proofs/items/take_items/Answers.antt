@@ -46,11 +46,11 @@ loop-item-preserved g c =
       left = stays_left all items at left c.take_item.new.item;
       takes = (
         joined kept.0 taken.0,
-        goes_on theory c.args.moment c.args.items.now.items start reached next kept.0 taken.0 one rest stays
-            (subst (TakesOn theory c.args.moment c.args.items.now.items start kept.0 reached) is kept.1) taken.1,
+        goes_on theory c.args.date.now c.args.items.now.items start reached next kept.0 taken.0 one rest stays
+            (subst (TakesOn theory c.args.date.now c.args.items.now.items start kept.0 reached) is kept.1) taken.1,
         adds_on c.args.output.now c.loop-item.output c.take_item.new.output kept.0 taken.0 kept.2 taken.2,
-        subst (λ before. Takes theory c.args.moment before start (joined kept.0 taken.0) next) (sym (one_more all items at left default below within))
-            (took_next theory c.args.moment (take at all) start reached next kept.0 taken.0 one
+        subst (λ before. Takes theory c.args.date.now before start (joined kept.0 taken.0) next) (sym (one_more all items at left default below within))
+            (took_next theory c.args.date.now (take at all) start reached next kept.0 taken.0 one
             (sym (adds_closes c.args.output.now c.loop-item.output kept.0 kept.2 c.requires) ∙ c.loop-item.invariant.stays) stays kept.3 taken.1),
       );
       stays = c.if-output.false;
@@ -85,9 +85,9 @@ returns-then-output-clause-takes g c =
     let rest = drop (at + 1) all in
     let is = comes_first all items at left default below in (
       joined kept.0 taken.0,
-      stops theory c.args.moment c.args.items.now.items start reached (world_of c.take_item.new.contexts c.take_item.new.words) kept.0 taken.0
+      stops theory c.args.date.now c.args.items.now.items start reached (world_of c.take_item.new.contexts c.take_item.new.words) kept.0 taken.0
           one rest (sym (adds_closes c.loop-item.output c.take_item.new.output taken.0 taken.2 c.loop-item.invariant.stays) ∙ c.if-output.true)
-          (subst (TakesOn theory c.args.moment c.args.items.now.items start kept.0 reached) is kept.1) taken.1,
+          (subst (TakesOn theory c.args.date.now c.args.items.now.items start kept.0 reached) is kept.1) taken.1,
       adds_on c.args.output.now c.loop-item.output c.take_item.new.output kept.0 taken.0 kept.2 taken.2,
     )
 
@@ -105,6 +105,6 @@ returns-in_err-take_item-clause-breaks g c =
     let rest = drop (at + 1) all in
     let are = are_split all items at left default below in
     if_err _
-    (broken_at theory c.args.moment c.args.items.now.items (take at all) rest (world_of c.args.contexts.now c.args.words.now)
+    (broken_at theory c.args.date.now c.args.items.now.items (take at all) rest (world_of c.args.contexts.now c.args.words.now)
     (world_of c.loop-item.contexts c.loop-item.words) (world_of c.take_item.new.contexts c.take_item.new.words) kept.0 one are
     (sym (adds_closes c.args.output.now c.loop-item.output kept.0 kept.2 c.requires) ∙ c.loop-item.invariant.stays) kept.3 c.in_err-take_item.ensures.breaks)

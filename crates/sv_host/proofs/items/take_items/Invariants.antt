@@ -12,10 +12,10 @@ abbrev pub invariant-loop-item : goal.invariant-loop-item
 invariant-loop-item g l = record {
   left : drop l.item-index l.item-items ≡ drop l.item-index l.fn.items.items;
   takes : (front : Effect g.row.C.Denot)
-      × TakesOn (theory_of g.C.HasContextPath.path_of g.C.Context.conduct g.W.Words.draws) l.moment l.fn.items.items
+      × TakesOn (theory_of g.C.HasContextPath.path_of g.C.Context.conduct g.W.Words.draws) l.date l.fn.items.items
       (world_of l.fn.contexts l.fn.words) front (world_of l.contexts l.words) (drop l.item-index l.fn.items.items)
       × Adds l.fn.output front l.output
-      × Takes (theory_of g.C.HasContextPath.path_of g.C.Context.conduct g.W.Words.draws) l.moment (take l.item-index l.fn.items.items)
+      × Takes (theory_of g.C.HasContextPath.path_of g.C.Context.conduct g.W.Words.draws) l.date (take l.item-index l.fn.items.items)
       (world_of l.fn.contexts l.fn.words) front (world_of l.contexts l.words);
   stays : l.output.closes ≡ false;
   moves : MovesAll g.C.Context.conduct l.fn.contexts l.contexts;

@@ -32,13 +32,13 @@ returns-clause-responds g c =
     let before = c.args.contexts.now in
     let old = slice_index_or before c.args.place c.index-contexts-place.result in
     let is_old : old ≡ slice_index_or before c.args.place old = ap (λ d. slice_index_or before c.args.place d) c.index-contexts-place.is in
-    let handled = c.in_ok-response.ensures.handles in
+    let handled = rw c.moment.ensures at c.in_ok-response.ensures.handles in
     let start = reaction_of c.args.output.now in
     let middle : Reaction = record start { journal = c.handle.new.journal } in
-    rw c.recycle.ensures (sent theory c.args.moment c.args.message.now c.args.words before start c.send-sent.result c.args.place c.args.canon.now old c.handle.new.self
+    rw c.recycle.ensures (sent theory c.args.date.now c.args.message.now c.args.words before start c.send-sent.result c.args.place c.args.canon.now old c.handle.new.self
     c.in_ok-response.response middle (reaction_of c.send-sent.new.output) handled.0 c.requires.there is_old handled.1
     (λ i. record start { journal = handled.2 i })
-    (subst (λ head_only. IfOk c.send-sent.result (λ _. (text : List ℕ) × IsTextAt c.args.moment c.in_ok-response.response head_only c.args.message.now.keep text
+    (subst (λ head_only. IfOk c.send-sent.result (λ _. (text : List ℕ) × IsTextAt c.args.date.now c.in_ok-response.response head_only c.args.message.now.keep text
     × (reaction_of c.send-sent.new.output ≡ record middle { sends = middle.sends ++ text; closes = middle.closes || closes_behind c.args.message.now c.in_ok-response.response })))
     c.is_head-head_only.ensures c.send-sent.ensures))
 
@@ -49,8 +49,8 @@ returns-in_err-response-clause-breaks g c =
     let old = slice_index_or before c.args.place c.index-contexts-place.result in
     let is_old : old ≡ slice_index_or before c.args.place old = ap (λ d. slice_index_or before c.args.place d) c.index-contexts-place.is in
     if_err c.from_residual.result
-    (cut_at theory c.args.moment c.args.message.now c.args.words before c.args.place c.args.canon.now old c.handle.new.self c.requires.there is_old
-    c.in_err-response.ensures.cut_short)
+    (cut_at theory c.args.date.now c.args.message.now c.args.words before c.args.place c.args.canon.now old c.handle.new.self c.requires.there is_old
+    (rw c.moment.ensures at c.in_err-response.ensures.cut_short))
 
 pub returns-clause-breaks : goal.returns-clause-breaks
 returns-clause-breaks g c =
@@ -58,6 +58,6 @@ returns-clause-breaks g c =
     let before = c.args.contexts.now in
     let old = slice_index_or before c.args.place c.index-contexts-place.result in
     let is_old : old ≡ slice_index_or before c.args.place old = ap (λ d. slice_index_or before c.args.place d) c.index-contexts-place.is in
-    let handled = c.in_ok-response.ensures.handles in
-    rw c.recycle.ensures (unsent theory c.args.moment c.args.message.now c.args.words before c.args.place c.args.canon.now old c.handle.new.self c.requires.there is_old
+    let handled = rw c.moment.ensures at c.in_ok-response.ensures.handles in
+    rw c.recycle.ensures (unsent theory c.args.date.now c.args.message.now c.args.words before c.args.place c.args.canon.now old c.handle.new.self c.requires.there is_old
     c.send-sent.result c.in_ok-response.response handled.0 handled.1)

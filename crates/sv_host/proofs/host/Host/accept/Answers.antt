@@ -6,7 +6,7 @@ use Rattle.sv_run.specs.State.{settled_at}
 use Rattle.sv_host.proofs.Adding.{brings_all}
 use Rattle.sv_host.proofs.Breaking.{broken_event, not_begun}
 use Rattle.sv_host.proofs.Contexts.{alters_behind, moves_alter, moves_join}
-use Rattle.sv_host.proofs.Happening.{accepts_at}
+use Rattle.sv_host.proofs.Happening.{accepts_at, raised_to}
 use Rattle.sv_host.specs.Host.{state_of}
 use Rattle.sv_host.proofs.host.Host.accept.Goals as goal
 
@@ -36,8 +36,9 @@ returns-clause-accepts g c =
     let noted = told.2 (sym c.whole.ensures ∙ c.if-not-whole.false) in
     let happened = c.in-Ok.ensures.happens in (
       joined (telling told.0) happened.0,
-      accepts_at theory (state_of c.args.self.now) (happening_of c.args.happening) (state_of c.happen.new.self) c.moment_after-self.result told.0
-          c.expire_all.new.self happened.0 c.moment_after-self.ensures c.requires.runs c.requires.fits told.1 happened.1,
+      accepts_at theory (state_of c.args.self.now) (happening_of c.args.happening) (state_of c.happen.new.self) c.set.new.self told.0
+          c.expire_all.new.self happened.0 (raised_to (happening_of c.args.happening) c.args.self.now.date c.moment.result c.moment_after-moment.result c.set.new.self
+          c.moment.ensures c.moment_after-moment.ensures c.set.ensures) c.requires.runs c.requires.fits (rw (sym c.set.ensures) at told.1) happened.1,
       c.into_reaction.ensures ∙ brings_all c.output-output.result c.expire_all.new.journal told.0 happened.0 _ c.output-output.ensures noted happened.2,
     )
 
@@ -47,14 +48,17 @@ returns-then-not-whole-clause-breaks g c =
     let state = state_of c.args.self.now in
     let happening = happening_of c.args.happening in
     let told = c.expire_all.ensures.expires in
-    let settled = settled_at c.moment_after-self.result c.expire_all.new.self state in
-    broken_event theory state happening c.moment_after-self.result told.0 c.expire_all.new.self settled.world c.moment_after-self.ensures told.1
-    ([], not_begun theory settled happening)
+    let settled = settled_at c.set.new.self c.expire_all.new.self state in
+    broken_event theory state happening c.set.new.self told.0 c.expire_all.new.self settled.world
+    (raised_to happening c.args.self.now.date c.moment.result c.moment_after-moment.result c.set.new.self c.moment.ensures c.moment_after-moment.ensures c.set.ensures)
+    (rw (sym c.set.ensures) at told.1) ([], not_begun theory settled happening)
 
 pub returns-in_default-clause-breaks : goal.returns-in_default-clause-breaks
 returns-in_default-clause-breaks g c =
     let theory = theory_of g.C.HasContextPath.path_of g.C.Context.conduct g.W.Words.draws in
     let state = state_of c.args.self.now in
+    let happening = happening_of c.args.happening in
     let told = c.expire_all.ensures.expires in
-    broken_event theory state (happening_of c.args.happening) c.moment_after-self.result told.0 c.expire_all.new.self (state_of c.happen.new.self).world
-    c.moment_after-self.ensures told.1 c.in_default.ensures.breaks
+    broken_event theory state happening c.set.new.self told.0 c.expire_all.new.self (state_of c.happen.new.self).world
+    (raised_to happening c.args.self.now.date c.moment.result c.moment_after-moment.result c.set.new.self c.moment.ensures c.moment_after-moment.ensures c.set.ensures)
+    (rw (sym c.set.ensures) at told.1) c.in_default.ensures.breaks

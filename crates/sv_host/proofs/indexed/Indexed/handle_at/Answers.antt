@@ -40,12 +40,12 @@ returns-clause-responds g c =
     let all : length after ≡ held.len = omega (arith, c.handle_at.auto.contexts, c.as_mut_slice.ensures.len) in
     subst
     (λ (end : List g.row.C.Denot). IfOk c.handle_at.result (λ _. (effect : Effect g.row.C.Denot)
-    × Responds theory c.args.moment (Within c.args.place c.args.canon.now) c.args.message.now c.args.words c.args.self.now effect end
+    × Responds theory c.args.date.now (Within c.args.place c.args.canon.now) c.args.message.now c.args.words c.args.self.now effect end
     × Adds c.args.output.now effect c.handle_at.new.output))
     (sym (with_items_is held after all))
     (subst
     (λ (start : List g.row.C.Denot). IfOk c.handle_at.result (λ _. (effect : Effect g.row.C.Denot)
-    × Responds theory c.args.moment (Within c.args.place c.args.canon.now) c.args.message.now c.args.words start effect after
+    × Responds theory c.args.date.now (Within c.args.place c.args.canon.now) c.args.message.now c.args.words start effect after
     × Adds c.args.output.now effect c.handle_at.new.output))
     (c.as_mut_slice.ensures.value ∙ c.self.view_is) c.handle_at.ensures.responds)
 
@@ -57,9 +57,9 @@ returns-clause-breaks g c =
     let all : length after ≡ held.len = omega (arith, c.handle_at.auto.contexts, c.as_mut_slice.ensures.len) in
     subst
     (λ (end : List g.row.C.Denot). IfErr c.handle_at.result (λ _. (given : List (Given g.row.C.Denot))
-    × BreaksAnswer theory c.args.moment (Within c.args.place c.args.canon.now) c.args.message.now c.args.words c.args.self.now given end))
+    × BreaksAnswer theory c.args.date.now (Within c.args.place c.args.canon.now) c.args.message.now c.args.words c.args.self.now given end))
     (sym (with_items_is held after all))
     (subst
     (λ (start : List g.row.C.Denot). IfErr c.handle_at.result (λ _. (given : List (Given g.row.C.Denot))
-    × BreaksAnswer theory c.args.moment (Within c.args.place c.args.canon.now) c.args.message.now c.args.words start given after))
+    × BreaksAnswer theory c.args.date.now (Within c.args.place c.args.canon.now) c.args.message.now c.args.words start given after))
     (c.as_mut_slice.ensures.value ∙ c.self.view_is) c.handle_at.ensures.breaks)

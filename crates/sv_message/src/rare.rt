@@ -25,14 +25,14 @@ impl<T> Model for Rare<T> {
 
 impl<T> Rare<T> {
     /// No value. It takes no memory.
-    pub(crate) fn none() -> Rare<T>
+    pub fn none() -> Rare<T>
         ensures { result ≡ None }
     {
         Rare { inner: None }
     }
 
     /// The value, where there is one.
-    pub(crate) fn get(&self) -> Option<&T>
+    pub fn get(&self) -> Option<&T>
         ensures { option_copied result ≡ self.now }
     {
         match &self.inner {
@@ -40,22 +40,11 @@ impl<T> Rare<T> {
             None => None,
         }
     }
-
-    /// Gives the value back, without taking memory.
-    pub(crate) fn into_option(self) -> Option<T>
-        ensures { result ≡ self }
-    {
-        let Rare { inner } = self;
-        match inner {
-            Some(boxed) => Some(Box::into_inner(boxed)),
-            None => None,
-        }
-    }
 }
 
 impl<T: Drop> Rare<T> {
     /// Keeps a value.
-    pub(crate) fn some(alloc: Global, value: T) -> Result<Rare<T>, NoMemory>
+    pub fn some(alloc: Global, value: T) -> Result<Rare<T>, NoMemory>
         ensures { GivesAnswer result (Some value) }
     {
         Ok(Rare {

@@ -1,0 +1,10 @@
+-- The paths of a request or of a dispatch (Jakarta Servlet 6.0, section 3.5): the context path with the path, the canonical path in the context, the part of it
+-- that the servlet's pattern names and what stands behind that, and the query.
+use Rattle.std.specs.Prelude.{ℕ, List, Option}
+
+pub record Paths : Type 0 where
+  pub uri : List ℕ
+  pub path : List ℕ
+  pub servlet_path : Option (List ℕ)
+  pub path_info : Option (List ℕ)
+  pub query : Option (List ℕ)
