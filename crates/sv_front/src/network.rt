@@ -33,7 +33,7 @@ pub trait Network {
     /// Waits until something is to be told.
     fn wait(&mut self) -> Told;
 
-    /// Accepts a connection under this number, if one has come. It is armed.
+    /// Accepts a connection under this number, if one has come. It is armed: what is ready of it is told, also what was ready before.
     fn accept(&mut self, number: u64) -> Option<Self::Peer>;
 
     /// Takes back the stream of a connection that is over, and closes it so.

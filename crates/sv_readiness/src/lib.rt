@@ -2,6 +2,7 @@
 //! and what the system reports, is known to no contract.
 #![tactic(auto)]
 
+mod acceptor;
 mod asking;
 mod calls;
 mod control;

@@ -3,7 +3,8 @@
 /// As many events are asked of the system at once.
 pub const EVENTS_AT_ONCE: usize = 256;
 
-/// Behind as many connections that were told as ready it is told that one may have come, so that those that come do not wait for all that are ready.
+/// Behind as many connections of one report that were told as ready it is told that one may have come, so that those that come do not wait for all that are
+/// ready.
 pub const MAX_READY_BEFORE_ACCEPT: u32 = 128;
 
 /// Behind as many that were told the time is read again: all of them count as served at one time.

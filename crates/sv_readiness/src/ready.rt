@@ -47,6 +47,11 @@ impl Ready {
         self.told < self.count
     }
 
+    /// Whether the last wait reported one event at most.
+    pub fn is_single(&self) -> bool {
+        self.count <= 1
+    }
+
     /// Takes the events of a wait.
     pub fn refill(&mut self, events: &Events) {
         self.told = 0;

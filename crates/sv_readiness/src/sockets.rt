@@ -1,19 +1,18 @@
 //! A listener and its connections as a network.
 
+use crate::acceptor::Acceptor;
 use crate::control::{ASKER, CONTROL, Control};
-use crate::crowd::{Crowd, lacks_room};
 use crate::limits::{EVENTS_AT_ONCE, MAX_READY_BEFORE_ACCEPT, MAX_READY_BEFORE_READING};
 use crate::lingering::Lingering;
 use crate::listening::{LISTENER, Listening};
 use crate::ready::Ready;
 use crate::stream_peer::StreamPeer;
 use mio::event::Source;
-use mio::net::{TcpListener, TcpStream, UnixListener};
-use mio::{Events, Interest, Poll, Registry, Token};
+use mio::net::{TcpStream, UnixListener};
+use mio::{Events, Poll, Registry, Token};
 use std::alloc::{AllocError, Global};
 use std::cell::Cell;
 use std::io;
-use std::io::ErrorKind;
 use std::net::Shutdown;
 use std::time::{Clock, Duration};
 use sv_front::{Closing, Consulted, Figures, Network, Told};
@@ -26,7 +25,7 @@ pub struct Sockets<'a, C> {
     clock: &'a C,
     registry: &'a Registry,
     poll: Poll,
-    listener: TcpListener,
+    acceptor: Acceptor<'a>,
     events: Events,
     ready: Ready,
     lingering: Lingering<TcpStream>,
@@ -37,9 +36,8 @@ pub struct Sockets<'a, C> {
     second: u64,
     rest: Duration,
     told: u32,
-    crowd: Crowd,
-    may_come: bool,
-    has_come: bool,
+    // The connection that was accepted and is told as ready next.
+    accepted: Option<u64>,
     has_reported: bool,
     has_failed: bool,
 }
@@ -67,7 +65,7 @@ impl<'a, C: Clock> Sockets<'a, C> {
             clock,
             registry,
             poll,
-            listener,
+            acceptor: Acceptor::new(registry, listener),
             events,
             ready: Ready::new(),
             lingering: Lingering::new(alloc),
@@ -77,9 +75,7 @@ impl<'a, C: Clock> Sockets<'a, C> {
             second: 0,
             rest: Duration::ZERO,
             told: 0,
-            crowd: Crowd::None,
-            may_come: false,
-            has_come: false,
+            accepted: None,
             has_reported: false,
             has_failed: false,
         })
@@ -108,7 +104,9 @@ impl<'a, C: Clock> Sockets<'a, C> {
         if self.lingers(token) {
             return None;
         }
-        self.has_come = self.has_come || token == LISTENER;
+        if token == LISTENER {
+            self.acceptor.note_report();
+        }
         self.told = self.told.saturating_add(1);
         if self.told % MAX_READY_BEFORE_READING == 0 {
             self.read_time();
@@ -145,18 +143,19 @@ impl<'a, C: Clock> Sockets<'a, C> {
     // are ready were told.
     fn is_turn_to_accept(&self) -> bool {
         let has_told_all = self.has_reported && !self.ready.has_next();
-        self.told >= MAX_READY_BEFORE_ACCEPT || (self.may_come && has_told_all)
+        self.told >= MAX_READY_BEFORE_ACCEPT || (self.acceptor.may_come() && has_told_all)
     }
 
     // Waits until something is reported, or the second that was read last is over; not at all, where a connection may have come.
     fn report(&mut self) -> io::Result<()> {
-        let rest = if self.may_come {
+        let rest = if self.acceptor.may_come() {
             Duration::ZERO
         } else {
             self.rest
         };
         self.poll.poll(&mut self.events, Some(rest))?;
         self.has_reported = true;
+        self.told = 0;
         self.ready.refill(&self.events);
         Ok(())
     }
@@ -184,7 +183,7 @@ impl<'a, C: Clock> Sockets<'a, C> {
         self.read_time();
         let has_passed = self.now != self.second;
         if has_passed {
-            self.crowd = self.crowd.second();
+            self.acceptor.note_second();
         }
         self.second = self.now;
         has_passed
@@ -213,31 +212,14 @@ impl<'a, C: Clock> Sockets<'a, C> {
 
     // Whether it is to be told that the system has no room for one who came. Behind that all who came are taken anew, those at the socket file first.
     fn tells_crowd(&mut self) -> bool {
-        match self.crowd {
-            Crowd::Found => {
-                self.crowd = Crowd::Told;
-                true
-            }
-            Crowd::Told => {
-                self.crowd = Crowd::Past;
-                self.may_come = true;
-                self.welcome();
-                false
-            }
-            Crowd::None | Crowd::Past => false,
+        if self.acceptor.tells_crowd() {
+            return true;
         }
-    }
-
-    // Notes that the system has no room for another. It says so also where none has come; then one who has, or comes, is to be reported anew.
-    fn note_refusal(&mut self) {
-        if self.has_come {
-            self.crowd = self.crowd.refused();
-            return;
+        if self.acceptor.is_making_room() {
+            self.acceptor.take_anew();
+            self.welcome();
         }
-        // Where that fails, one who comes is reported all the same, and one who has come is looked for each second.
-        let _ = self
-            .registry
-            .reregister(&mut self.listener, Token(LISTENER), Interest::READABLE);
+        false
     }
 
     // Takes who came to the socket file, where nobody asks there.
@@ -253,26 +235,28 @@ impl<'a, C: Clock> Sockets<'a, C> {
         if let Some(control) = &self.control
             && control.has_refused()
         {
-            self.crowd = self.crowd.refused();
+            self.acceptor.note_crowd();
         }
     }
 
-    // The peer of a connection that was accepted, where its readiness can be reported. The last numbers are tokens of what is no connection.
-    fn peer_of(&self, stream: TcpStream, number: u64) -> Option<StreamPeer<'a, TcpStream>> {
-        let mut stream = stream;
+    // The peer of a connection that was accepted. It is told as ready at the next wait, or its readiness is reported from now on, where another may be
+    // accepted before that. The last numbers are tokens of what is no connection.
+    fn peer_of(&mut self, stream: TcpStream, number: u64) -> Option<StreamPeer<'a, TcpStream>> {
         let token = Token(number as usize);
-        let comes = Interest::READABLE;
-        if token.0 >= ASKER || self.registry.register(&mut stream, token, comes).is_err() {
+        if token.0 >= ASKER {
             return None;
         }
-        Some(StreamPeer::new(stream, self.registry, token))
+        let mut peer = StreamPeer::new(stream, self.registry, token);
+        if !self.acceptor.is_tried() {
+            self.accepted = Some(number);
+        } else if !peer.arm_for_reading() {
+            return None;
+        }
+        Some(peer)
     }
-}
 
-impl<'a, C: Clock> Network for Sockets<'a, C> {
-    type Peer = StreamPeer<'a, TcpStream>;
-
-    fn wait(&mut self) -> Told {
+    // Waits until something is to be told.
+    fn next_told(&mut self) -> Told {
         self.note_refused_asker();
         if self.tells_crowd() {
             return Told::Crowded;
@@ -280,7 +264,6 @@ impl<'a, C: Clock> Network for Sockets<'a, C> {
         for _ in 0..u64::MAX {
             if self.is_turn_to_accept() {
                 self.told = 0;
-                self.may_come = false;
                 self.has_reported = false;
                 return Told::Incoming;
             }
@@ -299,34 +282,32 @@ impl<'a, C: Clock> Network for Sockets<'a, C> {
         }
         Told::Stop
     }
+}
+
+impl<'a, C: Clock> Network for Sockets<'a, C> {
+    type Peer = StreamPeer<'a, TcpStream>;
+
+    fn wait(&mut self) -> Told {
+        let told = match self.accepted.take() {
+            Some(number) => Told::Ready(number),
+            None => self.next_told(),
+        };
+        self.acceptor
+            .note_told(matches!(told, Told::Incoming | Told::Second));
+        told
+    }
 
     fn accept(&mut self, number: u64) -> Option<StreamPeer<'a, TcpStream>> {
-        self.may_come = false;
-        for _ in 0..u64::MAX {
-            match self.listener.accept() {
-                Ok((stream, _)) => {
-                    self.may_come = true;
-                    self.has_come = false;
-                    self.crowd = Crowd::None;
-                    return self.peer_of(stream, number);
-                }
-                Err(error) if is_passing(error.kind()) => {}
-                Err(error) if lacks_room(&error) => {
-                    self.note_refusal();
-                    return None;
-                }
-                Err(_) => {
-                    self.has_come = false;
-                    return None;
-                }
-            }
-        }
-        None
+        let stream = self.acceptor.accept(self.ready.is_single())?;
+        self.peer_of(stream, number)
     }
 
     fn part(&mut self, number: u64, peer: StreamPeer<'a, TcpStream>, closing: Closing) {
+        let mut peer = peer;
         // What is dropped is closed: so is what makes room. A peer that is gone is sent no end.
-        let lingers = may_send_on(closing, &peer) && self.crowd != Crowd::Told;
+        let lingers = may_send_on(closing, &peer)
+            && !self.acceptor.is_making_room()
+            && peer.arm_for_reading();
         let stream = peer.into_stream();
         if lingers && stream.shutdown(Shutdown::Write).is_ok() {
             let now = self.seconds();
@@ -391,9 +372,4 @@ fn told_by(token: usize) -> Told {
         return Told::Incoming;
     }
     Told::Ready(token as u64)
-}
-
-// Whether a further accept may give a connection.
-fn is_passing(kind: ErrorKind) -> bool {
-    matches!(kind, ErrorKind::Interrupted | ErrorKind::ConnectionAborted)
 }

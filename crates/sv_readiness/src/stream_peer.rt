@@ -1,6 +1,6 @@
 //! The stream of a connection whose calls do not wait.
 
-ghost use Rattle.std.specs.Prelude.{◌≡◌, ◌&&◌, ◌⊎◌, false, nat_le};
+ghost use Rattle.std.specs.Prelude.{◌≡◌, ◌&&◌, ◌⊎◌, false, nat_le, true};
 ghost use Rattle.sv_readiness.specs.declared.limits.TheConstants.{MAX_SENT_AT_ONCE};
 
 use crate::calls::{try_read, try_write};
@@ -10,7 +10,8 @@ use mio::{Interest, Registry, Token};
 use std::io::{Read, Write};
 use sv_front::{Peer, Tried};
 
-/// A stream whose readiness is reported under a token.
+/// A stream whose readiness is reported under a token, from the first call on that would have to wait: of a connection that is answered and closed before
+/// one does, nothing is ever asked of the system.
 ///
 /// A read that leaves room in its buffer has taken all that had come. The next read answers that it would have to wait, without asking the system,
 /// unless the stream rests in between: a write that would have to wait, and being told anew, are where a connection rests. What comes behind such a
@@ -22,6 +23,7 @@ pub struct StreamPeer<'a, T> {
     registry: &'a Registry,
     token: Token,
     is_drained: bool,
+    is_reported: bool,
     is_told_of_room: bool,
     written: usize,
 }
@@ -32,6 +34,7 @@ impl<'a, T: Source> StreamPeer<'a, T> {
         ensures stream { result.stream ≡ stream }
         ensures token { result.token ≡ token }
         ensures drained { result.is_drained ≡ false }
+        ensures reported { result.is_reported ≡ false }
         ensures written { result.written ≡ 0 }
     {
         StreamPeer {
@@ -39,6 +42,7 @@ impl<'a, T: Source> StreamPeer<'a, T> {
             registry,
             token,
             is_drained: false,
+            is_reported: false,
             is_told_of_room: false,
             written: 0,
         }
@@ -58,17 +62,48 @@ impl<'a, T: Source> StreamPeer<'a, T> {
         self.stream
     }
 
+    /// Asks to be told of what comes, also of what has come before, where nothing of it is reported yet. Says whether that could be had.
+    pub(crate) fn arm_for_reading(&mut self) -> bool
+        ensures kept { (self.new.stream ≡ self.old.stream) ⊎ T.keeps self.old.stream self.new.stream }
+        ensures reported { result ≡ self.new.is_reported }
+        ensures known { self.old.is_reported ≡ true → self.new ≡ self.old }
+    {
+        if !self.is_reported {
+            self.ask_for(Interest::READABLE);
+        }
+        self.is_reported
+    }
+
+    // Asks to be told of this, also of what was there before. Says whether that could be had.
+    fn ask_for(&mut self, interests: Interest) -> bool
+        ensures { T.keeps self.old.stream self.new.stream }
+    {
+        let asked = if self.is_reported {
+            self.registry
+                .reregister(&mut self.stream, self.token, interests)
+        } else {
+            self.registry
+                .register(&mut self.stream, self.token, interests)
+        };
+        self.is_reported = self.is_reported || asked.is_ok();
+        asked.is_ok()
+    }
+
     // Asks to be told of what comes and of room to write, also of what was there before.
     fn ask_for_both(&mut self) -> bool
         ensures { T.keeps self.old.stream self.new.stream }
     {
         self.is_drained = false;
-        let both = Interest::READABLE | Interest::WRITABLE;
-        self.is_told_of_room = self
-            .registry
-            .reregister(&mut self.stream, self.token, both)
-            .is_ok();
+        self.is_told_of_room = self.ask_for(Interest::READABLE | Interest::WRITABLE);
         self.is_told_of_room
+    }
+
+    // Is told of what comes from now on. Where that cannot be had, the connection is given up when its time is over.
+    fn wait_for_more(&mut self)
+        ensures { (self.new.stream ≡ self.old.stream) ⊎ T.keeps self.old.stream self.new.stream }
+    {
+        self.is_drained = false;
+        self.arm_for_reading();
     }
 
     // Is told of room to write from now on. Where that cannot be had, the connection is given up when its time is over.
@@ -97,11 +132,14 @@ impl<T: Read + Write + Source> Peer for StreamPeer<'_, T> {
 
     fn read(&mut self, buffer: &mut [u8]) -> Tried {
         if self.is_drained {
-            self.is_drained = false;
+            self.wait_for_more();
             return Tried::Paused;
         }
         let tried = try_read(&mut self.stream, buffer);
         self.is_drained = leaves_room(tried, buffer.len());
+        if tried == Tried::Paused {
+            self.wait_for_more();
+        }
         tried
     }
 
@@ -109,7 +147,7 @@ impl<T: Read + Write + Source> Peer for StreamPeer<'_, T> {
         if !self.is_drained {
             return false;
         }
-        self.is_drained = false;
+        self.wait_for_more();
         true
     }
 
