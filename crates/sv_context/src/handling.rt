@@ -198,6 +198,7 @@ fn copied(alloc: Global, text: &Option<Text>) -> Result<Option<Text>, NoMemory>
 }
 
 // Answers a message that was admitted. The sessions are lent to its exchange, and come back in every case.
+#[inline(always)]
 fn answer<S: Servlet, F: Filter, L: Listener>(
     alloc: Global,
     site: &mut Site,
