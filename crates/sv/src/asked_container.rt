@@ -9,6 +9,7 @@ ghost use Rattle.sv_container.specs.Explaining.{explanation_of};
 ghost use Rattle.sv_context.specs.Theory.{theory};
 ghost use Rattle.sv_explain.specs.Text.{explanation_text};
 ghost use Rattle.sv_host.specs.Host.{StepsSo};
+ghost use Rattle.sv_run.specs.Connections.{awaited_in};
 ghost use Rattle.sv_text.specs.Gives.{GivesAnswer};
 
 use crate::standing::{standing_of, uncovered_of};
@@ -19,6 +20,7 @@ use sv_front::Consulted;
 use sv_journal::Journal;
 use sv_run::{Happening, Reaction, Reactor, StepFault, Words};
 use sv_text::{Bytes, NoMemory};
+use sv_wire::Awaited;
 
 /// A container that takes events, which are counted, and is asked what would become of requests by its constraints as they stand, what these leave
 /// uncovered, and how it stands.
@@ -62,9 +64,15 @@ impl<S: Servlet, F: Filter, L: Listener, W: Words> Reactor for AskedContainer<S,
         (state_of before.container) happening result (state_of after.container)
         × (after.events ≡ spec.counted before.events) };
 
+    ghost awaited = { λ asked connection. awaited_in (state_of asked.container).connections connection };
+
     fn step(&mut self, happening: Happening) -> Result<Reaction, StepFault> {
         self.events = self.events.saturating_add(1);
         self.container.step(happening)
+    }
+
+    fn awaits(&self, connection: u64) -> Awaited {
+        self.container.awaits(connection)
     }
 
     fn recycle(&self, bytes: Vec<u8>, journal: Journal) {

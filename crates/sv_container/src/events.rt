@@ -5,6 +5,7 @@ ghost use Rattle.sv_container.specs.Container.{state_of};
 ghost use Rattle.sv_context.specs.Conduct.{conduct};
 ghost use Rattle.sv_context.specs.Theory.{theory};
 ghost use Rattle.sv_host.specs.Host.{StepsSo};
+ghost use Rattle.sv_run.specs.Connections.{awaited_in};
 ghost use Rattle.sv_run.specs.Events.{AltersAll};
 ghost use Rattle.sv_run.specs.Seen.{happening_of};
 
@@ -12,6 +13,7 @@ use crate::container::Container;
 use sv_component::{Filter, Listener, Servlet};
 use sv_journal::Journal;
 use sv_run::{Happening, Reaction, Reactor, StepFault, Words};
+use sv_wire::Awaited;
 
 impl<S: Servlet, F: Filter, L: Listener, W: Words> Container<S, F, L, W> {
     /// Takes an event: the moment is raised, the sessions that have expired end, and then it happens (RFC 9112, section 9; Jakarta Servlet
@@ -29,6 +31,14 @@ impl<S: Servlet, F: Filter, L: Listener, W: Words> Container<S, F, L, W> {
         self.host.step(happening)
     }
 
+    /// Returns what is awaited of a connection, by the head and the bytes that are held of its stream (RFC 9112, section 2.2): nothing of one
+    /// that has closed or is not known.
+    pub fn awaits(&self, connection: u64) -> Awaited
+        ensures { result ≡ awaited_in (state_of self.now).connections connection }
+    {
+        self.host.awaits(connection)
+    }
+
     /// Takes the memory of what an event brought, of which nothing is needed any more, for what those to come bring: what is little of it is kept.
     pub fn recycle(&self, bytes: Vec<u8>, journal: Journal) {
         self.host.recycle(bytes, journal);
@@ -39,8 +49,14 @@ impl<S: Servlet, F: Filter, L: Listener, W: Words> Reactor for Container<S, F, L
     ghost steps = { λ before happening result after.
         StepsSo (theory (steps_of S.servlet_step F.filter_step L.listener_step) W.draws) (state_of before) happening result (state_of after) };
 
+    ghost awaited = { λ container connection. awaited_in (state_of container).connections connection };
+
     fn step(&mut self, happening: Happening) -> Result<Reaction, StepFault> {
         Container::<S, F, L, W>::step(self, happening)
+    }
+
+    fn awaits(&self, connection: u64) -> Awaited {
+        Container::<S, F, L, W>::awaits(self, connection)
     }
 
     fn recycle(&self, bytes: Vec<u8>, journal: Journal) {

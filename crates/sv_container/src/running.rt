@@ -2,6 +2,7 @@
 
 ghost use Rattle.sv_component.specs.Steps.{steps_of};
 ghost use Rattle.sv_container.specs.Container.{state_of};
+ghost use Rattle.sv_run.specs.Connections.{awaited_in};
 ghost use Rattle.sv_run.specs.Seen.{happening_of};
 ghost use Rattle.sv_container.specs.Running.{StepsOf, StopsOf};
 
@@ -10,6 +11,7 @@ use sv_component::{Filter, Listener, Servlet};
 use sv_journal::Journal;
 use sv_replay::Stops;
 use sv_run::{Happening, Reaction, Reactor, StepFault, Words};
+use sv_wire::Awaited;
 
 /// A container that runs, and then stops.
 pub struct Running<S, F, L, W> {
@@ -20,8 +22,14 @@ pub struct Running<S, F, L, W> {
 impl<S: Servlet, F: Filter, L: Listener, W: Words> Reactor for Running<S, F, L, W> {
     ghost steps = { StepsOf (steps_of S.servlet_step F.filter_step L.listener_step) W.draws };
 
+    ghost awaited = { λ running connection. awaited_in (state_of running.container).connections connection };
+
     fn step(&mut self, happening: Happening) -> Result<Reaction, StepFault> {
         self.container.step(happening)
+    }
+
+    fn awaits(&self, connection: u64) -> Awaited {
+        self.container.awaits(connection)
     }
 
     fn recycle(&self, bytes: Vec<u8>, journal: Journal) {

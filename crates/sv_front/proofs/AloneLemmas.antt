@@ -1,18 +1,22 @@
 -- The turns of a connection that is served beside others.
-use Rattle.std.proofs.Common.{◌≡◌, ℕ, ◌<◌, ◌+◌, false, List, [], ◌∷◌, ◌++◌, Ok, Result, refl, sym, ap, ◌∙◌, subst, append_assoc, append-nil, flat_map, length, length-append, arith}
+use Rattle.std.proofs.Common.{◌≡◌, ℕ, ◌<◌, ◌+◌, Bool, true, false, cond, List, [], ◌∷◌, ◌++◌, Ok, Result, refl, sym, ap, ◌∙◌, subst, append_assoc, append-nil, flat_map, length, length-append, arith}
 use Rattle.std.proofs.lemmas.List.{map-append}
-use Rattle.std.specs.List.{AllByRecursion, concat}
+use Rattle.std.specs.List.{AllByRecursion, concat, list_any}
 use Rattle.sv_connection.specs.Turns.{GoesOn, Turn, brought, calls_of, piece_of}
 use Rattle.sv_connection.specs.Turns as turn
 use Rattle.sv_front.specs.Alone.{AreTurns, IsAlone, IsUnderWay, cut_calls}
 use Rattle.sv_front.specs.Course.{Along}
 use Rattle.sv_front.specs.Notes.{answer_of, event_of, moment_of}
+use Rattle.sv_front.specs.Phases.{is_closing, is_refusal, phase_by}
 use Rattle.sv_front.specs.Places.{Arms, Deed, Ends, Hands, Leads, Open, Opens, Over, Pauses, Place, Reads, Standing, Unused, Writes, fresh}
 use Rattle.sv_front.specs.Ways.{Ways}
+use Rattle.sv_front.specs.declared.phase.Phase.TheVariants.{Closing, Refused}
+use Rattle.sv_journal.specs.declared.entry.Entry.{Entry}
 use Rattle.sv_run.specs.Events.{Opened}
 use Rattle.sv_run.specs.declared.reaction.Reaction.{Reaction}
 use Rattle.sv_run.specs.declared.step_fault.StepFault.{StepFault}
 use Rattle.sv_streams.specs.Calls.{Gave, Took}
+use Rattle.sv_wire.specs.declared.inbox.Awaited.{Awaited}
 use Rattle.sv_front.proofs.LawLemmas.{no_unused, over_stays}
 
 pub all_join : {A : Type 0} (P : A → Type 0) (xs ys : List A) → AllByRecursion P xs → AllByRecursion P ys → AllByRecursion P (xs ++ ys)
@@ -45,11 +49,11 @@ module _ (number : ℕ) (deeds : List Deed) (opening : Reaction) where
   }
 
   -- a piece more
-  piece_more : (turns : List Turn) (bytes : List ℕ) (moment : ℕ) (reaction : Reaction) → AreTurns number deeds opening turns
-      → AreTurns number (deeds ++ Hands bytes moment reaction ∷ []) opening (turns ++ record { bytes = bytes; moment = moment; reaction = reaction; parts = [] } ∷ [])
-  piece_more turns bytes moment reaction are =
+  piece_more : (turns : List Turn) (bytes : List ℕ) (moment : ℕ) (reaction : Reaction) (awaited : Awaited) → AreTurns number deeds opening turns
+      → AreTurns number (deeds ++ Hands bytes moment reaction awaited ∷ []) opening (turns ++ record { bytes = bytes; moment = moment; reaction = reaction; parts = [] } ∷ [])
+  piece_more turns bytes moment reaction awaited are =
       let new : Turn = record { bytes = bytes; moment = moment; reaction = reaction; parts = [] } in
-      let deed = Hands bytes moment reaction in
+      let deed = Hands bytes moment reaction awaited in
       record {
         happened = flat_one_more (event_of number) deeds deed ∙ ap (λ front. front ++ event_of number deed) are.happened
             ∙ ap (λ back. Opened number ∷ back) (sym (map-append (piece_of number) turns (new ∷ [])));
@@ -84,9 +88,18 @@ module _ (number : ℕ) (deeds : List Deed) (opening : Reaction) where
       opened : Result Reaction StepFault
       opened = Ok opening
 
+-- a connection closes where the reaction says so
+closes_as : (closes : Bool) (entries : List Entry) (awaited : Awaited) → is_closing (phase_by closes entries awaited) ≡ closes
+closes_as false entries awaited = refl
+closes_as true entries awaited = by_refusal (list_any is_refusal entries)
+  where
+    by_refusal : (refused : Bool) → is_closing (cond refused Refused Closing) ≡ true
+    by_refusal true = refl
+    by_refusal false = refl
+
 module _ {S : Type 0} (ways : Ways S) (number : ℕ) where
   -- what was under way goes on
-  goes_on : (under : List Turn) (b : Standing S) → IsUnderWay under b → b.unsent ≡ [] → b.closes ≡ false → AllByRecursion GoesOn under
+  goes_on : (under : List Turn) (b : Standing S) → IsUnderWay under b → b.unsent ≡ [] → is_closing b.phase ≡ false → AllByRecursion GoesOn under
   goes_on [] b is none still = tt
   goes_on (last ∷ []) b (some, sends, closes) none still = (
     record {
@@ -97,14 +110,14 @@ module _ {S : Type 0} (ways : Ways S) (number : ℕ) where
   )
   goes_on (last ∷ other ∷ more) b is none still = absurd is
 
-  still_under : (under : List Turn) (b c : Standing S) → c.unsent ≡ b.unsent → c.closes ≡ b.closes → IsUnderWay under b → IsUnderWay under c
+  still_under : (under : List Turn) (b c : Standing S) → c.unsent ≡ b.unsent → is_closing c.phase ≡ is_closing b.phase → IsUnderWay under b → IsUnderWay under c
   still_under [] b c unsent closes (none, still) = (unsent ∙ none, closes ∙ still)
   still_under (last ∷ []) b c unsent closes (some, sends, is) =
       (some, ap (λ rest. concat last.parts ++ rest) unsent ∙ sends, is ∙ sym closes)
   still_under (last ∷ other ∷ more) b c unsent closes is = absurd is
 
   quiet_step : (deeds : List Deed) (deed : Deed) (b c : Standing S) → event_of number deed ≡ [] → answer_of deed ≡ [] → moment_of deed ≡ [] → cut_calls deed ≡ []
-      → c.unsent ≡ b.unsent → c.closes ≡ b.closes → IsAlone number deeds b → IsAlone number (deeds ++ deed ∷ []) c
+      → c.unsent ≡ b.unsent → is_closing c.phase ≡ is_closing b.phase → IsAlone number deeds b → IsAlone number (deeds ++ deed ∷ []) c
   quiet_step deeds deed b c no_event no_answer no_moment no_call unsent closes is = record {
     opening = is.opening;
     turns = is.turns;
@@ -114,7 +127,7 @@ module _ {S : Type 0} (ways : Ways S) (number : ℕ) where
     are_turns = quiet_more number deeds is.opening (is.turns ++ is.under_way) deed no_event no_answer no_moment no_call is.are_turns;
   }
 
-  write_step : (deeds : List Deed) (b c : Standing S) (part : List ℕ) → 0 < length part → b.unsent ≡ part ++ c.unsent → c.closes ≡ b.closes
+  write_step : (deeds : List Deed) (b c : Standing S) (part : List ℕ) → 0 < length part → b.unsent ≡ part ++ c.unsent → is_closing c.phase ≡ is_closing b.phase
       → (opening : Reaction) (turns : List Turn) → AllByRecursion GoesOn turns → (under : List Turn) → IsUnderWay under b → AreTurns number deeds opening (turns ++ under)
       → IsAlone number (deeds ++ Writes part ∷ []) c
   write_step deeds b c part some front same opening turns all [] (none, still) are =
@@ -140,20 +153,20 @@ module _ {S : Type 0} (ways : Ways S) (number : ℕ) where
   alone_step deeds (Opens reaction) b c leads is = absurd leads
   alone_step deeds (Ends cause reaction) b c leads is = absurd leads
   alone_step deeds (Reads bytes) b c (idle, some, made, now) is =
-      quiet_step deeds (Reads bytes) b c refl refl refl refl (ap (λ (s : Standing S). s.unsent) now) (ap (λ (s : Standing S). s.closes) now) is
+      quiet_step deeds (Reads bytes) b c refl refl refl refl (ap (λ (s : Standing S). s.unsent) now) (ap (λ (s : Standing S). is_closing s.phase) now) is
   alone_step deeds Pauses b c (needs, pauses, now) is =
-      quiet_step deeds Pauses b c refl refl refl refl (ap (λ (s : Standing S). s.unsent) now) (ap (λ (s : Standing S). s.closes) now) is
+      quiet_step deeds Pauses b c refl refl refl refl (ap (λ (s : Standing S). s.unsent) now) (ap (λ (s : Standing S). is_closing s.phase) now) is
   alone_step deeds Arms b c (needs, arms, now) is =
-      quiet_step deeds Arms b c refl refl refl refl (ap (λ (s : Standing S). s.unsent) now) (ap (λ (s : Standing S). s.closes) now) is
+      quiet_step deeds Arms b c refl refl refl refl (ap (λ (s : Standing S). s.unsent) now) (ap (λ (s : Standing S). is_closing s.phase) now) is
   alone_step deeds (Writes bytes) b c (some, made, front, now) is =
-      write_step deeds b c bytes some front (ap (λ (s : Standing S). s.closes) now) is.opening is.turns is.go_on is.under_way is.is_under_way is.are_turns
-  alone_step deeds (Hands bytes moment reaction) b c (has, piece, front, now) is = record {
+      write_step deeds b c bytes some front (ap (λ (s : Standing S). is_closing s.phase) now) is.opening is.turns is.go_on is.under_way is.is_under_way is.are_turns
+  alone_step deeds (Hands bytes moment reaction awaited) b c (has, piece, front, now) is = record {
     opening = is.opening;
     turns = is.turns ++ is.under_way;
     go_on = all_join GoesOn is.turns is.under_way is.go_on (goes_on is.under_way b is.is_under_way has.1 has.2);
     under_way = record { bytes = bytes; moment = moment; reaction = reaction; parts = [] } ∷ [];
-    is_under_way = (piece.0, ap (λ (s : Standing S). s.unsent) now, sym (ap (λ (s : Standing S). s.closes) now));
-    are_turns = piece_more number deeds is.opening (is.turns ++ is.under_way) bytes moment reaction is.are_turns;
+    is_under_way = (piece.0, ap (λ (s : Standing S). s.unsent) now, sym (ap (λ (s : Standing S). is_closing s.phase) now ∙ closes_as reaction.closes reaction.journal.entries awaited));
+    are_turns = piece_more number deeds is.opening (is.turns ++ is.under_way) bytes moment reaction awaited is.are_turns;
   }
 
   alone_on : (front deeds : List Deed) (b at : Standing S) → IsAlone number front b → Along ways (Open b) deeds (Open at) → IsAlone number (front ++ deeds) at
@@ -178,7 +191,7 @@ module _ {S : Type 0} (ways : Ways S) (number : ℕ) where
     turns = [];
     go_on = tt;
     under_way = [];
-    is_under_way = (ap (λ (s : Standing S). s.unsent) is, ap (λ (s : Standing S). s.closes) is);
+    is_under_way = (ap (λ (s : Standing S). s.unsent) is, ap (λ (s : Standing S). is_closing s.phase) is);
     are_turns = record { happened = refl; answered = refl; told = refl; called = refl };
   }
 

@@ -6,6 +6,7 @@ use Rattle.sv_front.specs.Steps.{SendsOn}
 use Rattle.sv_front.specs.Ways.{TriesWrite, Ways}
 use Rattle.sv_front.specs.declared.allowance.Allowance.{Allowance}
 use Rattle.sv_front.specs.declared.peer.Tried.TheVariants.{Done}
+use Rattle.sv_front.specs.declared.phase.Phase.{Phase}
 use Rattle.sv_front.specs.declared.step.Step.TheVariants.{GoesOn}
 use Rattle.sv_streams.specs.Calls.{Took}
 
@@ -28,14 +29,14 @@ some_taken count bytes within some = let taken : length (take count bytes) ≡ c
 
 module _ {S : Type 0} (ways : Ways S) where
   -- a write took some bytes of a front
-  pub wrote : (at : Standing S) (stream stream_after : S) (ahead unsent left written : List ℕ) (closes rests : Bool) (under_way : ℕ) (refused : Bool) (count : ℕ) (allowed : Allowance)
-      → record { stream = stream; ahead = ahead; unsent = unsent; closes = closes; rests = rests; under_way = under_way; refused = refused } ≡ at → 0 < allowed.calls
+  pub wrote : (at : Standing S) (stream stream_after : S) (ahead unsent left written : List ℕ) (phase : Phase) (rests : Bool) (under_way : ℕ) (count : ℕ) (allowed : Allowance)
+      → record { stream = stream; ahead = ahead; unsent = unsent; phase = phase; rests = rests; under_way = under_way } ≡ at → 0 < allowed.calls
       → TriesWrite ways stream (Done count) written stream_after → written ≡ take allowed.bytes unsent → left ≡ drop count unsent
-      → SendsOn ways at allowed GoesOn (record { stream = stream_after; ahead = ahead; unsent = left; closes = closes; rests = false; under_way = under_way; refused = refused })
+      → SendsOn ways at allowed GoesOn (record { stream = stream_after; ahead = ahead; unsent = left; phase = phase; rests = false; under_way = under_way })
       (record { calls = allowed.calls - 1; bytes = allowed.bytes - count })
-  wrote at stream stream_after ahead unsent left written closes rests under_way refused count allowed view calls tried same is =
-      let before : Standing S = record { stream = stream; ahead = ahead; unsent = unsent; closes = closes; rests = rests; under_way = under_way; refused = refused } in
-      let after : Standing S = record { stream = stream_after; ahead = ahead; unsent = left; closes = closes; rests = false; under_way = under_way; refused = refused } in
+  wrote at stream stream_after ahead unsent left written phase rests under_way count allowed view calls tried same is =
+      let before : Standing S = record { stream = stream; ahead = ahead; unsent = unsent; phase = phase; rests = rests; under_way = under_way } in
+      let after : Standing S = record { stream = stream_after; ahead = ahead; unsent = left; phase = phase; rests = false; under_way = under_way } in
       let T : List ℕ → Type 0 = λ bytes. TriesWrite ways stream (Done count) bytes stream_after in
       let here : TriesWrite ways stream (Done count) (take allowed.bytes unsent) stream_after = subst T same tried in
       let within : (count ≤ allowed.bytes) × (count ≤ length unsent) = within_front count allowed.bytes unsent here.1 in

@@ -21,6 +21,7 @@ use Rattle.sv_run.specs.declared.reaction.Reaction.{Reaction}
 use Rattle.sv_run.specs.declared.step_fault.StepFault.{StepFault}
 use Rattle.sv_run.specs.declared.step_fault.StepFault.TheVariants.{NoMemory}
 use Rattle.sv_front.proofs.Joining.{goes_join, talks_join}
+use Rattle.sv_wire.specs.declared.inbox.Awaited.{Awaited}
 
 and_false : (b : Bool) → (b && false) ≡ false
 and_false true = refl
@@ -52,11 +53,11 @@ deeds_other number other (deed ∷ deeds) apart =
     cond-false (nat_eq other number) (deed ∷ deeds_of other (map (Of number) deeds)) (deeds_of other (map (Of number) deeds)) (other_number number other apart)
     ∙ deeds_other number other deeds apart
 
-module _ {R C S : Type 0} (steps : Reacting R) (tells : C → ℕ → C → Type 0) (ways : Ways S) where
+module _ {R C S : Type 0} (steps : Reacting R) (awaits : R → ℕ → Awaited) (tells : C → ℕ → C → Type 0) (ways : Ways S) where
   pub goes_one : (number : ℕ) (before after : R) (clock clock_after : C) (places places_after : ℕ → Place S) (deeds : List Deed)
-      → Talks steps tells ways number before clock (places number) deeds after clock_after (places_after number)
+      → Talks steps awaits tells ways number before clock (places number) deeds after clock_after (places_after number)
       → ((other : ℕ) → other ≢ number → places_after other ≡ places other)
-      → Goes steps tells ways before clock places (map (Of number) deeds) after clock_after places_after
+      → Goes steps awaits tells ways before clock places (map (Of number) deeds) after clock_after places_after
   goes_one number before after clock clock_after places places_after deeds talks others =
       record { went = talks.went; courses = λ other. by other (nat_eq other number) refl }
     where
@@ -100,17 +101,17 @@ both_stay number known known_between known_after first second =
     record { next = second.next ∙ first.next; others = λ other apart. second.others other apart ∙ first.others other apart }
 
 -- moves behind moves
-module _ {R C S : Type 0} (ways : Ways S) (steps : Reacting R) (tells : C → ℕ → C → Type 0) where
-  pub no_moves : {A : Type 0} (done : A) (before : R) (clock : C) (known : Known S) → Moves ways steps tells before clock known (Ok done) before clock known
-  no_moves done before clock known = ([], record { went = record { reacts = refl; told = refl }; courses = λ number. refl }, λ rest. rest)
+module _ {R C S : Type 0} (ways : Ways S) (steps : Reacting R) (awaits : R → ℕ → Awaited) (tells : C → ℕ → C → Type 0) where
+  pub no_moves : {A : Type 0} (done : A) (before : R) (clock : C) (known : Known S) → Moves ways steps awaits tells before clock known (Ok done) before clock known
+  no_moves done before clock known = ([], record { went = record { takes = refl; told = refl }; courses = λ number. refl }, λ rest. rest)
 
   pub moves_join : {A B : Type 0} (done : A) (before between after : R) (clock clock_between clock_after : C) (known known_between known_after : Known S)
-      → Moves ways steps tells before clock known (Ok done) between clock_between known_between
-      → (result : Result B StepFault) → Moves ways steps tells between clock_between known_between result after clock_after known_after
-      → Moves ways steps tells before clock known result after clock_after known_after
+      → Moves ways steps awaits tells before clock known (Ok done) between clock_between known_between
+      → (result : Result B StepFault) → Moves ways steps awaits tells between clock_between known_between result after clock_after known_after
+      → Moves ways steps awaits tells before clock known result after clock_after known_after
   moves_join done before between after clock clock_between clock_after known known_between known_after (notes, goes, rests) (Ok last) (more, goes_on, rests_on) = (
     notes ++ more,
-    goes_join steps tells ways before between after clock clock_between clock_after (place_in known) (place_in known_between) (place_in known_after) notes more goes goes_on,
+    goes_join steps awaits tells ways before between after clock clock_between clock_after (place_in known) (place_in known_between) (place_in known_after) notes more goes goes_on,
     λ at_rest. rests_on (rests at_rest),
   )
   moves_join done before between after clock clock_between clock_after known known_between known_after (notes, goes, rests) (Err fault) (more, middle, clock_middle, places, goes_on, fails) = (
@@ -118,23 +119,23 @@ module _ {R C S : Type 0} (ways : Ways S) (steps : Reacting R) (tells : C → �
     middle,
     clock_middle,
     places,
-    goes_join steps tells ways before between middle clock clock_between clock_middle (place_in known) (place_in known_between) places notes more goes goes_on,
+    goes_join steps awaits tells ways before between middle clock clock_between clock_middle (place_in known) (place_in known_between) places notes more goes goes_on,
     fails,
   )
 
   -- memory ran out behind moves
   pub starved : (before after : R) (clock clock_after : C) (known known_after : Known S)
-      → Moves ways steps tells {A = Unit {0}} before clock known (Ok tt) after clock_after known_after
-      → Moves ways steps tells {A = Unit {0}} before clock known (Err NoMemory) after clock_after known_after
+      → Moves ways steps awaits tells {A = Unit {0}} before clock known (Ok tt) after clock_after known_after
+      → Moves ways steps awaits tells {A = Unit {0}} before clock known (Err NoMemory) after clock_after known_after
   starved before after clock clock_after known known_after (notes, goes, rests) = (notes, after, clock_after, place_in known_after, goes, inl (refl, refl))
 
   -- a tick
   pub ticked : (before after : R) (clock clock_after : C) (known : Known S) (moment : ℕ) (result : Result Reaction StepFault)
       → tells clock moment clock_after → steps before (Tick moment) result after
-      → Moves ways steps tells {A = Unit {0}} before clock known (tick_result result) after clock_after known
+      → Moves ways steps awaits tells {A = Unit {0}} before clock known (tick_result result) after clock_after known
   ticked before after clock clock_after known moment (Ok reaction) told step = (
     Ticks moment reaction ∷ [],
-    record { went = record { reacts = (after, step, refl); told = (clock_after, told, refl) }; courses = λ number. refl },
+    record { went = record { takes = (after, step, refl); told = (clock_after, told, refl) }; courses = λ number. refl },
     λ rest. rest,
   )
   ticked before after clock clock_after known moment (Err fault) told step = (
@@ -142,29 +143,29 @@ module _ {R C S : Type 0} (ways : Ways S) (steps : Reacting R) (tells : C → �
     before,
     clock,
     place_in known,
-    record { went = record { reacts = refl; told = refl }; courses = λ number. refl },
+    record { went = record { takes = refl; told = refl }; courses = λ number. refl },
     inr (Tick moment, step),
   )
 
   pub tick_told : (before after : R) (clock clock_after : C) (known : Known S) (moment : ℕ) (result : Result (Unit {0}) StepFault)
       → tells clock moment clock_after → Ticked steps moment before result after
-      → Moves ways steps tells before clock known result after clock_after known
+      → Moves ways steps awaits tells before clock known result after clock_after known
   tick_told before after clock clock_after known moment result told (last, step, is) =
-      let P : Result (Unit {0}) StepFault → Type 0 = λ r. Moves ways steps tells before clock known r after clock_after known in
+      let P : Result (Unit {0}) StepFault → Type 0 = λ r. Moves ways steps awaits tells before clock known r after clock_after known in
       subst P (sym is) (ticked before after clock clock_after known moment last told step)
 
   -- to be asked: an edit at most
   pub edited_once : (before after : R) (clock : C) (known : Known S) (result : Result (Unit {0}) StepFault) → EditsOnce steps before result after
-      → Moves ways steps tells before clock known result after clock known
+      → Moves ways steps awaits tells before clock known result after clock known
   edited_once before after clock known (Ok done) (inl same) =
-      ([], record { went = record { reacts = same; told = refl }; courses = λ number. refl }, λ rest. rest)
+      ([], record { went = record { takes = same; told = refl }; courses = λ number. refl }, λ rest. rest)
   edited_once before after clock known (Ok done) (inr (path, edit, reaction, step)) = (
     Edits path edit reaction ∷ [],
-    record { went = record { reacts = (after, step, refl); told = refl }; courses = λ number. refl },
+    record { went = record { takes = (after, step, refl); told = refl }; courses = λ number. refl },
     λ rest. rest,
   )
   edited_once before after clock known (Err fault) (path, edit, step) =
-      ([], before, clock, place_in known, record { went = record { reacts = refl; told = refl }; courses = λ number. refl }, inr (Edited path edit, step))
+      ([], before, clock, place_in known, record { went = record { takes = refl; told = refl }; courses = λ number. refl }, inr (Edited path edit, step))
 
   -- one place is another
   abbrev pub placed : ℕ → Place S → (ℕ → Place S) → ℕ → Place S
@@ -173,44 +174,44 @@ module _ {R C S : Type 0} (ways : Ways S) (steps : Reacting R) (tells : C → �
   module _ (number : ℕ) (before : R) (clock : C) (known : Known S) where
     -- of one number alone, which then stands elsewhere
     goes_to : (after : R) (clock_after : C) (place : Place S) (deeds : List Deed)
-        → Talks steps tells ways number before clock (place_in known number) deeds after clock_after place
-        → Goes steps tells ways before clock (place_in known) (map (Of number) deeds) after clock_after (placed number place (place_in known))
+        → Talks steps awaits tells ways number before clock (place_in known number) deeds after clock_after place
+        → Goes steps awaits tells ways before clock (place_in known) (map (Of number) deeds) after clock_after (placed number place (place_in known))
     goes_to after clock_after place deeds talks =
-        let T : Place S → Type 0 = λ p. Talks steps tells ways number before clock (place_in known number) deeds after clock_after p in
-        goes_one steps tells ways number before after clock clock_after (place_in known) (placed number place (place_in known)) deeds
+        let T : Place S → Type 0 = λ p. Talks steps awaits tells ways number before clock (place_in known number) deeds after clock_after p in
+        goes_one steps awaits tells ways number before after clock clock_after (place_in known) (placed number place (place_in known)) deeds
         (subst T (sym (cond-true (nat_eq number number) place (place_in known number) (same_number number))) talks)
         (λ other apart. cond-false (nat_eq other number) place (place_in known other) (other_number number other apart))
 
     pub driven_on : (after : R) (clock_after : C) (known_after : Known S)
-        → DrivesOne ways steps tells number before clock known (Ok None) after clock_after known_after
-        → Moves ways steps tells {A = Unit {0}} before clock known (Ok tt) after clock_after known_after
+        → DrivesOne ways steps awaits tells number before clock known (Ok None) after clock_after known_after
+        → Moves ways steps awaits tells {A = Unit {0}} before clock known (Ok tt) after clock_after known_after
     driven_on after clock_after known_after (deeds, talks, stay, rests) = (
       map (Of number) deeds,
-      goes_one steps tells ways number before after clock clock_after (place_in known) (place_in known_after) deeds talks (places_stay steps tells ways number known known_after stay),
-      all_rest steps tells ways number (place_in known) (place_in known_after) (places_stay steps tells ways number known known_after stay) rests,
+      goes_one steps awaits tells ways number before after clock clock_after (place_in known) (place_in known_after) deeds talks (places_stay steps awaits tells ways number known known_after stay),
+      all_rest steps awaits tells ways number (place_in known) (place_in known_after) (places_stay steps awaits tells ways number known known_after stay) rests,
     )
 
     pub drive_failed : (fault : StepFault) (after : R) (clock_after : C) (known_after : Known S)
-        → DrivesOne ways steps tells number before clock known (Err fault) after clock_after known_after
-        → Moves ways steps tells {A = Unit {0}} before clock known (Err fault) after clock_after known_after
+        → DrivesOne ways steps awaits tells number before clock known (Err fault) after clock_after known_after
+        → Moves ways steps awaits tells {A = Unit {0}} before clock known (Err fault) after clock_after known_after
     drive_failed fault after clock_after known_after (deeds, middle, clock_middle, place, talks, fails) =
         (map (Of number) deeds, middle, clock_middle, placed number place (place_in known), goes_to middle clock_middle place deeds talks, fails)
 
     pub ended_then : (cause : Cause) (between after : R) (clock_after : C) (known_between known_after : Known S)
-        → DrivesOne ways steps tells number before clock known (Ok (Some cause)) between clock_after known_between
+        → DrivesOne ways steps awaits tells number before clock known (Ok (Some cause)) between clock_after known_between
         → (result : Result (Unit {0}) StepFault) → EndsOne steps number cause between known_between result after known_after
-        → Moves ways steps tells before clock known result after clock_after known_after
+        → Moves ways steps awaits tells before clock known result after clock_after known_after
     ended_then cause between after clock_after known_between known_after (deeds, at, talks, stay, below, (stream, causes)) (Ok done) (reaction, step, none, stay_then) =
-        let talks_on = talks_join steps tells ways number before between after clock clock_after clock_after (place_in known number) (Open at) Over deeds (Ends cause reaction ∷ [])
-        talks (record { went = record { reacts = (after, step, refl); told = refl }; along = (Over, (stream, causes), refl) }) in
+        let talks_on = talks_join steps awaits tells ways number before between after clock clock_after clock_after (place_in known number) (Open at) Over deeds (Ends cause reaction ∷ [])
+        talks (record { went = record { takes = (after, step, refl); told = refl }; along = (Over, (stream, causes), refl) }) in
         let stays = both_stay number known known_between known_after stay stay_then in
         let is_over : place_in known_after number ≡ Over =
         ap (λ b. cond b (held_or_over (found known_after number)) Unused) (ap (ltb number) stays.next ∙ below) ∙ ap held_or_over none in
-        let T : Place S → Type 0 = λ p. Talks steps tells ways number before clock (place_in known number) (deeds ++ Ends cause reaction ∷ []) after clock_after p in (
+        let T : Place S → Type 0 = λ p. Talks steps awaits tells ways number before clock (place_in known number) (deeds ++ Ends cause reaction ∷ []) after clock_after p in (
           map (Of number) (deeds ++ Ends cause reaction ∷ []),
-          goes_one steps tells ways number before after clock clock_after (place_in known) (place_in known_after) (deeds ++ Ends cause reaction ∷ [])
-              (subst T (sym is_over) talks_on) (places_stay steps tells ways number known known_after stays),
-          all_rest steps tells ways number (place_in known) (place_in known_after) (places_stay steps tells ways number known known_after stays)
+          goes_one steps awaits tells ways number before after clock clock_after (place_in known) (place_in known_after) (deeds ++ Ends cause reaction ∷ [])
+              (subst T (sym is_over) talks_on) (places_stay steps awaits tells ways number known known_after stays),
+          all_rest steps awaits tells ways number (place_in known) (place_in known_after) (places_stay steps awaits tells ways number known known_after stays)
               (λ other is. absurd (not_open other (sym is_over ∙ is))),
         )
       where
@@ -220,27 +221,27 @@ module _ {R C S : Type 0} (ways : Ways S) (steps : Reacting R) (tells : C → �
         (map (Of number) deeds, between, clock_after, placed number (Open at) (place_in known), goes_to between clock_after (Open at) deeds talks, inr (happening, step))
 
     pub driven_none : (cause : Option Cause) → cause ≡ None → (after : R) (clock_after : C) (known_after : Known S)
-        → DrivesOne ways steps tells number before clock known (Ok cause) after clock_after known_after
-        → Moves ways steps tells {A = Unit {0}} before clock known (Ok tt) after clock_after known_after
+        → DrivesOne ways steps awaits tells number before clock known (Ok cause) after clock_after known_after
+        → Moves ways steps awaits tells {A = Unit {0}} before clock known (Ok tt) after clock_after known_after
     driven_none cause is after clock_after known_after driven =
-        let P : Option Cause → Type 0 = λ c. DrivesOne ways steps tells number before clock known (Ok c) after clock_after known_after in
+        let P : Option Cause → Type 0 = λ c. DrivesOne ways steps awaits tells number before clock known (Ok c) after clock_after known_after in
         driven_on after clock_after known_after (subst P is driven)
 
     pub driven_some : (told : Option Cause) (cause : Cause) → told ≡ Some cause → (between after : R) (clock_after : C) (known_between known_after : Known S)
-        → DrivesOne ways steps tells number before clock known (Ok told) between clock_after known_between
+        → DrivesOne ways steps awaits tells number before clock known (Ok told) between clock_after known_between
         → (result : Result (Unit {0}) StepFault) → EndsOne steps number cause between known_between result after known_after
-        → Moves ways steps tells before clock known result after clock_after known_after
+        → Moves ways steps awaits tells before clock known result after clock_after known_after
     driven_some told cause is between after clock_after known_between known_after driven =
-        let P : Option Cause → Type 0 = λ c. DrivesOne ways steps tells number before clock known (Ok c) between clock_after known_between in
+        let P : Option Cause → Type 0 = λ c. DrivesOne ways steps awaits tells number before clock known (Ok c) between clock_after known_between in
         ended_then cause between after clock_after known_between known_after (subst P is driven)
 
     pub given_up : (at : Standing S) → ltb number known.next ≡ true → found known number ≡ Some at
-        → DrivesOne ways steps tells number before clock known (Ok (Some GivenUp)) before clock known
+        → DrivesOne ways steps awaits tells number before clock known (Ok (Some GivenUp)) before clock known
     given_up at below is = (
       [],
       at,
       record {
-        went = record { reacts = refl; told = refl };
+        went = record { takes = refl; told = refl };
         along = sym (ap (λ b. cond b (held_or_over (found known number)) Unused) below ∙ ap held_or_over is);
       },
       record { next = refl; others = λ other apart. refl },
@@ -248,18 +249,18 @@ module _ {R C S : Type 0} (ways : Ways S) (steps : Reacting R) (tells : C → �
       (at.stream, tt),
     )
 
-module _ {R C S : Type 0} (ways : Ways S) (steps : Reacting R) (tells : C → ℕ → C → Type 0) (number : ℕ) (before after : R) (clock clock_after : C) where
+module _ {R C S : Type 0} (ways : Ways S) (steps : Reacting R) (awaits : R → ℕ → Awaited) (tells : C → ℕ → C → Type 0) (number : ℕ) (before after : R) (clock clock_after : C) where
   -- a connection that is known and over by what it was given up for
   pub gave_up : (known known_after : Known S) → true ≡ knows known number → (result : Result (Unit {0}) StepFault)
       → EndsOne steps number GivenUp before known result after known_after
-      → Moves ways steps tells before clock known result after clock known_after
+      → Moves ways steps awaits tells before clock known result after clock known_after
   gave_up known known_after is result ends = by (found known number) refl
     where
-      by : (at : Option (Standing S)) → found known number ≡ at → Moves ways steps tells before clock known result after clock known_after
+      by : (at : Option (Standing S)) → found known number ≡ at → Moves ways steps awaits tells before clock known result after clock known_after
       by None none = let no : true ≡ false = is ∙ ap (λ o. ltb number known.next && is_some o) none ∙ and_false (ltb number known.next) in absurd (cc)
       by (Some at) some =
-          ended_then ways steps tells number before clock known GivenUp before after clock known known_after
-          (given_up ways steps tells number before clock known at (and_left (ltb number known.next) (is_some (found known number)) (sym is)) some) result ends
+          ended_then ways steps awaits tells number before clock known GivenUp before after clock known known_after
+          (given_up ways steps awaits tells number before clock known at (and_left (ltb number known.next) (is_some (found known number)) (sym is)) some) result ends
 
   module _ (next : ℕ) (entries entries_after : List (ℕ × Standing S)) (at at_after : Standing S) (set : entries_after ≡ set_value (nat_eq number) entries at_after)
       (is : Some at ≡ lookup (nat_eq number) entries) (below : number < next) where
@@ -294,25 +295,25 @@ module _ {R C S : Type 0} (ways : Ways S) (steps : Reacting R) (tells : C → �
     standing_of (Open other) = other
     standing_of Over = at_after
 
-    drove_here : (result : Result (Option Cause) StepFault) → Drives ways steps tells number before clock at result after clock_after at_after
-        → DrivesOne ways steps tells number before clock old result after clock_after new
+    drove_here : (result : Result (Option Cause) StepFault) → Drives ways steps awaits tells number before clock at result after clock_after at_after
+        → DrivesOne ways steps awaits tells number before clock old result after clock_after new
     drove_here (Ok None) (deeds, talks, turn, rests) =
-        let F : Place S → Type 0 = λ p. Talks steps tells ways number before clock p deeds after clock_after (place_in new number) in
-        let T : Place S → Type 0 = λ p. Talks steps tells ways number before clock (Open at) deeds after clock_after p in
+        let F : Place S → Type 0 = λ p. Talks steps awaits tells ways number before clock p deeds after clock_after (place_in new number) in
+        let T : Place S → Type 0 = λ p. Talks steps awaits tells ways number before clock (Open at) deeds after clock_after p in
         (deeds, subst F (sym was) (subst T (sym now) talks), stays, λ other same. sym (ap (λ p. (standing_of p).rests) (sym now ∙ same)) ∙ rests)
     drove_here (Ok (Some cause)) (deeds, between, talks, turn, causes) =
-        let F : Place S → Type 0 = λ p. Talks steps tells ways number before clock p deeds after clock_after (Open between) in
+        let F : Place S → Type 0 = λ p. Talks steps awaits tells ways number before clock p deeds after clock_after (Open between) in
         (deeds, between, subst F (sym was) talks, stays, lt-ltb number next below, (at_after.stream, causes))
     drove_here (Err fault) (deeds, middle, clock_middle, between, talks, turn, fails) =
-        let F : Place S → Type 0 = λ p. Talks steps tells ways number before clock p deeds middle clock_middle (Open between) in
+        let F : Place S → Type 0 = λ p. Talks steps awaits tells ways number before clock p deeds middle clock_middle (Open between) in
         (deeds, middle, clock_middle, Open between, subst F (sym was) talks, fails)
 
     -- a connection that is known was driven
     pub drove : (known : Known S) → record { next = next; entries = entries } ≡ known → (result : Result (Option Cause) StepFault)
-        → Drives ways steps tells number before clock at result after clock_after at_after
-        → DrivesOne ways steps tells number before clock known result after clock_after (record { next = next; entries = entries_after })
+        → Drives ways steps awaits tells number before clock at result after clock_after at_after
+        → DrivesOne ways steps awaits tells number before clock known result after clock_after (record { next = next; entries = entries_after })
     drove known view result drives =
-        let P : Known S → Type 0 = λ k. DrivesOne ways steps tells number before clock k result after clock_after new in
+        let P : Known S → Type 0 = λ k. DrivesOne ways steps awaits tells number before clock k result after clock_after new in
         subst P view (drove_here result drives)
 
     -- it holds no more than before, where its weight says so
@@ -338,18 +339,18 @@ closed_place : {S : Type 0} (b : Bool) (at : Standing S) → cond b Over Unused 
 closed_place true at is = cc
 closed_place false at is = cc
 
-module _ {R C S : Type 0} (ways : Ways S) (steps : Reacting R) (tells : C → ℕ → C → Type 0) (number : ℕ) (before : R) (clock : C) where
+module _ {R C S : Type 0} (ways : Ways S) (steps : Reacting R) (awaits : R → ℕ → Awaited) (tells : C → ℕ → C → Type 0) (number : ℕ) (before : R) (clock : C) where
   -- no connection of that number is known
   pub missed : (next : ℕ) (entries entries_after : List (ℕ × Standing S)) (known : Known S) → record { next = next; entries = entries } ≡ known
       → entries_after ≡ entries → None ≡ lookup (nat_eq number) entries
-      → DrivesOne ways steps tells number before clock known (Ok None) before clock (record { next = next; entries = entries_after })
+      → DrivesOne ways steps awaits tells number before clock known (Ok None) before clock (record { next = next; entries = entries_after })
   missed next entries entries_after known view same none =
-      let P : Known S → Type 0 = λ k. DrivesOne ways steps tells number before clock k (Ok None) before clock (record { next = next; entries = entries_after }) in
+      let P : Known S → Type 0 = λ k. DrivesOne ways steps awaits tells number before clock k (Ok None) before clock (record { next = next; entries = entries_after }) in
       let Q : List (ℕ × Standing S) → Type 0 = λ es.
-      DrivesOne ways steps tells number before clock (record { next = next; entries = entries }) (Ok None) before clock (record { next = next; entries = es }) in
+      DrivesOne ways steps awaits tells number before clock (record { next = next; entries = entries }) (Ok None) before clock (record { next = next; entries = es }) in
       subst P view (subst Q (sym same) (
         [],
-        record { went = record { reacts = refl; told = refl }; along = refl },
+        record { went = record { takes = refl; told = refl }; along = refl },
         record { next = refl; others = λ other apart. refl },
         λ at is. absurd (closed_place (ltb number next) at (ap (λ o. cond (ltb number next) (held_or_over o) Unused) none ∙ is)),
       ))
@@ -370,7 +371,7 @@ standing_at stream Unused = fresh stream
 standing_at stream (Open at) = at
 standing_at stream Over = fresh stream
 
-module _ {R C S : Type 0} (ways : Ways S) (steps : Reacting R) (tells : C → ℕ → C → Type 0) (stream : S) (before after : R) (clock : C) (known known_after : Known S) where
+module _ {R C S : Type 0} (ways : Ways S) (steps : Reacting R) (awaits : R → ℕ → Awaited) (tells : C → ℕ → C → Type 0) (stream : S) (before after : R) (clock : C) (known known_after : Known S) where
   is_unused : place_in known known.next ≡ Unused
   is_unused = ap (λ b. cond b (held_or_over (found known known.next)) Unused) (by (ltb known.next known.next) refl)
     where
@@ -379,13 +380,13 @@ module _ {R C S : Type 0} (ways : Ways S) (steps : Reacting R) (tells : C → �
       by false is = is
 
   opening : (reaction : Reaction) → steps before (Opened known.next) (Ok reaction) after
-      → Talks steps tells ways known.next before clock (place_in known known.next) (Opens reaction ∷ []) after clock (Open (fresh stream))
+      → Talks steps awaits tells ways known.next before clock (place_in known known.next) (Opens reaction ∷ []) after clock (Open (fresh stream))
   opening reaction step =
       let P : Place S → Type 0 = λ p. Along ways p (Opens reaction ∷ []) (Open (fresh stream)) in
-      record { went = record { reacts = (after, step, refl); told = refl }; along = subst P (sym is_unused) (Open (fresh stream), refl, refl) }
+      record { went = record { takes = (after, step, refl); told = refl }; along = subst P (sym is_unused) (Open (fresh stream), refl, refl) }
 
   pub opened_next : {A : Type 0} (done : A) → OpensNext steps stream before known (Ok tt) after known_after
-      → Moves ways steps tells before clock known (Ok done) after clock known_after
+      → Moves ways steps awaits tells before clock known (Ok done) after clock known_after
   opened_next done (reaction, step, is, next, others) =
       let others_stay : (other : ℕ) → other ≢ known.next → place_in known_after other ≡ place_in known other = λ other apart.
       (λ i. cond (ltb other (next i)) (held_or_over (others other apart i)) Unused)
@@ -394,25 +395,25 @@ module _ {R C S : Type 0} (ways : Ways S) (steps : Reacting R) (tells : C → �
       ap (λ n. cond (ltb known.next n) (held_or_over (found known_after known.next)) Unused) next
       ∙ ap (λ b. cond b (held_or_over (found known_after known.next)) Unused) (lt-ltb known.next (known.next + 1) (omega arith))
       ∙ ap held_or_over is in
-      let T : Place S → Type 0 = λ p. Talks steps tells ways known.next before clock (place_in known known.next) (Opens reaction ∷ []) after clock p in (
+      let T : Place S → Type 0 = λ p. Talks steps awaits tells ways known.next before clock (place_in known known.next) (Opens reaction ∷ []) after clock p in (
         map (Of known.next) (Opens reaction ∷ []),
-        goes_one steps tells ways known.next before after clock clock (place_in known) (place_in known_after) (Opens reaction ∷ [])
+        goes_one steps awaits tells ways known.next before after clock clock (place_in known) (place_in known_after) (Opens reaction ∷ [])
             (subst T (sym is_open) (opening reaction step)) others_stay,
-        all_rest steps tells ways known.next (place_in known) (place_in known_after) others_stay (λ at same. rests at (sym is_open ∙ same)),
+        all_rest steps awaits tells ways known.next (place_in known) (place_in known_after) others_stay (λ at same. rests at (sym is_open ∙ same)),
       )
     where
       rests : (at : Standing S) → Open (fresh stream) ≡ Open at → at.rests ≡ true
       rests at is = sym (ap (λ p. (standing_at stream p).rests) is)
 
   pub opening_failed : (A : Type 0) (fault : StepFault) → OpensNext steps stream before known (Err fault) after known_after
-      → Moves ways steps tells {A = A} before clock known (Err fault) after clock known_after
+      → Moves ways steps awaits tells {A = A} before clock known (Err fault) after clock known_after
   opening_failed A fault (inl (happening, step)) =
-      ([], before, clock, place_in known, record { went = record { reacts = refl; told = refl }; courses = λ number. refl }, inr (happening, step))
+      ([], before, clock, place_in known, record { went = record { takes = refl; told = refl }; courses = λ number. refl }, inr (happening, step))
   opening_failed A fault (inr (is, (reaction, step))) = (
     map (Of known.next) (Opens reaction ∷ []),
     after,
     clock,
-    placed ways steps tells known.next (Open (fresh stream)) (place_in known),
-    goes_to ways steps tells known.next before clock known after clock (Open (fresh stream)) (Opens reaction ∷ []) (opening reaction step),
+    placed ways steps awaits tells known.next (Open (fresh stream)) (place_in known),
+    goes_to ways steps awaits tells known.next before clock known after clock (Open (fresh stream)) (Opens reaction ∷ []) (opening reaction step),
     inl (is, refl),
   )

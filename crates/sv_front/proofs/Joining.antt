@@ -1,32 +1,16 @@
 -- What was done behind what was done before.
-use Rattle.std.proofs.Common.{◌≡◌, ℕ, Bool, true, false, cond, List, [], ◌∷◌, ◌++◌, Result, Ok, refl, sym, ap, ◌∙◌, subst, append_assoc, map, nat_eq}
+use Rattle.std.proofs.Common.{◌≡◌, ℕ, Bool, true, false, cond, List, [], ◌∷◌, ◌++◌, Result, refl, sym, ap, ◌∙◌, subst, append_assoc, map, nat_eq}
 use Rattle.std.proofs.lemmas.List.{map-append}
 use Rattle.sv_connection.specs.Connection.{AreTold}
 use Rattle.sv_front.specs.Course.{Along}
-use Rattle.sv_front.specs.Notes.{Edits, Goes, Note, Of, Talks, Ticks, Went, answer_of, answers, deeds_of, event_of, events, moment_of, moments}
-use Rattle.sv_front.specs.Places.{Deed, Place}
+use Rattle.sv_front.specs.Notes.{Does, Edits, Goes, Note, NotesAreReactions, Of, TakesAll, Talks, Ticks, Went, answer_of, answers, deeds_of, event_of, events, moment_of, moments}
+use Rattle.sv_front.specs.Places.{Arms, Deed, Ends, Hands, Opens, Pauses, Place, Reads, Writes}
 use Rattle.sv_front.specs.Ways.{Ways}
-use Rattle.sv_run.specs.Events.{Edited, Happening, Tick}
+use Rattle.sv_run.specs.Events.{Happening}
 use Rattle.sv_run.specs.Reacting.{Reacting, Reacts}
 use Rattle.sv_run.specs.declared.reaction.Reaction.{Reaction}
 use Rattle.sv_run.specs.declared.step_fault.StepFault.{StepFault}
-use Rattle.sv_run.proofs.Reactions.{reacts_join}
-
-pub events_join : (notes more : List Note) → events (notes ++ more) ≡ events notes ++ events more
-events_join [] more = refl
-events_join (Of number deed ∷ notes) more =
-    ap (λ later. event_of number deed ++ later) (events_join notes more) ∙ sym (append_assoc (event_of number deed) (events notes) (events more))
-events_join (Ticks moment reaction ∷ notes) more = ap (λ later. Tick moment ∷ later) (events_join notes more)
-events_join (Edits path edit reaction ∷ notes) more = ap (λ later. Edited path edit ∷ later) (events_join notes more)
-
-pub answers_join : (notes more : List Note) → answers (notes ++ more) ≡ answers notes ++ answers more
-answers_join [] more = refl
-answers_join (Of number deed ∷ notes) more =
-    ap (λ later. answer_of deed ++ later) (answers_join notes more) ∙ sym (append_assoc (answer_of deed) (answers notes) (answers more))
-answers_join (Ticks moment reaction ∷ notes) more =
-    let first : Result Reaction StepFault = Ok reaction in ap (λ later. first ∷ later) (answers_join notes more)
-answers_join (Edits path edit reaction ∷ notes) more =
-    let first : Result Reaction StepFault = Ok reaction in ap (λ later. first ∷ later) (answers_join notes more)
+use Rattle.sv_wire.specs.declared.inbox.Awaited.{Awaited}
 
 pub moments_join : (notes more : List Note) → moments (notes ++ more) ≡ moments notes ++ moments more
 moments_join [] more = refl
@@ -59,27 +43,56 @@ along_join {S} ways before between after [] more is later = let P : Place S → 
 along_join ways before between after (deed ∷ deeds) more (middle, leads, front) later =
     (middle, leads, along_join ways middle between after deeds more front later)
 
-module _ {R C : Type 0} (steps : Reacting R) (tells : C → ℕ → C → Type 0) where
+module _ {R C : Type 0} (steps : Reacting R) (awaits : R → ℕ → Awaited) (tells : C → ℕ → C → Type 0) where
+  takes_join : (before between after : R) (notes more : List Note)
+      → TakesAll steps awaits tells before notes between → TakesAll steps awaits tells between more after → TakesAll steps awaits tells before (notes ++ more) after
+  takes_join before between after [] more is later = let P : R → Type 0 = λ r. TakesAll steps awaits tells r more after in subst P is later
+  takes_join before between after (note ∷ notes) more (middle, here, front) later =
+      (middle, here, takes_join middle between after notes more front later)
+
   pub went_join : (before between after : R) (clock clock_between clock_after : C) (notes more : List Note)
-      → Went steps tells before clock notes between clock_between → Went steps tells between clock_between more after clock_after
-      → Went steps tells before clock (notes ++ more) after clock_after
+      → Went steps awaits tells before clock notes between clock_between → Went steps awaits tells between clock_between more after clock_after
+      → Went steps awaits tells before clock (notes ++ more) after clock_after
   went_join before between after clock clock_between clock_after notes more first second =
-      let E : List Happening → Type 0 = λ es. Reacts steps before es (answers (notes ++ more)) after in
-      let A : List (Result Reaction StepFault) → Type 0 = λ as_. Reacts steps before (events notes ++ events more) as_ after in
       let M : List ℕ → Type 0 = λ ms. AreTold tells clock ms clock_after in
       record {
-        reacts = subst E (sym (events_join notes more)) (subst A (sym (answers_join notes more))
-            (reacts_join steps before between after (events notes) (events more) (answers notes) (answers more) first.reacts second.reacts));
+        takes = takes_join before between after notes more first.takes second.takes;
         told = subst M (sym (moments_join notes more)) (told_join tells clock clock_between clock_after (moments notes) (moments more) first.told second.told);
       }
 
+  -- a deed brings what its event does
+  deed_reacts : (number : ℕ) (deed : Deed) (before between after : R) (happenings : List Happening) (results : List (Result Reaction StepFault))
+      → Does steps awaits tells number before deed between → Reacts steps between happenings results after
+      → Reacts steps before (event_of number deed ++ happenings) (answer_of deed ++ results) after
+  deed_reacts number (Opens reaction) before between after happenings results step later = (between, step, later)
+  deed_reacts number (Hands bytes moment reaction awaited) before between after happenings results (step, is) later = (between, step, later)
+  deed_reacts number (Ends cause reaction) before between after happenings results step later = (between, step, later)
+  deed_reacts number (Reads bytes) before between after happenings results same later =
+      let P : R → Type 0 = λ r. Reacts steps r happenings results after in subst P same later
+  deed_reacts number (Writes bytes) before between after happenings results same later =
+      let P : R → Type 0 = λ r. Reacts steps r happenings results after in subst P same later
+  deed_reacts number Pauses before between after happenings results same later =
+      let P : R → Type 0 = λ r. Reacts steps r happenings results after in subst P same later
+  deed_reacts number Arms before between after happenings results same later =
+      let P : R → Type 0 = λ r. Reacts steps r happenings results after in subst P same later
+
+  takes_react : (before after : R) (notes : List Note) → TakesAll steps awaits tells before notes after → Reacts steps before (events notes) (answers notes) after
+  takes_react before after [] same = same
+  takes_react before after (Of number deed ∷ notes) (between, does, later) =
+      deed_reacts number deed before between after (events notes) (answers notes) does (takes_react between after notes later)
+  takes_react before after (Ticks moment reaction ∷ notes) (between, step, later) = (between, step, takes_react between after notes later)
+  takes_react before after (Edits path edit reaction ∷ notes) (between, step, later) = (between, step, takes_react between after notes later)
+
+  pub notes_react : NotesAreReactions steps awaits tells
+  notes_react before after clock clock_after notes went = takes_react before after notes went.takes
+
   module _ {S : Type 0} (ways : Ways S) where
     pub talks_join : (number : ℕ) (before between after : R) (clock clock_between clock_after : C) (place place_between place_after : Place S) (deeds more : List Deed)
-        → Talks steps tells ways number before clock place deeds between clock_between place_between
-        → Talks steps tells ways number between clock_between place_between more after clock_after place_after
-        → Talks steps tells ways number before clock place (deeds ++ more) after clock_after place_after
+        → Talks steps awaits tells ways number before clock place deeds between clock_between place_between
+        → Talks steps awaits tells ways number between clock_between place_between more after clock_after place_after
+        → Talks steps awaits tells ways number before clock place (deeds ++ more) after clock_after place_after
     talks_join number before between after clock clock_between clock_after place place_between place_after deeds more first second =
-        let N : List Note → Type 0 = λ notes. Went steps tells before clock notes after clock_after in
+        let N : List Note → Type 0 = λ notes. Went steps awaits tells before clock notes after clock_after in
         record {
           went = subst N (sym (map-append (Of number) deeds more))
               (went_join before between after clock clock_between clock_after (map (Of number) deeds) (map (Of number) more) first.went second.went);
@@ -87,9 +100,9 @@ module _ {R C : Type 0} (steps : Reacting R) (tells : C → ℕ → C → Type 0
         }
 
     pub goes_join : (before between after : R) (clock clock_between clock_after : C) (places places_between places_after : ℕ → Place S) (notes more : List Note)
-        → Goes steps tells ways before clock places notes between clock_between places_between
-        → Goes steps tells ways between clock_between places_between more after clock_after places_after
-        → Goes steps tells ways before clock places (notes ++ more) after clock_after places_after
+        → Goes steps awaits tells ways before clock places notes between clock_between places_between
+        → Goes steps awaits tells ways between clock_between places_between more after clock_after places_after
+        → Goes steps awaits tells ways before clock places (notes ++ more) after clock_after places_after
     goes_join before between after clock clock_between clock_after places places_between places_after notes more first second =
         record {
           went = went_join before between after clock clock_between clock_after notes more first.went second.went;

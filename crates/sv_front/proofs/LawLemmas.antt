@@ -34,7 +34,7 @@ module _ {S : Type 0} (ways : Ways S) where
   step_given Unused (Opens reaction) at leads = sym (ap (λ (s : Standing S). s.ahead) leads)
   step_given (Open b) (Reads bytes) at (idle, some, made, is) =
       ap (λ front. front ++ (bytes ++ [])) idle.0 ∙ append-nil bytes ∙ sym (ap (λ (s : Standing S). s.ahead) is)
-  step_given (Open b) (Hands bytes moment reaction) at (has, piece, front, is) = append-nil b.ahead ∙ front
+  step_given (Open b) (Hands bytes moment reaction awaited) at (has, piece, front, is) = append-nil b.ahead ∙ front
   step_given (Open b) (Writes bytes) at (some, made, front, is) = append-nil b.ahead ∙ sym (ap (λ (s : Standing S). s.ahead) is)
   step_given (Open b) Pauses at (needs, pauses, is) = append-nil b.ahead ∙ sym (ap (λ (s : Standing S). s.ahead) is)
   step_given (Open b) Arms at (needs, arms, is) = append-nil b.ahead ∙ sym (ap (λ (s : Standing S). s.ahead) is)
@@ -44,7 +44,7 @@ module _ {S : Type 0} (ways : Ways S) where
       → unsent_of before ++ sends_of deed ≡ taken (calls_of deed) ++ at.unsent
   step_sent Unused (Opens reaction) at leads = sym (ap (λ (s : Standing S). s.unsent) leads)
   step_sent (Open b) (Reads bytes) at (idle, some, made, is) = append-nil b.unsent ∙ sym (ap (λ (s : Standing S). s.unsent) is)
-  step_sent (Open b) (Hands bytes moment reaction) at (has, piece, front, is) =
+  step_sent (Open b) (Hands bytes moment reaction awaited) at (has, piece, front, is) =
       ap (λ rest. rest ++ reaction.sends) has.1 ∙ sym (ap (λ (s : Standing S). s.unsent) is)
   step_sent (Open b) (Writes bytes) at (some, made, front, is) =
       append-nil b.unsent ∙ front ∙ ap (λ text. text ++ at.unsent) (sym (append-nil bytes))
@@ -109,7 +109,7 @@ module _ {S : Type 0} (ways : Ways S) where
   step_rests : (before : Place S) (deed : Deed) (at : Standing S) → Leads ways before deed (Open at) → at.rests ≡ true → Needs at
   step_rests Unused (Opens reaction) at leads rests = subst (λ (s : Standing S). Needs s) (sym leads) (inl (refl, refl, refl))
   step_rests (Open b) (Reads bytes) at (idle, some, made, is) rests = moving b at (ap (λ (s : Standing S). s.rests) is) rests
-  step_rests (Open b) (Hands bytes moment reaction) at (has, piece, front, is) rests = moving b at (ap (λ (s : Standing S). s.rests) is) rests
+  step_rests (Open b) (Hands bytes moment reaction awaited) at (has, piece, front, is) rests = moving b at (ap (λ (s : Standing S). s.rests) is) rests
   step_rests (Open b) (Writes bytes) at (some, made, front, is) rests = moving b at (ap (λ (s : Standing S). s.rests) is) rests
   step_rests (Open b) Pauses at (needs, pauses, is) rests = subst (λ (s : Standing S). Needs s) (sym is) needs
   step_rests (Open b) Arms at (needs, arms, is) rests = subst (λ (s : Standing S). Needs s) (sym is) needs

@@ -9,6 +9,7 @@ use Rattle.sv_front.specs.Places.{Open, Place, Standing, Unused}
 use Rattle.sv_front.specs.Ways.{Ways}
 use Rattle.sv_run.specs.Reacting.{Reacting}
 use Rattle.sv_front.proofs.Joining.{goes_join}
+use Rattle.sv_wire.specs.declared.inbox.Awaited.{Awaited}
 
 none_below : (number : ℕ) → ltb number 0 ≡ false
 none_below number = by (ltb number 0) refl
@@ -17,14 +18,14 @@ none_below number = by (ltb number 0) refl
     by true is = let less : number < 0 = ltb-true number 0 is in absurd (omega arith)
     by false is = is
 
-module _ {R C S : Type 0} (ways : Ways S) (steps : Reacting R) (tells : C → ℕ → C → Type 0) where
+module _ {R C S : Type 0} (ways : Ways S) (steps : Reacting R) (awaits : R → ℕ → Awaited) (tells : C → ℕ → C → Type 0) where
   round_more : (before between after : R) (clock clock_between clock_after : C) (places places_between places_after : ℕ → Place S) (rounds : List (List Note)) (notes : List Note)
-      → Rounds ways steps tells before clock places rounds between clock_between places_between
-      → Goes steps tells ways between clock_between places_between notes after clock_after places_after → AreAtRest places_after
-      → Rounds ways steps tells before clock places (rounds ++ notes ∷ []) after clock_after places_after
+      → Rounds ways steps awaits tells before clock places rounds between clock_between places_between
+      → Goes steps awaits tells ways between clock_between places_between notes after clock_after places_after → AreAtRest places_after
+      → Rounds ways steps awaits tells before clock places (rounds ++ notes ∷ []) after clock_after places_after
   round_more before between after clock clock_between clock_after places places_between places_after [] notes (same, same_clock, same_places) goes rests =
-      let W : R → Type 0 = λ r. Went steps tells r clock_between notes after clock_after in
-      let V : C → Type 0 = λ c. Went steps tells before c notes after clock_after in (
+      let W : R → Type 0 = λ r. Went steps awaits tells r clock_between notes after clock_after in
+      let V : C → Type 0 = λ c. Went steps awaits tells before c notes after clock_after in (
         after,
         clock_after,
         places_after,
@@ -43,7 +44,7 @@ module _ {R C S : Type 0} (ways : Ways S) (steps : Reacting R) (tells : C → �
   -- the rounds so far
   abbrev pub SoFar : R → C → R → C → Known S → Type 0
   SoFar before clock now clock_now known =
-      (rounds : List (List Note)) × Rounds ways steps tells before clock (λ number. Unused) rounds now clock_now (place_in known) × AreAtRest (place_in known)
+      (rounds : List (List Note)) × Rounds ways steps awaits tells before clock (λ number. Unused) rounds now clock_now (place_in known) × AreAtRest (place_in known)
 
   pub no_rounds : (before : R) (clock : C) → SoFar before clock before clock (record { next = 0; entries = [] })
   no_rounds before clock = ([], (refl, refl, unused), λ number at is. absurd (not_open number at is))
@@ -55,7 +56,7 @@ module _ {R C S : Type 0} (ways : Ways S) (steps : Reacting R) (tells : C → �
       not_open number at is = let no : Unused ≡ Open at = sym (unused number) ∙ is in absurd (cc)
 
   pub one_round : (before now after : R) (clock clock_now clock_after : C) (known known_after : Known S) → SoFar before clock now clock_now known
-      → Moves ways steps tells {A = Unit {0}} now clock_now known (Ok tt) after clock_after known_after → SoFar before clock after clock_after known_after
+      → Moves ways steps awaits tells {A = Unit {0}} now clock_now known (Ok tt) after clock_after known_after → SoFar before clock after clock_after known_after
   one_round before now after clock clock_now clock_after known known_after (rounds, so_far, at_rest) (notes, goes, rests) = (
     rounds ++ notes ∷ [],
     round_more before now after clock clock_now clock_after (λ number. Unused) (place_in known) (place_in known_after) rounds notes so_far goes (rests at_rest),
@@ -63,10 +64,10 @@ module _ {R C S : Type 0} (ways : Ways S) (steps : Reacting R) (tells : C → �
   )
 
   pub rounds_are_one : (before after : R) (clock clock_after : C) (places places_after : ℕ → Place S) (rounds : List (List Note))
-      → Rounds ways steps tells before clock places rounds after clock_after places_after
-      → Goes steps tells ways before clock places (flat_map (λ notes. notes) rounds) after clock_after places_after
+      → Rounds ways steps awaits tells before clock places rounds after clock_after places_after
+      → Goes steps awaits tells ways before clock places (flat_map (λ notes. notes) rounds) after clock_after places_after
   rounds_are_one before after clock clock_after places places_after [] (same, same_clock, same_places) =
-      record { went = record { reacts = same; told = same_clock }; courses = same_places }
+      record { went = record { takes = same; told = same_clock }; courses = same_places }
   rounds_are_one before after clock clock_after places places_after (notes ∷ rounds) (middle, clock_middle, places_middle, goes, rest, later) =
-      goes_join steps tells ways before middle after clock clock_middle clock_after places places_middle places_after notes (flat_map (λ notes. notes) rounds) goes
+      goes_join steps awaits tells ways before middle after clock clock_middle clock_after places places_middle places_after notes (flat_map (λ notes. notes) rounds) goes
       (rounds_are_one middle after clock_middle clock_after places_middle places_after rounds later)

@@ -6,6 +6,7 @@ use Rattle.sv_connection.specs.Turns as turn
 use Rattle.sv_front.specs.Course.{Along}
 use Rattle.sv_front.specs.Laws.{end_calls}
 use Rattle.sv_front.specs.Notes.{answer_of, event_of, moment_of}
+use Rattle.sv_front.specs.Phases.{is_closing}
 use Rattle.sv_front.specs.Places.{Deed, Ends, Hands, Open, Standing, Unused, Writes}
 use Rattle.sv_front.specs.Ways.{Ways}
 use Rattle.sv_run.specs.Events.{Opened}
@@ -14,7 +15,7 @@ use Rattle.sv_streams.specs.Calls.{Call, Gave, Took}
 
 -- the calls, as if each piece had been read by itself as it was handed on: a read cut into pieces
 abbrev pub cut_calls : Deed → List Call
-cut_calls (Hands bytes moment reaction) = Gave bytes ∷ []
+cut_calls (Hands bytes moment reaction awaited) = Gave bytes ∷ []
 cut_calls (Writes bytes) = Took bytes ∷ []
 cut_calls (Ends cause reaction) = end_calls cause
 cut_calls other = []
@@ -22,9 +23,9 @@ cut_calls other = []
 module _ {S : Type 0} where
   -- no turn is under way, and nothing waits to be written; or one is, of which that waits
   abbrev pub IsUnderWay : List Turn → Standing S → Type 0
-  IsUnderWay [] at = (at.unsent ≡ []) × (at.closes ≡ false)
+  IsUnderWay [] at = (at.unsent ≡ []) × (is_closing at.phase ≡ false)
   IsUnderWay (turn ∷ []) at =
-      (0 < length turn.bytes) × (concat turn.parts ++ at.unsent ≡ turn.reaction.sends) × (turn.reaction.closes ≡ at.closes)
+      (0 < length turn.bytes) × (concat turn.parts ++ at.unsent ≡ turn.reaction.sends) × (turn.reaction.closes ≡ is_closing at.phase)
   IsUnderWay (turn ∷ other ∷ turns) at = ⊥
 
 -- these turns of a connection by itself are what was done

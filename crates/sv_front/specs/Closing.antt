@@ -1,5 +1,6 @@
 -- How a connection that is over is closed (RFC 9112, section 9.6).
 use Rattle.std.specs.Prelude.{◌||◌, cond, length, nat_eq, not}
+use Rattle.sv_front.specs.Phases.{is_refused}
 use Rattle.sv_front.specs.Places.{Standing}
 use Rattle.sv_front.specs.declared.cause.Cause.{Cause}
 use Rattle.sv_front.specs.declared.cause.Cause.TheVariants.{PeerEnded, AnswerCloses, ReadFails, WriteFails, GivenUp}
@@ -9,7 +10,7 @@ use Rattle.sv_front.specs.declared.closing.Closing.TheVariants.{AtOnce, Answered
 module _ {S : Type 0} where
   -- behind an answer that closes: a peer whose message was refused may still send it, and one of which more came sends on
   abbrev pub behind_answer : Standing S → Closing
-  behind_answer at = cond (at.refused || not (nat_eq (length at.ahead) 0)) InStages Answered
+  behind_answer at = cond (is_refused at.phase || not (nat_eq (length at.ahead) 0)) InStages Answered
 
   -- at once where its peer has ended or is gone; where it is given up in stages, since its peer may still send
   abbrev pub closing_of : Standing S → Cause → Closing

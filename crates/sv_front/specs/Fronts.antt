@@ -7,23 +7,24 @@ use Rattle.sv_front.specs.Steps.{Fails}
 use Rattle.sv_front.specs.Ways.{Ways}
 use Rattle.sv_run.specs.Reacting.{Reacting}
 use Rattle.sv_run.specs.declared.step_fault.StepFault.{StepFault}
+use Rattle.sv_wire.specs.declared.inbox.Awaited.{Awaited}
 
-module _ {S R C : Type 0} (ways : Ways S) (steps : Reacting R) (tells : C → ℕ → C → Type 0) where
+module _ {S R C : Type 0} (ways : Ways S) (steps : Reacting R) (awaits : R → ℕ → Awaited) (tells : C → ℕ → C → Type 0) where
   -- what was done, from the connections that were known to those that are, which are at rest where those were; or until an event was refused or memory ran out
   abbrev pub Moves : {A : Type 0} → R → C → Known S → Result A StepFault → R → C → Known S → Type 0
   Moves before clock known (Ok done) after clock_after known_after =
-      (notes : List Note) × Goes steps tells ways before clock (place_in known) notes after clock_after (place_in known_after)
+      (notes : List Note) × Goes steps awaits tells ways before clock (place_in known) notes after clock_after (place_in known_after)
       × (AreAtRest (place_in known) → AreAtRest (place_in known_after))
   Moves before clock known (Err fault) after clock_after known_after =
       (notes : List Note) × (middle : R) × (clock_middle : C) × (places : ℕ → Place S)
-      × Goes steps tells ways before clock (place_in known) notes middle clock_middle places × Fails steps fault middle after
+      × Goes steps awaits tells ways before clock (place_in known) notes middle clock_middle places × Fails steps fault middle after
 
   -- rounds, behind each of which all connections are at rest
   abbrev pub Rounds : R → C → (ℕ → Place S) → List (List Note) → R → C → (ℕ → Place S) → Type 0
   Rounds before clock places [] after clock_after places_after = (after ≡ before) × (clock_after ≡ clock) × ((number : ℕ) → places_after number ≡ places number)
   Rounds before clock places (notes ∷ rounds) after clock_after places_after =
       (between : R) × (clock_between : C) × (places_between : ℕ → Place S)
-      × Goes steps tells ways before clock places notes between clock_between places_between × AreAtRest places_between
+      × Goes steps awaits tells ways before clock places notes between clock_between places_between × AreAtRest places_between
       × Rounds between clock_between places_between rounds after clock_after places_after
 
   -- from the first on, where no number is used, until it is told to stop, or an event is refused or memory runs out in a round
@@ -34,11 +35,11 @@ module _ {S R C : Type 0} (ways : Ways S) (steps : Reacting R) (tells : C → �
       (rounds : List (List Note)) × (between : R) × (clock_between : C) × (places_between : ℕ → Place S)
       × Rounds before clock (λ number. Unused) rounds between clock_between places_between
       × (notes : List Note) × (middle : R) × (clock_middle : C) × (places : ℕ → Place S)
-      × Goes steps tells ways between clock_between places_between notes middle clock_middle places × Fails steps fault middle after
+      × Goes steps awaits tells ways between clock_between places_between notes middle clock_middle places × Fails steps fault middle after
 
   -- what was done in rounds was done one after another: the events of all are taken one behind the other, and each number has one course
   abbrev pub RoundsAreOne : Type 0
   RoundsAreOne =
       (before after : R) (clock clock_after : C) (places places_after : ℕ → Place S) (rounds : List (List Note))
       → Rounds before clock places rounds after clock_after places_after
-      → Goes steps tells ways before clock places (flat_map (λ notes. notes) rounds) after clock_after places_after
+      → Goes steps awaits tells ways before clock places (flat_map (λ notes. notes) rounds) after clock_after places_after

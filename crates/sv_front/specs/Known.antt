@@ -12,6 +12,7 @@ use Rattle.sv_run.specs.Reacting.{Reacting}
 use Rattle.sv_run.specs.declared.reaction.Reaction.{Reaction}
 use Rattle.sv_run.specs.declared.step_fault.StepFault.{StepFault}
 use Rattle.sv_run.specs.declared.step_fault.StepFault.TheVariants.{NoMemory}
+use Rattle.sv_wire.specs.declared.inbox.Awaited.{Awaited}
 
 -- the number that the next connection gets, and where those that are known stand
 pub record Known (S : Type 0) : Type 0 where
@@ -43,19 +44,19 @@ module _ {S : Type 0} where
   abbrev pub AreAtRest : (ℕ → Place S) → Type 0
   AreAtRest places = (number : ℕ) (at : Standing S) → places number ≡ Open at → at.rests ≡ true
 
-module _ {S R C : Type 0} (ways : Ways S) (steps : Reacting R) (tells : C → ℕ → C → Type 0) (number : ℕ) where
+module _ {S R C : Type 0} (ways : Ways S) (steps : Reacting R) (awaits : R → ℕ → Awaited) (tells : C → ℕ → C → Type 0) (number : ℕ) where
   -- the connection of a number was driven, and the others stay
   abbrev pub DrivesOne : R → C → Known S → Result (Option Cause) StepFault → R → C → Known S → Type 0
   DrivesOne before clock known (Ok None) after clock_after known_after =
-      (deeds : List Deed) × Talks steps tells ways number before clock (place_in known number) deeds after clock_after (place_in known_after number)
+      (deeds : List Deed) × Talks steps awaits tells ways number before clock (place_in known number) deeds after clock_after (place_in known_after number)
       × OthersStay number known known_after × ((at : Standing S) → place_in known_after number ≡ Open at → at.rests ≡ true)
   DrivesOne before clock known (Ok (Some cause)) after clock_after known_after =
       (deeds : List Deed) × (between : Standing S)
-      × Talks steps tells ways number before clock (place_in known number) deeds after clock_after (Open between)
+      × Talks steps awaits tells ways number before clock (place_in known number) deeds after clock_after (Open between)
       × OthersStay number known known_after × (ltb number known.next ≡ true) × ((stream : S) × Causes ways between cause stream)
   DrivesOne before clock known (Err fault) after clock_after known_after =
       (deeds : List Deed) × (middle : R) × (clock_middle : C) × (place : Place S)
-      × Talks steps tells ways number before clock (place_in known number) deeds middle clock_middle place × Fails steps fault middle after
+      × Talks steps awaits tells ways number before clock (place_in known number) deeds middle clock_middle place × Fails steps fault middle after
 
 abbrev pub tick_result : Result Reaction StepFault → Result (Unit {0}) StepFault
 tick_result (Ok reaction) = Ok tt

@@ -24,12 +24,12 @@ calls_of other = []
 
 -- the bytes that it handed on
 abbrev pub handed_of : Deed → List ℕ
-handed_of (Hands bytes moment reaction) = bytes
+handed_of (Hands bytes moment reaction awaited) = bytes
 handed_of other = []
 
 -- the bytes that were to be sent for them
 abbrev pub sends_of : Deed → List ℕ
-sends_of (Hands bytes moment reaction) = reaction.sends
+sends_of (Hands bytes moment reaction awaited) = reaction.sends
 sends_of other = []
 
 module _ {S : Type 0} (ways : Ways S) where

@@ -2,7 +2,6 @@ pub mod Alone
 pub mod Asking
 pub mod Closing
 pub mod Course
-pub mod Ending
 pub mod Figures
 pub mod Finishing
 pub mod Fronts
@@ -10,6 +9,7 @@ pub mod Holding
 pub mod Known
 pub mod Laws
 pub mod Notes
+pub mod Phases
 pub mod Pieces
 pub mod Places
 pub mod Steps

@@ -1,5 +1,5 @@
 -- What was done of all connections, one after another.
-use Rattle.std.specs.Prelude.{ℕ, ◌++◌, List, [], ◌∷◌, cond, map, nat_eq, Result, Ok}
+use Rattle.std.specs.Prelude.{◌≡◌, ℕ, ◌++◌, List, [], ◌∷◌, cond, map, nat_eq, Result, Ok}
 use Rattle.sv_connection.specs.Connection.{AreTold}
 use Rattle.sv_connection.specs.Turns.{over_event}
 use Rattle.sv_front.specs.Course.{Along}
@@ -14,6 +14,7 @@ use Rattle.sv_run.specs.Events.{Edited, Happening, Opened, Piece, Tick}
 use Rattle.sv_run.specs.Reacting.{Reacting, Reacts}
 use Rattle.sv_run.specs.declared.reaction.Reaction.{Reaction}
 use Rattle.sv_run.specs.declared.step_fault.StepFault.{StepFault}
+use Rattle.sv_wire.specs.declared.inbox.Awaited.{Awaited}
 
 -- a deed of the connection of that number, a tick at that moment, or an edit of the context of that path
 pub data Note : Type 0 where
@@ -32,18 +33,18 @@ over_by GivenUp = Lost
 -- the event that was taken, its answer, and the moment that was told for it
 abbrev pub event_of : ℕ → Deed → List Happening
 event_of number (Opens reaction) = Opened number ∷ []
-event_of number (Hands bytes moment reaction) = Piece number bytes moment ∷ []
+event_of number (Hands bytes moment reaction awaited) = Piece number bytes moment ∷ []
 event_of number (Ends cause reaction) = over_event number (over_by cause) ∷ []
 event_of number other = []
 
 abbrev pub answer_of : Deed → List (Result Reaction StepFault)
 answer_of (Opens reaction) = Ok reaction ∷ []
-answer_of (Hands bytes moment reaction) = Ok reaction ∷ []
+answer_of (Hands bytes moment reaction awaited) = Ok reaction ∷ []
 answer_of (Ends cause reaction) = Ok reaction ∷ []
 answer_of other = []
 
 abbrev pub moment_of : Deed → List ℕ
-moment_of (Hands bytes moment reaction) = moment ∷ []
+moment_of (Hands bytes moment reaction awaited) = moment ∷ []
 moment_of other = []
 
 abbrev pub events : List Note → List Happening
@@ -71,10 +72,28 @@ deeds_of number (Of other deed ∷ notes) = cond (nat_eq number other) (deed ∷
 deeds_of number (Ticks moment reaction ∷ notes) = deeds_of number notes
 deeds_of number (Edits path edit reaction ∷ notes) = deeds_of number notes
 
-module _ {R C : Type 0} (steps : Reacting R) (tells : C → ℕ → C → Type 0) where
-  -- the events were taken one after another, at the moments that the clock told
+module _ {R C : Type 0} (steps : Reacting R) (awaits : R → ℕ → Awaited) (tells : C → ℕ → C → Type 0) where
+  -- the event of a deed of the connection of a number was taken, if it has one; after a piece, that is awaited of the connection
+  abbrev pub Does : ℕ → R → Deed → R → Type 0
+  Does number before (Opens reaction) after = steps before (Opened number) (Ok reaction) after
+  Does number before (Hands bytes moment reaction awaited) after =
+      steps before (Piece number bytes moment) (Ok reaction) after × (awaits after number ≡ awaited)
+  Does number before (Ends cause reaction) after = steps before (over_event number (over_by cause)) (Ok reaction) after
+  Does number before other after = after ≡ before
+
+  abbrev pub TakesOne : R → Note → R → Type 0
+  TakesOne before (Of number deed) after = Does number before deed after
+  TakesOne before (Ticks moment reaction) after = steps before (Tick moment) (Ok reaction) after
+  TakesOne before (Edits path edit reaction) after = steps before (Edited path edit) (Ok reaction) after
+
+  -- the events were taken one after another
+  abbrev pub TakesAll : R → List Note → R → Type 0
+  TakesAll before [] after = after ≡ before
+  TakesAll before (note ∷ notes) after = (between : R) × TakesOne before note between × TakesAll between notes after
+
+  -- so they were, at the moments that the clock gave
   pub record Went (before : R) (clock : C) (notes : List Note) (after : R) (clock_after : C) : Type 0 where
-    pub reacts : Reacts steps before (events notes) (answers notes) after
+    pub takes : TakesAll before notes after
     pub told : AreTold tells clock (moments notes) clock_after
 
   module _ {S : Type 0} (ways : Ways S) where
@@ -87,3 +106,10 @@ module _ {R C : Type 0} (steps : Reacting R) (tells : C → ℕ → C → Type 0
     pub record Goes (before : R) (clock : C) (places : ℕ → Place S) (notes : List Note) (after : R) (clock_after : C) (places_after : ℕ → Place S) : Type 0 where
       pub went : Went before clock notes after clock_after
       pub courses : (number : ℕ) → Along ways (places number) (deeds_of number notes) (places_after number)
+
+module _ {R C : Type 0} (steps : Reacting R) (awaits : R → ℕ → Awaited) (tells : C → ℕ → C → Type 0) where
+  -- what was done is events that were taken one after another, each with its answer
+  abbrev pub NotesAreReactions : Type 0
+  NotesAreReactions =
+      (before after : R) (clock clock_after : C) (notes : List Note) → Went steps awaits tells before clock notes after clock_after
+      → Reacts steps before (events notes) (answers notes) after

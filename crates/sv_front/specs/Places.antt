@@ -1,25 +1,26 @@
 -- Where a connection stands, and what may come next.
-use Rattle.std.specs.Prelude.{◌≡◌, ◌⊎◌, ℕ, ◌+◌, ◌<◌, ◌&&◌, Bool, false, true, cond, List, [], ◌++◌, length, min}
-use Rattle.sv_front.specs.Ending.{ends_message, has_refusal}
+use Rattle.std.specs.Prelude.{◌≡◌, ◌⊎◌, ℕ, ◌<◌, Bool, false, true, List, [], ◌++◌, length}
+use Rattle.sv_front.specs.Phases.{is_closing, phase_after, under_way_after}
 use Rattle.sv_front.specs.Pieces.{IsPiece}
 use Rattle.sv_front.specs.Ways.{Ways}
 use Rattle.sv_front.specs.declared.cause.Cause.{Cause}
 use Rattle.sv_front.specs.declared.cause.Cause.TheVariants.{AnswerCloses, GivenUp, PeerEnded, ReadFails, WriteFails}
-use Rattle.sv_front.specs.declared.limits.TheConstants.{MAX_UNDER_WAY}
+use Rattle.sv_front.specs.declared.phase.Phase.{Phase}
+use Rattle.sv_front.specs.declared.phase.Phase.TheVariants as phase
 use Rattle.sv_run.specs.declared.reaction.Reaction.{Reaction}
 use Rattle.sv_streams.specs.Calls.{Gave, ReadFailed, Took, WriteFailed}
+use Rattle.sv_wire.specs.declared.inbox.Awaited.{Awaited}
+use Rattle.sv_wire.specs.declared.inbox.Awaited.TheVariants.{Message}
 
--- the stream of a connection, what was read of it and not handed on, what waits to be written to it, whether it closes behind that, whether
--- nothing was done since a call would have had to wait or the peer was armed, how many bytes of a message were handed on that is not over, and
--- whether it closes behind the refusal of a message, of which more may come
+-- the stream of a connection, what was read of it and not handed on, what waits to be written to it, its phase, whether nothing was done since a
+-- call would have had to wait or the peer was armed, and how many bytes of the message under way were handed on
 pub record Standing (S : Type 0) : Type 0 where
   pub stream : S
   pub ahead : List ℕ
   pub unsent : List ℕ
-  pub closes : Bool
+  pub phase : Phase
   pub rests : Bool
   pub under_way : ℕ
-  pub refused : Bool
 
 -- of a number: no connection had it, one has it, or the one that had it is over
 pub data Place (S : Type 0) : Type 0 where
@@ -33,8 +34,8 @@ pub data Deed : Type 0 where
   Opens : Reaction → Deed
   -- a read gave these bytes
   Reads : List ℕ → Deed
-  -- a piece was handed on at that moment, and brought that
-  Hands : List ℕ → ℕ → Reaction → Deed
+  -- a piece was handed on at that moment, and brought that; this is awaited then
+  Hands : List ℕ → ℕ → Reaction → Awaited → Deed
   -- a write took these bytes
   Writes : List ℕ → Deed
   -- the call that it needs would have to wait
@@ -44,26 +45,22 @@ pub data Deed : Type 0 where
   -- it was told to be over
   Ends : Cause → Reaction → Deed
 
--- how many bytes of a message are under way behind a piece, counted up to the most that is kept of one: none, where what it brought ends the message
-abbrev pub under_way_behind : ℕ → ℕ → Reaction → ℕ
-under_way_behind before count reaction = cond (ends_message reaction.journal.entries reaction.sends) 0 (min (before + count) MAX_UNDER_WAY)
-
--- whether what a piece brought closes the connection behind the refusal of a message
-abbrev pub closes_refused : Reaction → Bool
-closes_refused reaction = reaction.closes && has_refusal reaction.journal.entries
+-- before the first byte
+abbrev pub first_phase : Phase
+first_phase = phase.Open Message
 
 module _ {S : Type 0} where
   -- a connection that was opened
   abbrev pub fresh : S → Standing S
-  fresh stream = record { stream = stream; ahead = []; unsent = []; closes = false; rests = true; under_way = 0; refused = false }
+  fresh stream = record { stream = stream; ahead = []; unsent = []; phase = first_phase; rests = true; under_way = 0 }
 
   -- nothing waits to be handed on or to be written
   abbrev pub IsIdle : Standing S → Type 0
-  IsIdle at = (at.ahead ≡ []) × (at.unsent ≡ []) × (at.closes ≡ false)
+  IsIdle at = (at.ahead ≡ []) × (at.unsent ≡ []) × (is_closing at.phase ≡ false)
 
   -- a piece can be handed on: nothing waits to be written
   abbrev pub HasPiece : Standing S → Type 0
-  HasPiece at = (0 < length at.ahead) × (at.unsent ≡ []) × (at.closes ≡ false)
+  HasPiece at = (0 < length at.ahead) × (at.unsent ≡ []) × (is_closing at.phase ≡ false)
 
   -- it needs to be read or to be written to
   abbrev pub Needs : Standing S → Type 0
@@ -75,7 +72,7 @@ module _ {S : Type 0} where
     Causes at PeerEnded stream = IsIdle at × ways.makes at.stream (Gave []) stream
     Causes at ReadFails stream = IsIdle at × ways.makes at.stream ReadFailed stream
     Causes at WriteFails stream = (0 < length at.unsent) × ways.makes at.stream WriteFailed stream
-    Causes at AnswerCloses stream = (at.unsent ≡ []) × (at.closes ≡ true) × (stream ≡ at.stream)
+    Causes at AnswerCloses stream = (at.unsent ≡ []) × (is_closing at.phase ≡ true) × (stream ≡ at.stream)
     Causes at GivenUp stream = Unit {0}
 
     -- what leads from one place of a number to its next: nothing leads on from the end
@@ -85,15 +82,14 @@ module _ {S : Type 0} where
     Leads (Open at) (Reads bytes) (Open after) =
         IsIdle at × (0 < length bytes) × ways.makes at.stream (Gave bytes) after.stream
         × (after ≡ record at { stream = after.stream; ahead = bytes; rests = false })
-    Leads (Open at) (Hands bytes moment reaction) (Open after) =
+    Leads (Open at) (Hands bytes moment reaction awaited) (Open after) =
         HasPiece at × IsPiece bytes × (at.ahead ≡ bytes ++ after.ahead)
         × (after ≡ record at {
           ahead = after.ahead;
           unsent = reaction.sends;
-          closes = reaction.closes;
+          phase = phase_after reaction awaited;
           rests = false;
-          under_way = under_way_behind at.under_way (length bytes) reaction;
-          refused = closes_refused reaction;
+          under_way = under_way_after at.phase at.under_way (length bytes) reaction.sends (phase_after reaction awaited);
         })
     Leads (Open at) (Writes bytes) (Open after) =
         (0 < length bytes) × ways.makes at.stream (Took bytes) after.stream × (at.unsent ≡ bytes ++ after.unsent)

@@ -17,6 +17,7 @@ use Rattle.sv_run.specs.declared.step_fault.StepFault.{StepFault}
 use Rattle.sv_run.specs.declared.step_fault.StepFault.TheVariants.{NoMemory}
 use Rattle.sv_streams.specs.Calls.{taken}
 use Rattle.sv_text.specs.declared.no_memory.NoMemory.{NoMemory as OutOfMemory}
+use Rattle.sv_wire.specs.declared.inbox.Awaited.{Awaited}
 
 -- an event was refused, or memory had run out before one
 abbrev pub Fails : {R : Type 0} → Reacting R → StepFault → R → R → Type 0
@@ -58,20 +59,20 @@ module _ {S : Type 0} (ways : Ways S) where
   SendsOn before left Rests after left_after = ComesToRest before after
   SendsOn before left (IsOver cause) after left_after = Causes ways before cause after.stream
 
-  module _ {R C : Type 0} (steps : Reacting R) (tells : C → ℕ → C → Type 0) (number : ℕ) (before : R) (clock : C) (at : Standing S) where
+  module _ {R C : Type 0} (steps : Reacting R) (awaits : R → ℕ → Awaited) (tells : C → ℕ → C → Type 0) (number : ℕ) (before : R) (clock : C) (at : Standing S) where
     -- a piece was handed on
     abbrev pub HandsOn : Result (Unit {0}) StepFault → R → C → Standing S → Type 0
     HandsOn (Ok done) after clock_after at_after =
-        (bytes : List ℕ) × (moment : ℕ) × (reaction : Reaction) × tells clock moment clock_after
-        × steps before (Piece number bytes moment) (Ok reaction) after × Leads ways (Open at) (Hands bytes moment reaction) (Open at_after)
+        (bytes : List ℕ) × (moment : ℕ) × (reaction : Reaction) × (awaited : Awaited) × tells clock moment clock_after
+        × steps before (Piece number bytes moment) (Ok reaction) after × (awaits after number ≡ awaited) × Leads ways (Open at) (Hands bytes moment reaction awaited) (Open at_after)
     HandsOn (Err fault) after clock_after at_after = (happening : Happening) × steps before happening (Err fault) after
 
     -- one thing was done, of what may still be done
     abbrev pub StepsOnce : Allowance → Result Step StepFault → R → C → Standing S → Allowance → Type 0
     StepsOnce left (Ok GoesOn) after clock_after at_after left_after =
-        (deed : Deed) × Talks steps tells ways number before clock (Open at) (deed ∷ []) after clock_after (Open at_after) × Spends left deed left_after
+        (deed : Deed) × Talks steps awaits tells ways number before clock (Open at) (deed ∷ []) after clock_after (Open at_after) × Spends left deed left_after
     StepsOnce left (Ok Rests) after clock_after at_after left_after =
-        (deed : Deed) × Talks steps tells ways number before clock (Open at) (deed ∷ []) after clock_after (Open at_after)
+        (deed : Deed) × Talks steps awaits tells ways number before clock (Open at) (deed ∷ []) after clock_after (Open at_after)
         × (calls_of deed ≡ []) × (at_after.rests ≡ true)
     StepsOnce left (Ok (IsOver cause)) after clock_after at_after left_after =
         (after ≡ before) × (clock_after ≡ clock) × Causes ways at cause at_after.stream
@@ -80,11 +81,11 @@ module _ {S : Type 0} (ways : Ways S) where
     -- it was driven until it rests, others have their turn, or it is over
     abbrev pub Drives : Result (Option Cause) StepFault → R → C → Standing S → Type 0
     Drives (Ok None) after clock_after at_after =
-        (deeds : List Deed) × Talks steps tells ways number before clock (Open at) deeds after clock_after (Open at_after)
+        (deeds : List Deed) × Talks steps awaits tells ways number before clock (Open at) deeds after clock_after (Open at_after)
         × IsTurn deeds × (at_after.rests ≡ true)
     Drives (Ok (Some cause)) after clock_after at_after =
-        (deeds : List Deed) × (between : Standing S) × Talks steps tells ways number before clock (Open at) deeds after clock_after (Open between)
+        (deeds : List Deed) × (between : Standing S) × Talks steps awaits tells ways number before clock (Open at) deeds after clock_after (Open between)
         × IsTurn deeds × Causes ways between cause at_after.stream
     Drives (Err fault) after clock_after at_after =
         (deeds : List Deed) × (middle : R) × (clock_middle : C) × (between : Standing S)
-        × Talks steps tells ways number before clock (Open at) deeds middle clock_middle (Open between) × IsTurn deeds × Fails steps fault middle after
+        × Talks steps awaits tells ways number before clock (Open at) deeds middle clock_middle (Open between) × IsTurn deeds × Fails steps fault middle after

@@ -8,10 +8,11 @@ ghost use Rattle.sv_front.specs.Steps.{Drives, HandsOn, IsArmed, SendsOn, StepsO
 use crate::allowance::Allowance;
 use crate::cause::Cause;
 use crate::closing::Closing;
-use crate::ending::{ends_message, has_refusal};
-use crate::limits::{BYTES_A_WINDOW, FIRST_READ_BYTES, MAX_UNDER_WAY, READ_BYTES, WINDOW_SECONDS};
+use crate::limits::{FIRST_READ_BYTES, READ_BYTES};
+use crate::pace::Pace;
 use crate::peer::{Peer, Tried};
 use crate::pending::Pending;
+use crate::phase::Phase;
 use crate::pieces::piece_len;
 use crate::sent::Sent;
 use crate::step::Step;
@@ -22,25 +23,31 @@ use sv_journal::Journal;
 use sv_run::{Happening, Reaction, Reactor, StepFault};
 use sv_streams::Clock;
 use sv_text::NoMemory;
+use sv_wire::Awaited;
 
 /// A connection that is served beside others.
 #[derive(Drop)]
 pub(crate) struct Connection<P> {
     stream: P,
+    // What was read and not handed on, and what waits to be written.
     ahead: Pending,
     unsent: Pending,
-    closes: bool,
-    rests: bool,
-    refused: bool,
+    phase: Phase,
+    // How many bytes of the message under way were handed on.
     under_way: u64,
-    begun: bool,
-    flows: bool,
-    waits: bool,
-    moved: usize,
-    stirred: bool,
-    idle_seconds: u64,
-    until: u64,
-    rested: u64,
+    // Whether the next call would have to wait, or the peer was armed, and nothing was done since.
+    rests: bool,
+    next_read: NextRead,
+    pace: Pace,
+}
+
+/// How many bytes the next read takes at most.
+#[derive(Clone, Copy, Debug, PartialEq, Eq)]
+enum NextRead {
+    /// [`FIRST_READ_BYTES`], which most requests do not fill.
+    First,
+    /// [`READ_BYTES`], after a read that was filled.
+    Full,
 }
 
 impl<P> Model for Connection<P> {
@@ -48,7 +55,7 @@ impl<P> Model for Connection<P> {
 
     ghost Value = { Standing P };
 
-    ghost view = { λ c. record { stream = c.stream; ahead = c.ahead; unsent = c.unsent; closes = c.closes; rests = c.rests; under_way = c.under_way; refused = c.refused } };
+    ghost view = { λ c. record { stream = c.stream; ahead = c.ahead; unsent = c.unsent; phase = c.phase; rests = c.rests; under_way = c.under_way } };
 }
 
 impl<P: Peer> Connection<P> {
@@ -56,29 +63,22 @@ impl<P: Peer> Connection<P> {
     ghost use Rattle.sv_front.specs.Closing.{behind_answer, closing_of};
     ghost use Rattle.sv_front.specs.Finishing.{is_writing};
     ghost use Rattle.sv_front.specs.Holding.{weight};
-    ghost use Rattle.sv_front.specs.Places.{closes_refused, under_way_behind};
+    ghost use Rattle.sv_front.specs.Phases.{phase_after, under_way_after};
+    ghost use Rattle.sv_front.specs.Places.{first_phase};
 
-    /// A connection that was opened at that time in seconds and in that turn, whose stream is armed. Where it stands between requests it is to be given up
-    /// after so many seconds.
+    /// A connection that was opened at that time in seconds and in that turn, whose stream is armed. It may be idle for so many seconds.
     pub fn new(alloc: Global, stream: P, now: u64, idle_seconds: u64, turn: u64) -> Connection<P>
-        ensures { result ≡ record { stream = stream; ahead = []; unsent = []; closes = false; rests = true; under_way = 0; refused = false } }
+        ensures { result ≡ record { stream = stream; ahead = []; unsent = []; phase = first_phase; rests = true; under_way = 0 } }
     {
         Connection {
             stream,
             ahead: Pending::new(alloc),
             unsent: Pending::new(alloc),
-            closes: false,
-            rests: true,
-            refused: false,
+            phase: Phase::Open(Awaited::Message),
             under_way: 0,
-            begun: false,
-            flows: false,
-            waits: false,
-            moved: 0,
-            stirred: false,
-            idle_seconds,
-            until: behind(now, idle_seconds),
-            rested: turn,
+            rests: true,
+            next_read: NextRead::First,
+            pace: Pace::new(now, idle_seconds, turn),
         }
     }
 
@@ -105,25 +105,25 @@ impl<P: Peer> Connection<P> {
     fn closing_behind_answer(&self) -> Closing
         ensures { result ≡ behind_answer self.now }
     {
-        if self.refused || !self.ahead.is_empty() {
+        if self.phase.is_refused() || !self.ahead.is_empty() {
             return Closing::InStages;
         }
         Closing::Answered
     }
 
-    /// When it is to be given up, in seconds.
+    /// When it is given up, in seconds.
     pub fn until(&self) -> u64 {
-        self.until
+        self.pace.until()
     }
 
-    /// Whether it stands between requests: no message is under way, as far as answers tell it, and nothing waits.
+    /// Whether it is between two requests: nothing of a message is held, and nothing waits.
     pub fn is_between_requests(&self) -> bool {
-        !self.begun && self.is_idle()
+        self.phase.is_idle() && self.is_idle()
     }
 
-    /// The turn in which it came to stand between requests, where it does.
+    /// The turn in which it came to be between two requests, if it is.
     pub fn rested(&self) -> u64 {
-        self.rested
+        self.pace.idle_since()
     }
 
     /// How many bytes it holds: those that wait to be handed on or to be written, and those of a message that is not over.
@@ -172,36 +172,22 @@ impl<P: Peer> Connection<P> {
         reactor: &mut R,
         clock: &mut C,
     ) -> Result<Option<Cause>, StepFault>
-        ensures { Drives P.ways R.steps C.tells number reactor.old clock.old self.old result reactor.new clock.new self.new }
+        ensures { Drives P.ways R.steps R.awaited C.tells number reactor.old clock.old self.old result reactor.new clock.new self.new }
     {
         let driven = self.drive(number, reactor, clock);
         self.pace(now, turn);
         driven
     }
 
-    // Puts the moment off at which it is to be given up, where it moved enough bytes or came to stand between requests.
+    // Sets when it is given up, by what was moved and whether it is between two requests.
     #[inline(always)]
     fn pace(&mut self, now: u64, turn: u64)
         ensures { self.new ≡ self.old }
     {
         if self.is_between_requests() {
-            self.rest(now, turn);
-        } else if !self.waits || self.moved >= BYTES_A_WINDOW {
-            self.waits = true;
-            self.moved = 0;
-            self.until = behind(now, WINDOW_SECONDS);
-        }
-        self.stirred = false;
-    }
-
-    // Stands between requests from now on, where something came or went of it; else it has done so already.
-    fn rest(&mut self, now: u64, turn: u64)
-        ensures { self.new ≡ self.old }
-    {
-        if self.stirred {
-            self.waits = false;
-            self.until = behind(now, self.idle_seconds);
-            self.rested = turn;
+            self.pace.rest(now, turn);
+        } else {
+            self.pace.go_on(now);
         }
     }
 
@@ -212,7 +198,7 @@ impl<P: Peer> Connection<P> {
         reactor: &mut R,
         clock: &mut C,
     ) -> Result<Option<Cause>, StepFault>
-        ensures { Drives P.ways R.steps C.tells number reactor.old clock.old self.old result reactor.new clock.new self.new }
+        ensures { Drives P.ways R.steps R.awaited C.tells number reactor.old clock.old self.old result reactor.new clock.new self.new }
     {
         let mut left = Allowance::whole();
         for _ in 0..u64::MAX {
@@ -234,12 +220,12 @@ impl<P: Peer> Connection<P> {
         clock: &mut C,
         left: &mut Allowance,
     ) -> Result<Step, StepFault>
-        ensures { StepsOnce P.ways R.steps C.tells number reactor.old clock.old self.old left.old result reactor.new clock.new self.new left.new }
+        ensures { StepsOnce P.ways R.steps R.awaited C.tells number reactor.old clock.old self.old left.old result reactor.new clock.new self.new left.new }
     {
         if !self.unsent.is_empty() {
             return Ok(self.send_on(left));
         }
-        if self.closes {
+        if self.phase.is_closing() {
             return Ok(Step::IsOver(Cause::AnswerCloses));
         }
         if self.ahead.is_empty() {
@@ -261,27 +247,29 @@ impl<P: Peer> Connection<P> {
     fn is_idle(&self) -> bool
         ensures { IsTrue result ↔ IsIdle self.now }
     {
-        !self.closes && self.unsent.is_empty() && self.ahead.is_empty()
+        !self.phase.is_closing() && self.unsent.is_empty() && self.ahead.is_empty()
     }
 
-    // How many bytes a read takes at most: few at first, which most requests do not fill, and many behind a read that was filled.
+    // How many bytes the next read takes at most.
     fn read_len(&self) -> usize
         ensures { 0 < result }
     {
-        if self.flows {
-            return READ_BYTES;
+        match self.next_read {
+            NextRead::First => FIRST_READ_BYTES,
+            NextRead::Full => READ_BYTES,
         }
-        FIRST_READ_BYTES
     }
 
-    // Reads once, unless others have their turn: behind many pieces the next read is a short one, so that they have it soon again.
+    // Reads once, unless others have their turn: after many pieces the next read is a short one, so that they have it soon again.
     #[inline(always)]
     fn take_in(&mut self, left: &mut Allowance) -> Result<Step, NoMemory>
         requires { IsIdle self.old }
         ensures { TakesIn P.ways self.old left.old result self.new left.new }
     {
         if left.is_spent() {
-            self.flows = self.flows && left.bytes > 0;
+            if left.bytes == 0 {
+                self.next_read = NextRead::First;
+            }
             return Ok(self.arm());
         }
         left.calls -= 1;
@@ -289,10 +277,12 @@ impl<P: Peer> Connection<P> {
         match self.ahead.refill(&mut self.stream, most) {
             Ok(Tried::Done(0)) => Ok(Step::IsOver(Cause::PeerEnded)),
             Ok(Tried::Done(count)) => {
-                self.begun = true;
-                self.flows = count == most;
-                self.moved = self.moved.saturating_add(count);
-                self.stirred = true;
+                self.next_read = if count == most {
+                    NextRead::Full
+                } else {
+                    NextRead::First
+                };
+                self.pace.note_read(count);
                 self.rests = false;
                 Ok(Step::GoesOn)
             }
@@ -319,8 +309,7 @@ impl<P: Peer> Connection<P> {
             Tried::Done(count) => {
                 self.unsent.skip(count);
                 left.bytes -= count;
-                self.moved = self.moved.saturating_add(count);
-                self.stirred = true;
+                self.pace.note_written(count);
                 self.rests = false;
                 Step::GoesOn
             }
@@ -340,7 +329,7 @@ impl<P: Peer> Connection<P> {
         clock: &mut C,
     ) -> Result<(), StepFault>
         requires { HasPiece self.old }
-        ensures { HandsOn P.ways R.steps C.tells number reactor.old clock.old self.old result reactor.new clock.new self.new }
+        ensures { HandsOn P.ways R.steps R.awaited C.tells number reactor.old clock.old self.old result reactor.new clock.new self.new }
     {
         let count = piece_len(self.ahead.as_slice());
         let moment = clock.now();
@@ -352,7 +341,8 @@ impl<P: Peer> Connection<P> {
         match reactor.step(piece) {
             Ok(reaction) => {
                 self.ahead.skip(count);
-                let (written, journal) = self.keep(count, reaction);
+                let awaited = reactor.awaits(number);
+                let (written, journal) = self.keep(count, reaction, awaited);
                 reactor.recycle(written, journal);
                 Ok(())
             }
@@ -360,16 +350,14 @@ impl<P: Peer> Connection<P> {
         }
     }
 
-    // What a piece of so many bytes brought waits to be written. A message is under way until its answer was brought; `100 Continue` is none. Gives what
-    // it needs no more.
+    // What a piece of so many bytes brought waits to be written, and the container awaits that. Gives what it needs no more.
     #[inline(always)]
-    fn keep(&mut self, count: usize, reaction: Reaction) -> (Vec<u8>, Journal)
+    fn keep(&mut self, count: usize, reaction: Reaction, awaited: Awaited) -> (Vec<u8>, Journal)
         ensures { self.new ≡ record self.old {
           unsent = reaction.sends;
-          closes = reaction.closes;
+          phase = phase_after reaction awaited;
           rests = false;
-          under_way = under_way_behind self.old.under_way count reaction;
-          refused = closes_refused reaction;
+          under_way = under_way_after self.old.phase self.old.under_way count reaction.sends (phase_after reaction awaited);
         } }
     {
         let Reaction {
@@ -378,17 +366,14 @@ impl<P: Peer> Connection<P> {
             journal,
             ..
         } = reaction;
-        let is_over = ends_message(journal.entries(), sends.as_slice());
-        self.begun = !is_over;
-        self.under_way = if is_over {
-            0
-        } else {
-            self.under_way
-                .saturating_add(count as u64)
-                .min(MAX_UNDER_WAY)
-        };
-        self.refused = closes && has_refusal(journal.entries());
-        self.closes = closes;
+        let phase = Phase::after(closes, journal.entries(), awaited);
+        self.under_way = phase.under_way(
+            self.phase,
+            self.under_way,
+            count as u64,
+            sends.as_slice(),
+        );
+        self.phase = phase;
         self.rests = false;
         let written = mem::replace(&mut self.unsent, Pending::of(sends));
         (written.into_vec(), journal)
@@ -405,9 +390,4 @@ impl<P: Peer> Connection<P> {
         }
         Step::IsOver(Cause::GivenUp)
     }
-}
-
-// The first second in which as many have gone by whole: a moment is a second that has begun.
-fn behind(now: u64, seconds: u64) -> u64 {
-    now.saturating_add(seconds).saturating_add(1)
 }

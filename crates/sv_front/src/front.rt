@@ -113,7 +113,7 @@ impl<P: Peer + Drop> Front<P> {
         clock: &mut C,
         network: &mut N,
     ) -> Result<(), StepFault>
-        ensures { Moves P.ways R.steps C.tells reactor.old clock.old self.old result reactor.new clock.new self.new }
+        ensures { Moves P.ways R.steps R.awaited C.tells reactor.old clock.old self.old result reactor.new clock.new self.new }
     {
         let most = self.limits.held_bytes;
         self.serve_within(most, number, reactor, clock, network)
@@ -128,7 +128,7 @@ impl<P: Peer + Drop> Front<P> {
         clock: &mut C,
         network: &mut N,
     ) -> Result<(), StepFault>
-        ensures moves { Moves P.ways R.steps C.tells reactor.old clock.old self.old result reactor.new clock.new self.new }
+        ensures moves { Moves P.ways R.steps R.awaited C.tells reactor.old clock.old self.old result reactor.new clock.new self.new }
         ensures within { OnOk result (HoldsWithin most number self.old self.new) }
     {
         match self.serve_one(number, reactor, clock, network) {
@@ -147,7 +147,7 @@ impl<P: Peer + Drop> Front<P> {
         clock: &mut C,
         network: &mut N,
     ) -> Result<(), StepFault>
-        ensures moves { Moves P.ways R.steps C.tells reactor.old clock.old self.old result reactor.new clock.new self.new }
+        ensures moves { Moves P.ways R.steps R.awaited C.tells reactor.old clock.old self.old result reactor.new clock.new self.new }
         ensures within { OnOk result (held self.new ≤ most) }
     {
         for _ in 0..u64::MAX {
@@ -195,7 +195,7 @@ impl<P: Peer + Drop> Front<P> {
         clock: &mut C,
         network: &mut N,
     ) -> Result<bool, StepFault>
-        ensures moves { Moves P.ways R.steps C.tells reactor.old clock.old self.old result reactor.new clock.new self.new }
+        ensures moves { Moves P.ways R.steps R.awaited C.tells reactor.old clock.old self.old result reactor.new clock.new self.new }
         ensures grows { IfOk result (λ grows. grows ≡ false → weight_in self.new number ≤ weight_in self.old number) }
     {
         let mut grows = false;
@@ -218,7 +218,7 @@ impl<P: Peer + Drop> Front<P> {
         now: u64,
         grows: &mut bool,
     ) -> Result<Option<Cause>, StepFault>
-        ensures drives { DrivesOne P.ways R.steps C.tells number reactor.old clock.old self.old result reactor.new clock.new self.new }
+        ensures drives { DrivesOne P.ways R.steps R.awaited C.tells number reactor.old clock.old self.old result reactor.new clock.new self.new }
         ensures grows { grows.new ≡ false → weight_in self.new number ≤ weight_in self.old number }
     {
         *grows = false;
@@ -284,7 +284,7 @@ impl<P: Peer + Drop> Front<P> {
         clock: &mut C,
         network: &mut N,
     ) -> Result<(), StepFault>
-        ensures { Moves P.ways R.steps C.tells reactor.old clock.old self.old result reactor.new clock.new self.new }
+        ensures { Moves P.ways R.steps R.awaited C.tells reactor.old clock.old self.old result reactor.new clock.new self.new }
     {
         if !self.knows(number) {
             return Ok(());
@@ -303,7 +303,7 @@ impl<P: Peer + Drop> Front<P> {
         reactor: &mut R,
         clock: &mut C,
     ) -> Result<bool, StepFault>
-        ensures { Moves P.ways R.steps C.tells reactor.old clock.old self.old result reactor.new clock.new self.new }
+        ensures { Moves P.ways R.steps R.awaited C.tells reactor.old clock.old self.old result reactor.new clock.new self.new }
     {
         if !self.has_room() {
             return Ok(false);

@@ -3,6 +3,7 @@
 ghost use Rattle.std.specs.Prelude.{◌≡◌};
 ghost use Rattle.sv_front.specs.Alone.{ServedAsIfAlone};
 ghost use Rattle.sv_front.specs.Fronts.{RoundsAreOne};
+ghost use Rattle.sv_front.specs.Notes.{NotesAreReactions};
 ghost use Rattle.sv_front.specs.Laws.{BytesAreKept, EndsHaveACause, NumbersAreNotUsedAgain, RestIsForSomething};
 
 use crate::limits::{
@@ -39,7 +40,12 @@ pub fn bytes_are_kept<P: Peer>()
 
 /// What is done in rounds is done one after another: the events of all connections are taken one behind the other, and of each number one course.
 pub fn rounds_are_one<P: Peer, R: Reactor, C: Clock>()
-    ensures { RoundsAreOne P.ways R.steps C.tells }
+    ensures { RoundsAreOne P.ways R.steps R.awaited C.tells }
+{}
+
+/// What is done of all connections is events that are taken one after another, each with its answer.
+pub fn what_is_done_is_events<R: Reactor, C: Clock>()
+    ensures { NotesAreReactions R.steps R.awaited C.tells }
 {}
 
 /// The events of a connection, their answers, their moments and, with each read cut into its pieces, the calls of its stream are those of turns of

@@ -6,15 +6,16 @@ mod cause;
 mod closing;
 mod connection;
 mod consulted;
-mod ending;
 mod figures;
 mod finishing;
 mod front;
 mod laws;
 mod limits;
 mod network;
+mod pace;
 mod peer;
 mod pending;
+mod phase;
 mod pieces;
 mod running;
 mod sent;
@@ -27,7 +28,7 @@ pub use consulted::Consulted;
 pub use figures::Figures;
 pub use laws::{
     bytes_are_kept, each_is_served_as_if_alone, ends_have_a_cause, limits_are_as_stated,
-    numbers_are_not_used_again, rest_is_for_something, rounds_are_one,
+    numbers_are_not_used_again, rest_is_for_something, rounds_are_one, what_is_done_is_events,
 };
 pub use limits::{
     ACCEPTED_AT_ONCE, BYTES_A_PIECE, BYTES_A_WINDOW, BYTES_AT_ONCE, CALLS_AT_ONCE, FINISH_SECONDS,

@@ -30,7 +30,7 @@ pub fn run_front<R: Reactor + Consulted, N: Network, C: Clock>(
     network: &mut N,
     clock: &mut C,
 ) -> Result<(), StepFault>
-    ensures { Serves N.Peer.ways R.steps C.tells reactor.old clock.old result reactor.new clock.new }
+    ensures { Serves N.Peer.ways R.steps R.awaited C.tells reactor.old clock.old result reactor.new clock.new }
 {
     let mut front = Front::new(alloc, limits);
     for _ in 0..u64::MAX {
@@ -58,7 +58,7 @@ fn take<R: Reactor + Consulted, N: Network, C: Clock>(
     clock: &mut C,
     network: &mut N,
 ) -> Result<(), StepFault>
-    ensures moves { Moves N.Peer.ways R.steps C.tells reactor.old clock.old front.old result reactor.new clock.new front.new }
+    ensures moves { Moves N.Peer.ways R.steps R.awaited C.tells reactor.old clock.old front.old result reactor.new clock.new front.new }
     ensures asked { told ≡ Asked → EditsOnce R.steps reactor.old result reactor.new × (clock.new ≡ clock.old) × (front.new ≡ front.old) }
 {
     match told {
@@ -78,7 +78,7 @@ fn pass_second<R: Reactor, N: Network, C: Clock>(
     clock: &mut C,
     network: &mut N,
 ) -> Result<(), StepFault>
-    ensures { Moves N.Peer.ways R.steps C.tells reactor.old clock.old front.old result reactor.new clock.new front.new }
+    ensures { Moves N.Peer.ways R.steps R.awaited C.tells reactor.old clock.old front.old result reactor.new clock.new front.new }
 {
     match tick(front, reactor, clock) {
         Ok(()) => {}
@@ -97,7 +97,7 @@ fn tick<P: Peer, R: Reactor, C: Clock>(
     reactor: &mut R,
     clock: &mut C,
 ) -> Result<(), StepFault>
-    ensures { Moves P.ways R.steps C.tells reactor.old clock.old front.old result reactor.new clock.new front.new }
+    ensures { Moves P.ways R.steps R.awaited C.tells reactor.old clock.old front.old result reactor.new clock.new front.new }
 {
     let moment = clock.now();
     tell_tick(reactor, moment)
@@ -119,7 +119,7 @@ fn expire<R: Reactor, N: Network, C: Clock>(
     clock: &mut C,
     network: &mut N,
 ) -> Result<(), StepFault>
-    ensures { Moves N.Peer.ways R.steps C.tells reactor.old clock.old front.old result reactor.new clock.new front.new }
+    ensures { Moves N.Peer.ways R.steps R.awaited C.tells reactor.old clock.old front.old result reactor.new clock.new front.new }
 {
     let now = network.seconds();
     for _ in 0..MAX_CONNECTIONS {
@@ -144,7 +144,7 @@ fn give_up_due<R: Reactor, N: Network, C: Clock>(
     clock: &mut C,
     network: &mut N,
 ) -> Result<(), StepFault>
-    ensures { Moves N.Peer.ways R.steps C.tells reactor.old clock.old front.old result reactor.new clock.new front.new }
+    ensures { Moves N.Peer.ways R.steps R.awaited C.tells reactor.old clock.old front.old result reactor.new clock.new front.new }
 {
     match front.serve(number, reactor, clock, network) {
         Ok(()) => {}
@@ -163,7 +163,7 @@ fn accept_some<R: Reactor, N: Network, C: Clock>(
     clock: &mut C,
     network: &mut N,
 ) -> Result<(), StepFault>
-    ensures { Moves N.Peer.ways R.steps C.tells reactor.old clock.old front.old result reactor.new clock.new front.new }
+    ensures { Moves N.Peer.ways R.steps R.awaited C.tells reactor.old clock.old front.old result reactor.new clock.new front.new }
 {
     for _ in 0..ACCEPTED_AT_ONCE {
         match accept_one(front, reactor, clock, network) {
@@ -182,7 +182,7 @@ fn accept_one<R: Reactor, N: Network, C: Clock>(
     clock: &mut C,
     network: &mut N,
 ) -> Result<bool, StepFault>
-    ensures { Moves N.Peer.ways R.steps C.tells reactor.old clock.old front.old result reactor.new clock.new front.new }
+    ensures { Moves N.Peer.ways R.steps R.awaited C.tells reactor.old clock.old front.old result reactor.new clock.new front.new }
 {
     if !front.has_room() && front.longest_idle().is_none() {
         return Ok(false);
@@ -205,7 +205,7 @@ fn open<R: Reactor, N: Network, C: Clock>(
     clock: &mut C,
     network: &mut N,
 ) -> Result<bool, StepFault>
-    ensures { Moves N.Peer.ways R.steps C.tells reactor.old clock.old front.old result reactor.new clock.new front.new }
+    ensures { Moves N.Peer.ways R.steps R.awaited C.tells reactor.old clock.old front.old result reactor.new clock.new front.new }
 {
     let number = front.next();
     match front.open(peer, network.seconds(), reactor, clock) {
@@ -226,7 +226,7 @@ fn make_room<R: Reactor, N: Network, C: Clock>(
     clock: &mut C,
     network: &mut N,
 ) -> Result<(), StepFault>
-    ensures { Moves N.Peer.ways R.steps C.tells reactor.old clock.old front.old result reactor.new clock.new front.new }
+    ensures { Moves N.Peer.ways R.steps R.awaited C.tells reactor.old clock.old front.old result reactor.new clock.new front.new }
 {
     for _ in 0..MAX_CONNECTIONS + 1 {
         if front.has_room() {
@@ -250,7 +250,7 @@ fn make_way<R: Reactor, N: Network, C: Clock>(
     clock: &mut C,
     network: &mut N,
 ) -> Result<(), StepFault>
-    ensures { Moves N.Peer.ways R.steps C.tells reactor.old clock.old front.old result reactor.new clock.new front.new }
+    ensures { Moves N.Peer.ways R.steps R.awaited C.tells reactor.old clock.old front.old result reactor.new clock.new front.new }
 {
     match front.longest_idle() {
         Some(number) => give_up_idle(front, number, reactor, clock, network),
@@ -266,7 +266,7 @@ fn give_up_idle<R: Reactor, N: Network, C: Clock>(
     clock: &mut C,
     network: &mut N,
 ) -> Result<(), StepFault>
-    ensures { Moves N.Peer.ways R.steps C.tells reactor.old clock.old front.old result reactor.new clock.new front.new }
+    ensures { Moves N.Peer.ways R.steps R.awaited C.tells reactor.old clock.old front.old result reactor.new clock.new front.new }
 {
     match front.serve(number, reactor, clock, network) {
         Ok(()) => {}

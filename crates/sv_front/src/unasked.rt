@@ -5,6 +5,7 @@ use std::alloc::Global;
 use sv_journal::Journal;
 use sv_run::{Happening, Reaction, Reactor, StepFault};
 use sv_text::{Bytes, NoMemory};
+use sv_wire::Awaited;
 
 /// What takes events as the one within does, and says nothing of requests, of what is left uncovered or of how it stands.
 #[derive(Drop)]
@@ -33,8 +34,14 @@ impl<R> Unasked<R> {
 impl<R: Reactor> Reactor for Unasked<R> {
     ghost steps = { λ before happening result after. R.steps before.within happening result after.within };
 
+    ghost awaited = { λ unasked connection. R.awaited unasked.within connection };
+
     fn step(&mut self, happening: Happening) -> Result<Reaction, StepFault> {
         self.within.step(happening)
+    }
+
+    fn awaits(&self, connection: u64) -> Awaited {
+        self.within.awaits(connection)
     }
 
     fn recycle(&self, bytes: Vec<u8>, journal: Journal) {

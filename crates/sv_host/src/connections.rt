@@ -2,14 +2,14 @@
 
 ghost use Rattle.std.specs.Prelude.{◌≡◌, List, ℕ, None, IfOk, IsSome, OnOk, is_some};
 ghost use Rattle.sv_host.specs.Connections.{FeedsOne};
-ghost use Rattle.sv_run.specs.Connections.{connections_of, forgotten, no_connections, opened, with_held};
+ghost use Rattle.sv_run.specs.Connections.{awaited_in, connections_of, forgotten, no_connections, opened, with_held};
 ghost use Rattle.sv_wire.specs.Inbox.{Held, spent_for_good};
 
 use std::alloc::Global;
 use std::collections::HashMap;
 use std::marker::Model;
 use sv_text::NoMemory;
-use sv_wire::{Inbox, Item};
+use sv_wire::{Awaited, Inbox, Item};
 
 /// The connections that are known, each with its inbox. A look-up takes as long among many as among few.
 #[derive(Drop)]
@@ -47,6 +47,17 @@ impl Connections {
         ensures { result ≡ is_some ((connections_of self.now).held number) }
     {
         self.inboxes.contains_key(&number)
+    }
+
+    /// Returns what is awaited of a connection: nothing of one that is not known.
+    #[inline(always)]
+    pub fn awaits(&self, number: u64) -> Awaited
+        ensures { result ≡ awaited_in (connections_of self.now) number }
+    {
+        match self.inboxes.get(&number) {
+            Some(inbox) => inbox.awaits(),
+            None => Awaited::Nothing,
+        }
     }
 
     /// A connection is known from now on.

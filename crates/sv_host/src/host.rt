@@ -6,6 +6,7 @@ ghost use Rattle.sv_host.specs.Output.{Adds, reaction_of};
 ghost use Rattle.sv_journal.specs.Journal.{new_journal};
 ghost use Rattle.sv_journal.specs.declared.entry.Entry.{Entry};
 ghost use Rattle.sv_run.specs.Breaking.{BreaksPiece, DoesNothing, Given};
+ghost use Rattle.sv_run.specs.Connections.{awaited_in};
 ghost use Rattle.sv_run.specs.Contexts.{theory_of};
 ghost use Rattle.sv_run.specs.Editing.{EditsContext};
 ghost use Rattle.sv_run.specs.Effect.{Effect, shown};
@@ -27,7 +28,7 @@ use sv_journal::Journal;
 use sv_policy::Edit;
 use sv_run::{Context, Happening, Reaction, Reactor, StepFault, Words};
 use sv_text::NoMemory;
-use sv_wire::{DateText, Item};
+use sv_wire::{Awaited, DateText, Item};
 
 /// Contexts behind connections, with a source of random words.
 #[derive(Drop)]
@@ -67,6 +68,14 @@ impl<C: HasContextPath, W> Host<C, W> {
         ensures { result ≡ (state_of self.now).stopped }
     {
         self.stopped
+    }
+
+    /// Returns what is awaited of a connection: nothing of one that has closed or is not known.
+    #[inline(always)]
+    pub fn awaits(&self, connection: u64) -> Awaited
+        ensures { result ≡ awaited_in (state_of self.now).connections connection }
+    {
+        self.connections.awaits(connection)
     }
 
     /// The contexts in their order.
@@ -238,8 +247,14 @@ impl<C: Context, W: Words> Reactor for Host<C, W> {
     ghost steps = { λ before happening result after.
         StepsSo (theory_of C.path_of C.conduct W.draws) (state_of before) happening result (state_of after) };
 
+    ghost awaited = { λ host connection. awaited_in (state_of host).connections connection };
+
     fn step(&mut self, happening: Happening) -> Result<Reaction, StepFault> {
         Host::<C, W>::step(self, happening)
+    }
+
+    fn awaits(&self, connection: u64) -> Awaited {
+        Host::<C, W>::awaits(self, connection)
     }
 
     fn recycle(&self, room: Vec<u8>, journal: Journal) {

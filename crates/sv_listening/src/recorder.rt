@@ -9,6 +9,7 @@ use sv_journal::Journal;
 use sv_run::{Happening, Reaction, Reactor, StepFault};
 use sv_streams::Sink;
 use sv_text::{Bytes, NoMemory};
+use sv_wire::Awaited;
 
 /// What takes events as the one within does, and records what they bring.
 #[derive(Drop)]
@@ -46,6 +47,8 @@ impl<R: Reactor, O: Sink, A: Alarm> Reactor for Recorder<R, O, A> {
     ghost steps = { λ before happening result after.
         R.steps before.within happening result after.within × Records O.makes happening result before.notes after.notes };
 
+    ghost awaited = { λ recorder connection. R.awaited recorder.within connection };
+
     fn step(&mut self, happening: Happening) -> Result<Reaction, StepFault> {
         let connection = connection_of(&happening);
         self.notes.reach(&happening);
@@ -56,6 +59,10 @@ impl<R: Reactor, O: Sink, A: Alarm> Reactor for Recorder<R, O, A> {
             }
             Err(fault) => Err(fault),
         }
+    }
+
+    fn awaits(&self, connection: u64) -> Awaited {
+        self.within.awaits(connection)
     }
 
     fn recycle(&self, bytes: Vec<u8>, journal: Journal) {

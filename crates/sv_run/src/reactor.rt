@@ -9,13 +9,19 @@ use crate::happening::Happening;
 use crate::reaction::Reaction;
 use crate::step_fault::StepFault;
 use sv_journal::Journal;
+use sv_wire::Awaited;
 
 /// What takes the events of a container one by one, as a container does.
 pub trait Reactor {
+    ghost use Rattle.std.specs.Prelude.{◌≡◌, ℕ};
     ghost use Rattle.sv_run.specs.Reacting.{Reacting};
+    ghost use Rattle.sv_wire.specs.declared.inbox.Awaited.{Awaited};
 
     /// How an event is taken.
     ghost steps: { Reacting Self };
+
+    /// What is awaited of the connection of a number.
+    ghost awaited: { Self → ℕ → Awaited };
 
     /// Takes an event.
     ///
@@ -23,6 +29,10 @@ pub trait Reactor {
     /// Why the event is refused, as [`StepFault`] says.
     fn step(&mut self, happening: Happening) -> Result<Reaction, StepFault>
         ensures { steps self.old (happening_of happening.entry) result self.new };
+
+    /// Returns what is awaited of a connection: the first byte of a message between two requests, the rest of one while it is received.
+    fn awaits(&self, connection: u64) -> Awaited
+        ensures { result ≡ awaited self.now connection };
 
     /// Takes the memory of bytes and of a journal that events brought, and of which nothing is needed any more, for what those to come bring. Left out,
     /// it is let go.

@@ -6,6 +6,7 @@ use sv_policy::{Edit, EditFault};
 use sv_rows::Draft;
 use sv_run::{Happening, Reaction, Reactor, StepFault};
 use sv_text::Bytes;
+use sv_wire::Awaited;
 
 /// Sends the bytes of each piece, with the moment behind them, in angle brackets, and notes each event. A piece of full stops alone is taken in
 /// silence and not noted. A piece that holds a star brings an entry, one that ends in an exclamation mark closes, and one that begins with a
@@ -103,7 +104,15 @@ impl Echo {
 }
 
 impl Reactor for Echo {
+    ghost use Rattle.sv_wire.specs.declared.inbox.Awaited.TheVariants.{Message};
+
     ghost steps = { λ _ _ _ _. Unit {0} };
+
+    ghost awaited = { λ _ _. Message };
+
+    fn awaits(&self, _connection: u64) -> Awaited {
+        Awaited::Message
+    }
 
     fn step(&mut self, happening: Happening) -> Result<Reaction, StepFault> {
         match happening {

@@ -1,5 +1,5 @@
 -- A body that is being read, and what its stream begins with.
-use Rattle.std.proofs.Common.{◌≡◌, ℕ, zero, suc, ◌+◌, ◌-◌, ◌≤◌, Bool, true, false, ◌⊎◌, List, [], ◌∷◌, ◌++◌, length, take, drop, None, Some, refl, sym, ap, ◌∙◌, subst, inl, inr, cond, arith, Result, Ok, Err}
+use Rattle.std.proofs.Common.{◌≡◌, ◌==◌, ℕ, zero, suc, ◌+◌, ◌-◌, ◌≤◌, Bool, true, false, ◌⊎◌, List, [], ◌∷◌, ◌++◌, length, take, drop, None, Some, refl, sym, ap, ◌∙◌, subst, inl, inr, cond, arith, Result, Ok, Err}
 use Rattle.std.specs.Bool.{MatchBool}
 use Rattle.std.specs.Result.{IfOk}
 use Rattle.std.proofs.lemmas.Bool.{le-ltb, ltb-false}
@@ -27,8 +27,8 @@ use Rattle.sv_wire.specs.declared.reading.Next.TheVariants.{Found, AwaitsHead, A
 use Rattle.sv_wire_fault.specs.declared.wire_fault.WireFault.{WireFault}
 use Rattle.sv_wire_fault.specs.declared.wire_fault.WireFault.TheVariants.{HeadTooLarge}
 use Rattle.sv_wire.specs.EmptyLines.{drop_empty_lines}
-use Rattle.sv_wire.specs.Inbox.{end_within}
-use Rattle.sv_wire.specs.declared.inbox.Ended.TheVariants.{Truncated}
+use Rattle.sv_wire.specs.Inbox.{awaited_after, awaited_within}
+use Rattle.sv_wire.specs.declared.inbox.Awaited.TheVariants as awaited
 use Rattle.sv_wire.specs.Head.{ends_head, has_body}
 use Rattle.sv_wire.specs.Next.{HoldsText, StartsNext, ComesNext, IsHeadAt}
 use Rattle.sv_wire.specs.Pending.{IsHeadOf, owed_by, rest_of, IsSound, Begins, ReadsPiece}
@@ -315,13 +315,18 @@ pub if_ok_map : {A E : Type 0} (P Q : A → Type 0) (r : Result A E) → ((x : A
 if_ok_map P Q (Ok x) map_it holds = map_it x holds
 if_ok_map P Q (Err e) map_it holds = tt
 
--- ---- the end of the stream
+-- ---- what is awaited
 
--- within a body it cuts a message off
-pub end_in_body : (asked : Bool) (head came : List ℕ) (owed : OwedHead) → MatchBool asked (head ≡ []) (IsHeadOf head owed)
-    → end_within (cond asked (Some owed) None) (head ++ came) ≡ Truncated
-end_in_body true head came owed sound = refl
-end_in_body false [] came owed sound =
+-- a head that has begun and has no end yet
+pub head_awaited : (rest : List ℕ) → cut_head rest ≡ Unended → (length rest == 0) ≡ false → awaited_within None rest ≡ awaited.Head
+head_awaited [] unended some = absurd (cc)
+head_awaited (b ∷ rest) unended some = ap (awaited_after (b ∷ rest)) unended
+
+-- a body
+pub body_awaited : (asked : Bool) (head came : List ℕ) (owed : OwedHead) → MatchBool asked (head ≡ []) (IsHeadOf head owed)
+    → awaited_within (cond asked (Some owed) None) (head ++ came) ≡ awaited.Body
+body_awaited true head came owed sound = refl
+body_awaited false [] came owed sound =
     let none : cut_head [] ≡ Unended = refl in
     let same = sym sound.whole ∙ none in absurd (cc)
-end_in_body false (b ∷ head) came owed sound = refl
+body_awaited false (b ∷ head) came owed sound = ap (awaited_after (b ∷ (head ++ came))) ((head_before (b ∷ head) came owed sound).1)

@@ -1,7 +1,7 @@
 //! The inbox of a connection: bytes in, items out.
 
 ghost use Rattle.std.specs.Prelude.{◌≡◌, true, false, None, Some, [], ◌++◌, IfOk, IsOk, OnErr, OnOk};
-ghost use Rattle.sv_wire.specs.Inbox.{nothing_held, spent_for_good, end_of};
+ghost use Rattle.sv_wire.specs.Inbox.{nothing_held, spent_for_good, awaited_of, end_awaiting, end_of};
 ghost use Rattle.sv_wire.specs.Items.{are_ended};
 ghost use Rattle.sv_wire.specs.Pending.{IsSound, owed_by, rest_of};
 ghost use Rattle.sv_wire.specs.Reads.{Reads, cut_head, item_of};
@@ -29,7 +29,21 @@ pub enum Ended {
     Spent,
 }
 
-/// What an inbox awaits.
+/// What an inbox awaits next of its stream (RFC 9112, section 2.2).
+#[derive(Clone, Copy, Debug, PartialEq, Eq)]
+pub enum Awaited {
+    /// The first byte of a message: no byte of one is held. Empty lines before a request line are ignored, so after one this is
+    /// still awaited.
+    Message,
+    /// The rest of a head. A lone CR is held as the first byte of a head until the next byte shows whether it begins an empty line.
+    Head,
+    /// A body, or the rest of one.
+    Body,
+    /// Nothing: the inbox is spent.
+    Nothing,
+}
+
+/// The bytes of an unfinished message, and what is known of them.
 #[derive(Drop)]
 pub(crate) enum State {
     /// Nothing more.
@@ -98,12 +112,20 @@ impl Inbox {
         Ok(())
     }
 
+    /// Returns what it awaits.
+    #[inline(always)]
+    pub fn awaits(&self) -> Awaited
+        ensures { result ≡ awaited_of self.now }
+    {
+        awaited_of(&self.state)
+    }
+
     /// Says what the end of the stream means. The inbox is spent afterwards.
     pub fn end(&mut self) -> Ended
         ensures ended { result ≡ end_of self.old }
         ensures after { self.new ≡ spent_for_good }
     {
-        let ended = end_of(&self.state);
+        let ended = end_awaiting(self.awaits());
         self.state = State::Spent;
         ended
     }
@@ -124,16 +146,32 @@ fn room_in(alloc: Global, items: &mut Vec<Item>) -> Vec<Field>
     room
 }
 
-/// What the end of the stream means for what is awaited.
-fn end_of(state: &State) -> Ended
+/// What is awaited in a state.
+#[inline(always)]
+fn awaited_of(state: &State) -> Awaited
     requires { IsSoundState state.now }
-    ensures { result ≡ end_of (held_of state.now) }
+    ensures { result ≡ awaited_of (held_of state.now) }
 {
     match state {
-        State::Spent => Ended::Spent,
-        State::Head(held) if held.is_empty() => Ended::Clean,
-        State::Head(_) => Ended::Truncated,
-        State::Body(_) => Ended::Truncated,
+        State::Spent => Awaited::Nothing,
+        State::Head(held) => {
+            if held.is_empty() {
+                return Awaited::Message;
+            }
+            Awaited::Head
+        }
+        State::Body(_) => Awaited::Body,
+    }
+}
+
+/// What the end of the stream means, by what is awaited.
+fn end_awaiting(awaited: Awaited) -> Ended
+    ensures { result ≡ end_awaiting awaited }
+{
+    match awaited {
+        Awaited::Message => Ended::Clean,
+        Awaited::Head | Awaited::Body => Ended::Truncated,
+        Awaited::Nothing => Ended::Spent,
     }
 }
 

@@ -15,7 +15,7 @@ mod reading;
 mod response_text;
 
 pub use date_text::DateText;
-pub use inbox::{Ended, Inbox};
+pub use inbox::{Awaited, Ended, Inbox};
 pub use item::Item;
 pub use laws::{
     bodies_are_within_the_limit, limits_are_as_stated, open_heads_are_short, readings_are_unique,

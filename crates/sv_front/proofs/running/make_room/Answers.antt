@@ -4,10 +4,10 @@ use Rattle.sv_front.proofs.running.make_room.Goals as goal
 
 pub returns-in-Err : goal.returns-in-Err
 returns-in-Err g c =
-    moves_join g.N.Peer.Peer.ways g.R.Reactor.steps g.C.Clock.tells {A = Unit {0}} {B = Unit {0}} tt c.args.reactor.now c.loop.reactor c.give_up_idle.new.reactor c.args.clock.now c.loop.clock c.give_up_idle.new.clock
+    moves_join g.N.Peer.Peer.ways g.R.Reactor.steps g.R.Reactor.awaited g.C.Clock.tells {A = Unit {0}} {B = Unit {0}} tt c.args.reactor.now c.loop.reactor c.give_up_idle.new.reactor c.args.clock.now c.loop.clock c.give_up_idle.new.clock
     c.args.front.now c.loop.front c.give_up_idle.new.front c.loop.invariant (Err c.in-Err.fault) c.in-Err.ensures
 
 pub loop-preserved : goal.loop-preserved
 loop-preserved g c =
-    moves_join g.N.Peer.Peer.ways g.R.Reactor.steps g.C.Clock.tells {A = Unit {0}} {B = Unit {0}} tt c.args.reactor.now c.loop.reactor c.give_up_idle.new.reactor c.args.clock.now c.loop.clock c.give_up_idle.new.clock
+    moves_join g.N.Peer.Peer.ways g.R.Reactor.steps g.R.Reactor.awaited g.C.Clock.tells {A = Unit {0}} {B = Unit {0}} tt c.args.reactor.now c.loop.reactor c.give_up_idle.new.reactor c.args.clock.now c.loop.clock c.give_up_idle.new.clock
     c.args.front.now c.loop.front c.give_up_idle.new.front c.loop.invariant (Ok tt) c.in-Ok.ensures

@@ -3,33 +3,33 @@ use Rattle.sv_front.proofs.connection.Connection.drive.Goals as goal
 
 pub loop-init : goal.loop-init
 loop-init g c =
-    not_driven g.R.Reactor.steps g.C.Clock.tells g.P.Peer.ways c.args.number c.args.reactor.now c.args.clock.now c.args.self.now c.whole-left.result c.whole-left.ensures
+    not_driven g.R.Reactor.steps g.R.Reactor.awaited g.C.Clock.tells g.P.Peer.ways c.args.number c.args.reactor.now c.args.clock.now c.args.self.now c.whole-left.result c.whole-left.ensures
 
 pub returns-in-Ok-Rests : goal.returns-in-Ok-Rests
 returns-in-Ok-Rests g c =
-    rests_then g.R.Reactor.steps g.C.Clock.tells g.P.Peer.ways c.args.number c.args.reactor.now c.args.clock.now c.args.self.now
+    rests_then g.R.Reactor.steps g.R.Reactor.awaited g.C.Clock.tells g.P.Peer.ways c.args.number c.args.reactor.now c.args.clock.now c.args.self.now
     c.loop.reactor c.loop.clock c.loop.self c.loop.left c.loop.invariant c.step.new.reactor c.step.new.clock c.step.new.self c.step.new.left
     c.in-Ok-Rests.field-0 c.in-Ok-Rests.field-0-is c.in-Ok-Rests.ensures
 
 pub returns-in-Ok-IsOver : goal.returns-in-Ok-IsOver
 returns-in-Ok-IsOver g c =
-    over_then g.R.Reactor.steps g.C.Clock.tells g.P.Peer.ways c.args.number c.args.reactor.now c.args.clock.now c.args.self.now
+    over_then g.R.Reactor.steps g.R.Reactor.awaited g.C.Clock.tells g.P.Peer.ways c.args.number c.args.reactor.now c.args.clock.now c.args.self.now
     c.loop.reactor c.loop.clock c.loop.self c.loop.left c.loop.invariant c.in-Ok-IsOver.cause c.step.new.reactor c.step.new.clock c.step.new.self c.step.new.left
     c.in-Ok-IsOver.field-0 c.in-Ok-IsOver.field-0-is c.in-Ok-IsOver.ensures
 
 pub returns-in-Err : goal.returns-in-Err
 returns-in-Err g c =
-    fails_then g.R.Reactor.steps g.C.Clock.tells g.P.Peer.ways c.args.number c.args.reactor.now c.args.clock.now c.args.self.now
+    fails_then g.R.Reactor.steps g.R.Reactor.awaited g.C.Clock.tells g.P.Peer.ways c.args.number c.args.reactor.now c.args.clock.now c.args.self.now
     c.loop.reactor c.loop.clock c.loop.self c.loop.left c.loop.invariant c.step.new.reactor c.step.new.clock c.step.new.self c.step.new.left
     c.in-Err.fault c.in-Err.ensures
 
 pub loop-preserved : goal.loop-preserved
 loop-preserved g c =
-    one_more g.R.Reactor.steps g.C.Clock.tells g.P.Peer.ways c.args.number c.args.reactor.now c.args.clock.now c.args.self.now
+    one_more g.R.Reactor.steps g.R.Reactor.awaited g.C.Clock.tells g.P.Peer.ways c.args.number c.args.reactor.now c.args.clock.now c.args.self.now
     c.loop.reactor c.loop.clock c.loop.self c.loop.left c.loop.invariant c.step.new.reactor c.step.new.clock c.step.new.self c.step.new.left
     c.in-Ok-GoesOn.field-0 c.in-Ok-GoesOn.field-0-is c.in-Ok-GoesOn.ensures
 
 pub returns : goal.returns
 returns g c =
-    driven_out g.R.Reactor.steps g.C.Clock.tells g.P.Peer.ways c.args.number c.args.reactor.now c.args.clock.now c.args.self.now
+    driven_out g.R.Reactor.steps g.R.Reactor.awaited g.C.Clock.tells g.P.Peer.ways c.args.number c.args.reactor.now c.args.clock.now c.args.self.now
     c.loop.reactor c.loop.clock c.loop.self c.loop.left c.loop.invariant

@@ -7,4 +7,4 @@ skip-requires g c = taken_within c.in-Done.count c.args.left.now.bytes c.self.in
 pub returns-in-Done : goal.returns-in-Done
 returns-in-Done g c =
     wrote g.P.Peer.ways c.args.self.now c.self.inside.stream c.write.new.self c.self.inside.ahead c.self.inside.unsent c.skip.new.self c.front.result.now
-    c.self.inside.closes c.self.inside.rests c.self.inside.under_way c.self.inside.refused c.in-Done.count c.args.left.now c.self.view_is (c.is_spent.ensures.calls (λ i. c.if-is_spent.false i)) c.in-Done.ensures c.front.ensures.first c.skip.ensures
+    c.self.inside.phase c.self.inside.rests c.self.inside.under_way c.in-Done.count c.args.left.now c.self.view_is (c.is_spent.ensures.calls (λ i. c.if-is_spent.false i)) c.in-Done.ensures c.front.ensures.first c.skip.ensures

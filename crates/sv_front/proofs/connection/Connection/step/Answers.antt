@@ -4,15 +4,15 @@ use Rattle.sv_front.proofs.connection.Connection.step.Goals as goal
 
 pub returns-then-not-is_empty : goal.returns-then-not-is_empty
 returns-then-not-is_empty g c =
-    sent_on g.R.Reactor.steps g.C.Clock.tells g.P.Peer.ways c.args.number c.args.reactor.now c.args.clock.now c.args.self.now c.send_on.new.self c.args.left.now c.send_on.new.left
+    sent_on g.R.Reactor.steps g.R.Reactor.awaited g.C.Clock.tells g.P.Peer.ways c.args.number c.args.reactor.now c.args.clock.now c.args.self.now c.send_on.new.self c.args.left.now c.send_on.new.left
     c.send_on.result c.send_on.ensures
 
 pub returns-in-Ok : goal.returns-in-Ok
 returns-in-Ok g c =
-    took_in g.R.Reactor.steps g.C.Clock.tells g.P.Peer.ways c.args.number c.args.reactor.now c.args.clock.now c.args.self.now c.take_in.new.self c.args.left.now c.take_in.new.left
+    took_in g.R.Reactor.steps g.R.Reactor.awaited g.C.Clock.tells g.P.Peer.ways c.args.number c.args.reactor.now c.args.clock.now c.args.self.now c.take_in.new.self c.args.left.now c.take_in.new.left
     c.in-Ok.step c.in-Ok.ensures
 
 pub returns-in-Ok-hand_on : goal.returns-in-Ok-hand_on
 returns-in-Ok-hand_on g c =
-    handed_on g.R.Reactor.steps g.C.Clock.tells g.P.Peer.ways c.args.number c.args.reactor.now c.args.clock.now c.args.self.now c.hand_on.new.self c.args.left.now c.take_piece.new.self
+    handed_on g.R.Reactor.steps g.R.Reactor.awaited g.C.Clock.tells g.P.Peer.ways c.args.number c.args.reactor.now c.args.clock.now c.args.self.now c.hand_on.new.self c.args.left.now c.take_piece.new.self
     c.hand_on.new.reactor c.hand_on.new.clock (omega (arith, c.take_piece.ensures.calls)) (omega (arith, c.take_piece.ensures.bytes)) c.in-Ok-hand_on.ensures

@@ -5,20 +5,20 @@ use Rattle.sv_front.proofs.front.Front.drive.Goals as goal
 
 pub returns-in-Some-clause-drives : goal.returns-in-Some-clause-drives
 returns-in-Some-clause-drives g c =
-    drove g.P.Peer.ways g.R.Reactor.steps g.C.Clock.tells c.args.number c.args.reactor.now c.drive_at-driven.new.reactor c.args.clock.now c.drive_at-driven.new.clock
+    drove g.P.Peer.ways g.R.Reactor.steps g.R.Reactor.awaited g.C.Clock.tells c.args.number c.args.reactor.now c.drive_at-driven.new.reactor c.args.clock.now c.drive_at-driven.new.clock
     c.self.inside.next c.self.inside.connections.entries (c.get_mut.follows.lender c.drive_at-driven.new.self).entries c.in-Some.connection.now c.drive_at-driven.new.self
     (c.get_mut.follows.holds c.drive_at-driven.new.self).0 c.in-Some.ensures.value (omega arith) c.args.self.now c.self.view_is c.drive_at-driven.result c.drive_at-driven.ensures
 
 pub returns-in-Some-clause-grows : goal.returns-in-Some-clause-grows
 returns-in-Some-clause-grows g c = λ is.
     let less : c.weight.result ≤ c.weight-before.result = ltb-false c.weight-before.result c.weight.result is in
-    no_heavier g.P.Peer.ways g.R.Reactor.steps g.C.Clock.tells c.args.number c.args.reactor.now c.drive_at-driven.new.reactor c.args.clock.now c.drive_at-driven.new.clock
+    no_heavier g.P.Peer.ways g.R.Reactor.steps g.R.Reactor.awaited g.C.Clock.tells c.args.number c.args.reactor.now c.drive_at-driven.new.reactor c.args.clock.now c.drive_at-driven.new.clock
     c.self.inside.next c.self.inside.connections.entries (c.get_mut.follows.lender c.drive_at-driven.new.self).entries c.in-Some.connection.now c.drive_at-driven.new.self
     (c.get_mut.follows.holds c.drive_at-driven.new.self).0 c.in-Some.ensures.value (omega arith) c.args.self.now c.self.view_is (omega (arith, less, c.weight.ensures, c.weight-before.ensures))
 
 pub returns-clause-drives : goal.returns-clause-drives
 returns-clause-drives g c =
-    missed g.P.Peer.ways g.R.Reactor.steps g.C.Clock.tells c.args.number c.args.reactor.now c.args.clock.now
+    missed g.P.Peer.ways g.R.Reactor.steps g.R.Reactor.awaited g.C.Clock.tells c.args.number c.args.reactor.now c.args.clock.now
     c.self.inside.next c.self.inside.connections.entries c.get_mut.follows.lender-at-none.entries c.args.self.now c.self.view_is
     (λ i. (c.get_mut.follows.holds-at-none i).entries) c.in-None.ensures.value
 

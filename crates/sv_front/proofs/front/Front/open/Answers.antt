@@ -4,10 +4,10 @@ use Rattle.sv_front.proofs.front.Front.open.Goals as goal
 
 pub returns-in-Ok : goal.returns-in-Ok
 returns-in-Ok g c =
-    opened_next g.P.Peer.ways g.R.Reactor.steps g.C.Clock.tells c.args.stream c.args.reactor.now c.open_next.new.reactor c.args.clock.now c.args.self.now c.open_next.new.self
+    opened_next g.P.Peer.ways g.R.Reactor.steps g.R.Reactor.awaited g.C.Clock.tells c.args.stream c.args.reactor.now c.open_next.new.reactor c.args.clock.now c.args.self.now c.open_next.new.self
     true c.in-Ok.ensures
 
 pub returns-in-Err : goal.returns-in-Err
 returns-in-Err g c =
-    opening_failed g.P.Peer.ways g.R.Reactor.steps g.C.Clock.tells c.args.stream c.args.reactor.now c.open_next.new.reactor c.args.clock.now c.args.self.now c.open_next.new.self
+    opening_failed g.P.Peer.ways g.R.Reactor.steps g.R.Reactor.awaited g.C.Clock.tells c.args.stream c.args.reactor.now c.open_next.new.reactor c.args.clock.now c.args.self.now c.open_next.new.self
     Bool c.in-Err.fault c.in-Err.ensures

@@ -4,22 +4,22 @@ use Rattle.sv_front.proofs.front.Front.serve_one.Goals as goal
 
 pub returns-in-Ok-None-clause-moves : goal.returns-in-Ok-None-clause-moves
 returns-in-Ok-None-clause-moves g c =
-    driven_none g.P.Peer.ways g.R.Reactor.steps g.C.Clock.tells c.args.number c.args.reactor.now c.args.clock.now c.args.self.now
+    driven_none g.P.Peer.ways g.R.Reactor.steps g.R.Reactor.awaited g.C.Clock.tells c.args.number c.args.reactor.now c.args.clock.now c.args.self.now
     c.in-Ok-None.field-0 c.in-Ok-None.field-0-is c.drive.new.reactor c.drive.new.clock c.drive.new.self c.in-Ok-None.ensures.drives
 
 pub returns-in-Ok-clause-moves : goal.returns-in-Ok-clause-moves
 returns-in-Ok-clause-moves g c =
-    driven_some g.P.Peer.ways g.R.Reactor.steps g.C.Clock.tells c.args.number c.args.reactor.now c.args.clock.now c.args.self.now
+    driven_some g.P.Peer.ways g.R.Reactor.steps g.R.Reactor.awaited g.C.Clock.tells c.args.number c.args.reactor.now c.args.clock.now c.args.self.now
     c.in-Ok-Some.field-0 c.in-Ok-Some.cause c.in-Ok-Some.field-0-is c.drive.new.reactor c.end.new.reactor c.drive.new.clock c.drive.new.self c.end.new.self
     c.in-Ok-Some.ensures.drives (Ok c.in-Ok.field-0) c.in-Ok.ensures
 
 pub returns-in-Err-end-clause-moves : goal.returns-in-Err-end-clause-moves
 returns-in-Err-end-clause-moves g c =
-    driven_some g.P.Peer.ways g.R.Reactor.steps g.C.Clock.tells c.args.number c.args.reactor.now c.args.clock.now c.args.self.now
+    driven_some g.P.Peer.ways g.R.Reactor.steps g.R.Reactor.awaited g.C.Clock.tells c.args.number c.args.reactor.now c.args.clock.now c.args.self.now
     c.in-Ok-Some.field-0 c.in-Ok-Some.cause c.in-Ok-Some.field-0-is c.drive.new.reactor c.end.new.reactor c.drive.new.clock c.drive.new.self c.end.new.self
     c.in-Ok-Some.ensures.drives (Err c.in-Err-end.fault) c.in-Err-end.ensures
 
 pub returns-in-Err-clause-moves : goal.returns-in-Err-clause-moves
 returns-in-Err-clause-moves g c =
-    drive_failed g.P.Peer.ways g.R.Reactor.steps g.C.Clock.tells c.args.number c.args.reactor.now c.args.clock.now c.args.self.now
+    drive_failed g.P.Peer.ways g.R.Reactor.steps g.R.Reactor.awaited g.C.Clock.tells c.args.number c.args.reactor.now c.args.clock.now c.args.self.now
     c.in-Err.fault c.drive.new.reactor c.drive.new.clock c.drive.new.self c.in-Err.ensures.drives

@@ -5,7 +5,7 @@ use Rattle.sv_front.proofs.front.Front.serve_within.Goals as goal
 
 pub returns-clause-moves : goal.returns-clause-moves
 returns-clause-moves g c =
-    moves_join g.P.Peer.ways g.R.Reactor.steps g.C.Clock.tells {A = Bool} {B = Unit {0}} true c.args.reactor.now c.serve_one.new.reactor c.ease.new.reactor c.args.clock.now c.serve_one.new.clock c.ease.new.clock
+    moves_join g.P.Peer.ways g.R.Reactor.steps g.R.Reactor.awaited g.C.Clock.tells {A = Bool} {B = Unit {0}} true c.args.reactor.now c.serve_one.new.reactor c.ease.new.reactor c.args.clock.now c.serve_one.new.clock c.ease.new.clock
     c.args.self.now c.serve_one.new.self c.ease.new.self c.in-Ok-true.ensures.moves c.ease.result c.ease.ensures.moves
 
 pub returns-clause-within : goal.returns-clause-within
