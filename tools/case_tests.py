@@ -1,10 +1,17 @@
-"""What `tools/cases --selftest` runs: a program that shows what it is given, and cases for it."""
-# Shows its arguments, its standard input and its files, each on a line, and on standard error the number of the arguments, its status. With the argument
-# `serve` it answers two connections by what comes on them; with `run` each that comes, until `stop` does, with an id in the place of `id`, each time
-# another, or with `run same` the same; with `run file` it answers at a socket file `asked`, too. With `limits` it shows its limits,
-# with `tells` its file `told` on standard error.
+"""What `tools/cases --selftest` runs: a program that prints its input, and cases for it."""
+
+# Prints its arguments, its files and its standard input, and on standard error the number of the
+# arguments, which is its status. Its first argument may change that:
+#   tells     prints its file `told` on standard error
+#   limits    prints its limits
+#   modes     prints its files with their modes
+#   serve     echoes two connections
+#   run       echoes each connection until one sends `stop`; a new id replaces `id`
+#   run same  uses the same id each time
+#   run file  listens at a socket file `asked`, too
 SHOWS = """#!/bin/sh
 [ "$1" != tells ] || exec cat told >&2
+[ "$1" != modes ] || exec stat -c "%n %a" *
 [ "$1" != limits ] || { ulimit -v; exec sh -c "ulimit -n"; }
 [ "$1" != run ] || exec python3 -c '
 import os, secrets, socketserver, sys, threading
@@ -34,7 +41,7 @@ for _ in range(2):
 print("served 2")'
 for argument; do printf '[%s]' "$argument"; done
 for file in *; do [ ! -f "$file" ] || printf '{%s %s}' "$file" "$(cat "$file")"; done
-for entry in *; do [ ! -h "$entry" ] || printf '{link %s}' "$entry"; [ ! -p "$entry" ] || printf '{pipe %s}' "$entry"; done
+for entry in *; do [ ! -h "$entry" ] || printf '{link %s}' "$entry"; [ ! -p "$entry" ] || printf '{pipe %s}' "$entry"; [ ! -d "$entry" ] || printf '{folder %s}' "$entry"; done
 cat
 printf '%s' $# >&2
 exit $#
@@ -44,38 +51,45 @@ STARTS = "listening 127.0.0.1:PORT\n"
 RUNS = {"args": "run\n", "stdout": STARTS}
 TWICE = "open a\nsend a id\nexpect a date: DATE\\r\\nID1\nrestart\nopen a\nsend a id\nexpect a date: DATE\\r\\n"
 TELLS = {"args": "tells\n", "stderr": "  f%2!\n"}
-# What each case of the self-test holds, the number of its rows, and how many of them the program must fail.
+# The sections of each case of the self-test, the number of its rows, and how many of them must fail.
 SELF_TESTS = [
-    ({"args": "a\nb  c\n", "stdin": "x\n\n", "files/f": "%1", "stdout": "[a][b  c]{f %1}x\n\n", "stderr": "2", "status": "2\n"}, 1, 0),
+    ({"stdin (escaped)": "a\\r\n\\x2d- b --\n\\\\\n", "stdout (escaped)": "a\\x0d\n-\\x2d b --\n\\x5c\n", "stderr": "0"}, 1, 0),
+    ({"stdin": "a\\r<2*b>\n", "stdout (escaped)": "a\\\\r<2*b>\n", "stderr": "0"}, 1, 0),
+    ({"stdin (repeated)": "<2*@\n>c\n", "stdout": "0\n1\nc\n", "stderr": "0"}, 1, 0),
+    ({"stdin (escaped, repeated)": "<2*\\x0@>", "stdout (escaped)": "\\x00\\x01", "stderr": "0"}, 1, 0),
+    ({"stdin": "-- b\n--\n", "stdout": "-- b\n--\n", "stderr": "0"}, 1, 0),
+    ({"args": "a\nb  c\n", "stdin": "x\n\n", "file f": "%1", "stdout": "[a][b  c]{f %1}x\n\n", "stderr": "2", "status": "2\n"}, 1, 0),
     ({"stderr": "0"}, 1, 0),
     ({"stderr": "0", "status": "1\n"}, 1, 1),
     ({"stdout": "x", "stderr": "0"}, 1, 1),
     ({"stderr": ""}, 1, 1),
     ({"stdin": "%1,%2", "rows": "-- no row\n\na b| \"\"\nc |d\n", "stdout": "%1,%2", "stderr": "0"}, 2, 0),
-    ({"stdin": "%1,%2", "rows": "a b| \"\" |w", "w/stdout": "a b,", "w/stderr": "0"}, 1, 0),
+    ({"stdin": "%1,%2", "rows": "a b| \"\" |w", "stdout of w": "a b,", "stderr of w": "0"}, 1, 0),
     ({"stdin": "%1", "rows": "--a\n-- no row\n--\n", "stdout": "--a", "stderr": "0"}, 1, 0),
     ({"stdin": "%2", "rows": "-- no row\n\na b| \"\"\nc |d\n", "stdout": "d", "stderr": "0"}, 2, 1),
-    ({"args": "%1\n", "rows": "x <3*@:> ; y | w", "w/stdout": "[x 0:1:2:][y]", "w/stderr": "2", "w/status": "2\n"}, 1, 0),
-    ({"files/f": "<%1>", "rows": "NotToml | w\nTooMany a.b | v\n", "w/stdout": "{f <1 ->}", "w/stderr": "0", "v/stdout": "{f <14 a.b>}", "v/stderr": "0"}, 2, 0),
-    ({**TELLS, "files/told": "  f: the key `a b` is missing\n", "rows": "x | MissingKey a b\n"}, 1, 0),
-    ({**TELLS, "files/told": "  f: the key `a` is missing\n", "rows": "x | MissingKey b\n"}, 1, 1),
-    ({**TELLS, "files/told": "  f: the time at `a` is longer than a year: 9\n", "rows": "x | BadTimeout a: 9\n"}, 1, 0),
-    ({**TELLS, "files/told": "  f: the time at `a` is longer than a year\n", "rows": "x | BadTimeout a: 9\n"}, 1, 1),
-    ({**TELLS, "files/told": "  f: the key `a: b` is missing\n", "rows": "x | MissingKey a: b\n"}, 1, 0),
+    ({"args": "%1\n", "rows": "x <3*@:> ; y | w", "stdout of w": "[x 0:1:2:][y]", "stderr of w": "2", "status of w": "2\n"}, 1, 0),
+    ({"file f": "<%1>", "rows": "NotToml | w\nTooMany a.b | v\n", "stdout of w": "{f <1 ->}", "stderr of w": "0", "stdout of v": "{f <14 a.b>}", "stderr of v": "0"}, 2, 0),
+    ({**TELLS, "file told": "  f: the key `a b` is missing\n", "rows": "x | MissingKey a b\n"}, 1, 0),
+    ({**TELLS, "file told": "  f: the key `a` is missing\n", "rows": "x | MissingKey b\n"}, 1, 1),
+    ({**TELLS, "file told": "  f: the time at `a` is longer than a year: 9\n", "rows": "x | BadTimeout a: 9\n"}, 1, 0),
+    ({**TELLS, "file told": "  f: the time at `a` is longer than a year\n", "rows": "x | BadTimeout a: 9\n"}, 1, 1),
+    ({**TELLS, "file told": "  f: the key `a: b` is missing\n", "rows": "x | MissingKey a: b\n"}, 1, 0),
     ({"stdin": "%2", "rows": "x | BadTimeout a: 9\n", "stdout": "11 a", "stderr": "0"}, 1, 0),
-    ({**TELLS, "files/told": "  f:1:23: a word\n", "rows": "x | NotToml\n"}, 1, 0),
-    ({**TELLS, "files/told": "  f:1: a word\n", "rows": "x | NotToml\n"}, 1, 1),
-    ({**TELLS, "files/told": "  f:1:23: a word\n", "stderr": "  f:1:24: a word\n"}, 1, 1),
-    ({"stdin": "%1", "forms": "%\nreversed\n", "rows": "a ; b | w", "w/stdout": "a\nb", "w/stderr": "0"}, 1, 1),
-    ({"stdin": "%1", "forms": "reversed\n", "rows": "a ; b | w", "w/stdout": "b\na", "w/stderr": "0"}, 1, 0),
-    ({"stdin": "%1%2", "forms": "x ; % ; y\n", "rows": "a ; b | - | w", "w/stdout": "x\na\nb\ny-", "w/stderr": "0"}, 1, 0),
-    ({"stdin": "%1%2%3", "forms": "cut\n", "rows": "a\\x41\\rb | - | w", "w/stdout": "a\\x41\\rb-", "w/stderr": "0"}, 1, 0),
-    ({"stdin": "%1", "forms": "cut\n", "rows": "\\x41b | w", "w/stdout": "\\x41", "w/stderr": "0"}, 1, 0),
-    ({"stdin": "%1", "forms": "cut\n", "rows": "abc | w", "w/stdout": "a", "w/stderr": "0"}, 1, 1),
+    ({**TELLS, "file told": "  f:1:23: a word\n", "rows": "x | NotToml\n"}, 1, 0),
+    ({**TELLS, "file told": "  f:1: a word\n", "rows": "x | NotToml\n"}, 1, 1),
+    ({**TELLS, "file told": "  f:1:23: a word\n", "stderr": "  f:1:24: a word\n"}, 1, 1),
+    ({"stdin": "%1", "forms": "%\nreversed\n", "rows": "a ; b | w", "stdout of w": "a\nb", "stderr of w": "0"}, 1, 1),
+    ({"stdin": "%1", "forms": "reversed\n", "rows": "a ; b | w", "stdout of w": "b\na", "stderr of w": "0"}, 1, 0),
+    ({"stdin": "%1%2", "forms": "x ; % ; y\n", "rows": "a ; b | - | w", "stdout of w": "x\na\nb\ny-", "stderr of w": "0"}, 1, 0),
+    ({"stdin": "%1%2%3", "forms": "cut\n", "rows": "a\\x41\\rb | - | w", "stdout of w": "a\\x41\\rb-", "stderr of w": "0"}, 1, 0),
+    ({"stdin": "%1", "forms": "cut\n", "rows": "\\x41b | w", "stdout of w": "\\x41", "stderr of w": "0"}, 1, 0),
+    ({"stdin": "%1", "forms": "cut\n", "rows": "abc | w", "stdout of w": "a", "stderr of w": "0"}, 1, 1),
     ({"generated": "generated_edits\n", "stdin": "-", "stdout": "-", "stderr": "0"}, 100, 0),
-    ({"args": "%1\n", "files/g/f": "%1", "rows": "a | w\n", "w/stdout": "[a]", "w/stderr": "1", "w/status": "1\n"}, 1, 0),
+    ({"args": "%1\n", "file g/f": "%1", "rows": "a | w\n", "stdout of w": "[a]{folder g}", "stderr of w": "1", "status of w": "1\n"}, 1, 0),
     ({"entries": "file a\\x5A\nlink b\npipe c\n", "stdout": "{aZ }{link b}{pipe c}", "stderr": "0"}, 1, 0),
-    ({"entries": "%1\n", "rows": "pipe c | w\n", "w/stdout": "{pipe c}", "w/stderr": "0"}, 1, 0),
+    ({"entries": "folder a\nfile a/b\n", "stdout": "{folder a}", "stderr": "0"}, 1, 0),
+    ({"args": "modes\n", "file f": "x\n", "entries": "folder a\nmode 750 a\nmode 400 f\n", "stdout": "a 750\nf 400\n"}, 1, 0),
+    ({"entries": "%1\n", "rows": "pipe c | w\n", "stdout of w": "{pipe c}", "stderr of w": "0"}, 1, 0),
     ({"args": "serve\n", "visits": "a\\x41\nb\n", "visited": "date: DATE\\r\\naA\ndate: DATE\\r\\nb\n", "stdout": "listening PORT\nserved 2\n"}, 1, 0),
     ({"args": "serve\n", "visits": "a\nb\n", "visited": "date: DATE\\r\\nb\ndate: DATE\\r\\na\n", "stdout": "listening PORT\nserved 2\n"}, 1, 1),
     ({"args": "serve\n", "visits": "a\nb\n", "visited": "date: DATE\\r\\na\n", "stdout": "listening PORT\nserved 2\n"}, 1, 1),
@@ -112,5 +126,31 @@ SELF_TESTS = [
     ({**RUNS, "steps": "open b\nsend b y\nexpect b date: DATE\\r\\ny\nconnect a asked\n"}, 1, 1),
     ({"steps": "open a\n", "stderr": "0", "status": "0\n"}, 1, 1),
     ({"steps": "over\n", "stderr": "0", "status": "0\n"}, 1, 0),
-    ({"stdin": "%1", "bytes": "\\x41\\r\\n\\t\\\\ ; <2*@> | w\n", "w/stdout": "A\r\n\t\\ ; <2*@>", "w/stderr": "0"}, 1, 0),
+    ({"stdin": "%1", "bytes": "\\x41\\r\\n\\t\\\\ ; <2*@> | w\n", "stdout of w": "A\r\n\t\\ ; <2*@>", "stderr of w": "0"}, 1, 0),
 ]
+
+# Texts that are no case, and what is wrong with each.
+REFUSED = [
+    (b"-- args --", "case: the last line has no end"),
+    (b"-- nothing --\n", "case: there is no section `nothing`"),
+    (b"-- rows of w --\n", "case: there is no section `rows of w`"),
+    (b"-- args --\n-- args --\n", "case: the section `args` is there twice"),
+    (b"-- file a --\n-- file a --\n", "case: the section `file a` is there twice"),
+    (b"-- args (loud) --\n", "case: there is no flag `loud`"),
+    (b"-- args (no newline) --\n", "case: a section without a line has no last newline to leave out"),
+    (b"-- args (escaped) --\n\\q\n", "case: there is no escape `\\q`"),
+    (b"-- args(escaped) --\n", "case: a line of the comment begins as a marker does"),
+    (b"-- rows --\n-- no row\n", "case: its table has no rows"),
+    (b"-- bytes --\n\\q\n", "case: there is no escape `\\q`"),
+]
+
+
+def text_of(sections):
+    """The text of a case."""
+    lines = ["A comment.\n"]
+    for name, text in sections.items():
+        if text and not text.endswith("\n"):
+            name = f"{name[:-1]}, no newline)" if name.endswith(")") else f"{name} (no newline)"
+            text += "\n"
+        lines.append(f"-- {name} --\n{text}")
+    return "".join(lines).encode()
