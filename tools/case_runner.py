@@ -10,7 +10,7 @@ import tempfile
 import threading
 
 from case_notation import REPEATED, naming, repeated, unescaped
-from case_steps import taken
+from case_steps import run_steps
 from case_tables import filled, rows_of
 
 SECONDS = 60
@@ -124,7 +124,7 @@ def given_by(program, case, cells):
         command = limited([program, *arguments], case)
         with listening(case.section("taken")):
             if "steps" in case.sections:
-                return taken(command, room, steps, SECONDS)
+                return run_steps(command, room, steps, SECONDS)
             return run(command, room, filled(case.section("stdin"), cells), visits)
 
 

@@ -1,4 +1,5 @@
-"""A program that serves many connections at once, taken through the steps of a case: `tools/cases` has the notation."""
+"""Takes a program that serves many connections through the steps of a case. cases/README.md describes them."""
+
 import contextlib
 import re
 import socket
@@ -7,32 +8,32 @@ import subprocess
 import threading
 import time
 
-# A connection is reset where it is closed so.
+# The value of SO_LINGER with which a close resets a connection.
 RESETS = struct.pack("ii", 1, 0)
 ID = re.compile(rb"ID[1-9]")
-# How many events were taken, which no case knows, as a tick is one.
+# The number of events varies, since a tick is one.
 EVENTS = re.compile(rb" events \d+ ")
-# An id has as many.
+# The digits of a session id.
 DIGITS = 48
-# So often a file is looked at, each tenth of a second, for what it is to hold.
+# How often `holds` reads a file before it fails, ten times a second.
 WAITS = 30
 
 
 class Fault(Exception):
-    """Why a step could not be taken."""
+    """Says why a step failed."""
 
 
 class Peer:
-    """A connection, and what came on it that no step has taken yet."""
+    """A connection, and the bytes received that no step has expected yet."""
 
     def __init__(self, stream):
-        self.stream, self.came = stream, b""
+        self.stream, self.received = stream, b""
 
     def read(self):
-        """Reads once; says whether anything came."""
+        """Reads once, and returns whether there were any bytes."""
         more = self.stream.recv(65_536)
-        dated = re.sub(rb"(?m)^date: [^\r\n]*\r", b"date: DATE\r", self.came + more)
-        self.came = EVENTS.sub(b" events EVENTS ", dated)
+        dated = re.sub(rb"(?m)^date: [^\r\n]*\r", b"date: DATE\r", self.received + more)
+        self.received = EVENTS.sub(b" events EVENTS ", dated)
         return bool(more)
 
     def reset(self):
@@ -41,11 +42,11 @@ class Peer:
 
 
 class Program:
-    """The program that serves, from its start to its end, and what it told."""
+    """The program, and what it has printed."""
 
     def __init__(self, command, room, seconds):
         self.command, self.room, self.seconds = command, room, seconds
-        self.told, self.stderr = b"", b""
+        self.stdout, self.stderr = b"", b""
         self.start()
 
     def start(self):
@@ -55,33 +56,33 @@ class Program:
         self.stop.start()
         line = self.running.stdout.readline()
         place = re.fullmatch(rb"listening (?:(.+):)?(\d+)\n", line)
-        self.told += line[: place.start(2)] + b"PORT\n" if place else line
+        self.stdout += line[: place.start(2)] + b"PORT\n" if place else line
         self.address = ((place[1] or b"127.0.0.1").decode().strip("[]"), int(place[2])) if place else None
 
-    def killed(self):
-        """Stops it by a signal, where it still runs. Then its status is `killed`."""
+    def kill(self):
+        """Kills the program if it still runs; then its status is `killed`."""
         runs = self.running.poll() is None
         self.running.kill()
-        self.ended("killed" if runs else None)
+        self.wait("killed" if runs else None)
 
-    def ended(self, status=None):
-        """Waits until it has ended."""
+    def wait(self, status=None):
+        """Waits until the program has ended."""
         stdout, stderr = self.running.communicate()
         self.stop.cancel()
-        self.told += stdout
+        self.stdout += stdout
         self.stderr += stderr
         self.status = b"%s\n" % (status or str(self.running.returncode)).encode()
 
 
 class Steps:
-    """The steps over a program, and the connections that they opened."""
+    """The steps, and the connections that they have opened: a method for each step."""
 
     def __init__(self, program):
         self.program, self.peers, self.ids = program, {}, {}
 
     def open(self, name):
         if not self.program.address:
-            raise Fault("nothing listens")
+            raise Fault("the program does not listen")
         self.peers[name] = Peer(socket.create_connection(self.program.address, self.program.seconds))
 
     def connect(self, name, file):
@@ -99,36 +100,36 @@ class Steps:
 
     def expect(self, name, text):
         peer = self.peers[name]
-        while len(peer.came) < len(self.with_ids(text)):
+        while len(peer.received) < len(self.with_ids(text)):
             if not peer.read():
-                raise Fault(f"its end came behind {peer.came!r}")
-        self.learn_ids(text, peer.came)
-        wanted = self.with_ids(text)
-        if not peer.came.startswith(wanted):
-            raise Fault(f"{peer.came!r} came")
-        peer.came = peer.came[len(wanted) :]
+                raise Fault(f"the connection ended after {peer.received!r}")
+        self.learn_ids(text, peer.received)
+        expected = self.with_ids(text)
+        if not peer.received.startswith(expected):
+            raise Fault(f"received {peer.received!r}")
+        peer.received = peer.received[len(expected) :]
 
     def with_ids(self, text):
-        """A text with the digits of each ID, which are question marks where they are not known."""
+        """A text with the digits of each ID, or question marks for those that are not known."""
         return ID.sub(lambda it: self.ids.get(it[0], b"?" * DIGITS), text)
 
-    def learn_ids(self, text, came):
-        """Gives each ID of a text, where it has none, the digits that came in its place, where no other has them."""
+    def learn_ids(self, text, received):
+        """Gives each new ID of a text the digits received in its place, unless another has them."""
         for it in ID.finditer(text):
             start = len(self.with_ids(text[: it.start()]))
-            digits = came[start : start + DIGITS]
+            digits = received[start : start + DIGITS]
             if it[0] not in self.ids and digits not in self.ids.values() and not digits.strip(b"0123456789abcdef"):
                 self.ids[it[0]] = digits
 
     def holds(self, name, text):
-        wanted, held = self.with_ids(text), None
+        expected, held = self.with_ids(text), None
         for _ in range(WAITS):
             with contextlib.suppress(FileNotFoundError), open(f"{self.program.room}/{name}", "rb") as file:
                 held = re.sub(rb"(?m)^\d+ ", b"MOMENT ", file.read())
-            if held == wanted:
+            if held == expected:
                 return
             time.sleep(0.1)
-        raise Fault(f"{held!r} is there")
+        raise Fault(f"the file holds {held!r}")
 
     def end(self, name):
         self.peers[name].stream.shutdown(socket.SHUT_WR)
@@ -136,8 +137,8 @@ class Steps:
     def ended(self, name):
         while self.peers[name].read():
             pass
-        if self.peers[name].came:
-            raise Fault(f"{self.peers[name].came!r} came")
+        if self.peers[name].received:
+            raise Fault(f"received {self.peers[name].received!r}")
 
     def gone(self, name):
         with contextlib.suppress(ConnectionError):
@@ -150,15 +151,15 @@ class Steps:
         time.sleep(float(seconds))
 
     def restart(self):
-        self.program.killed()
+        self.program.kill()
         self.program.start()
 
     def over(self):
-        self.program.ended()
+        self.program.wait()
 
 
-def taken(command, room, steps, seconds):
-    """What the program gives that is taken through the steps, and why a step could not be taken, if one could not."""
+def run_steps(command, room, steps, seconds):
+    """What the program gives when it is taken through the steps, and why a step failed, if one did."""
     program = Program(command, room, seconds)
     walk = Steps(program)
     fault = b""
@@ -169,7 +170,7 @@ def taken(command, room, steps, seconds):
         fault = f"{place}, {word} {rest}: {error}".encode()
     finally:
         if not program.status:
-            program.killed()
+            program.kill()
         for peer in walk.peers.values():
             peer.stream.close()
-    return {"stdout": program.told, "stderr": program.stderr, "status": program.status, "step": fault}
+    return {"stdout": program.stdout, "stderr": program.stderr, "status": program.status, "step": fault}

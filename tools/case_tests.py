@@ -115,7 +115,7 @@ SELF_TESTS = [
     ({**RUNS, "steps": "open a\nsend a id\nexpect a date: DATE\\r\\nID1\nsend a id\nexpect a date: DATE\\r\\nID1\n"}, 1, 1),
     ({**RUNS, "args": "run\nsame\n", "steps": "open a\nsend a id\nexpect a date: DATE\\r\\nID1\nsend a id\nexpect a date: DATE\\r\\nID2\n"}, 1, 1),
     ({**RUNS, "steps": "open a\nsend a x events 41 y\nexpect a date: DATE\\r\\nx events EVENTS y\n"}, 1, 0),
-    ({**RUNS, "steps": "open a\nsend a x events 4x y\nexpect a date: DATE\\r\\nx events EVENTS y\n"}, 1, 1),
+    ({**RUNS, "steps": "open a\nsend a x events 4x yyyyyyyy\nexpect a date: DATE\\r\\nx events EVENTS y\n"}, 1, 1),
     ({**RUNS, "steps": TWICE + "ID2\n", "stdout": STARTS * 2}, 1, 0),
     ({**RUNS, "steps": TWICE + "ID1\n", "stdout": STARTS * 2}, 1, 1),
     ({**RUNS, "args": "run\nsame\n", "steps": TWICE + "0" * 48 + "\n", "stdout": STARTS * 2}, 1, 0),
