@@ -65,9 +65,9 @@ class Case:
         place[key] = content_of(text, flags)
 
 
-def repeated(text):
+def repeated(text, pattern=REPEATED):
     """A text with each `<COUNT*PART>` written out once; `@` is the number of the repetition."""
-    return REPEATED.sub(
+    return pattern.sub(
         lambda it: "".join(it[2].replace("@", str(place)) for place in range(int(it[1]))), text
     )
 

@@ -51,13 +51,21 @@ class Program:
 
     def start(self):
         self.status = None
-        self.running = subprocess.Popen(self.command, cwd=self.room, stdin=subprocess.DEVNULL, stdout=subprocess.PIPE, stderr=subprocess.PIPE)
+        self.running = subprocess.Popen(
+            self.command,
+            cwd=self.room,
+            stdin=subprocess.DEVNULL,
+            stdout=subprocess.PIPE,
+            stderr=subprocess.PIPE,
+        )
         self.stop = threading.Timer(self.seconds, self.running.kill)
         self.stop.start()
         line = self.running.stdout.readline()
         place = re.fullmatch(rb"listening (?:(.+):)?(\d+)\n", line)
         self.stdout += line[: place.start(2)] + b"PORT\n" if place else line
-        self.address = ((place[1] or b"127.0.0.1").decode().strip("[]"), int(place[2])) if place else None
+        self.address = (
+            ((place[1] or b"127.0.0.1").decode().strip("[]"), int(place[2])) if place else None
+        )
 
     def kill(self):
         """Kills the program if it still runs; then its status is `killed`."""
@@ -83,7 +91,9 @@ class Steps:
     def open(self, name):
         if not self.program.address:
             raise Fault("the program does not listen")
-        self.peers[name] = Peer(socket.create_connection(self.program.address, self.program.seconds))
+        self.peers[name] = Peer(
+            socket.create_connection(self.program.address, self.program.seconds)
+        )
 
     def connect(self, name, file):
         stream = socket.socket(socket.AF_UNIX)
@@ -118,13 +128,19 @@ class Steps:
         for it in ID.finditer(text):
             start = len(self.with_ids(text[: it.start()]))
             digits = received[start : start + DIGITS]
-            if it[0] not in self.ids and digits not in self.ids.values() and not digits.strip(b"0123456789abcdef"):
+            if (
+                it[0] not in self.ids
+                and digits not in self.ids.values()
+                and not digits.strip(b"0123456789abcdef")
+            ):
                 self.ids[it[0]] = digits
 
     def holds(self, name, text):
         expected, held = self.with_ids(text), None
         for _ in range(WAITS):
-            with contextlib.suppress(FileNotFoundError), open(f"{self.program.room}/{name}", "rb") as file:
+            with contextlib.suppress(FileNotFoundError), open(
+                f"{self.program.room}/{name}", "rb"
+            ) as file:
                 held = re.sub(rb"(?m)^\d+ ", b"MOMENT ", file.read())
             if held == expected:
                 return
@@ -173,4 +189,9 @@ def run_steps(command, room, steps, seconds):
             program.kill()
         for peer in walk.peers.values():
             peer.stream.close()
-    return {"stdout": program.stdout, "stderr": program.stderr, "status": program.status, "step": fault}
+    return {
+        "stdout": program.stdout,
+        "stderr": program.stderr,
+        "status": program.status,
+        "step": fault,
+    }
