@@ -1,4 +1,6 @@
-"""Takes a program that serves many connections through the steps of a case. cases/README.md describes them."""
+"""Takes a program that serves many connections through the steps of a case.
+
+cases/README.md describes the steps."""
 
 import contextlib
 import re
@@ -175,7 +177,7 @@ class Steps:
 
 
 def run_steps(command, room, steps, seconds):
-    """What the program gives when it is taken through the steps, and why a step failed, if one did."""
+    """What the program gives when it is taken through the steps, and why a step failed, if any."""
     program = Program(command, room, seconds)
     walk = Steps(program)
     fault = b""

@@ -9,8 +9,8 @@ from case_notation import NotationError, repeated, unescaped
 TOOLS = os.path.dirname(os.path.realpath(__file__))
 BYTE = re.compile(r"\\x[0-9A-Fa-f]{2}|\\?.")
 
-# The faults of a configuration file in the order of their numbers, from 1, each with what the program
-# prints of it after the name of the file.
+# The faults of a configuration file in the order of their numbers, from 1, each with the message that
+# follows the name of the file.
 FAULTS = {
     "NotToml": b":PLACE",
     "UnknownKey": b": the key `KEY` is not known here",
@@ -43,7 +43,7 @@ class Row:
 
 
 def fault_value(cell):
-    """A cell that begins with a fault's name, as the fault's number, its key and its offending text."""
+    """A cell that begins with the name of a fault, as its number, its key and its offending text."""
     name, _, rest = cell.partition(" ")
     if name not in FAULTS:
         return cell

@@ -1,4 +1,4 @@
-"""The tests of `tools/cases --selftest`: cases for the program case_shows, and texts that are no case."""
+"""The tests of `tools/cases --selftest`: cases for the program case_shows, and malformed texts."""
 import os
 import re
 
@@ -25,7 +25,7 @@ REFUSED = [
 
 
 def self_tests():
-    """The cases of the self-test: the number of their rows, how many of these must fail, and a text."""
+    """The cases of the self-test: how many rows each has, how many of them fail, and its text."""
     with open(TESTS, "rb") as file:
         _, *parts = HEAD.split(file.read())
     return zip(map(int, parts[::3]), map(int, parts[1::3]), parts[2::3])
