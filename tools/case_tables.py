@@ -104,9 +104,16 @@ def table_of(case):
     return lines
 
 
+def check_results(case, table):
+    """Raises an error if no row names one of the results of a case."""
+    if unused := set(case.results) - {cells_of(line)[-1] for line in table}:
+        raise NotationError(f"no row names `{min(unused)}`")
+
+
 def rows_of(case):
     """The rows of a case; a case without a table has one row without cells."""
     table = table_of(case)
+    check_results(case, table or [])
     if table is None:
         yield Row("", case.sections, [[]])
         return

@@ -20,6 +20,8 @@ REFUSED = [
     (b"-- args (escaped) --\n\\q\n", "case: there is no escape `\\q`"),
     (b"-- args(escaped) --\n", "case: a line of the comment begins as a marker does"),
     (b"-- rows --\n-- no row\n", "case: its table has no rows"),
+    (b"-- rows --\na | v\n-- stdout of w --\n", "case: no row names `w`"),
+    (b"-- stdout of w --\n", "case: no row names `w`"),
     (b"-- bytes --\n\\q\n", "case: there is no escape `\\q`"),
 ]
 
