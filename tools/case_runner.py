@@ -163,11 +163,15 @@ def named_rows(case):
 
 
 def tried(program, cases):
-    """The differences found on each row of the cases, row by row."""
-    with concurrent.futures.ThreadPoolExecutor(os.cpu_count()) as pool:
-        rows = [
-            pool.submit(differences, program, case, row)
-            for case in cases
-            for row in named_rows(case)
-        ]
-        return [it.result() for it in rows]
+    """The differences found on each row of the cases, row by row.
+
+    Cases with steps mostly wait, so they have threads of their own."""
+    rows = [(case, row) for case in cases for row in named_rows(case)]
+    count = os.cpu_count()
+    with (
+        concurrent.futures.ThreadPoolExecutor(2 * count) as waiting,
+        concurrent.futures.ThreadPoolExecutor(count) as working,
+    ):
+        pools = [(waiting if "steps" in case.sections else working) for case, _ in rows]
+        runs = [pool.submit(differences, program, *it) for pool, it in zip(pools, rows)]
+        return [it.result() for it in runs]
