@@ -20,15 +20,28 @@ class Browser:
     def __init__(self, port, folder):
         self.place = f"http://127.0.0.1:{port}/session"
         # As root, which a script in a container is, Chromium runs without its sandbox alone.
-        words = ["--headless=new", "--no-sandbox", "--disable-gpu", "--disable-dev-shm-usage", "--no-proxy-server", f"--user-data-dir={folder}/browser"]
+        words = [
+            "--headless=new",
+            "--no-sandbox",
+            "--disable-gpu",
+            "--disable-dev-shm-usage",
+            "--no-proxy-server",
+            f"--user-data-dir={folder}/browser",
+        ]
         options = {"args": words}
-        wanted = {"capabilities": {"alwaysMatch": {"browserName": "chrome", "goog:chromeOptions": options}}}
+        wanted = {
+            "capabilities": {
+                "alwaysMatch": {"browserName": "chrome", "goog:chromeOptions": options}
+            }
+        }
         self.place += "/" + self.ask("POST", "", wanted)["sessionId"]
 
     def ask(self, method, path, body=None):
         """What the driver answers to a command."""
         content = None if body is None else json.dumps(body).encode()
-        request = urllib.request.Request(self.place + path, content, {"content-type": "application/json"}, method=method)
+        request = urllib.request.Request(
+            self.place + path, content, {"content-type": "application/json"}, method=method
+        )
         with urllib.request.urlopen(request, timeout=PATIENCE) as answer:
             return json.load(answer)["value"]
 
@@ -42,7 +55,11 @@ class Browser:
 
     def forget_files(self):
         """Keeps no file from one page to the next."""
-        self.ask("POST", "/goog/cdp/execute", {"cmd": "Network.setCacheDisabled", "params": {"cacheDisabled": True}})
+        self.ask(
+            "POST",
+            "/goog/cdp/execute",
+            {"cmd": "Network.setCacheDisabled", "params": {"cacheDisabled": True}},
+        )
 
     def title(self):
         return self.ask("GET", "/title")
@@ -74,7 +91,9 @@ class Browser:
 def driver(folder):
     """The driver at a free port, in a group of its own, so that no process of the browser outlives it: the port."""
     words = ["chromedriver", "--port=0", f"--log-path={folder}/driver.log"]
-    with subprocess.Popen(words, stdin=subprocess.DEVNULL, stdout=subprocess.PIPE, text=True, start_new_session=True) as started:
+    with subprocess.Popen(
+        words, stdin=subprocess.DEVNULL, stdout=subprocess.PIPE, text=True, start_new_session=True
+    ) as started:
         try:
             for line in started.stdout:
                 found = re.search(r"started successfully on port (\d+)", line)

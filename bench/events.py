@@ -7,7 +7,6 @@ import sys
 import tempfile
 from dataclasses import dataclass
 
-TOP = os.path.dirname(os.path.dirname(os.path.realpath(__file__)))
 RUNS = 5
 
 
@@ -35,7 +34,13 @@ def get(path: str, fields: str = "", connection: int = 1) -> str:
 
 def last_id(program: str, room: str, script: str) -> str:
     """The id of the session that the script opens last."""
-    done = subprocess.run([program, "replay", f"{room}/server.toml"], input=script.encode(), stdout=subprocess.PIPE, timeout=120, check=True)
+    done = subprocess.run(
+        [program, "replay", f"{room}/server.toml"],
+        input=script.encode(),
+        stdout=subprocess.PIPE,
+        timeout=120,
+        check=True,
+    )
     return re.findall(rb"JSESSIONID=([0-9a-f]{48})", done.stdout)[-1].decode()
 
 
@@ -52,18 +57,33 @@ def processor_seconds(program: str, room: str, script: str) -> float:
 def nanoseconds(program: str, events: Events) -> float:
     """What one of the timed events takes."""
     folder = "files" if events.page else ""
-    listed = "".join(f'[[context]]\npath = "{it}"\ndescriptor = "d.toml"\nfiles = "{folder}"\n' for it in events.contexts)
+    listed = "".join(
+        f'[[context]]\npath = "{it}"\ndescriptor = "d.toml"\nfiles = "{folder}"\n'
+        for it in events.contexts
+    )
     with tempfile.TemporaryDirectory(prefix="sv-bench-") as room:
         os.mkdir(f"{room}/files")
-        written = {"server.toml": f'port = 0\nseed = "{"0" * 64}"\n{listed}', "d.toml": events.descriptor}
+        written = {
+            "server.toml": f'port = 0\nseed = "{"0" * 64}"\n{listed}',
+            "d.toml": events.descriptor,
+        }
         if events.page:
-            written |= {f"files/{it}.html": events.page for it in ("page", *(f"f{it}" for it in range(events.files)))}
+            written |= {
+                f"files/{it}.html": events.page
+                for it in ("page", *(f"f{it}" for it in range(events.files)))
+            }
         for name, text in written.items():
             with open(f"{room}/{name}", "w") as file:
                 file.write(text)
-        timed = events.timed.replace("ID\\r", last_id(program, room, events.front) + "\\r") if events.names_a_session else events.timed
+        timed = (
+            events.timed.replace("ID\\r", last_id(program, room, events.front) + "\\r")
+            if events.names_a_session
+            else events.timed
+        )
         scripts = (events.front, events.front + timed)
-        without, whole = (min(processor_seconds(program, room, it) for _ in range(RUNS)) for it in scripts)
+        without, whole = (
+            min(processor_seconds(program, room, it) for _ in range(RUNS)) for it in scripts
+        )
     each = max(whole - without, 1e-6) / events.count * 1e9
     print(f"{events.name}: {each:.0f} ns")
     return each

@@ -44,7 +44,9 @@ def end_in_order():
 @contextlib.contextmanager
 def running(arguments, folder):
     """A server that tells its port by the line `listening PORT` or `listening ADDRESS:PORT`: its number as a process, and the port."""
-    with subprocess.Popen(arguments, cwd=folder, stdin=subprocess.DEVNULL, stdout=subprocess.PIPE, text=True) as server:
+    with subprocess.Popen(
+        arguments, cwd=folder, stdin=subprocess.DEVNULL, stdout=subprocess.PIPE, text=True
+    ) as server:
         try:
             line = server.stdout.readline()
             if not line.startswith("listening "):
@@ -60,7 +62,9 @@ def nginx(folder):
         port = free.getsockname()[1]
     with open(f"{folder}/nginx.conf", "w") as file:
         file.write(NGINX.format(port=port))
-    with subprocess.Popen(["nginx", "-p", folder, "-c", f"{folder}/nginx.conf"], stdin=subprocess.DEVNULL) as server:
+    with subprocess.Popen(
+        ["nginx", "-p", folder, "-c", f"{folder}/nginx.conf"], stdin=subprocess.DEVNULL
+    ) as server:
         try:
             answered(port, 10)
             yield server.pid, port
@@ -81,7 +85,9 @@ def room_of_servers():
     """A folder with the configuration of one servlet, and our peers: the folder, and the program of the peers."""
     with room() as folder:
         peers = f"{folder}/peers"
-        subprocess.run(["cc", "-O2", "-D_GNU_SOURCE", "-o", peers, f"{TOP}/bench/serve_peers.c"], check=True)
+        subprocess.run(
+            ["cc", "-O2", "-D_GNU_SOURCE", "-o", peers, f"{TOP}/bench/serve_peers.c"], check=True
+        )
         for name, text in ("server.toml", SERVER), ("root.toml", ROOT):
             with open(f"{folder}/{name}", "w") as file:
                 file.write(text)
@@ -103,7 +109,18 @@ def running_run(program, folder):
 def connections(port, count):
     """So many connections at once."""
     with contextlib.ExitStack() as stack:
-        yield [stack.enter_context(socket.create_connection(("127.0.0.1", port))) for _ in range(count)]
+        yield [
+            stack.enter_context(socket.create_connection(("127.0.0.1", port))) for _ in range(count)
+        ]
+
+
+def wait_until(what, holds, seconds=20):
+    """Waits until something holds, and ends the script if it does not within so many seconds."""
+    end = time.monotonic() + seconds
+    while not holds():
+        if time.monotonic() > end:
+            sys.exit(f"{what}: not within {seconds} seconds")
+        time.sleep(0.05)
 
 
 def answered(port, patience):
@@ -125,7 +142,9 @@ def answered(port, patience):
 def asked(peers, port, way, *numbers):
     """What our client prints of so many requests: the seconds that they took, and what else there is."""
     words = [peers, way, str(port), *map(str, numbers)]
-    ran = subprocess.run(words, stdin=subprocess.DEVNULL, stdout=subprocess.PIPE, text=True, check=True)
+    ran = subprocess.run(
+        words, stdin=subprocess.DEVNULL, stdout=subprocess.PIPE, text=True, check=True
+    )
     return [float(it) for it in ran.stdout.split()]
 
 

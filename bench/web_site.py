@@ -17,7 +17,9 @@ PAGES = {"page": 8, "album": 296}
 LARGE = "/a"
 LARGE_BYTES = 1_048_576
 SECRET = "/secret/page.html"
-DESCRIPTOR = ROOT + """
+DESCRIPTOR = (
+    ROOT
+    + """
 [[security-constraint]]
 web-resource-collection = [{ url-pattern = ["/secret/*"] }]
 auth-constraint = { role-name = ["reader"] }
@@ -29,6 +31,7 @@ role-name = "reader"
 auth-method = "FORM"
 form-login-config = { form-login-page = "/login.html", form-error-page = "/error.html" }
 """
+)
 # The form as the specification's section 13.6.3.1 has it.
 FORM = """<form method="POST" action="j_security_check">
 <input type="text" name="j_username">
@@ -44,11 +47,17 @@ def chunk(kind, body):
 
 def picture(side, noise):
     """A square of pixels, of three bytes each: of one colour where it is small, else noise, which does not shrink."""
-    colours = noise.randbytes(3) * side**2 if side == min(PAGES.values()) else noise.randbytes(3 * side**2)
+    colours = (
+        noise.randbytes(3) * side**2
+        if side == min(PAGES.values())
+        else noise.randbytes(3 * side**2)
+    )
     lines = (colours[3 * side * line : 3 * side * (line + 1)] for line in range(side))
     pixels = zlib.compress(b"".join(b"\0" + line for line in lines))
     header = struct.pack(">IIBBBBB", side, side, 8, 2, 0, 0, 0)
-    return b"\x89PNG\r\n\x1a\n" + chunk(b"IHDR", header) + chunk(b"IDAT", pixels) + chunk(b"IEND", b"")
+    return (
+        b"\x89PNG\r\n\x1a\n" + chunk(b"IHDR", header) + chunk(b"IDAT", pixels) + chunk(b"IEND", b"")
+    )
 
 
 def html(title, body, head=""):
@@ -82,7 +91,11 @@ def write_site(folder):
     """Writes the site into a folder, and answers its files."""
     site = files()
     server = SERVER.replace('files = ""', 'files = "files", users = "users.toml"')
-    written = {"/server.toml": server.encode(), "/root.toml": DESCRIPTOR.encode(), "/users.toml": users().encode()}
+    written = {
+        "/server.toml": server.encode(),
+        "/root.toml": DESCRIPTOR.encode(),
+        "/users.toml": users().encode(),
+    }
     written |= {f"/files{path}": content for path, content in site.items()}
     for path, content in written.items():
         os.makedirs(os.path.dirname(folder + path), exist_ok=True)

@@ -10,12 +10,11 @@ import ssl
 import subprocess
 import sys
 import tempfile
-import time
 
 EXAMPLES = os.path.dirname(os.path.realpath(__file__))
 sys.path.insert(0, f"{os.path.dirname(EXAMPLES)}/bench")
 
-from servers import DEMO, TOP, end_in_order, has, running  # noqa: E402, F401
+from servers import TOP, end_in_order, has, wait_until  # noqa: E402
 
 RELEASED = f"{TOP}/release/sv"
 SECONDS = 20
@@ -37,19 +36,13 @@ def see(what, came, wanted):
         sys.exit(f"{what}: {came!r} and not {wanted!r}")
 
 
-def wait_until(what, holds):
-    """Waits until something holds, a while at most."""
-    end = time.monotonic() + SECONDS
-    while not holds():
-        if time.monotonic() > end:
-            sys.exit(f"{what}: not within {SECONDS} seconds")
-        time.sleep(0.05)
-
-
 def free_ports(count):
     """So many ports that are free."""
     with contextlib.ExitStack() as stack:
-        return [stack.enter_context(socket.create_server(("127.0.0.1", 0))).getsockname()[1] for _ in range(count)]
+        return [
+            stack.enter_context(socket.create_server(("127.0.0.1", 0))).getsockname()[1]
+            for _ in range(count)
+        ]
 
 
 def accepts(port):
@@ -67,7 +60,14 @@ def room(*programs):
     end_in_order()
     with tempfile.TemporaryDirectory(prefix="sv-example-") as folder:
         words = "openssl req -x509 -newkey rsa:2048 -nodes -days 1 -subj /CN=localhost -addext subjectAltName=DNS:localhost -keyout key.pem -out certificate.pem"
-        subprocess.run(words.split(), cwd=folder, stdin=subprocess.DEVNULL, stderr=subprocess.DEVNULL, timeout=SECONDS, check=True)
+        subprocess.run(
+            words.split(),
+            cwd=folder,
+            stdin=subprocess.DEVNULL,
+            stderr=subprocess.DEVNULL,
+            timeout=SECONDS,
+            check=True,
+        )
         with open(f"{folder}/both.pem", "w") as both:
             for name in ("certificate.pem", "key.pem"):
                 with open(f"{folder}/{name}") as part:
@@ -83,10 +83,25 @@ def proxy(name, source, folder, **places):
         text = re.sub(rf"\b({'|'.join(places)})\b", lambda it: str(places[it[1]]), file.read())
     with open(f"{folder}/configuration", "w") as file:
         file.write(text)
-    words = {"nginx": ["nginx", "-p", folder, "-e", f"{folder}/nginx.log", "-c", f"{folder}/configuration"], "haproxy": ["haproxy", "-f", f"{folder}/configuration"]}
-    with open(f"{folder}/told", "w+") as told, subprocess.Popen(words[name], stdin=subprocess.DEVNULL, stderr=told, start_new_session=True) as server:
+    words = {
+        "nginx": [
+            "nginx",
+            "-p",
+            folder,
+            "-e",
+            f"{folder}/nginx.log",
+            "-c",
+            f"{folder}/configuration",
+        ],
+        "haproxy": ["haproxy", "-f", f"{folder}/configuration"],
+    }
+    with open(f"{folder}/told", "w+") as told, subprocess.Popen(
+        words[name], stdin=subprocess.DEVNULL, stderr=told, start_new_session=True
+    ) as server:
         try:
-            wait_until(f"{name} listens", lambda: server.poll() is not None or accepts(places["TLS_PORT"]))
+            wait_until(
+                f"{name} listens", lambda: server.poll() is not None or accepts(places["TLS_PORT"])
+            )
             if server.poll() is not None:
                 told.seek(0)
                 sys.exit(f"{name} ends: {told.read()}")
@@ -104,12 +119,32 @@ class Browser:
     def __init__(self, base, folder, address="127.0.0.1"):
         Browser.count += 1
         self.base, self.jar = base, f"{folder}/jar{Browser.count}"
-        self.words = ["curl", "-s", "--max-time", str(SECONDS), "--cacert", f"{folder}/certificate.pem", "--interface", address, "-b", self.jar, "-c", self.jar]
+        self.words = [
+            "curl",
+            "-s",
+            "--max-time",
+            str(SECONDS),
+            "--cacert",
+            f"{folder}/certificate.pem",
+            "--interface",
+            address,
+            "-b",
+            self.jar,
+            "-c",
+            self.jar,
+        ]
 
     def ask(self, path, *more):
         """The status of the answer, and its body."""
         words = [*self.words, "-w", "%{http_code}", *more, f"{self.base}{path}"]
-        text = subprocess.run(words, stdin=subprocess.DEVNULL, stdout=subprocess.PIPE, text=True, timeout=3 * SECONDS, check=False).stdout
+        text = subprocess.run(
+            words,
+            stdin=subprocess.DEVNULL,
+            stdout=subprocess.PIPE,
+            text=True,
+            timeout=3 * SECONDS,
+            check=False,
+        ).stdout
         return int(text[-3:]), text[:-3]
 
     def log_in(self):
@@ -134,7 +169,9 @@ def flood(port, count, folder=None, address="127.0.0.1", path=PAGE, **fields):
     source = (address, 0)
     if folder:
         trusted = ssl.create_default_context(cafile=f"{folder}/certificate.pem")
-        peer = http.client.HTTPSConnection("localhost", port, timeout=SECONDS, source_address=source, context=trusted)
+        peer = http.client.HTTPSConnection(
+            "localhost", port, timeout=SECONDS, source_address=source, context=trusted
+        )
     else:
         peer = http.client.HTTPConnection("127.0.0.1", port, timeout=SECONDS, source_address=source)
     statuses, given = collections.Counter(), 0

@@ -98,16 +98,24 @@ def shown(text):
 async def attack(port, seed, seconds, tally, made):
     """Attacks over some connections at once."""
     until = time.monotonic() + seconds
-    await asyncio.gather(*(attacked(port, f"{seed} {it}", tally, made, until) for it in range(AT_ONCE)))
+    await asyncio.gather(
+        *(attacked(port, f"{seed} {it}", tally, made, until) for it in range(AT_ONCE))
+    )
     return [tally]
 
 
 async def random_bytes(port, seed, seconds, _cookie):
-    tally = Tally("random bytes", "answers in form to what the RFC finds there, or the end; nothing that is protected")
+    tally = Tally(
+        "random bytes",
+        "answers in form to what the RFC finds there, or the end; nothing that is protected",
+    )
     return await attack(port, seed, seconds, tally, lambda it: (noise(it), ["noise"]))
 
 
 async def mutated_messages(port, seed, seconds, cookie):
-    tally = Tally("mutated messages", "answers in form to what the RFC finds there, or the end; nothing that is protected")
+    tally = Tally(
+        "mutated messages",
+        "answers in form to what the RFC finds there, or the end; nothing that is protected",
+    )
     messages = [text for text, _ in corpus(cookie)]
     return await attack(port, seed, seconds, tally, lambda it: mutated(it, messages))

@@ -13,6 +13,7 @@ PATIENCE = 5
 @dataclasses.dataclass
 class Tally:
     """What an attack sent and what came of it, and a line for each miss."""
+
     name: str
     expected: str
     sent: int = 0
@@ -47,7 +48,9 @@ class Peer:
         self.port = port
 
     async def __aenter__(self):
-        await asyncio.wait_for(asyncio.get_running_loop().sock_connect(self.socket, ("127.0.0.1", self.port)), 15)
+        await asyncio.wait_for(
+            asyncio.get_running_loop().sock_connect(self.socket, ("127.0.0.1", self.port)), 15
+        )
         return self
 
     async def __aexit__(self, *_):
@@ -74,7 +77,9 @@ class Peer:
     async def read(self, patience, most=65536):
         """What comes next; nothing at the end, also where the connection was reset."""
         try:
-            return await asyncio.wait_for(asyncio.get_running_loop().sock_recv(self.socket, most), patience)
+            return await asyncio.wait_for(
+                asyncio.get_running_loop().sock_recv(self.socket, most), patience
+            )
         except ConnectionResetError:
             return b""
 

@@ -35,7 +35,10 @@ def pipelined(number):
 
 
 async def pipelines(port):
-    tally = Tally(f"pipelines of {PIPELINE:,} requests", "each answered 200, in order, with its bytes, and nothing else")
+    tally = Tally(
+        f"pipelines of {PIPELINE:,} requests",
+        "each answered 200, in order, with its bytes, and nothing else",
+    )
     wanted = [pipelined(it) for it in range(PIPELINE)]
 
     async def attack(_):
@@ -97,7 +100,10 @@ async def half_closed(port, cookie):
         answers, wrong = judged(readings(text), data)
         tally.count(answers)
         found = [it.status for it in answers]
-        tally.hold(ended and not wrong and found == statuses, f"{text!r} gives {found} for {statuses}, ended {ended}, {wrong or ''} {data[:300]!r}")
+        tally.hold(
+            ended and not wrong and found == statuses,
+            f"{text!r} gives {found} for {statuses}, ended {ended}, {wrong or ''} {data[:300]!r}",
+        )
 
     for _ in range(AGAIN):
         await together(len(messages), attack)
@@ -161,7 +167,10 @@ async def quick_connects(port):
 
 async def beyond_room(port, _seed, _seconds, _cookie):
     """More connections without a byte than there is room for, all of them held: the one that has waited longest goes for each new one."""
-    tally = Tally("connections beyond the room", f"all but {ROOM:,} are closed, those that came first before those that came later")
+    tally = Tally(
+        "connections beyond the room",
+        f"all but {ROOM:,} are closed, those that came first before those that came later",
+    )
     async with contextlib.AsyncExitStack() as stack:
         held = [await stack.enter_async_context(Peer(port)) for _ in range(CONNECTS)]
         await asyncio.sleep(2)
@@ -169,7 +178,10 @@ async def beyond_room(port, _seed, _seconds, _cookie):
     tally.sent, tally.closed, tally.back["nothing"] = CONNECTS, len(ended), CONNECTS
     tally.hold(len(ended) >= CONNECTS - ROOM, f"{CONNECTS - len(ended)} are held at once")
     early = sum(it >= len(ended) for it in ended)
-    tally.hold(not early, f"{early} of the {len(ended)} that were closed came later than others that were kept")
+    tally.hold(
+        not early,
+        f"{early} of the {len(ended)} that were closed came later than others that were kept",
+    )
     return [tally]
 
 
@@ -209,7 +221,9 @@ def first_bytes():
 
 
 async def other_protocols(port):
-    tally = Tally("first bytes of TLS, HTTP/2 and others", "400 or 431 and the end, or the end alone")
+    tally = Tally(
+        "first bytes of TLS, HTTP/2 and others", "400 or 431 and the end, or the end alone"
+    )
     texts = first_bytes()
 
     async def attack(number):
@@ -218,14 +232,19 @@ async def other_protocols(port):
             await peer.send(text)
             if ends:
                 peer.end_writing()
-            data, ended = await peer.read_to_end(PATIENCE if ends or not text.strip(b"\r\n") else GIVEN_UP)
+            data, ended = await peer.read_to_end(
+                PATIENCE if ends or not text.strip(b"\r\n") else GIVEN_UP
+            )
         tally.sent += 1
         tally.closed += ended
         answers, wrong = judged(readings(text), data)
         tally.count(answers)
         found = [it.status for it in answers]
         due = ended or not text.strip(b"\r\n") and not ends
-        tally.hold(due and not wrong and found in ([], [400], [431]), f"{text[:60]!r} gives {found}, ended {ended}, {wrong or ''}")
+        tally.hold(
+            due and not wrong and found in ([], [400], [431]),
+            f"{text[:60]!r} gives {found}, ended {ended}, {wrong or ''}",
+        )
 
     await together(2 * len(texts) * AGAIN // 2, attack)
     return tally
@@ -257,12 +276,23 @@ async def closing(port):
         answers, wrong = judged(readings(text), data)
         tally.count(answers)
         found = [(it.status, len(it.body) >= least) for it in answers]
-        tally.hold(ended and not wrong and found == [(status, True)], f"{text[:60]!r} gives {found}, ended {ended}, {wrong or ''}")
+        tally.hold(
+            ended and not wrong and found == [(status, True)],
+            f"{text[:60]!r} gives {found}, ended {ended}, {wrong or ''}",
+        )
 
     await together(AGAIN * len(CLOSING), attack)
     return tally
 
 
 async def all_quick(port, _seed, _seconds, cookie):
-    attacks = [pipelines(port), empty_lines(port), half_closed(port, cookie), resets(port), closing(port), quick_connects(port), other_protocols(port)]
+    attacks = [
+        pipelines(port),
+        empty_lines(port),
+        half_closed(port, cookie),
+        resets(port),
+        closing(port),
+        quick_connects(port),
+        other_protocols(port),
+    ]
     return [await it for it in attacks]

@@ -10,11 +10,15 @@ TOKEN = rb"[!#$%&'*+\-.^_`|~0-9A-Za-z]+"
 TARGET = rb"(?:/|http://)[A-Za-z0-9\-._~:/?\[\]@!$&'()*+,;=%]*|\*"
 REQUEST_LINE = re.compile(rb"(" + TOKEN + rb") (" + TARGET + rb") HTTP/1\.([01])")
 VERSION = re.compile(rb"HTTP/([0-9])\.([0-9])")
-HOST = re.compile(rb"(?:\[[0-9A-Za-z:.]+\]|(?:[A-Za-z0-9\-._~!$&'()*+,;=]|%[0-9A-Fa-f]{2})*)(?::[0-9]*)?")
+HOST = re.compile(
+    rb"(?:\[[0-9A-Za-z:.]+\]|(?:[A-Za-z0-9\-._~!$&'()*+,;=]|%[0-9A-Fa-f]{2})*)(?::[0-9]*)?"
+)
 # What a server of ours takes for a host as well (docs/DECISIONS.md), where the RFC would have it refuse the request.
 HOST_BYTES = re.compile(rb"[A-Za-z0-9\-._~%!$&'()*+,;=:\[\]]{0,255}")
 QUOTED = rb'"(?:[\t !#-\[\]-~\x80-\xff]|\\[\t -~\x80-\xff])*"'
-EXTENSIONS = re.compile(rb"(?:[ \t]*;[ \t]*" + TOKEN + rb"(?:[ \t]*=[ \t]*(?:" + TOKEN + rb"|" + QUOTED + rb"))?)*")
+EXTENSIONS = re.compile(
+    rb"(?:[ \t]*;[ \t]*" + TOKEN + rb"(?:[ \t]*=[ \t]*(?:" + TOKEN + rb"|" + QUOTED + rb"))?)*"
+)
 SIZE_LINE = re.compile(rb"([0-9A-Fa-f]+)([ \t]*|[ \t]*;[^\r\n]*)")
 BLANKS = b" \t"
 # Lines that a server drops in front of a request, and perhaps a part of one.
@@ -32,6 +36,7 @@ class Part(Exception):
 
 class Request(NamedTuple):
     """A whole request: whether a 100 may come, whether a server has to serve it, and whether it is the last of its connection."""
+
     method: bytes
     expects: bool
     strict: bool
@@ -40,6 +45,7 @@ class Request(NamedTuple):
 
 class Reading(NamedTuple):
     """The requests, and what stands behind them: `nothing`, a `part` of a request or a `fault`, in answer to which a 100 may come."""
+
     requests: list
     rest: str
     expects: bool
@@ -87,12 +93,21 @@ class Reader:
         """The method, and the version's second digit."""
         match = REQUEST_LINE.fullmatch(line)
         if match:
-            self.strict = self.strict and (match[2] != b"*" or match[1] == b"OPTIONS") and match[1] != b"CONNECT"
+            self.strict = (
+                self.strict
+                and (match[2] != b"*" or match[1] == b"OPTIONS")
+                and match[1] != b"CONNECT"
+            )
             return match[1], int(match[3])
         self.strict = False
         words = re.split(rb"[ \t\v\f\r]+", line.strip(b" \t\v\f\r"))
         version = VERSION.fullmatch(words[-1])
-        if len(words) != 3 or not re.fullmatch(TOKEN, words[0]) or not version or version[1] != b"1":
+        if (
+            len(words) != 3
+            or not re.fullmatch(TOKEN, words[0])
+            or not version
+            or version[1] != b"1"
+        ):
             raise Fault
         return words[0], int(version[2])
 
@@ -125,7 +140,12 @@ class Reader:
 
     def check_host(self, fields, minor):
         hosts = [value for key, value in fields if key == b"host"]
-        if len(hosts) > 1 or minor > 0 and not hosts or any(not HOST_BYTES.fullmatch(it) for it in hosts):
+        if (
+            len(hosts) > 1
+            or minor > 0
+            and not hosts
+            or any(not HOST_BYTES.fullmatch(it) for it in hosts)
+        ):
             raise Fault
         self.strict = self.strict and all(HOST.fullmatch(it) for it in hosts)
 
@@ -137,7 +157,9 @@ class Reader:
 
     def body(self, fields, minor):
         """Goes behind the body, and tells whether it is framed so that nothing may be read behind it."""
-        codings, lengths = self.listed(fields, b"transfer-encoding"), self.listed(fields, b"content-length")
+        codings, lengths = self.listed(fields, b"transfer-encoding"), self.listed(
+            fields, b"content-length"
+        )
         if not codings:
             self.skip(self.length(lengths))
             return False
@@ -178,7 +200,9 @@ class Reader:
             match = SIZE_LINE.fullmatch(self.data[self.place : end - 1])
             if not match or self.data[end - 1 : end] != b"\r":
                 raise Fault
-            self.strict = self.strict and bool(EXTENSIONS.fullmatch(match[2])) and len(match[1]) <= 8
+            self.strict = (
+                self.strict and bool(EXTENSIONS.fullmatch(match[2])) and len(match[1]) <= 8
+            )
             self.place = end + 1
             size = int(match[1], 16)
             if size == 0:
@@ -193,14 +217,18 @@ class Reader:
         """Goes behind the trailer fields, which a server may drop unread. Whether a line feed alone ends a line among them is the server's choice."""
         if self.lone_feeds:
             while line := self.line():
-                self.strict = self.strict and bool(re.fullmatch(TOKEN + rb":[\t -~\x80-\xff]*", line))
+                self.strict = self.strict and bool(
+                    re.fullmatch(TOKEN + rb":[\t -~\x80-\xff]*", line)
+                )
             return
         rest = self.data[self.place :]
         end = 0 if rest.startswith(b"\r\n") else rest.find(b"\r\n\r\n") + 2
         if end == 1:
             raise Part
         lines = rest[:end].split(b"\r\n")[:-1]
-        self.strict = self.strict and all(re.fullmatch(TOKEN + rb":[\t -~\x80-\xff]*", it) for it in lines)
+        self.strict = self.strict and all(
+            re.fullmatch(TOKEN + rb":[\t -~\x80-\xff]*", it) for it in lines
+        )
         self.place += end + 2
 
 

@@ -5,7 +5,9 @@ from typing import NamedTuple
 from attacking.requests import TOKEN
 
 STATUS_LINE = re.compile(rb"HTTP/1\.1 ([1-5][0-9][0-9]) [\t -~\x80-\xff]*")
-FIELD_LINE = re.compile(rb"(" + TOKEN + rb"):[ \t]*([!-~\x80-\xff](?:[\t -~\x80-\xff]*[!-~\x80-\xff])?)?[ \t]*")
+FIELD_LINE = re.compile(
+    rb"(" + TOKEN + rb"):[ \t]*([!-~\x80-\xff](?:[\t -~\x80-\xff]*[!-~\x80-\xff])?)?[ \t]*"
+)
 SIZE = re.compile(rb"[0-9A-Fa-f]+")
 # docs/COMMANDS.md and docs/DIFFERENCES.md tell them, and 503 for a context whose sessions are as many as it holds.
 STATUSES = {200, 302, 303, 400, 403, 404, 405, 413, 417, 431, 501, 503}
@@ -46,10 +48,19 @@ class Answers:
             raise Wrong(f"no status line: {first[:80]!r}")
         fields = self.fields(lines)
         status = int(match[1])
-        if method == b"CONNECT" and 200 <= status < 300 and (b"content-length" in fields or b"transfer-encoding" in fields):
+        if (
+            method == b"CONNECT"
+            and 200 <= status < 300
+            and (b"content-length" in fields or b"transfer-encoding" in fields)
+        ):
             raise Wrong(f"{status} to CONNECT, which makes a tunnel, with a body")
         closes = b"close" in fields.get(b"connection", b"").lower()
-        bare = status < 200 or status in (204, 304) or method == b"HEAD" and not (status in REFUSALS and closes and self.more())
+        bare = (
+            status < 200
+            or status in (204, 304)
+            or method == b"HEAD"
+            and not (status in REFUSALS and closes and self.more())
+        )
         return Answer(status, closes, fields, b"" if bare else self.body(fields))
 
     def fields(self, lines):
@@ -59,7 +70,12 @@ class Answers:
             if not match:
                 raise Wrong(f"no field line: {line[:80]!r}")
             name = match[1].lower()
-            if name in found and name in (b"content-length", b"transfer-encoding", b"connection", b"date"):
+            if name in found and name in (
+                b"content-length",
+                b"transfer-encoding",
+                b"connection",
+                b"date",
+            ):
                 raise Wrong(f"twice the field {name!r}")
             found[name] = match[2] or b""
         return found
@@ -129,7 +145,9 @@ def check_final(reading, request, answer):
     if answer.status not in STATUSES:
         raise Wrong(f"the status {answer.status}, which is not documented")
     if request is None and not (answer.status in REFUSALS and answer.closes):
-        raise Wrong(f"{answer.status}, as if it were whole, for a {reading.rest} behind {len(reading.requests)} requests")
+        raise Wrong(
+            f"{answer.status}, as if it were whole, for a {reading.rest} behind {len(reading.requests)} requests"
+        )
 
 
 def check_all_answered(reading, final, answers):

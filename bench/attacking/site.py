@@ -48,10 +48,15 @@ async def logs_in(port):
     if sent.status != 200 or sent.body != b"login\n" or b"set-cookie" not in sent.fields:
         return False
     line = b"Cookie: " + cookie_of(sent) + b"\r\n"
-    passed = await asked_of(port, sized(b"/j_security_check", b"j_username=ann&j_password=bc", FORM_TYPE, line))
+    passed = await asked_of(
+        port, sized(b"/j_security_check", b"j_username=ann&j_password=bc", FORM_TYPE, line)
+    )
     if passed.status != 303 or passed.fields[b"location"] != b"/admin/x.txt":
         return False
     line = b"Cookie: " + cookie_of(passed) + b"\r\n"
     protected = await asked_of(port, asked(b"GET", b"/admin/x.txt", line))
     large = await asked_of(port, asked(b"GET", b"/large.bin"))
-    return (protected.status, protected.body) == (200, MARK) and (large.status, large.body) == (200, LARGE)
+    return (protected.status, protected.body) == (200, MARK) and (large.status, large.body) == (
+        200,
+        LARGE,
+    )

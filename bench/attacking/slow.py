@@ -38,7 +38,10 @@ async def given_up(port, tally, parts, pause):
         seconds = time.monotonic() - begun
     tally.closed += ended
     tally.back["bytes" if text else "nothing"] += 1
-    tally.hold(ended and not text and GIVEN_UP[0] <= seconds <= GIVEN_UP[1], f"not given up in time; ended {ended} after {seconds:.1f} s with {text[:60]!r}")
+    tally.hold(
+        ended and not text and GIVEN_UP[0] <= seconds <= GIVEN_UP[1],
+        f"not given up in time; ended {ended} after {seconds:.1f} s with {text[:60]!r}",
+    )
 
 
 async def slow_heads(port):
@@ -50,10 +53,17 @@ async def slow_heads(port):
 
 
 async def slow_bodies(port):
-    tally = Tally("slow bodies, 800 bytes a second", f"given up {GIVEN_UP[0]} to {GIVEN_UP[1]} s behind the first byte")
+    tally = Tally(
+        "slow bodies, 800 bytes a second",
+        f"given up {GIVEN_UP[0]} to {GIVEN_UP[1]} s behind the first byte",
+    )
     sized = [asked(b"POST", b"/who", b"Content-Length: 100000\r\n")] + [b"x" * 800] * 100
-    chunked = [asked(b"POST", b"/who", b"Transfer-Encoding: chunked\r\n")] + [b"31b\r\n" + b"x" * 795 + b"\r\n"] * 100
-    await together(BODIES, lambda number: given_up(port, tally, chunked if number % 2 else sized, 1))
+    chunked = [asked(b"POST", b"/who", b"Transfer-Encoding: chunked\r\n")] + [
+        b"31b\r\n" + b"x" * 795 + b"\r\n"
+    ] * 100
+    await together(
+        BODIES, lambda number: given_up(port, tally, chunked if number % 2 else sized, 1)
+    )
     return tally
 
 
@@ -64,18 +74,29 @@ async def brisk_bodies(port):
     async def attack(_):
         async with Peer(port) as peer:
             tally.sent += 1
-            await drip(peer, [asked(b"POST", b"/who", b"Content-Length: 30000\r\nConnection: close\r\n")] + [b"x" * 2000] * 15, 1)
+            await drip(
+                peer,
+                [asked(b"POST", b"/who", b"Content-Length: 30000\r\nConnection: close\r\n")]
+                + [b"x" * 2000] * 15,
+                1,
+            )
             text, ended = await peer.read_to_end(3)
         tally.closed += ended
         tally.back[text[9:12].decode() or "nothing"] += 1
-        tally.hold(ended and text.startswith(b"HTTP/1.1 200 ") and text.endswith(b"\r\n\r\ncaller -\n"), f"not answered; came {text[:60]!r}")
+        tally.hold(
+            ended and text.startswith(b"HTTP/1.1 200 ") and text.endswith(b"\r\n\r\ncaller -\n"),
+            f"not answered; came {text[:60]!r}",
+        )
 
     await together(BRISK, attack)
     return tally
 
 
 async def stopped_readers(port):
-    tally = Tally(f"readers that stop before {PIPELINED} MiB", f"given up within {STOPPED_SECONDS} s, the answers cut")
+    tally = Tally(
+        f"readers that stop before {PIPELINED} MiB",
+        f"given up within {STOPPED_SECONDS} s, the answers cut",
+    )
 
     async def attack(_):
         async with Peer(port, 4096) as peer:
@@ -87,7 +108,10 @@ async def stopped_readers(port):
         tally.back[text[9:12].decode() or "nothing"] += 1
         first = text.partition(b"\r\n\r\n")[2][: len(LARGE)]
         cut = first and LARGE.startswith(first) and len(text) < PIPELINED * len(LARGE)
-        tally.hold(ended and cut, f"not given up with a part; ended {ended} with {len(text)} bytes, {text[:60]!r}")
+        tally.hold(
+            ended and cut,
+            f"not given up with a part; ended {ended} with {len(text)} bytes, {text[:60]!r}",
+        )
 
     await together(STOPPED, attack)
     return tally

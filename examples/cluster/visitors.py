@@ -35,7 +35,9 @@ class Visitor(threading.Thread):
         self.logins = self.counted = self.miscounted = 0
         self.since = None
         trusted = ssl.create_default_context(cafile=f"{site.folder}/certificate.pem")
-        self.peer = http.client.HTTPSConnection("localhost", site.port, timeout=SECONDS, source_address=(address, 0), context=trusted)
+        self.peer = http.client.HTTPSConnection(
+            "localhost", site.port, timeout=SECONDS, source_address=(address, 0), context=trusted
+        )
 
     def server(self):
         return self.cookie.partition("~")[0]

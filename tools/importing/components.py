@@ -2,7 +2,16 @@
 from __future__ import annotations
 
 from .elements import shortened
-from .limits import FILTER_CLASSES, LISTENER_CLASSES, MAX_NAME_BYTES, MAX_PATTERN_BYTES, SERVLET_CLASSES, is_name, is_pattern, size
+from .limits import (
+    FILTER_CLASSES,
+    LISTENER_CLASSES,
+    MAX_NAME_BYTES,
+    MAX_PATTERN_BYTES,
+    SERVLET_CLASSES,
+    is_name,
+    is_pattern,
+    size,
+)
 from .told import Told
 from .tree import Element
 from .words import Table, init_params, truth, whole, words
@@ -33,9 +42,15 @@ class Names:
         if not name:
             told.tell(element.line, f"a {self.kind} without a name is not read")
         elif name in self._written:
-            told.tell(element.line, f"{self.kind} {shortened(name)} is declared once more: the first one counts")
+            told.tell(
+                element.line,
+                f"{self.kind} {shortened(name)} is declared once more: the first one counts",
+            )
         elif self.kind == "servlet" and name == FILE_SERVLET:
-            told.tell(element.line, "servlet default is the file servlet of this program: what is declared under its name is not read")
+            told.tell(
+                element.line,
+                "servlet default is the file servlet of this program: what is declared under its name is not read",
+            )
         else:
             self._written[name] = self._name_for(element, name, told)
             return self._written[name]
@@ -51,8 +66,14 @@ class Names:
         written = f"{self.kind}-{len(self._written) + 1}"
         while written in self._given:
             written += "-"
-        why = f"has more than {MAX_NAME_BYTES} bytes" if name != EVERY_SERVLET else "stands for every servlet"
-        told.tell(element.line, f"the {self.kind}'s name {shortened(name)} {why}: it stands as {written}")
+        why = (
+            f"has more than {MAX_NAME_BYTES} bytes"
+            if name != EVERY_SERVLET
+            else "stands for every servlet"
+        )
+        told.tell(
+            element.line, f"the {self.kind}'s name {shortened(name)} {why}: it stands as {written}"
+        )
         return written
 
 
@@ -64,7 +85,15 @@ def servlets(root: Element, names: Names, told: Told) -> list[Table]:
         if name is not None:
             class_name = _servlet_class(element, told)
             order = _load_on_startup(element, told)
-            tables.append({"servlet-name": name, "servlet-class": class_name, **order, **init_params(element, told), **words(element)})
+            tables.append(
+                {
+                    "servlet-name": name,
+                    "servlet-class": class_name,
+                    **order,
+                    **init_params(element, told),
+                    **words(element),
+                }
+            )
             _tell_async(element, told)
     return tables
 
@@ -73,12 +102,20 @@ def _servlet_class(element: Element, told: Told) -> str:
     name = element.text_of("servlet-name")
     page, class_element = element.first("jsp-file"), element.first("servlet-class")
     if not truth(element, "enabled", True, told):
-        told.tell(element.line, f"servlet {shortened(name)} is not enabled: stands as {NO_SERVLET}, which answers 404")
+        told.tell(
+            element.line,
+            f"servlet {shortened(name)} is not enabled: stands as {NO_SERVLET}, which answers 404",
+        )
         return NO_SERVLET
     if page is not None and class_element is not None:
-        told.tell(page.line, f"servlet {shortened(name)} has a class, too: jsp-file {page.text} is not read")
+        told.tell(
+            page.line,
+            f"servlet {shortened(name)} has a class, too: jsp-file {page.text} is not read",
+        )
     elif page is not None:
-        told.tell(page.line, f"jsp-file {page.text} is not run by this program: stands as {ANY_SERVLET}")
+        told.tell(
+            page.line, f"jsp-file {page.text} is not run by this program: stands as {ANY_SERVLET}"
+        )
         return ANY_SERVLET
     return _class_of(element, "servlet", SERVLET_CLASSES, ANY_SERVLET, told)
 
@@ -91,7 +128,10 @@ def _class_of(element: Element, kind: str, known: frozenset[str], stand_in: str,
         return stand_in
     if class_element.text in known:
         return class_element.text
-    told.tell(class_element.line, f"class {class_element.text} is not in this program: stands as {stand_in}")
+    told.tell(
+        class_element.line,
+        f"class {class_element.text} is not in this program: stands as {stand_in}",
+    )
     return stand_in
 
 
@@ -103,16 +143,24 @@ def _load_on_startup(element: Element, told: Told) -> Table:
     if number is not None and -(2**31) <= number < 2**31:
         return {"load-on-startup": number}
     if order.text:
-        told.tell(order.line, f"load-on-startup {shortened(order.text)} is no number of 32 bits: the servlet asks for no place in the order of starts")
+        told.tell(
+            order.line,
+            f"load-on-startup {shortened(order.text)} is no number of 32 bits: the servlet asks for no place in the order of starts",
+        )
     else:
-        told.tell(order.line, "load-on-startup is empty: the servlet asks for no place in the order of starts")
+        told.tell(
+            order.line,
+            "load-on-startup is empty: the servlet asks for no place in the order of starts",
+        )
     return {}
 
 
 def _tell_async(element: Element, told: Told) -> None:
     supported = element.first("async-supported")
     if supported is not None and truth(element, "async-supported", False, told):
-        told.tell(supported.line, "async-supported: no request goes on behind the call of its servlet")
+        told.tell(
+            supported.line, "async-supported: no request goes on behind the call of its servlet"
+        )
 
 
 def servlet_mappings(root: Element, names: Names, told: Told) -> list[Table]:
@@ -125,13 +173,20 @@ def servlet_mappings(root: Element, names: Names, told: Told) -> list[Table]:
         if name == FILE_SERVLET:
             _tell_patterns_of_files(element, told)
         elif written is None:
-            told.tell(element.line, f"no servlet {shortened(name)} is declared: its mapping is not read")
+            told.tell(
+                element.line, f"no servlet {shortened(name)} is declared: its mapping is not read"
+            )
         else:
-            patterns = [it.text for it in element.all("url-pattern") if _is_free(it, name, owners, told)]
+            patterns = [
+                it.text for it in element.all("url-pattern") if _is_free(it, name, owners, told)
+            ]
             if patterns:
                 tables.append({"servlet-name": written, "url-pattern": list(patterns)})
             elif element.first("url-pattern") is None:
-                told.tell(element.line, f"a mapping of servlet {shortened(name)} without a pattern is not read")
+                told.tell(
+                    element.line,
+                    f"a mapping of servlet {shortened(name)} without a pattern is not read",
+                )
     return tables
 
 
@@ -139,7 +194,10 @@ def _tell_patterns_of_files(element: Element, told: Told) -> None:
     """Tells the patterns of the file servlet, but for the one at which it stands by itself."""
     for pattern in element.all("url-pattern"):
         if pattern.text != "/":
-            told.tell(pattern.line, f"the file servlet takes no pattern: {shortened(pattern.text)} goes to the servlet whose pattern is the next best")
+            told.tell(
+                pattern.line,
+                f"the file servlet takes no pattern: {shortened(pattern.text)} goes to the servlet whose pattern is the next best",
+            )
 
 
 def _is_free(pattern: Element, name: str, owners: dict[str, str], told: Told) -> bool:
@@ -148,7 +206,10 @@ def _is_free(pattern: Element, name: str, owners: dict[str, str], told: Told) ->
         return False
     owner = owners.setdefault(pattern.text, "")
     if owner:
-        told.tell(pattern.line, f"url-pattern {shortened(pattern.text)} stands for servlet {shortened(owner)} already: the first mapping counts")
+        told.tell(
+            pattern.line,
+            f"url-pattern {shortened(pattern.text)} stands for servlet {shortened(owner)} already: the first mapping counts",
+        )
         return False
     owners[pattern.text] = name
     return True
@@ -157,13 +218,22 @@ def _is_free(pattern: Element, name: str, owners: dict[str, str], told: Told) ->
 def is_pattern_told(pattern: Element, told: Told) -> bool:
     """Whether an element's text is a pattern; tells those that are none, and those that Tomcat reads otherwise."""
     if size(pattern.text) > MAX_PATTERN_BYTES:
-        told.tell(pattern.line, f"url-pattern {shortened(pattern.text)} has more than {MAX_PATTERN_BYTES} bytes, and is not read")
+        told.tell(
+            pattern.line,
+            f"url-pattern {shortened(pattern.text)} has more than {MAX_PATTERN_BYTES} bytes, and is not read",
+        )
         return False
     if not is_pattern(pattern.text):
-        told.tell(pattern.line, f"url-pattern {shortened(pattern.text)} is no pattern, and is not read; Tomcat does not start such an application")
+        told.tell(
+            pattern.line,
+            f"url-pattern {shortened(pattern.text)} is no pattern, and is not read; Tomcat does not start such an application",
+        )
         return False
     if "%" in pattern.text:
-        told.tell(pattern.line, f"url-pattern {shortened(pattern.text)} is compared as it is written; Tomcat decodes it first")
+        told.tell(
+            pattern.line,
+            f"url-pattern {shortened(pattern.text)} is compared as it is written; Tomcat decodes it first",
+        )
     return True
 
 
@@ -174,19 +244,30 @@ def filters(root: Element, names: Names, told: Told) -> list[Table]:
         name = names.declare(element, told)
         if name is not None:
             class_name = _class_of(element, "filter", FILTER_CLASSES, ANY_FILTER, told)
-            tables.append({"filter-name": name, "filter-class": class_name, **init_params(element, told), **words(element)})
+            tables.append(
+                {
+                    "filter-name": name,
+                    "filter-class": class_name,
+                    **init_params(element, told),
+                    **words(element),
+                }
+            )
             _tell_async(element, told)
     return tables
 
 
-def filter_mappings(root: Element, filter_names: Names, servlet_names: Names, told: Told) -> list[Table]:
+def filter_mappings(
+    root: Element, filter_names: Names, servlet_names: Names, told: Told
+) -> list[Table]:
     """The tables of the filter mappings."""
     tables: list[Table] = []
     for element in root.all("filter-mapping"):
         name = element.text_of("filter-name")
         written = filter_names.find(name)
         if written is None:
-            told.tell(element.line, f"no filter {shortened(name)} is declared: its mapping is not read")
+            told.tell(
+                element.line, f"no filter {shortened(name)} is declared: its mapping is not read"
+            )
             continue
         patterns = [it.text for it in element.all("url-pattern") if is_pattern_told(it, told)]
         servlet_list = _servlets_of(element, servlet_names, told)
@@ -194,17 +275,31 @@ def filter_mappings(root: Element, filter_names: Names, servlet_names: Names, to
         if not patterns and not servlet_list:
             told.tell(element.line, f"a mapping of filter {shortened(name)} to nothing is not read")
         elif dispatchers is not None:
-            lists = {"url-pattern": patterns, "servlet-name": servlet_list, "dispatcher": dispatchers}
-            tables.append({"filter-name": written, **{key: list(texts) for key, texts in lists.items() if texts}})
+            lists = {
+                "url-pattern": patterns,
+                "servlet-name": servlet_list,
+                "dispatcher": dispatchers,
+            }
+            tables.append(
+                {
+                    "filter-name": written,
+                    **{key: list(texts) for key, texts in lists.items() if texts},
+                }
+            )
     return tables
 
 
 def _servlets_of(element: Element, names: Names, told: Told) -> list[str]:
     found: list[str] = []
     for child in element.all("servlet-name"):
-        written = child.text if child.text in (FILE_SERVLET, EVERY_SERVLET) else names.find(child.text)
+        written = (
+            child.text if child.text in (FILE_SERVLET, EVERY_SERVLET) else names.find(child.text)
+        )
         if written is None:
-            told.tell(child.line, f"no servlet {shortened(child.text)} is declared: the filter is not mapped to it")
+            told.tell(
+                child.line,
+                f"no servlet {shortened(child.text)} is declared: the filter is not mapped to it",
+            )
         else:
             found.append(written)
     return found
@@ -229,6 +324,9 @@ def _dispatchers(element: Element, told: Told) -> list[str] | None:
 def listeners(root: Element, told: Told) -> list[Table]:
     """The tables of the listeners."""
     return [
-        {"listener-class": _class_of(element, "listener", LISTENER_CLASSES, ANY_LISTENER, told), **words(element)}
+        {
+            "listener-class": _class_of(element, "listener", LISTENER_CLASSES, ANY_LISTENER, told),
+            **words(element),
+        }
         for element in root.all("listener")
     ]

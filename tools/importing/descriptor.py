@@ -23,7 +23,10 @@ _NAMESPACES = frozenset(
     ]
 )
 _VERSIONS = ("2.4", "2.5", "3.0", "3.1", "4.0", "5.0", "6.0", "6.1")
-_PUBLIC_IDS = ("-//Sun Microsystems, Inc.//DTD Web Application 2.2//EN", "-//Sun Microsystems, Inc.//DTD Web Application 2.3//EN")
+_PUBLIC_IDS = (
+    "-//Sun Microsystems, Inc.//DTD Web Application 2.2//EN",
+    "-//Sun Microsystems, Inc.//DTD Web Application 2.3//EN",
+)
 _FRAGMENT = "META-INF/web-fragment.xml"
 
 
@@ -60,12 +63,21 @@ def _check_root(document: Document, told: Told) -> None:
     if root.name != "web-app":
         raise told.fault(root.line, f"{root.name} is no web-app")
     if root.namespace not in _NAMESPACES:
-        told.tell(root.line, f"the namespace {root.namespace} is none of web.xml: its elements are read as if it were")
+        told.tell(
+            root.line,
+            f"the namespace {root.namespace} is none of web.xml: its elements are read as if it were",
+        )
     version = root.attributes.get("version", "")
     if version and version not in _VERSIONS:
-        told.tell(root.line, f"version {shortened(version)} is none from 2.4 to 6.1: it is read as if it were 6.1")
+        told.tell(
+            root.line,
+            f"version {shortened(version)} is none from 2.4 to 6.1: it is read as if it were 6.1",
+        )
     if document.doctype_line and document.public_id not in _PUBLIC_IDS:
-        told.tell(document.doctype_line, "the DOCTYPE is none of Servlet 2.2 and 2.3: what it declares is not read")
+        told.tell(
+            document.doctype_line,
+            "the DOCTYPE is none of Servlet 2.2 and 2.3: what it declares is not read",
+        )
 
 
 def _is_complete(root: Element) -> bool:
@@ -76,9 +88,15 @@ def _top(root: Element, told: Told) -> Table:
     deny = root.first("deny-uncovered-http-methods")
     top: Table = {} if deny is None else {"deny-uncovered-http-methods": True}
     if deny is not None and deny.text:
-        told.tell(deny.line, f"deny-uncovered-http-methods holds no value: {shortened(deny.text)} changes nothing, it is set")
+        told.tell(
+            deny.line,
+            f"deny-uncovered-http-methods holds no value: {shortened(deny.text)} changes nothing, it is set",
+        )
     if not _is_complete(root):
-        told.tell(root.line, "metadata-complete is not true: what annotations of classes and web-fragment.xml files would add is not read")
+        told.tell(
+            root.line,
+            "metadata-complete is not true: what annotations of classes and web-fragment.xml files would add is not read",
+        )
     return {**top, **words(root)}
 
 
@@ -90,7 +108,10 @@ def _version(tables: list[tuple[str, Table]]) -> Table:
 def _tell_encoding(root: Element, told: Told) -> None:
     encoding = root.first("request-character-encoding")
     if encoding is not None and encoding.text.upper() != "UTF-8":
-        told.tell(encoding.line, f"request-character-encoding {shortened(encoding.text)}: parameters are read as UTF-8")
+        told.tell(
+            encoding.line,
+            f"request-character-encoding {shortened(encoding.text)}: parameters are read as UTF-8",
+        )
 
 
 def _tables(root: Element, told: Told) -> list[tuple[str, Table]]:
@@ -103,7 +124,10 @@ def _tables(root: Element, told: Told) -> list[tuple[str, Table]]:
         "filter-mapping": components.filter_mappings(root, filter_names, servlet_names, told),
         "listener": components.listeners(root, told),
     }
-    singles = {"session-config": pages.session_config(root, told), "welcome-file-list": pages.welcome_files(root, told)}
+    singles = {
+        "session-config": pages.session_config(root, told),
+        "welcome-file-list": pages.welcome_files(root, told),
+    }
     later = {
         "error-page": pages.error_pages(root, told),
         "security-constraint": security.constraints(root, told),
@@ -142,7 +166,9 @@ def _check_inner_lists(table: Table, told: Told) -> None:
 
 def _check_length(key: str, length: int, told: Told) -> None:
     if length > MAX_LIST_ITEMS:
-        raise told.fault(1, f"{length} of {key} are more than {MAX_LIST_ITEMS}, which a descriptor may have")
+        raise told.fault(
+            1, f"{length} of {key} are more than {MAX_LIST_ITEMS}, which a descriptor may have"
+        )
 
 
 def tell_fragments(web_xml: Path, told: Told) -> None:
@@ -152,7 +178,9 @@ def tell_fragments(web_xml: Path, told: Told) -> None:
             with zipfile.ZipFile(path) as library:
                 has_fragment = _FRAGMENT in library.namelist()
         except (OSError, zipfile.BadZipFile):
-            told.tell(1, f"lib/{path.name} cannot be read: whether it has a web-fragment.xml is not known")
+            told.tell(
+                1, f"lib/{path.name} cannot be read: whether it has a web-fragment.xml is not known"
+            )
         else:
             if has_fragment:
                 told.tell(1, f"lib/{path.name} has a web-fragment.xml, which is not read")
@@ -161,5 +189,14 @@ def tell_fragments(web_xml: Path, told: Told) -> None:
 def server_text(seed: str, context: str, users: str) -> str:
     """The server file for a descriptor `web.toml`, at a port that is free when it is served."""
     server: dict[str, Value] = {"port": 0, "seed": seed}
-    table: dict[str, Value] = {"path": context, "descriptor": "web.toml", "files": "", **({"users": users} if users else {})}
-    return "".join(toml.pair(key, value) for key, value in server.items()) + "\n" + toml.table("[[context]]", table)
+    table: dict[str, Value] = {
+        "path": context,
+        "descriptor": "web.toml",
+        "files": "",
+        **({"users": users} if users else {}),
+    }
+    return (
+        "".join(toml.pair(key, value) for key, value in server.items())
+        + "\n"
+        + toml.table("[[context]]", table)
+    )

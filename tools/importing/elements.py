@@ -49,10 +49,16 @@ CONTENT: dict[str, Content] = {
         "login-config": ONE,
         "deny-uncovered-http-methods": ONE,
         "request-character-encoding": ONE,
-        "response-character-encoding": Says("components of this program say themselves what type their answer has"),
+        "response-character-encoding": Says(
+            "components of this program say themselves what type their answer has"
+        ),
         "distributable": Says("sessions stay in the memory of one process"),
-        "context-param": Says("no component of this program reads the parameters of a context", "param-name"),
-        "mime-mapping": Says("a file has the type that this program gives to its extension", "extension"),
+        "context-param": Says(
+            "no component of this program reads the parameters of a context", "param-name"
+        ),
+        "mime-mapping": Says(
+            "a file has the type that this program gives to its extension", "extension"
+        ),
         "default-context-path": Says("the context stands at the path that --context gives"),
         "absolute-ordering": Says("no fragment is read, so none is put in order"),
         "module-name": Says("an application has no name here"),
@@ -92,12 +98,27 @@ CONTENT: dict[str, Content] = {
         "enabled": ONE,
         "async-supported": ONE,
         "run-as": Says("what a servlet calls has no caller of its own here", "role-name"),
-        "security-role-ref": Says("no component of this program asks for roles by another name", "role-name"),
-        "multipart-config": Says("a body of several parts comes to the servlet as it is, within the limits of this program"),
+        "security-role-ref": Says(
+            "no component of this program asks for roles by another name", "role-name"
+        ),
+        "multipart-config": Says(
+            "a body of several parts comes to the servlet as it is, within the limits of this program"
+        ),
     },
     "servlet-mapping": {"servlet-name": ONE, "url-pattern": MANY},
-    "filter": {**_WORDS, "filter-name": ONE, "filter-class": ONE, "init-param": MANY, "async-supported": ONE},
-    "filter-mapping": {"filter-name": ONE, "url-pattern": MANY, "servlet-name": MANY, "dispatcher": MANY},
+    "filter": {
+        **_WORDS,
+        "filter-name": ONE,
+        "filter-class": ONE,
+        "init-param": MANY,
+        "async-supported": ONE,
+    },
+    "filter-mapping": {
+        "filter-name": ONE,
+        "url-pattern": MANY,
+        "servlet-name": MANY,
+        "dispatcher": MANY,
+    },
     "init-param": {"description": MANY, "param-name": ONE, "param-value": ONE},
     "listener": {**_WORDS, "listener-class": ONE},
     "session-config": {"session-timeout": ONE, "cookie-config": ONE, "tracking-mode": MANY},
@@ -113,7 +134,12 @@ CONTENT: dict[str, Content] = {
     },
     "welcome-file-list": {"welcome-file": MANY},
     "error-page": {"error-code": ONE, "exception-type": ONE, "location": ONE},
-    "security-constraint": {**_WORDS, "web-resource-collection": MANY, "auth-constraint": ONE, "user-data-constraint": ONE},
+    "security-constraint": {
+        **_WORDS,
+        "web-resource-collection": MANY,
+        "auth-constraint": ONE,
+        "user-data-constraint": ONE,
+    },
     "web-resource-collection": {
         "description": MANY,
         "web-resource-name": ONE,
@@ -126,7 +152,9 @@ CONTENT: dict[str, Content] = {
     "security-role": {"description": MANY, "role-name": ONE},
     "login-config": {
         "auth-method": ONE,
-        "realm-name": Says("the name of a realm is shown by BASIC and DIGEST alone, and callers log in by a form here"),
+        "realm-name": Says(
+            "the name of a realm is shown by BASIC and DIGEST alone, and callers log in by a form here"
+        ),
         "form-login-config": ONE,
     },
     "form-login-config": {"form-login-page": ONE, "form-error-page": ONE},
@@ -135,7 +163,12 @@ CONTENT: dict[str, Content] = {
 # The attributes that say nothing of an answer, for every element; the root's own are read with the root.
 _XSI = "http://www.w3.org/2001/XMLSchema-instance "
 _IDLE_ATTRIBUTES = frozenset(
-    ["id", "http://www.w3.org/XML/1998/namespace lang", f"{_XSI}schemaLocation", f"{_XSI}noNamespaceSchemaLocation"]
+    [
+        "id",
+        "http://www.w3.org/XML/1998/namespace lang",
+        f"{_XSI}schemaLocation",
+        f"{_XSI}noNamespaceSchemaLocation",
+    ]
 )
 ROOT_ATTRIBUTES = frozenset(["version", "metadata-complete"])
 
@@ -145,14 +178,22 @@ def tell_what_is_not_taken(element: Element, told: Told) -> None:
     _tell_attributes(element, told)
     content = CONTENT.get(element.name, {})
     if content and element.text:
-        told.tell(element.line, f"the text {shortened(element.text)} within {element.name} means nothing")
+        told.tell(
+            element.line, f"the text {shortened(element.text)} within {element.name} means nothing"
+        )
     seen: set[str] = set()
     for child in element.children:
         place = content.get(child.name)
         if child.namespace != element.namespace:
-            told.tell(child.line, f"{child.name} within {element.name} is of another namespace, and is not read")
+            told.tell(
+                child.line,
+                f"{child.name} within {element.name} is of another namespace, and is not read",
+            )
         elif place is None:
-            told.tell(child.line, f"{child.name} within {element.name} is no element of web.xml, and is not read")
+            told.tell(
+                child.line,
+                f"{child.name} within {element.name} is no element of web.xml, and is not read",
+            )
         elif isinstance(place, Says):
             told.tell(child.line, f"{_named(child, place.named_by)}: {place.meaning}")
         elif place is ONE and child.name in seen:
@@ -189,4 +230,7 @@ def _tell_attributes(element: Element, told: Told) -> None:
     for attribute in element.attributes:
         is_of_root = element.name == "web-app" and attribute in ROOT_ATTRIBUTES
         if attribute not in _IDLE_ATTRIBUTES and not is_of_root:
-            told.tell(element.line, f"the attribute {attribute.rpartition(' ')[2]} of {element.name} is none of web.xml")
+            told.tell(
+                element.line,
+                f"the attribute {attribute.rpartition(' ')[2]} of {element.name} is none of web.xml",
+            )

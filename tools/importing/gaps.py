@@ -22,7 +22,9 @@ class Methods(NamedTuple):
         listed, omitted = collection.get("http-method"), collection.get("http-method-omission")
         if isinstance(listed, list):
             names = frozenset(map(str, listed))
-            return Methods(self.names | names if self.is_all_but else self.names - names, self.is_all_but)
+            return Methods(
+                self.names | names if self.is_all_but else self.names - names, self.is_all_but
+            )
         rest = frozenset(map(str, omitted)) if isinstance(omitted, list) else frozenset()
         return Methods(rest - self.names if self.is_all_but else rest & self.names, False)
 
@@ -43,12 +45,23 @@ def tell_readings(root: Element, constraints: list[Table], told: Told) -> None:
         lines.setdefault(pattern_element.text, pattern_element.line)
     uncovered = _uncovered(constraints)
     if "/" in uncovered and ("/*" in uncovered or "" in uncovered):
-        told.tell(lines["/"], 'url-pattern "/" of a constraint stands behind all others for the path /, too; Tomcat takes it for an exact one there')
+        told.tell(
+            lines["/"],
+            'url-pattern "/" of a constraint stands behind all others for the path /, too; Tomcat takes it for an exact one there',
+        )
     if "*." in uncovered:
-        told.tell(lines["*."], 'url-pattern "*." of a constraint is for paths that end in a dot; Tomcat matches nothing by it')
+        told.tell(
+            lines["*."],
+            'url-pattern "*." of a constraint is for paths that end in a dot; Tomcat matches nothing by it',
+        )
     lesser = [pattern for pattern in uncovered if pattern == "/" or _EXTENSION.fullmatch(pattern)]
     for pattern, methods in uncovered.items():
-        if lesser and pattern.endswith("/*") and (methods.is_all_but or methods.names) and root.first("deny-uncovered-http-methods") is None:
+        if (
+            lesser
+            and pattern.endswith("/*")
+            and (methods.is_all_but or methods.names)
+            and root.first("deny-uncovered-http-methods") is None
+        ):
             told.tell(
                 lines[pattern],
                 f"url-pattern {shortened(pattern)}: its constraints leave {methods} uncovered, and so open; Tomcat goes on to {', '.join(map(shortened, lesser))}",

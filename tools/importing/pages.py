@@ -2,7 +2,15 @@
 from __future__ import annotations
 
 from .elements import shortened
-from .limits import ERROR_CODES, MAX_COOKIE_AGE, MAX_SESSION_TIMEOUT, is_cookie_name, is_cookie_path, is_location, is_name
+from .limits import (
+    ERROR_CODES,
+    MAX_COOKIE_AGE,
+    MAX_SESSION_TIMEOUT,
+    is_cookie_name,
+    is_cookie_path,
+    is_location,
+    is_name,
+)
 from .told import Told
 from .tree import Element
 from .words import Table, truth, whole
@@ -20,7 +28,10 @@ def session_config(root: Element, told: Told) -> Table | None:
     settings = {} if cookie is None else _cookie_config(cookie, told)
     for mode in element.all("tracking-mode"):
         if mode.text != "COOKIE":
-            told.tell(mode.line, f"tracking-mode {shortened(mode.text)}: sessions are found by their cookie alone")
+            told.tell(
+                mode.line,
+                f"tracking-mode {shortened(mode.text)}: sessions are found by their cookie alone",
+            )
     timeout = element.first("session-timeout")
     table = {} if timeout is None else _timeout(timeout, told)
     return {**table, "cookie-config": settings} if settings else table
@@ -29,21 +40,33 @@ def session_config(root: Element, told: Told) -> Table | None:
 def _timeout(element: Element, told: Told) -> Table:
     minutes = whole(element)
     if minutes is None:
-        told.tell(element.line, f"session-timeout {shortened(element.text)} is no number of minutes: a session lives 30 minutes without a request")
+        told.tell(
+            element.line,
+            f"session-timeout {shortened(element.text)} is no number of minutes: a session lives 30 minutes without a request",
+        )
         return {}
     if minutes > MAX_SESSION_TIMEOUT:
-        told.tell(element.line, f"session-timeout {minutes} is more than a year: it stands as {MAX_SESSION_TIMEOUT}")
+        told.tell(
+            element.line,
+            f"session-timeout {minutes} is more than a year: it stands as {MAX_SESSION_TIMEOUT}",
+        )
     return {"session-timeout": min(minutes, MAX_SESSION_TIMEOUT)}
 
 
 def _cookie_config(cookie: Element, told: Told) -> Table:
     """How the cookie of a session is set where it is otherwise than without a word. What it cannot carry is told."""
     secure, http_only = cookie.first("secure"), cookie.first("http-only")
-    settings = {**_cookie_name(cookie.first("name"), told), **_cookie_path(cookie.first("path"), told)}
+    settings = {
+        **_cookie_name(cookie.first("name"), told),
+        **_cookie_path(cookie.first("path"), told),
+    }
     if http_only is not None and not truth(cookie, "http-only", True, told):
         settings["http-only"] = False
     if secure is not None and truth(cookie, "secure", False, told):
-        told.tell(secure.line, "secure: the cookie of a session has no attribute Secure; what gives TLS in front of this program may add it")
+        told.tell(
+            secure.line,
+            "secure: the cookie of a session has no attribute Secure; what gives TLS in front of this program may add it",
+        )
     return {**settings, **_cookie_age(cookie.first("max-age"), told)}
 
 
@@ -51,7 +74,10 @@ def _cookie_name(name: Element | None, told: Told) -> Table:
     if name is None or name.text == _COOKIE:
         return {}
     if not is_cookie_name(name.text):
-        told.tell(name.line, f"name {shortened(name.text)} is no name of a cookie: the cookie of a session is {_COOKIE}")
+        told.tell(
+            name.line,
+            f"name {shortened(name.text)} is no name of a cookie: the cookie of a session is {_COOKIE}",
+        )
         return {}
     return {"name": name.text}
 
@@ -60,7 +86,10 @@ def _cookie_path(path: Element | None, told: Told) -> Table:
     if path is None:
         return {}
     if not is_cookie_path(path.text):
-        told.tell(path.line, f"path {shortened(path.text)} is no path of a cookie: the cookie of a session has the path of its context")
+        told.tell(
+            path.line,
+            f"path {shortened(path.text)} is no path of a cookie: the cookie of a session has the path of its context",
+        )
         return {}
     return {"path": path.text}
 
@@ -85,10 +114,16 @@ def welcome_files(root: Element, told: Told) -> Table | None:
         for child in element.all("welcome-file"):
             name = child.text.strip("/")
             if not name:
-                told.tell(child.line, f"welcome-file {shortened(child.text)} names no file, and is not read")
+                told.tell(
+                    child.line,
+                    f"welcome-file {shortened(child.text)} names no file, and is not read",
+                )
                 continue
             if name != child.text:
-                told.tell(child.line, f"welcome-file {shortened(child.text)} may not begin or end with a slash: it stands as {name}")
+                told.tell(
+                    child.line,
+                    f"welcome-file {shortened(child.text)} may not begin or end with a slash: it stands as {name}",
+                )
             names.append(name)
     return {"welcome-file": list(names)}
 
@@ -102,11 +137,17 @@ def error_pages(root: Element, told: Told) -> list[Table]:
         errors = _errors(element, told)
         if location is None or not is_location(location.text):
             text = "" if location is None else location.text
-            told.tell(element.line, f"the location {shortened(text)} of an error page is no path within the context: the page is not read")
+            told.tell(
+                element.line,
+                f"the location {shortened(text)} of an error page is no path within the context: the page is not read",
+            )
         elif errors is not None:
             kind = str(errors)
             if kind in seen:
-                told.tell(element.line, "an error page for the same errors stands above: the first one counts; in Tomcat the last one does")
+                told.tell(
+                    element.line,
+                    "an error page for the same errors stands above: the first one counts; in Tomcat the last one does",
+                )
             seen.add(kind)
             tables.append({**errors, "location": location.text})
     return tables
@@ -116,17 +157,28 @@ def _errors(element: Element, told: Told) -> Table | None:
     """The errors that a page is for, `None` where there are no such errors. Without a code and a type it is for all that have no other page."""
     code, kind = element.first("error-code"), element.first("exception-type")
     if code is not None and kind is not None:
-        told.tell(kind.line, "an error page is for a code or for a type: exception-type is not read")
+        told.tell(
+            kind.line, "an error page is for a code or for a type: exception-type is not read"
+        )
     if code is not None:
         number = whole(code)
         if number is not None and number in ERROR_CODES:
             return {"error-code": number}
-        told.tell(code.line, f"error-code {shortened(code.text)} is no status of an error from 400 to 599: the page is not read")
+        told.tell(
+            code.line,
+            f"error-code {shortened(code.text)} is no status of an error from 400 to 599: the page is not read",
+        )
         return None
     if kind is None:
         return {}
     if not is_name(kind.text):
-        told.tell(kind.line, f"exception-type {shortened(kind.text)} is no name of 1 to 64 bytes: the page is not read")
+        told.tell(
+            kind.line,
+            f"exception-type {shortened(kind.text)} is no name of 1 to 64 bytes: the page is not read",
+        )
         return None
-    told.tell(kind.line, f"exception-type {kind.text} is compared with the name of a fault alone: there are no classes below it")
+    told.tell(
+        kind.line,
+        f"exception-type {kind.text} is compared with the name of a fault alone: there are no classes below it",
+    )
     return {"exception-type": kind.text}

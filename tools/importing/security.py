@@ -4,7 +4,14 @@ from __future__ import annotations
 from .components import is_pattern_told
 from .elements import shortened
 from .gaps import tell_readings
-from .limits import MAX_METHOD_BYTES, MAX_NAME_BYTES, MAX_PATTERNS_OF_CONSTRAINT, is_location, is_method, is_name
+from .limits import (
+    MAX_METHOD_BYTES,
+    MAX_NAME_BYTES,
+    MAX_PATTERNS_OF_CONSTRAINT,
+    is_location,
+    is_method,
+    is_name,
+)
 from .told import Told
 from .tree import Element
 from .words import Table, words
@@ -28,10 +35,15 @@ def constraints(root: Element, told: Told) -> list[Table]:
         rest = {**_authorization(element, told), **_transport(element, told), **words(element)}
         parts = _parts(_collections(element, told))
         if not parts:
-            told.tell(element.line, f"constraint {number} has no pattern that could be read: it stands as one that no request matches")
+            told.tell(
+                element.line,
+                f"constraint {number} has no pattern that could be read: it stands as one that no request matches",
+            )
             parts = [[{"url-pattern": [NO_PATH]}]]
         tables.append({"web-resource-collection": list(parts[0]), **rest})
-        behind += [(element, number, {"web-resource-collection": list(part), **rest}) for part in parts[1:]]
+        behind += [
+            (element, number, {"web-resource-collection": list(part), **rest}) for part in parts[1:]
+        ]
     for element, number, table in behind:
         tables.append(table)
         told.tell(
@@ -44,7 +56,10 @@ def constraints(root: Element, told: Told) -> list[Table]:
 
 def _collections(element: Element, told: Told) -> list[Table]:
     if element.first("web-resource-collection") is None:
-        told.tell(element.line, "a security-constraint without a web-resource-collection constrains nothing")
+        told.tell(
+            element.line,
+            "a security-constraint without a web-resource-collection constrains nothing",
+        )
     found = [_collection(child, told) for child in element.all("web-resource-collection")]
     return [table for table in found if table is not None]
 
@@ -67,11 +82,17 @@ def _methods(element: Element, told: Told) -> Table:
     """The methods of a collection. Without a list it covers all."""
     listed, omitted = list(element.all("http-method")), list(element.all("http-method-omission"))
     if listed and omitted:
-        told.tell(omitted[0].line, "a collection has one list of methods: http-method-omission is not read; Tomcat does not start such an application")
+        told.tell(
+            omitted[0].line,
+            "a collection has one list of methods: http-method-omission is not read; Tomcat does not start such an application",
+        )
     key = "http-method" if listed else "http-method-omission"
     methods = [child.text for child in listed or omitted if _is_method_told(child, told)]
     if listed and not methods:
-        told.tell(element.line, f"no method of this web-resource-collection can be written: it stands with the method {NO_METHOD}, so its patterns stay")
+        told.tell(
+            element.line,
+            f"no method of this web-resource-collection can be written: it stands with the method {NO_METHOD}, so its patterns stay",
+        )
         methods = [NO_METHOD]
     return {key: list(dict.fromkeys(methods))} if methods else {}
 
@@ -113,8 +134,13 @@ def _authorization(element: Element, told: Told) -> Table:
         if is_name(child.text):
             roles.append(child.text)
         else:
-            told.tell(child.line, f"role-name {shortened(child.text)} is no name of 1 to {MAX_NAME_BYTES} bytes: nobody has this role")
-    return {"auth-constraint": {**({"role-name": list(roles)} if roles else {}), **words(constraint)}}
+            told.tell(
+                child.line,
+                f"role-name {shortened(child.text)} is no name of 1 to {MAX_NAME_BYTES} bytes: nobody has this role",
+            )
+    return {
+        "auth-constraint": {**({"role-name": list(roles)} if roles else {}), **words(constraint)}
+    }
 
 
 def _transport(element: Element, told: Told) -> Table:
@@ -123,11 +149,16 @@ def _transport(element: Element, told: Told) -> Table:
         return {}
     guarantee = constraint.first("transport-guarantee")
     if guarantee is None:
-        told.tell(constraint.line, "a user-data-constraint without a transport-guarantee asks for nothing")
+        told.tell(
+            constraint.line, "a user-data-constraint without a transport-guarantee asks for nothing"
+        )
         return {}
     asked = guarantee.text
     if asked not in _GUARANTEES:
-        told.tell(guarantee.line, f"transport-guarantee {shortened(asked)} is none of NONE, INTEGRAL and CONFIDENTIAL: it stands as CONFIDENTIAL, as in Tomcat")
+        told.tell(
+            guarantee.line,
+            f"transport-guarantee {shortened(asked)} is none of NONE, INTEGRAL and CONFIDENTIAL: it stands as CONFIDENTIAL, as in Tomcat",
+        )
         asked = "CONFIDENTIAL"
     if asked != "NONE":
         told.tell(
@@ -144,9 +175,15 @@ def roles(root: Element, told: Told) -> list[Table]:
     for element in root.all("security-role"):
         name = element.text_of("role-name")
         if name in RESERVED_ROLES:
-            told.tell(element.line, f"security-role {name} has a meaning of its own in a constraint, and cannot be declared")
+            told.tell(
+                element.line,
+                f"security-role {name} has a meaning of its own in a constraint, and cannot be declared",
+            )
         elif not is_name(name):
-            told.tell(element.line, f"security-role {shortened(name)} is no name of 1 to {MAX_NAME_BYTES} bytes, and is not declared")
+            told.tell(
+                element.line,
+                f"security-role {shortened(name)} is no name of 1 to {MAX_NAME_BYTES} bytes, and is not declared",
+            )
         elif name in seen:
             told.tell(element.line, f"security-role {name} is declared once more")
         else:
@@ -162,14 +199,20 @@ def login_config(root: Element, told: Told) -> Table | None:
         return None
     method = element.text_of("auth-method")
     if method in ("", "NONE"):
-        told.tell(element.line, "login-config has no method: callers cannot log in, and `login` stands for a denial with 403")
+        told.tell(
+            element.line,
+            "login-config has no method: callers cannot log in, and `login` stands for a denial with 403",
+        )
         return None
     pages = {"form-login-page": LOGIN_PAGE, "form-error-page": ERROR_PAGE}
     form = element.first("form-login-config")
     if method == "FORM":
         pages = {key: _page(element, form, key, page, told) for key, page in pages.items()}
     else:
-        told.tell(element.line, f"{method} login is told as FORM for policy: what it would ask for by 401 is `login`, with the page {LOGIN_PAGE}")
+        told.tell(
+            element.line,
+            f"{method} login is told as FORM for policy: what it would ask for by 401 is `login`, with the page {LOGIN_PAGE}",
+        )
         if form is not None:
             told.tell(form.line, f"form-login-config is for FORM alone, and not for {method}")
     return {"auth-method": "FORM", "form-login-config": dict(pages)}
@@ -182,5 +225,8 @@ def _page(login: Element, form: Element | None, key: str, default: str, told: To
         return default
     if is_location(page.text):
         return page.text
-    told.tell(page.line, f"{key} {shortened(page.text)} is no path within the context: it stands as {default}")
+    told.tell(
+        page.line,
+        f"{key} {shortened(page.text)} is no path within the context: it stands as {default}",
+    )
     return default

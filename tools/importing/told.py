@@ -32,4 +32,7 @@ class Told:
 
     def lines(self) -> list[str]:
         """What is told, sorted by line; sentences of one line stand in the order in which they were told."""
-        return [f"{self.file}:{line}: {sentence}" for line, sentence in sorted(self._told, key=lambda it: it[0])]
+        return [
+            f"{self.file}:{line}: {sentence}"
+            for line, sentence in sorted(self._told, key=lambda it: it[0])
+        ]

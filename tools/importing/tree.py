@@ -84,11 +84,15 @@ class _Builder:
     def characters(self, text: str) -> None:
         self.open[-1].pieces.append(text)
 
-    def doctype(self, _name: str, _system: str | None, public_id: str | None, internal: int) -> None:
+    def doctype(
+        self, _name: str, _system: str | None, public_id: str | None, internal: int
+    ) -> None:
         self.public_id = public_id
         self.doctype_line = self.parser.CurrentLineNumber
         if internal:
-            raise self.told.fault(self.doctype_line, "a DOCTYPE with declarations of its own is refused")
+            raise self.told.fault(
+                self.doctype_line, "a DOCTYPE with declarations of its own is refused"
+            )
 
     def entity(self, name: str, *_declared: object) -> None:
         raise self.told.fault(self.parser.CurrentLineNumber, f"the entity {name} is refused")
@@ -97,7 +101,9 @@ class _Builder:
         raise self.told.fault(self.parser.CurrentLineNumber, f"the entity {name} is refused")
 
     def instruction(self, target: str, _text: str) -> None:
-        self.told.tell(self.parser.CurrentLineNumber, f"the processing instruction {target} means nothing here")
+        self.told.tell(
+            self.parser.CurrentLineNumber, f"the processing instruction {target} means nothing here"
+        )
 
 
 @dataclasses.dataclass

@@ -38,7 +38,15 @@ class User:
 
     def text(self) -> str:
         """The user's entry in a users file."""
-        return toml.table("[[user]]", {"name": self.name, "salt": self.salt, "digest": self.digest, "roles": list(self.roles)})
+        return toml.table(
+            "[[user]]",
+            {
+                "name": self.name,
+                "salt": self.salt,
+                "digest": self.digest,
+                "roles": list(self.roles),
+            },
+        )
 
 
 def with_password(name: str, roles: list[str], salt: bytes, password: bytes) -> User:
@@ -57,27 +65,47 @@ def read(text: bytes, told: Told) -> list[User]:
     for element in root.all("user"):
         user = _user(element, groups, told)
         if user is not None and user.name in users:
-            told.tell(element.line, f"user {shortened(user.name)} stands here once more: the first one counts")
+            told.tell(
+                element.line,
+                f"user {shortened(user.name)} stands here once more: the first one counts",
+            )
         elif user is not None:
             users[user.name] = user
     if len(users) > MAX_LIST_ITEMS:
-        raise told.fault(1, f"{len(users)} users are more than {MAX_LIST_ITEMS}, which a users file may have")
+        raise told.fault(
+            1, f"{len(users)} users are more than {MAX_LIST_ITEMS}, which a users file may have"
+        )
     return list(users.values())
 
 
 def _tell_what_is_not_taken(root: Element, told: Told) -> None:
     for element in [root, *root.children]:
-        known = _ATTRIBUTES.get(element.name) if element is root or element.name != "tomcat-users" else None
+        known = (
+            _ATTRIBUTES.get(element.name)
+            if element is root or element.name != "tomcat-users"
+            else None
+        )
         if known is None or element.namespace != root.namespace:
-            told.tell(element.line, f"{element.name} is no element of tomcat-users.xml, and is not read")
+            told.tell(
+                element.line, f"{element.name} is no element of tomcat-users.xml, and is not read"
+            )
             continue
         for attribute in element.attributes:
             if attribute not in known and not attribute.startswith(_XSI):
-                told.tell(element.line, f"the attribute {attribute.rpartition(' ')[2]} of {element.name} is none of tomcat-users.xml")
+                told.tell(
+                    element.line,
+                    f"the attribute {attribute.rpartition(' ')[2]} of {element.name} is none of tomcat-users.xml",
+                )
         if element.text:
-            told.tell(element.line, f"the text {shortened(element.text)} within {element.name} means nothing")
+            told.tell(
+                element.line,
+                f"the text {shortened(element.text)} within {element.name} means nothing",
+            )
         for child in element.children if element is not root else []:
-            told.tell(child.line, f"{child.name} within {element.name} is no element of tomcat-users.xml, and is not read")
+            told.tell(
+                child.line,
+                f"{child.name} within {element.name} is no element of tomcat-users.xml, and is not read",
+            )
 
 
 def _name_of(element: Element, attribute: str) -> str:
@@ -93,12 +121,18 @@ def _listed(element: Element, attribute: str) -> list[str]:
 def _user(element: Element, groups: dict[str, list[str]], told: Told) -> User | None:
     name = _name_of(element, "username")
     if not is_name(name):
-        told.tell(element.line, f"user {shortened(name)} has no name of 1 to {MAX_NAME_BYTES} bytes, and is not read")
+        told.tell(
+            element.line,
+            f"user {shortened(name)} has no name of 1 to {MAX_NAME_BYTES} bytes, and is not read",
+        )
         return None
     names = _listed(element, "roles")
     for group in _listed(element, "groups"):
         if group not in groups:
-            told.tell(element.line, f"user {shortened(name)} is in the group {shortened(group)}, which there is not")
+            told.tell(
+                element.line,
+                f"user {shortened(name)} is in the group {shortened(group)}, which there is not",
+            )
         names += groups.get(group, [])
     roles = [role for role in dict.fromkeys(names) if _is_role_told(element, name, role, told)]
     salt, digest = _credentials(element, name, told)
@@ -107,7 +141,10 @@ def _user(element: Element, groups: dict[str, list[str]], told: Told) -> User | 
 
 def _is_role_told(element: Element, name: str, role: str, told: Told) -> bool:
     if not is_name(role):
-        told.tell(element.line, f"user {shortened(name)} has the role {shortened(role)}, which is no name of 1 to {MAX_NAME_BYTES} bytes: it is not read")
+        told.tell(
+            element.line,
+            f"user {shortened(name)} has the role {shortened(role)}, which is no name of 1 to {MAX_NAME_BYTES} bytes: it is not read",
+        )
     return is_name(role)
 
 
@@ -123,7 +160,10 @@ def _credentials(element: Element, name: str, told: Told) -> tuple[str, str]:
         why = _why_not(salt, int(rounds), digest)
         if not why:
             return salt.lower(), digest.lower()
-    told.tell(element.line, f"user {shortened(name)} has {why}: nobody logs in by this name until tools/new-user makes the entry anew")
+    told.tell(
+        element.line,
+        f"user {shortened(name)} has {why}: nobody logs in by this name until tools/new-user makes the entry anew",
+    )
     return "", NO_DIGEST
 
 

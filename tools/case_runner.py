@@ -1,0 +1,177 @@
+"""Runs a program on the rows of cases, and says what differs from what they expect."""
+import concurrent.futures
+import contextlib
+import os
+import re
+import resource
+import socket
+import subprocess
+import tempfile
+import threading
+
+from case_notation import REPEATED, naming, repeated, unescaped
+from case_steps import run_steps
+from case_tables import filled, rows_of
+
+SECONDS = 60
+# How each limit is set in a shell.
+LIMITS = {"memory": "ulimit -v", "descriptors": "ulimit -n"}
+# How each line of `entries` is made.
+ENTRIES = {
+    "file": lambda path: open(path, "xb").close(),
+    "folder": os.mkdir,
+    "link": lambda path: os.symlink(b"nowhere", path),
+    "pipe": os.mkfifo,
+}
+
+
+def make_files(room, case, cells):
+    """Fills the folder that the program runs in."""
+    for name, text in case.files.items():
+        path = f"{room}/{name}"
+        os.makedirs(os.path.dirname(path), exist_ok=True)
+        with open(path, "wb") as file:
+            file.write(filled(text, cells))
+    for line in filled(case.section("entries"), cells).decode().split("\n")[:-1]:
+        kind, name = line.split(" ", 1)
+        mode, _, file = name.partition(" ")
+        path = os.path.join(os.fsencode(room), unescaped(file if kind == "mode" else name))
+        if kind == "mode":
+            os.chmod(path, int(mode, 8))
+        else:
+            ENTRIES[kind](path)
+
+
+@contextlib.contextmanager
+def listening(port):
+    """Has something listen at the port, if one is given; another listener there is as good."""
+    with socket.socket() as listener:
+        listener.setsockopt(socket.SOL_SOCKET, socket.SO_REUSEPORT, 1)
+        with contextlib.suppress(OSError):
+            if port:
+                listener.bind(("127.0.0.1", int(port)))
+                listener.listen()
+        yield
+
+
+def steps_of(case, cells):
+    """The steps of a case, each as a list of its words."""
+    script, count = case.section("steps").decode(), 1
+    while count:
+        script, count = REPEATED.subn(lambda it: repeated(it[0]).replace(" ; ", "\n"), script)
+    for line in script.split("\n"):
+        if line and not line.startswith("--"):
+            word, *rest = line.split(" ", 2)
+            yield word, *rest[:1], *(filled(unescaped(it), cells) for it in rest[1:])
+
+
+def limits_of(case):
+    return [(kind, int(most)) for kind, most in (line.split() for line in case.lines("limits"))]
+
+
+def limited(command, case):
+    """A command under the limits of a case."""
+    sets = "".join(f"{LIMITS[kind]} {most} && " for kind, most in limits_of(case))
+    return ["sh", "-c", f'{sets}exec "$0" "$@"', *command] if sets else command
+
+
+def is_granted(case):
+    """Whether the machine grants the descriptors of a case, and as many to this process."""
+    most = resource.getrlimit(resource.RLIMIT_NOFILE)[1]
+    counts = [count for kind, count in limits_of(case) if kind == "descriptors"]
+    return most == resource.RLIM_INFINITY or all(2 * count <= most for count in counts)
+
+
+def answer_to(port, request):
+    """The bytes that come back on a connection of its own, or why none do."""
+    try:
+        with socket.create_connection(("127.0.0.1", port), SECONDS) as peer:
+            peer.sendall(request)
+            peer.shutdown(socket.SHUT_WR)
+            answer = b"".join(iter(lambda: peer.recv(65_536), b""))
+    except OSError as error:
+        return str(error).encode()
+    return re.sub(rb"(?m)^date: [^\r]*", b"date: DATE", answer)
+
+
+def run(command, room, stdin, visits):
+    """What the program prints, and what comes back on each visit. It is killed after SECONDS."""
+    reads = subprocess.DEVNULL if visits else subprocess.PIPE
+    pipes = {"stdin": reads, "stdout": subprocess.PIPE, "stderr": subprocess.PIPE}
+    with subprocess.Popen(command, cwd=room, **pipes) as process:
+        stop = threading.Timer(SECONDS, process.kill)
+        stop.start()
+        first, answers = b"", []
+        if visits:
+            first = process.stdout.readline()
+            port = first.removeprefix(b"listening ").strip()
+            if port.isdigit():
+                first = first.replace(port, b"PORT")
+                answers = [answer_to(int(port), request) for request in visits]
+        stdout, stderr = process.communicate(None if visits else stdin)
+        stop.cancel()
+    given = {"stdout": first + stdout, "stderr": stderr, "status": b"%d\n" % process.returncode}
+    return {**given, "visited": answers} if visits else given
+
+
+def given_by(program, case, cells):
+    """What the program gives for the values of a row's cells."""
+    arguments = filled(case.section("args"), cells).split(b"\n")[:-1]
+    visits = [unescaped(line) for line in case.lines("visits")]
+    steps = list(steps_of(case, cells))
+    with tempfile.TemporaryDirectory(prefix="sv-case-") as room:
+        make_files(room, case, cells)
+        command = limited([program, *arguments], case)
+        with listening(case.section("taken")):
+            if "steps" in case.sections:
+                return run_steps(command, room, steps, SECONDS)
+            return run(command, room, filled(case.section("stdin"), cells), visits)
+
+
+def expected_of(case, row, cells):
+    """What the program must give for the values of a row's cells."""
+    status = b"killed\n" if "steps" in case.sections else b"0\n"
+    defaults = {"stdout": b"", "stderr": b"", "status": status}
+    expected = {it: filled(row.expected.get(it, text), cells) for it, text in defaults.items()}
+    visited = row.expected.get("visited", b"").decode().splitlines()
+    return {**expected, "visited": [unescaped(line) for line in visited], "step": b""}
+
+
+def without_places(given, expected):
+    """What was given, with PLACE for its places if PLACE is expected."""
+    if b":PLACE\n" not in expected:
+        return given
+    return re.sub(rb"(?m)^(  [^ \n]+):\d+:\d+: [^\n]+$", rb"\1:PLACE", given)
+
+
+def differences(program, case, row):
+    """How the program differs from what a row expects, in any of the row's forms, a line each."""
+    lines = []
+    for cells in row.forms:
+        with naming(case.name):
+            given, expected = given_by(program, case, cells), expected_of(case, row, cells)
+        given["stderr"] = without_places(given["stderr"], expected["stderr"])
+        for part in given:
+            if given[part] != expected[part]:
+                lines.append(f"{part} is {given[part]!r} and not {expected[part]!r}")
+    return [f"case {case.name}: {row.line and row.line + ': '}{line}" for line in lines]
+
+
+def named_rows(case):
+    with naming(case.name):
+        return list(rows_of(case))
+
+
+def tried(program, cases):
+    """The differences found on each row of the cases, row by row.
+
+    Cases with steps mostly wait, so they have threads of their own."""
+    rows = [(case, row) for case in cases for row in named_rows(case)]
+    count = os.cpu_count()
+    with (
+        concurrent.futures.ThreadPoolExecutor(2 * count) as waiting,
+        concurrent.futures.ThreadPoolExecutor(count) as working,
+    ):
+        pools = [(waiting if "steps" in case.sections else working) for case, _ in rows]
+        runs = [pool.submit(differences, program, *it) for pool, it in zip(pools, rows)]
+        return [it.result() for it in runs]

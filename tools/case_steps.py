@@ -1,0 +1,199 @@
+"""Takes a program that serves many connections through the steps of a case.
+
+cases/README.md describes the steps."""
+
+import contextlib
+import re
+import socket
+import struct
+import subprocess
+import threading
+import time
+
+# The value of SO_LINGER with which a close resets a connection.
+RESETS = struct.pack("ii", 1, 0)
+ID = re.compile(rb"ID[1-9]")
+# The number of events varies, since a tick is one.
+EVENTS = re.compile(rb" events \d+ ")
+# The digits of a session id.
+DIGITS = 48
+# How often `holds` reads a file before it fails, ten times a second.
+WAITS = 30
+
+
+class Fault(Exception):
+    """Says why a step failed."""
+
+
+class Peer:
+    """A connection, and the bytes received that no step has expected yet."""
+
+    def __init__(self, stream):
+        self.stream, self.received = stream, b""
+
+    def read(self):
+        """Reads once, and returns whether there were any bytes."""
+        more = self.stream.recv(65_536)
+        dated = re.sub(rb"(?m)^date: [^\r\n]*\r", b"date: DATE\r", self.received + more)
+        self.received = EVENTS.sub(b" events EVENTS ", dated)
+        return bool(more)
+
+    def reset(self):
+        self.stream.setsockopt(socket.SOL_SOCKET, socket.SO_LINGER, RESETS)
+        self.stream.close()
+
+
+class Program:
+    """The program, and what it has printed."""
+
+    def __init__(self, command, room, seconds):
+        self.command, self.room, self.seconds = command, room, seconds
+        self.stdout, self.stderr = b"", b""
+        self.start()
+
+    def start(self):
+        self.status = None
+        self.running = subprocess.Popen(
+            self.command,
+            cwd=self.room,
+            stdin=subprocess.DEVNULL,
+            stdout=subprocess.PIPE,
+            stderr=subprocess.PIPE,
+        )
+        self.stop = threading.Timer(self.seconds, self.running.kill)
+        self.stop.start()
+        line = self.running.stdout.readline()
+        place = re.fullmatch(rb"listening (?:(.+):)?(\d+)\n", line)
+        self.stdout += line[: place.start(2)] + b"PORT\n" if place else line
+        self.address = (
+            ((place[1] or b"127.0.0.1").decode().strip("[]"), int(place[2])) if place else None
+        )
+
+    def kill(self):
+        """Kills the program if it still runs; then its status is `killed`."""
+        runs = self.running.poll() is None
+        self.running.kill()
+        self.wait("killed" if runs else None)
+
+    def wait(self, status=None):
+        """Waits until the program has ended."""
+        stdout, stderr = self.running.communicate()
+        self.stop.cancel()
+        self.stdout += stdout
+        self.stderr += stderr
+        self.status = b"%s\n" % (status or str(self.running.returncode)).encode()
+
+
+class Steps:
+    """The steps, and the connections that they have opened: a method for each step."""
+
+    def __init__(self, program):
+        self.program, self.peers, self.ids = program, {}, {}
+
+    def open(self, name):
+        if not self.program.address:
+            raise Fault("the program does not listen")
+        self.peers[name] = Peer(
+            socket.create_connection(self.program.address, self.program.seconds)
+        )
+
+    def connect(self, name, file):
+        stream = socket.socket(socket.AF_UNIX)
+        stream.settimeout(self.program.seconds)
+        self.peers[name] = Peer(stream)
+        stream.connect(f"{self.program.room}/{file.decode()}")
+
+    def send(self, name, text):
+        with contextlib.suppress(ConnectionError):
+            self.put(name, text)
+
+    def put(self, name, text):
+        self.peers[name].stream.sendall(self.with_ids(text))
+
+    def expect(self, name, text):
+        peer = self.peers[name]
+        while len(peer.received) < len(self.with_ids(text)):
+            if not peer.read():
+                raise Fault(f"the connection ended after {peer.received!r}")
+        self.learn_ids(text, peer.received)
+        expected = self.with_ids(text)
+        if not peer.received.startswith(expected):
+            raise Fault(f"received {peer.received!r}")
+        peer.received = peer.received[len(expected) :]
+
+    def with_ids(self, text):
+        """A text with the digits of each ID, or question marks for those that are not known."""
+        return ID.sub(lambda it: self.ids.get(it[0], b"?" * DIGITS), text)
+
+    def learn_ids(self, text, received):
+        """Gives each new ID of a text the digits received in its place, unless another has them."""
+        for it in ID.finditer(text):
+            start = len(self.with_ids(text[: it.start()]))
+            digits = received[start : start + DIGITS]
+            if (
+                it[0] not in self.ids
+                and digits not in self.ids.values()
+                and not digits.strip(b"0123456789abcdef")
+            ):
+                self.ids[it[0]] = digits
+
+    def holds(self, name, text):
+        expected, held = self.with_ids(text), None
+        for _ in range(WAITS):
+            with contextlib.suppress(FileNotFoundError), open(
+                f"{self.program.room}/{name}", "rb"
+            ) as file:
+                held = re.sub(rb"(?m)^\d+ ", b"MOMENT ", file.read())
+            if held == expected:
+                return
+            time.sleep(0.1)
+        raise Fault(f"the file holds {held!r}")
+
+    def end(self, name):
+        self.peers[name].stream.shutdown(socket.SHUT_WR)
+
+    def ended(self, name):
+        while self.peers[name].read():
+            pass
+        if self.peers[name].received:
+            raise Fault(f"received {self.peers[name].received!r}")
+
+    def gone(self, name):
+        with contextlib.suppress(ConnectionError):
+            self.ended(name)
+
+    def reset(self, name):
+        self.peers.pop(name).reset()
+
+    def wait(self, seconds):
+        time.sleep(float(seconds))
+
+    def restart(self):
+        self.program.kill()
+        self.program.start()
+
+    def over(self):
+        self.program.wait()
+
+
+def run_steps(command, room, steps, seconds):
+    """What the program gives when it is taken through the steps, and why a step failed, if any."""
+    program = Program(command, room, seconds)
+    walk = Steps(program)
+    fault = b""
+    try:
+        for place, (word, *rest) in enumerate(steps, 1):
+            getattr(walk, word)(*rest)
+    except (Fault, OSError) as error:
+        fault = f"{place}, {word} {rest}: {error}".encode()
+    finally:
+        if not program.status:
+            program.kill()
+        for peer in walk.peers.values():
+            peer.stream.close()
+    return {
+        "stdout": program.stdout,
+        "stderr": program.stderr,
+        "status": program.status,
+        "step": fault,
+    }
