@@ -15,10 +15,10 @@ ghost use Rattle.sv_text.specs.Gives.{GivesAnswer};
 use crate::standing::{standing_of, uncovered_of};
 use std::alloc::Global;
 use sv_component::{Filter, Listener, Servlet};
+use sv_connection::Queries;
 use sv_container::{Container, ExplainFault, Explanation};
-use sv_front::Consulted;
 use sv_journal::Journal;
-use sv_run::{Happening, Reaction, Reactor, StepFault, Words};
+use sv_run::{EventHandler, Happening, Reaction, StepFault, Words};
 use sv_text::{Bytes, NoMemory};
 use sv_wire::Awaited;
 
@@ -56,7 +56,7 @@ impl<S, F, L, W> AskedContainer<S, F, L, W> {
     }
 }
 
-impl<S: Servlet, F: Filter, L: Listener, W: Words> Reactor for AskedContainer<S, F, L, W> {
+impl<S: Servlet, F: Filter, L: Listener, W: Words> EventHandler for AskedContainer<S, F, L, W> {
     ghost use Rattle.std.specs.Prelude.{◌≡◌};
 
     ghost steps = { λ before happening result after.
@@ -80,7 +80,7 @@ impl<S: Servlet, F: Filter, L: Listener, W: Words> Reactor for AskedContainer<S,
     }
 }
 
-impl<S, F, L, W> Consulted for AskedContainer<S, F, L, W> {
+impl<S, F, L, W> Queries for AskedContainer<S, F, L, W> {
     ghost use Rattle.std.specs.Prelude.{Some};
 
     ghost explains = { λ asked method target user.

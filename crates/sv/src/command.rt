@@ -24,7 +24,7 @@ use sv_options::{Command, RunOptions};
 use sv_program::{CommandFault, FileStore, first, print_text, uncovered};
 use sv_streams::{ReadSource, WriteSink};
 
-/// Runs the command over a store of files and folders, a network with a clock, a source of random bytes, files to write and standard error, a reader and a writer: those of the
+/// Runs the command over a store of files and folders, a poller with a clock, a source of random bytes, files to write and standard error, a reader and a writer: those of the
 /// system, or others in their place. Each command says what it reads and writes and what a fault leaves.
 pub fn carry_out<
     S: FileStore + FolderStore,

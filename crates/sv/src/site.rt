@@ -4,7 +4,7 @@ ghost use Rattle.std.specs.Prelude.{◌≡◌};
 ghost use Rattle.std.specs.Option.{unwrap_or};
 ghost use Rattle.sv.specs.Site as spec;
 
-use sv_front::Limits;
+use sv_connection::Limits;
 use sv_listening::Seeding;
 use sv_options::RunOptions;
 

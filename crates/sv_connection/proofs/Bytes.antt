@@ -3,7 +3,7 @@ use Rattle.std.proofs.Common.{◌≡◌, ℕ, ◌+◌, ◌≤◌, Bool, true, fa
 use Rattle.std.specs.List.{AllByRecursion, concat}
 use Rattle.sv_connection.specs.Laws.{IsLeft, bytes_of, last_bytes, last_sends, sends_of}
 use Rattle.sv_connection.specs.Turns.{AtClose, AtEnd, AtFailedRead, AtFailedWrite, AtLimit, AtRefusal, Ending, GoesOn, IsEnding, Turn, all_calls, calls_of, last_calls, over_of}
-use Rattle.sv_connection.specs.declared.limits.TheConstants.{MAX_READS}
+use Rattle.sv_streams.specs.declared.line_reader.TheConstants.{MAX_READS}
 use Rattle.sv_connection.specs.declared.over.Over.TheVariants.{Closed, Lost}
 use Rattle.sv_streams.specs.Calls.{Gave, Took, WriteFailed, failures, given, meets_end, reads, taken}
 use Rattle.sv_streams.proofs.CallJoins.{end_join, failures_join, given_join, reads_join, taken_join}

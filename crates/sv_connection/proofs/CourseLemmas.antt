@@ -5,7 +5,7 @@ use Rattle.std.specs.List.{AllByRecursion}
 use Rattle.sv_connection.specs.Connection.{Connects, IsResult, Talks}
 use Rattle.sv_connection.specs.Turns.{AtClose, AtEnd, AtFailedRead, AtFailedWrite, AtLimit, AtRefusal, Ending, GoesOn, IsEnding, Turn, all_calls, brought, calls_of, last_answers, last_calls, last_events, last_moments, moment_of, piece_of}
 use Rattle.sv_connection.specs.TurnSteps.{TakesTurn, TellsOver}
-use Rattle.sv_connection.specs.declared.limits.TheConstants.{MAX_READS}
+use Rattle.sv_streams.specs.declared.line_reader.TheConstants.{MAX_READS}
 use Rattle.sv_connection.specs.declared.over.Over.{Over}
 use Rattle.sv_connection.specs.declared.over.Over.TheVariants.{Lost}
 use Rattle.sv_run.specs.Events.{Opened}

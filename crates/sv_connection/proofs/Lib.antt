@@ -1,5 +1,15 @@
+mod AloneLemmas
 mod Bytes
 mod CourseLemmas
-mod Running
+mod Doing
+mod FinishingLemmas
+mod Fronting
+mod HoldingLemmas
+mod Joining
+mod LawLemmas
+mod PieceLemmas
+mod Rounding
+mod Stepping
 mod TalkLemmas
 mod TurnLemmas
+mod WholeCourse

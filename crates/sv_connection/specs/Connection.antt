@@ -2,7 +2,7 @@
 use Rattle.std.specs.Prelude.{◌≡◌, ◌⊎◌, ℕ, ◌≤◌, List, [], ◌∷◌, ◌++◌, map, MatchOption, Result, Ok, Err}
 use Rattle.std.specs.List.{AllByRecursion}
 use Rattle.sv_connection.specs.Turns.{Ending, GoesOn, IsEnding, Turn, all_calls, brought, last_answers, last_events, last_moments, moment_of, over_of, piece_of}
-use Rattle.sv_connection.specs.declared.limits.TheConstants.{MAX_READS}
+use Rattle.sv_streams.specs.declared.line_reader.TheConstants.{MAX_READS}
 use Rattle.sv_connection.specs.declared.over.Over.{Over}
 use Rattle.sv_run.specs.Events.{Happening, Opened}
 use Rattle.sv_run.specs.Reacting.{Reacting, Reacts}

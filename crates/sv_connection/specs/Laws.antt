@@ -2,7 +2,7 @@
 use Rattle.std.specs.Prelude.{◌≡◌, ◌⊎◌, ℕ, ◌<◌, true, List, [], ◌++◌, flat_map, length, Some}
 use Rattle.std.specs.List.{AllByRecursion}
 use Rattle.sv_connection.specs.Turns.{AtClose, AtEnd, AtFailedRead, AtFailedWrite, AtLimit, AtRefusal, Ending, GoesOn, IsEnding, Turn, all_calls, over_of}
-use Rattle.sv_connection.specs.declared.limits.TheConstants.{MAX_READS}
+use Rattle.sv_streams.specs.declared.line_reader.TheConstants.{MAX_READS}
 use Rattle.sv_connection.specs.declared.over.Over.TheVariants.{Closed, Lost}
 use Rattle.sv_streams.specs.Calls.{failures, given, meets_end, reads, taken}
 

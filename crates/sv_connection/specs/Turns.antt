@@ -1,7 +1,7 @@
 -- What a connection reads, what that brings, and what is written of it.
 use Rattle.std.specs.Prelude.{◌≡◌, ℕ, ◌<◌, false, true, List, [], ◌∷◌, ◌++◌, flat_map, length, map, Option, None, Some, Result, Ok}
 use Rattle.std.specs.List.{concat}
-use Rattle.sv_connection.specs.declared.limits.TheConstants.{MAX_READS}
+use Rattle.sv_streams.specs.declared.line_reader.TheConstants.{MAX_READS}
 use Rattle.sv_connection.specs.declared.over.Over.{Over}
 use Rattle.sv_connection.specs.declared.over.Over.TheVariants.{Closed, Lost}
 use Rattle.sv_run.specs.Events.{Happening, Piece}

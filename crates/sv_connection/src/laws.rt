@@ -6,14 +6,8 @@ ghost use Rattle.sv_connection.specs.Running.{AConnectionIsARun, OnlyPiecesSend}
 ghost use Rattle.sv_run.specs.Contexts.{theory_of};
 ghost use Rattle.sv_run.specs.State.{State};
 
-use crate::limits::MAX_READS;
-use sv_run::{Context, Reactor, Words};
+use sv_run::{Context, EventHandler, Words};
 use sv_streams::{Clock, Stream};
-
-/// The limit as a number: definitions and code cite the constant, so that both would move with it.
-pub fn limits_are_as_stated()
-    ensures { MAX_READS ≡ 1000000 }
-{}
 
 /// What is read of a connection is the bytes of its pieces, one after another.
 pub fn pieces_are_what_is_read()
@@ -42,6 +36,6 @@ pub fn only_pieces_send<X: Context, W: Words>()
 /// pieces, and what was written of it is all that the run sends, one answer after another, or a part of that, from the first byte on, where a write
 /// failed. The connection is lost only where a call failed or as many reads were made as may be, and closed only where none failed and either the
 /// end was met or what the last piece brought closes it.
-pub fn a_connection_is_a_run<R: Reactor, S: Stream, C: Clock, X: Context, W: Words>()
+pub fn a_connection_is_a_run<R: EventHandler, S: Stream, C: Clock, X: Context, W: Words>()
     ensures { (state_of : R → State X W) → AConnectionIsARun R.steps S.makes C.tells (theory_of X.path_of X.conduct W.draws) state_of }
 {}

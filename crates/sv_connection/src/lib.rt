@@ -3,21 +3,56 @@
 #![tactic(auto)]
 
 mod acceptor;
+mod allowance;
+mod close_reason;
+mod closing;
 mod connection;
+mod connection_table;
+mod figures;
+mod finishing;
 mod laws;
 mod limits;
+mod loop_laws;
+mod open_connection;
 mod over;
+mod peer;
+mod pending;
+mod phase;
+mod pieces;
+mod poller;
+mod queries;
+mod running;
+mod sent;
 mod serve_fault;
 mod serving;
+mod step;
+mod timeouts;
 mod turn;
+mod without_queries;
 
 pub use acceptor::{AcceptFailed, Acceptor};
+pub use close_reason::CloseReason;
+pub use closing::Closing;
 pub use connection::run_connection;
+pub use figures::Figures;
 pub use laws::{
-    a_connection_is_a_run, limits_are_as_stated, only_pieces_send, pieces_are_what_is_read,
-    the_end_has_a_cause, what_is_sent_is_written,
+    a_connection_is_a_run, only_pieces_send, pieces_are_what_is_read, the_end_has_a_cause,
+    what_is_sent_is_written,
 };
-pub use limits::MAX_READS;
+pub use limits::{
+    ACCEPTED_AT_ONCE, BYTES_A_PIECE, BYTES_A_WINDOW, BYTES_AT_ONCE, CALLS_AT_ONCE, FINISH_SECONDS,
+    FIRST_READ_BYTES, Limits, MAX_HELD_BYTES, MAX_IDLE_SECONDS, MAX_UNDER_WAY, READ_BYTES,
+    WINDOW_SECONDS,
+};
+pub use loop_laws::{
+    bytes_are_kept, each_is_served_as_if_alone, ends_have_a_cause, limits_are_as_stated,
+    numbers_are_not_used_again, rest_is_for_something, rounds_are_one, what_is_done_is_events,
+};
 pub use over::Over;
+pub use peer::{Peer, Tried};
+pub use poller::{PollEvent, Poller};
+pub use queries::Queries;
+pub use running::run_event_loop;
 pub use serve_fault::ServeFault;
 pub use serving::serve_connections;
+pub use without_queries::WithoutQueries;

@@ -3,7 +3,7 @@
 ghost use Rattle.std.specs.Prelude.{◌≡◌};
 ghost use Rattle.sv_connection.specs.TurnSteps.{TellsOver};
 
-use sv_run::{Happening, Reactor, StepFault};
+use sv_run::{EventHandler, Happening, StepFault};
 
 /// How a connection is over.
 #[derive(Clone, Copy, Debug, PartialEq, Eq)]
@@ -15,18 +15,18 @@ pub enum Over {
 }
 
 /// Tells what takes the events how a connection is over.
-pub(crate) fn tell_over<R: Reactor>(
-    reactor: &mut R,
+pub(crate) fn tell_over<R: EventHandler>(
+    handler: &mut R,
     connection: u64,
     over: Over,
 ) -> Result<Over, StepFault>
-    ensures { TellsOver R.steps connection reactor.old over result reactor.new }
+    ensures { TellsOver R.steps connection handler.old over result handler.new }
 {
     let event = match over {
         Over::Closed => Happening::Ended { connection },
         Over::Lost => Happening::Lost { connection },
     };
-    match reactor.step(event) {
+    match handler.step(event) {
         Ok(_) => Ok(over),
         Err(fault) => Err(fault),
     }

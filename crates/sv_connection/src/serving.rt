@@ -6,7 +6,7 @@ ghost use Rattle.sv_connection.specs.Serving.{Serves, ServesNext};
 use crate::acceptor::Acceptor;
 use crate::connection::run_connection;
 use crate::serve_fault::{ServeFault, fault_of};
-use sv_run::Reactor;
+use sv_run::EventHandler;
 use sv_streams::Clock;
 
 /// Accepts so many connections one after another, numbered from 1, and serves each until it is over and its stream is closed, before the next is
@@ -14,18 +14,18 @@ use sv_streams::Clock;
 ///
 /// # Errors
 /// As [`ServeFault`] says. Nothing is accepted behind it.
-pub fn serve_connections<R: Reactor, A: Acceptor, C: Clock>(
-    reactor: &mut R,
+pub fn serve_connections<R: EventHandler, A: Acceptor, C: Clock>(
+    handler: &mut R,
     acceptor: &mut A,
     clock: &mut C,
     count: u64,
     buffer: &mut [u8],
 ) -> Result<(), ServeFault>
     requires { 0 < length buffer.old }
-    ensures { Serves R.steps A.accepts A.parts A.Peer.makes C.tells count reactor.old acceptor.old clock.old result reactor.new acceptor.new clock.new }
+    ensures { Serves R.steps A.accepts A.parts A.Peer.makes C.tells count handler.old acceptor.old clock.old result handler.new acceptor.new clock.new }
 {
     for served in 0..count {
-        match serve_next(reactor, acceptor, clock, served + 1, buffer) {
+        match serve_next(handler, acceptor, clock, served + 1, buffer) {
             Ok(()) => {}
             Err(fault) => return Err(fault),
         }
@@ -34,21 +34,21 @@ pub fn serve_connections<R: Reactor, A: Acceptor, C: Clock>(
 }
 
 // Accepts a connection, serves it by its number until it is over, and closes its stream.
-fn serve_next<R: Reactor, A: Acceptor, C: Clock>(
-    reactor: &mut R,
+fn serve_next<R: EventHandler, A: Acceptor, C: Clock>(
+    handler: &mut R,
     acceptor: &mut A,
     clock: &mut C,
     number: u64,
     buffer: &mut [u8],
 ) -> Result<(), ServeFault>
     requires { 0 < length buffer.old }
-    ensures { ServesNext R.steps A.accepts A.parts A.Peer.makes C.tells number reactor.old acceptor.old clock.old result reactor.new acceptor.new clock.new }
+    ensures { ServesNext R.steps A.accepts A.parts A.Peer.makes C.tells number handler.old acceptor.old clock.old result handler.new acceptor.new clock.new }
 {
     let mut peer = match acceptor.accept() {
         Ok(peer) => peer,
         Err(_) => return Err(ServeFault::Connection),
     };
-    let served = run_connection(reactor, number, &mut peer, clock, buffer);
+    let served = run_connection(handler, number, &mut peer, clock, buffer);
     acceptor.part(peer);
     match served {
         Ok(_) => Ok(()),

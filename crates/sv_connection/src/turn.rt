@@ -4,27 +4,27 @@ ghost use Rattle.std.specs.Prelude.{◌<◌, length};
 ghost use Rattle.sv_connection.specs.TurnSteps.{Sends, TakesTurn};
 
 use crate::over::{Over, tell_over};
-use sv_run::{Happening, Reaction, Reactor, StepFault};
+use sv_run::{EventHandler, Happening, Reaction, StepFault};
 use sv_streams::{Clock, Sink, Source, write_all};
 
 /// Reads once, and lets the piece that came be taken at the moment that the clock tells then. What it brought is written. The answer is none
 /// where the connection goes on.
-pub(crate) fn take_turn<R: Reactor, S: Source + Sink, C: Clock>(
-    reactor: &mut R,
+pub(crate) fn take_turn<R: EventHandler, S: Source + Sink, C: Clock>(
+    handler: &mut R,
     connection: u64,
     stream: &mut S,
     clock: &mut C,
     buffer: &mut [u8],
 ) -> Option<Result<Over, StepFault>>
     requires { 0 < length buffer.old }
-    ensures { TakesTurn R.steps connection S.makes C.tells reactor.old stream.old clock.old result reactor.new stream.new clock.new }
+    ensures { TakesTurn R.steps connection S.makes C.tells handler.old stream.old clock.old result handler.new stream.new clock.new }
 {
     let count = match stream.read(buffer) {
         Ok(count) => count,
-        Err(_) => return Some(tell_over(reactor, connection, Over::Lost)),
+        Err(_) => return Some(tell_over(handler, connection, Over::Lost)),
     };
     if count == 0 {
-        return Some(tell_over(reactor, connection, Over::Closed));
+        return Some(tell_over(handler, connection, Over::Closed));
     }
     let moment = clock.now();
     let piece = Happening::Piece {
@@ -32,27 +32,27 @@ pub(crate) fn take_turn<R: Reactor, S: Source + Sink, C: Clock>(
         bytes: buffer.split_at(count).0,
         moment,
     };
-    match reactor.step(piece) {
-        Ok(reaction) => send(reactor, connection, stream, &reaction),
+    match handler.step(piece) {
+        Ok(reaction) => send(handler, connection, stream, &reaction),
         Err(fault) => Some(Err(fault)),
     }
 }
 
 // Writes what a piece brought.
-fn send<R: Reactor, S: Sink>(
-    reactor: &mut R,
+fn send<R: EventHandler, S: Sink>(
+    handler: &mut R,
     connection: u64,
     stream: &mut S,
     reaction: &Reaction,
 ) -> Option<Result<Over, StepFault>>
-    ensures { Sends R.steps connection S.makes reactor.old stream.old reaction.now result reactor.new stream.new }
+    ensures { Sends R.steps connection S.makes handler.old stream.old reaction.now result handler.new stream.new }
 {
     match write_all(stream, reaction.sends.as_slice()) {
         Ok(()) => {}
-        Err(_) => return Some(tell_over(reactor, connection, Over::Lost)),
+        Err(_) => return Some(tell_over(handler, connection, Over::Lost)),
     }
     if reaction.closes {
-        return Some(tell_over(reactor, connection, Over::Closed));
+        return Some(tell_over(handler, connection, Over::Closed));
     }
     None
 }

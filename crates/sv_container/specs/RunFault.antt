@@ -2,8 +2,8 @@
 use Rattle.std.specs.Prelude.{ℕ, List, ◌++◌, codes, Result, Ok, Err}
 use Rattle.std.specs.Fmt.{decimal}
 use Rattle.sv_container.specs.NewCode.{code_number}
-use Rattle.sv_replay.specs.declared.fault.ReplayFault.{ReplayFault}
-use Rattle.sv_replay.specs.declared.fault.ReplayFault.TheVariants as replays
+use Rattle.sv_script.specs.declared.replay_fault.ReplayFault.{ReplayFault}
+use Rattle.sv_script.specs.declared.replay_fault.ReplayFault.TheVariants as replays
 use Rattle.sv_container.specs.declared.run_fault.RunFault.{RunFault}
 use Rattle.sv_container.specs.declared.run_fault.RunFault.TheVariants.{Script, Start, Output, NoMemory, Connection}
 use Rattle.sv_uri.specs.ContextPath.{shown_context}

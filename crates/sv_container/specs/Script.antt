@@ -8,9 +8,9 @@ use Rattle.sv_container.specs.declared.new_fault.NewCode.TheVariants as codes_of
 use Rattle.sv_container.specs.declared.new_fault.NewFault.{NewFault}
 use Rattle.sv_lifecycle.specs.declared.deployment.Deployment.{Deployment}
 use Rattle.sv_journal.specs.Journal.{JournalState, new_journal}
-use Rattle.sv_replay.specs.declared.fault.ReplayFault.{ReplayFault}
+use Rattle.sv_script.specs.declared.replay_fault.ReplayFault.{ReplayFault}
 use Rattle.sv_script.specs.Printed.{start_text}
-use Rattle.sv_replay.specs.Whole.{PrintsOf, RunsWhole}
+use Rattle.sv_script.specs.Whole.{PrintsOf, RunsWhole}
 use Rattle.sv_container.specs.RunFault.{ended_by, fault_of}
 use Rattle.sv_container.specs.Running.{StepsOf, StopsOf}
 use Rattle.sv_container.specs.declared.run_fault.RunFault.{RunFault}

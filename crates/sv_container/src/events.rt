@@ -12,7 +12,7 @@ ghost use Rattle.sv_run.specs.Seen.{happening_of};
 use crate::container::Container;
 use sv_component::{Filter, Listener, Servlet};
 use sv_journal::Journal;
-use sv_run::{Happening, Reaction, Reactor, StepFault, Words};
+use sv_run::{EventHandler, Happening, Reaction, StepFault, Words};
 use sv_wire::Awaited;
 
 impl<S: Servlet, F: Filter, L: Listener, W: Words> Container<S, F, L, W> {
@@ -45,7 +45,7 @@ impl<S: Servlet, F: Filter, L: Listener, W: Words> Container<S, F, L, W> {
     }
 }
 
-impl<S: Servlet, F: Filter, L: Listener, W: Words> Reactor for Container<S, F, L, W> {
+impl<S: Servlet, F: Filter, L: Listener, W: Words> EventHandler for Container<S, F, L, W> {
     ghost steps = { λ before happening result after.
         StepsSo (theory (steps_of S.servlet_step F.filter_step L.listener_step) W.draws) (state_of before) happening result (state_of after) };
 

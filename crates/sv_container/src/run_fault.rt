@@ -6,7 +6,7 @@ ghost use Rattle.sv_container.specs.RunFault as spec;
 use crate::new_fault::NewCode;
 use std::error::Error;
 use std::fmt;
-use sv_replay::ReplayFault;
+use sv_script::ReplayFault;
 use sv_text::Text;
 use sv_uri::shown_context;
 

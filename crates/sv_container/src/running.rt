@@ -9,8 +9,8 @@ ghost use Rattle.sv_container.specs.Running.{StepsOf, StopsOf};
 use crate::container::Container;
 use sv_component::{Filter, Listener, Servlet};
 use sv_journal::Journal;
-use sv_replay::Stops;
-use sv_run::{Happening, Reaction, Reactor, StepFault, Words};
+use sv_run::{EventHandler, Happening, Reaction, StepFault, Words};
+use sv_script::Stops;
 use sv_wire::Awaited;
 
 /// A container that runs, and then stops.
@@ -19,7 +19,7 @@ pub struct Running<S, F, L, W> {
     pub container: Container<S, F, L, W>,
 }
 
-impl<S: Servlet, F: Filter, L: Listener, W: Words> Reactor for Running<S, F, L, W> {
+impl<S: Servlet, F: Filter, L: Listener, W: Words> EventHandler for Running<S, F, L, W> {
     ghost steps = { StepsOf (steps_of S.servlet_step F.filter_step L.listener_step) W.draws };
 
     ghost awaited = { λ running connection. awaited_in (state_of running.container).connections connection };

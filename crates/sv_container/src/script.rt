@@ -11,8 +11,8 @@ use std::alloc::Global;
 use sv_component::{Filter, Listener, Servlet};
 use sv_journal::Journal;
 use sv_lifecycle::Deployment;
-use sv_replay::{print_start, run_started};
 use sv_run::CountedWords;
+use sv_script::{print_start, run_started};
 use sv_streams::{Sink, Source};
 use sv_text::Text;
 

@@ -13,12 +13,12 @@ use Rattle.sv_headline.proofs.Starting.{runs_lawfully}
 use Rattle.sv_headline.specs.Callers.{CallersOfAStartedContainerHaveLoggedIn}
 use Rattle.sv_headline.specs.Cut.{PrintsACutRun, WhatARefusedScriptPrintsBeginsTheWhole, WhatARefusedScriptPrintsIsCut}
 use Rattle.sv_journal.specs.Journal.{JournalState, new_journal}
-use Rattle.sv_replay.specs.declared.fault.ReplayFault.{ReplayFault}
-use Rattle.sv_replay.specs.declared.fault.ReplayFault.TheVariants as replays
+use Rattle.sv_script.specs.declared.replay_fault.ReplayFault.{ReplayFault}
+use Rattle.sv_script.specs.declared.replay_fault.ReplayFault.TheVariants as replays
 use Rattle.sv_run.specs.Laws.{RequestsEnterExactlyWhereAllowed}
 use Rattle.sv_script.specs.Printed.{start_text}
-use Rattle.sv_replay.specs.WholeLaws as runs
-use Rattle.sv_replay.specs.Whole.{PrintsOf, RunsWhole}
+use Rattle.sv_script.specs.WholeLaws as runs
+use Rattle.sv_script.specs.Whole.{PrintsOf, RunsWhole}
 use Rattle.sv_container.specs.RunFault.{ended_by}
 use Rattle.sv_container.specs.Running.{StepsOf, StopsOf, run_of}
 use Rattle.sv_container.specs.Script.{AreFresh, Follows, EndsUnstarted, draws, refused_by}

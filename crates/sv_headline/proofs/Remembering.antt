@@ -4,10 +4,10 @@ use Rattle.std.specs.List.{concat}
 use Rattle.sv_component.specs.Steps.{ComponentSteps}
 use Rattle.sv_headline.specs.Headline.{WhatAScriptPrintsIsLawful}
 use Rattle.sv_headline.specs.Memory.{AScriptInMemoryPrintsItsRun}
-use Rattle.sv_replay.specs.Asked.{reactions_text}
-use Rattle.sv_replay.specs.Lines.{lines_of}
-use Rattle.sv_replay.specs.Replay.{Ends}
-use Rattle.sv_replay.specs.declared.fault.ReplayFault.{ReplayFault}
+use Rattle.sv_script.specs.Asked.{reactions_text}
+use Rattle.sv_script.specs.Lines.{lines_of}
+use Rattle.sv_script.specs.Replay.{Ends}
+use Rattle.sv_script.specs.declared.replay_fault.ReplayFault.{ReplayFault}
 use Rattle.sv_script.specs.Line.{asked}
 use Rattle.sv_script.specs.Printed.{shutdown_text, start_text}
 use Rattle.sv_container.specs.RunFault.{ended_by}

@@ -17,15 +17,15 @@ use Rattle.sv_lifecycle.specs.declared.deployment.Deployment.{Deployment}
 use Rattle.sv_headline.specs.Callers.{CallersOfAStartedContainerHaveLoggedIn}
 use Rattle.sv_headline.specs.Headline.{RunsLawfully}
 use Rattle.sv_journal.specs.Journal.{JournalState}
-use Rattle.sv_replay.specs.Asked.{events_of}
-use Rattle.sv_replay.specs.Replay.{Played}
+use Rattle.sv_script.specs.Asked.{events_of}
+use Rattle.sv_script.specs.Replay.{Played}
 use Rattle.sv_run.specs.Events.{Happening}
 use Rattle.sv_run.specs.Reacting.{answer_shown}
 use Rattle.sv_run.specs.Runs.{Answer, Run}
 use Rattle.sv_run.specs.State.{State}
 use Rattle.sv_run.specs.declared.reaction.Reaction.{Reaction}
 use Rattle.sv_run.specs.declared.step_fault.StepFault.TheVariants.{NoMemory}
-use Rattle.sv_replay.specs.WholeLaws.{PlaysALawfulRun}
+use Rattle.sv_script.specs.WholeLaws.{PlaysALawfulRun}
 use Rattle.sv_container.specs.Running.{StepsOf, run_of}
 use Rattle.sv_container.specs.Script as scripts
 use Rattle.sv_container.specs.declared.running.Running.{Running}
@@ -76,11 +76,11 @@ module _ {S F L : Type 0} (moving : ComponentSteps S F L)
       → PlaysALawfulRun (StepsOf moving scripts.draws) (theory moving scripts.draws) run_of (record { container = container }) played
       → RunsLawfully moving container played
   runs_lawfully deployments words noted noted_after container starts its_played its_plays =
-      let both = all_accepted moving scripts.draws every (state_of container) (run_of its_played.reactor) (events_of 0 its_played.said) its_plays.answers
+      let both = all_accepted moving scripts.draws every (state_of container) (run_of its_played.handler) (events_of 0 its_played.said) its_plays.answers
       its_played.reactions (ap (λ (state : State (ContextState S F L) CountedWords). state.stopped) starts.3) its_plays.runs its_plays.are_shown in
       record {
         plays = its_plays;
         lawful = both.0;
-        callers = callers deployments words noted noted_after container (events_of 0 its_played.said) its_plays.answers (run_of its_played.reactor) starts
+        callers = callers deployments words noted noted_after container (events_of 0 its_played.said) its_plays.answers (run_of its_played.handler) starts
             its_plays.runs both.1;
       }

@@ -6,9 +6,9 @@ use Rattle.sv_container.specs.declared.container.Container.{Container}
 use Rattle.sv_lifecycle.specs.declared.deployment.Deployment.{Deployment}
 use Rattle.sv_headline.specs.Headline.{PrintsALawfulRun, RunsLawfully}
 use Rattle.sv_journal.specs.Journal.{JournalState, new_journal}
-use Rattle.sv_replay.specs.Asked.{reactions_text}
+use Rattle.sv_script.specs.Asked.{reactions_text}
 use Rattle.sv_script.specs.Printed.{shutdown_text, start_text}
-use Rattle.sv_replay.specs.WholeLaws.{Begins, IsCut}
+use Rattle.sv_script.specs.WholeLaws.{Begins, IsCut}
 use Rattle.sv_container.specs.Running.{StepsOf, StopsOf}
 use Rattle.sv_container.specs.Script.{AreFresh, RunsScript, draws}
 use Rattle.sv_container.specs.declared.run_fault.RunFault.{RunFault}

@@ -6,9 +6,9 @@ use Rattle.sv_container.specs.declared.container.Container.{Container}
 use Rattle.sv_lifecycle.specs.declared.deployment.Deployment.{Deployment}
 use Rattle.sv_headline.specs.Headline.{RunsLawfully}
 use Rattle.sv_journal.specs.Journal.{JournalState, new_journal}
-use Rattle.sv_replay.specs.Asked.{reactions_text}
-use Rattle.sv_replay.specs.Lines.{lines_of}
-use Rattle.sv_replay.specs.Replay.{Played}
+use Rattle.sv_script.specs.Asked.{reactions_text}
+use Rattle.sv_script.specs.Lines.{lines_of}
+use Rattle.sv_script.specs.Replay.{Played}
 use Rattle.sv_script.specs.Line.{asked}
 use Rattle.sv_script.specs.Printed.{shutdown_text, start_text}
 use Rattle.sv_container.specs.Running.{StopsOf}
@@ -30,7 +30,7 @@ module _ {S F L : Type 0} (moving : ComponentSteps S F L) where
     pub asks : map asked (lines_of input) ≡ map Ok played.said
     pub run : RunsLawfully moving container played
     pub stopped : JournalState
-    pub stops : StopsOf moving played.reactor stopped
+    pub stops : StopsOf moving played.handler stopped
     pub text : printed ≡ start_text started.entries ++ reactions_text 1 played.reactions ++ shutdown_text stopped.entries
 
   -- a script in memory that ended well prints its run, behind what was written before

@@ -14,11 +14,11 @@ use sv_component::{Filter, Listener, Servlet};
 use sv_connection::a_connection_is_a_run;
 use sv_container::{Container, Running};
 use sv_context::Context;
-use sv_replay::{
+use sv_run::{CountedWords, Words};
+use sv_script::{
     a_cut_text_begins_the_whole, a_refused_run_is_cut, a_run_writes_one_text,
     a_script_is_a_lawful_run,
 };
-use sv_run::{CountedWords, Words};
 use sv_streams::{Clock, MemoryStream, Sink, Source, Stream};
 
 /// In each run of a container that was started, until memory is refused, a session holds a caller only by a login that fits, which nothing has undone:

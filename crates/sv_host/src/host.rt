@@ -26,7 +26,7 @@ use sv_context_index::ContextIndex;
 use sv_context_path::HasContextPath;
 use sv_journal::Journal;
 use sv_policy::Edit;
-use sv_run::{Context, Happening, Reaction, Reactor, StepFault, Words};
+use sv_run::{Context, EventHandler, Happening, Reaction, StepFault, Words};
 use sv_text::NoMemory;
 use sv_wire::{Awaited, DateText, Item};
 
@@ -243,7 +243,7 @@ impl<C: HasContextPath, W: Drop> Host<C, W> {
     }
 }
 
-impl<C: Context, W: Words> Reactor for Host<C, W> {
+impl<C: Context, W: Words> EventHandler for Host<C, W> {
     ghost steps = { λ before happening result after.
         StepsSo (theory_of C.path_of C.conduct W.draws) (state_of before) happening result (state_of after) };
 

@@ -1,1 +1,7 @@
+mod DroppingLemmas
+mod Items
+mod LineEnds
+mod OwnTexts
+mod PartLemmas
+mod Pieces
 mod Texts

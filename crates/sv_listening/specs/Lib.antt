@@ -1,4 +1,10 @@
+pub mod Bound
 pub mod Laws
 pub mod Lines
+pub mod Pacing
+pub mod Parting
+pub mod Parts
 pub mod Recording
 pub mod Seeding
+pub mod Sending
+pub mod SocketLaws

@@ -3,8 +3,17 @@
 #![tactic(auto)]
 
 mod alarm;
+mod bounds;
+mod kept;
+mod laws;
+mod limits;
 mod lines;
 mod listening;
+mod own_acceptor;
+mod pace;
+mod part_len;
+mod part_stream;
+mod parting;
 mod place;
 mod record;
 mod recorded_laws;
@@ -13,11 +22,21 @@ mod recorder;
 mod running;
 mod seeding;
 mod self_asking;
+mod self_test;
+mod serving;
+mod socket_acceptor;
+mod socket_stream;
 mod sockets;
+mod time;
 
 pub use alarm::Alarm;
+pub use bounds::{an_event_sends_little, parts_complete_little, pieces_are_parts};
+pub use laws::{limits_are_as_stated, parts_are_what_is_read};
+pub use limits::{MAX_ANSWER_BYTES, MAX_SELF_TEST_ACCEPTS, SELF_TEST_SECONDS, SERVE_IDLE_SECONDS};
 pub use lines::event_lines;
 pub use listening::listen_and_serve;
+pub use own_acceptor::OwnAcceptor;
+pub use part_stream::PartStream;
 pub use record::Record;
 pub use recorded_laws::what_is_recorded_is_a_run;
 pub use recorded_run::{run_plainly, run_recorded};
@@ -25,3 +44,7 @@ pub use recorder::Recorder;
 pub use running::listen_and_run;
 pub use seeding::{RANDOM_SOURCE, Seeding, seed_for};
 pub use self_asking::own_answer;
+pub use self_test::{SELF_TEST_REQUEST, ask, first_line};
+pub use serving::serve_on;
+pub use socket_acceptor::SocketAcceptor;
+pub use socket_stream::SocketStream;

@@ -1,13 +1,13 @@
 //! The connections of a port, one after another.
 
+use crate::serve_on;
 use crate::sockets::{fault_of, listen};
 use std::alloc::Global;
 use std::io::Write;
 use std::net::Net;
 use std::time::Clock;
 use sv_program::CommandFault;
-use sv_run::Reactor;
-use sv_sockets::serve_on;
+use sv_run::EventHandler;
 use sv_streams::{SystemClock, WriteSink};
 
 /// Listens at the port on this machine, 0 for any that is free, writes the line `listening PORT`, serves so many connections one after another,
@@ -15,13 +15,13 @@ use sv_streams::{SystemClock, WriteSink};
 ///
 /// # Errors
 /// [`CommandFault::Socket`], [`CommandFault::Output`] or [`CommandFault::NoMemory`] as the run meets them.
-pub fn listen_and_serve<H: Net + Clock, W: Write, R: Reactor>(
+pub fn listen_and_serve<H: Net + Clock, W: Write, R: EventHandler>(
     alloc: Global,
     host: &H,
     writer: &mut W,
     port: u16,
     count: u64,
-    reactor: &mut R,
+    handler: &mut R,
 ) -> Result<(), CommandFault> {
     let Ok(listener) = listen(host, port) else {
         return Err(CommandFault::Socket);
@@ -33,7 +33,7 @@ pub fn listen_and_serve<H: Net + Clock, W: Write, R: Reactor>(
         &listener,
         host,
         count,
-        reactor,
+        handler,
         &mut clock,
         &mut output,
     ) {

@@ -12,16 +12,16 @@ use std::io::Write;
 use std::net::{Net, SocketAddr};
 use std::rt::Files;
 use std::time::Clock;
-use sv_front::{Consulted, Limits};
+use sv_connection::{Limits, Queries};
 use sv_program::CommandFault;
-use sv_run::Reactor;
+use sv_run::EventHandler;
 use sv_streams::WriteSink;
 
-/// Serves as [`run_controlled`] does, appends what the events bring to the file of that name, and gives the reactor back.
+/// Serves as [`run_controlled`] does, appends what the events bring to the file of that name, and gives the handler back.
 ///
 /// # Errors
 /// [`CommandFault::File`] where that file cannot be opened; then those of [`run_controlled`].
-pub fn run_recorded<H: Net + Clock + Files + Eprint, W: Write, R: Reactor + Consulted>(
+pub fn run_recorded<H: Net + Clock + Files + Eprint, W: Write, R: EventHandler + Queries>(
     alloc: Global,
     host: &H,
     writer: &mut W,
@@ -29,33 +29,33 @@ pub fn run_recorded<H: Net + Clock + Files + Eprint, W: Write, R: Reactor + Cons
     limits: Limits,
     control: Option<&str>,
     name: &str,
-    reactor: R,
+    handler: R,
 ) -> (Result<(), CommandFault>, R) {
     let Ok(file) = open_to_append(host, name) else {
-        return (Err(file_fault(alloc, name)), reactor);
+        return (Err(file_fault(alloc, name)), handler);
     };
     let record = Record::new(alloc, WriteSink::new(file), StandardError { host });
-    let mut recorder = Recorder::new(reactor, record);
+    let mut recorder = Recorder::new(handler, record);
     let served = run_controlled(alloc, host, writer, address, limits, control, &mut recorder);
     (served, recorder.into_within())
 }
 
-/// Serves as [`run_controlled`] does, and gives the reactor back.
+/// Serves as [`run_controlled`] does, and gives the handler back.
 ///
 /// # Errors
 /// Those of [`run_controlled`].
-pub fn run_plainly<H: Net + Clock + Files, W: Write, R: Reactor + Consulted>(
+pub fn run_plainly<H: Net + Clock + Files, W: Write, R: EventHandler + Queries>(
     alloc: Global,
     host: &H,
     writer: &mut W,
     address: SocketAddr,
     limits: Limits,
     control: Option<&str>,
-    reactor: R,
+    handler: R,
 ) -> (Result<(), CommandFault>, R) {
-    let mut reactor = reactor;
-    let served = run_controlled(alloc, host, writer, address, limits, control, &mut reactor);
-    (served, reactor)
+    let mut handler = handler;
+    let served = run_controlled(alloc, host, writer, address, limits, control, &mut handler);
+    (served, handler)
 }
 
 // Opens a file to append to it, which is made where it is missing.

@@ -4,9 +4,9 @@ use crate::alarm::Alarm;
 use crate::place::connection_of;
 use crate::record::Record;
 use std::alloc::Global;
-use sv_front::Consulted;
+use sv_connection::Queries;
 use sv_journal::Journal;
-use sv_run::{Happening, Reaction, Reactor, StepFault};
+use sv_run::{EventHandler, Happening, Reaction, StepFault};
 use sv_streams::Sink;
 use sv_text::{Bytes, NoMemory};
 use sv_wire::Awaited;
@@ -18,7 +18,7 @@ pub struct Recorder<R, O, A> {
     notes: Record<O, A>,
 }
 
-impl<R: Reactor, O: Sink, A: Alarm> Recorder<R, O, A> {
+impl<R: EventHandler, O: Sink, A: Alarm> Recorder<R, O, A> {
     ghost use Rattle.std.specs.Prelude.{◌≡◌};
 
     /// Records what that one takes.
@@ -41,7 +41,7 @@ impl<R, O: Drop, A: Drop> Recorder<R, O, A> {
     }
 }
 
-impl<R: Reactor, O: Sink, A: Alarm> Reactor for Recorder<R, O, A> {
+impl<R: EventHandler, O: Sink, A: Alarm> EventHandler for Recorder<R, O, A> {
     ghost use Rattle.sv_listening.specs.Recording.{Records};
 
     ghost steps = { λ before happening result after.
@@ -70,7 +70,7 @@ impl<R: Reactor, O: Sink, A: Alarm> Reactor for Recorder<R, O, A> {
     }
 }
 
-impl<R: Consulted, O, A> Consulted for Recorder<R, O, A> {
+impl<R: Queries, O, A> Queries for Recorder<R, O, A> {
     ghost explains = { λ recorder method target user. R.explains recorder.within method target user };
 
     ghost uncovers = { λ recorder. R.uncovers recorder.within };

@@ -1,15 +1,15 @@
 //! A request that a program sends to itself.
 
 use crate::sockets::{fault_of, listen};
+use crate::{OwnAcceptor, ask, first_line};
 use std::alloc::Global;
 use std::io;
 use std::io::ErrorKind;
 use std::net::{Net, OpenListener, OpenStream, SocketAddr};
 use std::time::Clock;
-use sv_connection::serve_connections;
+use sv_connection::{READ_BYTES, serve_connections};
 use sv_program::CommandFault;
-use sv_run::Reactor;
-use sv_sockets::{OwnAcceptor, READ_BYTES, ask, first_line};
+use sv_run::EventHandler;
 use sv_streams::SystemClock;
 
 /// Listens at the port on this machine, 0 for any that is free, connects to it, asks for the root path by `HEAD`, serves that connection and no other, and
@@ -17,11 +17,11 @@ use sv_streams::SystemClock;
 ///
 /// # Errors
 /// [`CommandFault::Socket`] or [`CommandFault::NoMemory`].
-pub fn own_answer<H: Net + Clock, R: Reactor>(
+pub fn own_answer<H: Net + Clock, R: EventHandler>(
     alloc: Global,
     host: &H,
     port: u16,
-    reactor: &mut R,
+    handler: &mut R,
 ) -> Result<Vec<u8>, CommandFault> {
     let Ok(listener) = listen(host, port) else {
         return Err(CommandFault::Socket);
@@ -32,7 +32,7 @@ pub fn own_answer<H: Net + Clock, R: Reactor>(
     let mut acceptor = OwnAcceptor::new(&listener, host, address);
     let mut clock = SystemClock::new(host);
     let mut buffer = [0; READ_BYTES];
-    match serve_connections(reactor, &mut acceptor, &mut clock, 1, &mut buffer) {
+    match serve_connections(handler, &mut acceptor, &mut clock, 1, &mut buffer) {
         Ok(()) => answered(alloc, client),
         Err(fault) => Err(fault_of(fault)),
     }

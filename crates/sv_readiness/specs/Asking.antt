@@ -2,8 +2,8 @@
 use Rattle.std.specs.Prelude.{◌≡◌, ◌==◌, ℕ, ◌++◌, Bool, List, [], bytes_eq, codes, position, take, Option, None, Some, Result, Ok, Err, if◌then◌else◌}
 use Rattle.std.specs.Fmt.{decimal}
 use Rattle.std.specs.Option.{option_and_then, option_map}
-use Rattle.sv_front.specs.Asking.{Explaining, Saying}
-use Rattle.sv_front.specs.declared.figures.Figures.{Figures}
+use Rattle.sv_connection.specs.Asking.{Explaining, Saying}
+use Rattle.sv_connection.specs.declared.figures.Figures.{Figures}
 use Rattle.sv_readiness.specs.declared.asking.Ask.{Ask}
 use Rattle.sv_readiness.specs.declared.asking.Ask.TheVariants.{Explain, Status, Uncovered, Unknown}
 use Rattle.sv_readiness.specs.declared.asking.Ask.TheVariants as ask
@@ -63,7 +63,7 @@ figures_text figures =
     codes "connections " ++ decimal figures.connections ++ codes " writing " ++ decimal figures.writing
     ++ codes " held " ++ decimal figures.held ++ codes " opened " ++ decimal figures.opened
 
--- what is said behind that of how the reactor stands
+-- what is said behind that of how the handler stands
 abbrev pub standing_text : Option (List ℕ) → List ℕ
 standing_text None = []
 standing_text (Some text) = text

@@ -9,7 +9,7 @@ ghost use Rattle.sv_text.specs.Gives.{GivesAnswer};
 use crate::limits::MAX_LINE_BYTES;
 use std::alloc::{AllocError, Global};
 use std::fmt;
-use sv_front::Figures;
+use sv_connection::Figures;
 use sv_policy::Edit;
 use sv_script::{LineFault, ScriptLine, at_blank, read_line, text_of};
 use sv_text::{Bytes, NoMemory, Text};

@@ -4,7 +4,7 @@ ghost use Rattle.std.specs.Prelude.{◌<◌, length};
 ghost use Rattle.sv_readiness.specs.Calls.{ReadsSome, WritesSome};
 
 use std::io::{ErrorKind, Read, Write};
-use sv_front::Tried;
+use sv_connection::Tried;
 
 /// Reads once. A read that was interrupted is made again.
 #[inline(always)]
@@ -16,7 +16,7 @@ pub(crate) fn try_read<R: Read>(reader: &mut R, buffer: &mut [u8]) -> Tried
         match reader.read(buffer) {
             Ok(count) => return Tried::Done(count),
             Err(error) if error.kind() == ErrorKind::Interrupted => {}
-            Err(error) if error.kind() == ErrorKind::WouldBlock => return Tried::Paused,
+            Err(error) if error.kind() == ErrorKind::WouldBlock => return Tried::WouldBlock,
             Err(_) => return Tried::Failed,
         }
     }
@@ -33,7 +33,7 @@ pub(crate) fn try_write<W: Write>(writer: &mut W, bytes: &[u8]) -> Tried
             Ok(0) => return Tried::Failed,
             Ok(count) => return Tried::Done(count),
             Err(error) if error.kind() == ErrorKind::Interrupted => {}
-            Err(error) if error.kind() == ErrorKind::WouldBlock => return Tried::Paused,
+            Err(error) if error.kind() == ErrorKind::WouldBlock => return Tried::WouldBlock,
             Err(_) => return Tried::Failed,
         }
     }

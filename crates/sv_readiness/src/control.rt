@@ -1,7 +1,7 @@
 //! The socket file at which a server that runs is asked, edited and stopped.
 
 ghost use Rattle.std.specs.Prelude.{◌≡◌, ◌≤◌, drop, length};
-ghost use Rattle.sv_front.specs.Asking.{EditsOnce};
+ghost use Rattle.sv_connection.specs.Asking.{EditsOnce};
 
 use crate::asking::{asks_to_stop, line_end};
 use crate::calls::{try_read, try_write};
@@ -12,8 +12,8 @@ use mio::net::{UnixListener, UnixStream};
 use mio::{Interest, Registry, Token};
 use std::alloc::Global;
 use std::mem;
-use sv_front::{Consulted, Figures, Told, Tried};
-use sv_run::{Reactor, StepFault};
+use sv_connection::{Figures, PollEvent, Queries, Tried};
+use sv_run::{EventHandler, StepFault};
 use sv_text::{Bytes, NoMemory};
 
 /// The token of the socket file. No connection has it as its number.
@@ -131,7 +131,7 @@ impl<'a> Control<'a> {
 
     /// Reads on of who asks, and says where a line is whole. That the server stops is answered here. Who ends before a line is whole is let go, and who
     /// is answered already is written to.
-    pub fn hear(&mut self, now: u64) -> Option<Told> {
+    pub fn hear(&mut self, now: u64) -> Option<PollEvent> {
         if !self.answer.is_empty() {
             self.write_on(now);
             return None;
@@ -155,12 +155,12 @@ impl<'a> Control<'a> {
     }
 
     // What a whole line tells.
-    fn told_by_line(&mut self, now: u64) -> Told {
+    fn told_by_line(&mut self, now: u64) -> PollEvent {
         if asks_to_stop(self.line.as_slice()) {
             self.stop(now);
-            return Told::Stop;
+            return PollEvent::Stop;
         }
-        Told::Asked
+        PollEvent::Asked
     }
 
     // Reads once.
@@ -171,7 +171,7 @@ impl<'a> Control<'a> {
         };
         match try_read(stream, &mut buffer) {
             Tried::Done(0) | Tried::Failed => Heard::End,
-            Tried::Paused => Heard::UntilPaused,
+            Tried::WouldBlock => Heard::UntilPaused,
             Tried::Done(count) => self.add(buffer.split_at(count).0),
         }
     }
@@ -202,20 +202,20 @@ impl<'a> Control<'a> {
         self.welcome(now);
     }
 
-    /// Answers the line that is whole, by how things stand and by the reactor, which takes the edit that it asks for.
+    /// Answers the line that is whole, by how things stand and by the handler, which takes the edit that it asks for.
     ///
     /// # Errors
     /// Why the edit was refused.
-    pub fn consult<R: Reactor + Consulted>(
+    pub fn answer_query<R: EventHandler + Queries>(
         &mut self,
         figures: Figures,
-        reactor: &mut R,
+        handler: &mut R,
         now: u64,
     ) -> Result<(), StepFault>
-        ensures { EditsOnce R.steps reactor.old result reactor.new }
+        ensures { EditsOnce R.steps handler.old result handler.new }
     {
         let line = mem::replace(&mut self.line, Vec::new(self.alloc));
-        match reply(self.alloc, line.as_slice(), figures, reactor) {
+        match reply(self.alloc, line.as_slice(), figures, handler) {
             Ok(text) => {
                 self.give(text, now);
                 Ok(())
@@ -285,7 +285,7 @@ impl<'a> Control<'a> {
                 skip(&mut self.answer, count);
                 Wrote::Some
             }
-            Tried::Paused => self.await_room(),
+            Tried::WouldBlock => self.await_room(),
             Tried::Failed => Wrote::End,
         }
     }

@@ -6,7 +6,7 @@ ghost use Rattle.sv_readiness.specs.Dropping.{Drops};
 use crate::calls::try_read;
 use crate::limits::{DROPPED_READ_BYTES, FIRST_DROPPED_READ_BYTES, MAX_DROPPED_READS};
 use std::io::Read;
-use sv_front::Tried;
+use sv_connection::Tried;
 
 /// What reading on came to.
 #[derive(Clone, Copy, Debug, PartialEq, Eq)]
@@ -62,7 +62,7 @@ fn drop_once<R: Read>(reader: &mut R, buffer: &mut [u8], left: &mut usize) -> Dr
             *left -= count;
             Dropped::Some
         }
-        Tried::Paused => Dropped::UntilPaused,
+        Tried::WouldBlock => Dropped::UntilPaused,
         Tried::Failed => Dropped::All,
     }
 }

@@ -27,7 +27,7 @@ pub const MAX_DROPPED_BYTES: usize = 16_777_216;
 pub const MAX_DROPPED_READS: u32 = 64;
 
 /// How many bytes such a read takes at most.
-pub(crate) const DROPPED_READ_BYTES: usize = 16_384;
+pub const DROPPED_READ_BYTES: usize = 16_384;
 
 /// How many bytes the first of these reads takes at most: mostly nothing has come, or the end, and room for so few is had at once.
 pub(crate) const FIRST_DROPPED_READ_BYTES: usize = 256;

@@ -2,7 +2,7 @@
 
 ghost use Rattle.std.specs.Prelude.{◌≡◌, ◌+◌, ◌++◌, ◌≤◌, [], length, vec_capacity};
 ghost use Rattle.std.specs.Fmt.{decimal};
-ghost use Rattle.sv_front.specs.Asking.{EditsOnce};
+ghost use Rattle.sv_connection.specs.Asking.{EditsOnce};
 ghost use Rattle.sv_readiness.specs.Asking as spec;
 ghost use Rattle.sv_script.specs.Printed as printed;
 ghost use Rattle.sv_text.specs.Gives.{GivesAnswer};
@@ -10,34 +10,34 @@ ghost use Rattle.sv_text.specs.Gives.{GivesAnswer};
 use crate::asking::{Ask, ask_of, figures_text};
 use itoa::Buffer;
 use std::alloc::Global;
-use sv_front::{Consulted, Figures};
+use sv_connection::{Figures, Queries};
 use sv_policy::{Edit, EditFault};
-use sv_run::{Happening, Reactor, StepFault};
+use sv_run::{EventHandler, Happening, StepFault};
 use sv_text::{Bytes, NoMemory, Text};
 
 // Room for the answer to an edit, which has 34 bytes at most.
 const EDITED_ROOM: usize = 64;
 
-/// What is said to a line that does not ask to stop, which stands here without its end. An edit is taken by the reactor, once, and answered by its number
+/// What is said to a line that does not ask to stop, which stands here without its end. An edit is taken by the handler, once, and answered by its number
 /// or why it was refused; any other line is no event. Where there is no memory to answer, that is told within, and nothing was done.
 ///
 /// # Errors
 /// Why the edit was not taken.
-pub(crate) fn reply<R: Reactor + Consulted>(
+pub(crate) fn reply<R: EventHandler + Queries>(
     alloc: Global,
     line: &[u8],
     figures: Figures,
-    reactor: &mut R,
+    handler: &mut R,
 ) -> Result<Result<Bytes, NoMemory>, StepFault>
-    ensures replies { spec.RepliesTo reactor.old R.steps R.explains R.uncovers R.stands figures (spec.ask_of line.now) result reactor.new }
-    ensures once { EditsOnce R.steps reactor.old result reactor.new }
+    ensures replies { spec.RepliesTo handler.old R.steps R.explains R.uncovers R.stands figures (spec.ask_of line.now) result handler.new }
+    ensures once { EditsOnce R.steps handler.old result handler.new }
 {
     match ask_of(alloc, line) {
-        Ok(Ask::Status) => Ok(standing_text(alloc, figures, reactor)),
-        Ok(Ask::Uncovered) => Ok(uncovered_text(alloc, reactor)),
-        Ok(Ask::Edit(path, edit)) => edit_reply(alloc, path.as_str(), &edit, reactor),
+        Ok(Ask::Status) => Ok(standing_text(alloc, figures, handler)),
+        Ok(Ask::Uncovered) => Ok(uncovered_text(alloc, handler)),
+        Ok(Ask::Edit(path, edit)) => edit_reply(alloc, path.as_str(), &edit, handler),
         Ok(Ask::Explain(method, target, user)) => Ok(explain_text(
-            alloc, &method, &target, &user, reactor,
+            alloc, &method, &target, &user, handler,
         )),
         Ok(Ask::Unknown) => Ok(Bytes::copy_of(alloc, b"unknown\n")),
         Err(NoMemory) => Ok(Err(NoMemory)),
@@ -57,15 +57,15 @@ pub(crate) fn last_text(alloc: Global, line: &[u8], figures: Figures) -> Result<
     Bytes::copy_of(alloc, b"stopping\n")
 }
 
-// How things stand with the connections, and with the reactor.
-fn standing_text<R: Consulted>(
+// How things stand with the connections, and with the handler.
+fn standing_text<R: Queries>(
     alloc: Global,
     figures: Figures,
-    reactor: &R,
+    handler: &R,
 ) -> Result<Bytes, NoMemory>
-    ensures { GivesAnswer result (spec.status_line figures (R.stands reactor.now)) }
+    ensures { GivesAnswer result (spec.status_line figures (R.stands handler.now)) }
 {
-    let stands = reactor.standing(alloc)?;
+    let stands = handler.standing(alloc)?;
     status_text(alloc, figures, &stands)
 }
 
@@ -81,11 +81,11 @@ fn status_text(alloc: Global, figures: Figures, stands: &Option<Bytes>) -> Resul
     Ok(Bytes::from_vec(line))
 }
 
-// What the reactor says of what is left uncovered.
-fn uncovered_text<R: Consulted>(alloc: Global, reactor: &R) -> Result<Bytes, NoMemory>
-    ensures { GivesAnswer result (spec.known_text (R.uncovers reactor.now)) }
+// What the handler says of what is left uncovered.
+fn uncovered_text<R: Queries>(alloc: Global, handler: &R) -> Result<Bytes, NoMemory>
+    ensures { GivesAnswer result (spec.known_text (R.uncovers handler.now)) }
 {
-    known_text(alloc, reactor.uncovered(alloc)?)
+    known_text(alloc, handler.uncovered(alloc)?)
 }
 
 // What is said, or that nothing is known.
@@ -98,40 +98,40 @@ fn known_text(alloc: Global, said: Option<Bytes>) -> Result<Bytes, NoMemory>
     }
 }
 
-// What the reactor says of a request.
-fn explain_text<R: Consulted>(
+// What the handler says of a request.
+fn explain_text<R: Queries>(
     alloc: Global,
     method: &Text,
     target: &Bytes,
     user: &Option<Text>,
-    reactor: &R,
+    handler: &R,
 ) -> Result<Bytes, NoMemory>
-    ensures { GivesAnswer result (spec.known_text (R.explains reactor.now method.now target.now user.now)) }
+    ensures { GivesAnswer result (spec.known_text (R.explains handler.now method.now target.now user.now)) }
 {
     let user = match user {
         Some(user) => Some(user.as_str()),
         None => None,
     };
-    match reactor.explain(alloc, method.as_str(), target.as_slice(), user) {
+    match handler.explain(alloc, method.as_str(), target.as_slice(), user) {
         Ok(said) => known_text(alloc, said),
         Err(NoMemory) => Err(NoMemory),
     }
 }
 
 // Has an edit taken. There is room for the answer before.
-fn edit_reply<R: Reactor + Consulted>(
+fn edit_reply<R: EventHandler + Queries>(
     alloc: Global,
     path: &str,
     edit: &Edit,
-    reactor: &mut R,
+    handler: &mut R,
 ) -> Result<Result<Bytes, NoMemory>, StepFault>
-    ensures { spec.EditsTo reactor.old R.steps path.now edit.now result reactor.new }
+    ensures { spec.EditsTo handler.old R.steps path.now edit.now result handler.new }
 {
     let Ok(mut text) = Vec::with_capacity(alloc, EDITED_ROOM) else {
         return Ok(Err(NoMemory));
     };
     let context = path;
-    match reactor.step(Happening::Edit { context, edit }) {
+    match handler.step(Happening::Edit { context, edit }) {
         Ok(reaction) => {
             push_edited(&mut text, reaction.edited);
             Ok(Ok(Bytes::from_vec(text)))

@@ -1,4 +1,4 @@
-//! A listener and its connections as a network.
+//! A listener and its connections as a poller.
 
 use crate::acceptor::Acceptor;
 use crate::control::{ASKER, CONTROL, Control};
@@ -15,8 +15,8 @@ use std::cell::Cell;
 use std::io;
 use std::net::Shutdown;
 use std::time::{Clock, Duration};
-use sv_front::{Closing, Consulted, Figures, Network, Told};
-use sv_run::{Reactor, StepFault};
+use sv_connection::{Closing, Figures, PollEvent, Poller, Queries};
+use sv_run::{EventHandler, StepFault};
 use sv_streams::{Clock as _, SystemClock};
 
 /// A listener and its connections. What the system fails to do for one of them ends that one alone, or is tried again within a second.
@@ -90,14 +90,14 @@ impl<'a, C: Clock> Sockets<'a, C> {
     /// by the end of the process.
     pub fn read_out(&mut self) {
         for _ in 0..u64::MAX {
-            if self.lingering.is_empty() || self.wait() == Told::Stop {
+            if self.lingering.is_empty() || self.wait() == PollEvent::Stop {
                 return;
             }
         }
     }
 
     // What is told of a token. Nothing is, where it is that of a stream which is read on, or of the socket file before a line is whole there.
-    fn told_of(&mut self, token: usize) -> Option<Told> {
+    fn told_of(&mut self, token: usize) -> Option<PollEvent> {
         if token == CONTROL || token == ASKER {
             return self.heard_at(token);
         }
@@ -115,7 +115,7 @@ impl<'a, C: Clock> Sockets<'a, C> {
     }
 
     // What is told of the socket file.
-    fn heard_at(&mut self, token: usize) -> Option<Told> {
+    fn heard_at(&mut self, token: usize) -> Option<PollEvent> {
         let now = self.seconds();
         let Some(control) = &mut self.control else {
             return None;
@@ -127,7 +127,7 @@ impl<'a, C: Clock> Sockets<'a, C> {
     }
 
     // Lets go the streams whose time is over, and who asks at the socket file, where that is not heard by now: else it is told.
-    fn expire(&mut self) -> Option<Told> {
+    fn expire(&mut self) -> Option<PollEvent> {
         self.lingering.expire(self.second);
         let told = self.heard_at(ASKER);
         if told.is_some() {
@@ -162,13 +162,13 @@ impl<'a, C: Clock> Sockets<'a, C> {
 
     // What is told where nothing reported is left to be: that no more can be reported; that a second is over, unless it is what is heard at the socket
     // file, and with the next then; or nothing yet, and what is reported now is told behind that. So the clock is read once for a wait.
-    fn report_next(&mut self) -> Option<Told> {
+    fn report_next(&mut self) -> Option<PollEvent> {
         if self.report().is_err() {
             self.has_failed = true;
-            return Some(Told::Stop);
+            return Some(PollEvent::Stop);
         }
         if self.has_second_passed() {
-            return self.expire().or(Some(Told::Second));
+            return self.expire().or(Some(PollEvent::Second));
         }
         None
     }
@@ -256,16 +256,16 @@ impl<'a, C: Clock> Sockets<'a, C> {
     }
 
     // Waits until something is to be told.
-    fn next_told(&mut self) -> Told {
+    fn next_told(&mut self) -> PollEvent {
         self.note_refused_asker();
         if self.tells_crowd() {
-            return Told::Crowded;
+            return PollEvent::Crowded;
         }
         for _ in 0..u64::MAX {
             if self.is_turn_to_accept() {
                 self.told = 0;
                 self.has_reported = false;
-                return Told::Incoming;
+                return PollEvent::Incoming;
             }
             match self.ready.next() {
                 Some(token) => {
@@ -280,20 +280,20 @@ impl<'a, C: Clock> Sockets<'a, C> {
                 }
             }
         }
-        Told::Stop
+        PollEvent::Stop
     }
 }
 
-impl<'a, C: Clock> Network for Sockets<'a, C> {
+impl<'a, C: Clock> Poller for Sockets<'a, C> {
     type Peer = StreamPeer<'a, TcpStream>;
 
-    fn wait(&mut self) -> Told {
+    fn wait(&mut self) -> PollEvent {
         let told = match self.accepted.take() {
-            Some(number) => Told::Ready(number),
+            Some(number) => PollEvent::Ready(number),
             None => self.next_told(),
         };
         self.acceptor
-            .note_told(matches!(told, Told::Incoming | Told::Second));
+            .note_told(matches!(told, PollEvent::Incoming | PollEvent::Second));
         told
     }
 
@@ -302,7 +302,7 @@ impl<'a, C: Clock> Network for Sockets<'a, C> {
         self.peer_of(stream, number)
     }
 
-    fn part(&mut self, number: u64, peer: StreamPeer<'a, TcpStream>, closing: Closing) {
+    fn close(&mut self, number: u64, peer: StreamPeer<'a, TcpStream>, closing: Closing) {
         let mut peer = peer;
         // What is dropped is closed: so is what makes room. A peer that is gone is sent no end.
         let lingers = may_send_on(closing, &peer)
@@ -315,19 +315,19 @@ impl<'a, C: Clock> Network for Sockets<'a, C> {
         }
     }
 
-    fn consult<R: Reactor + Consulted>(
+    fn answer_query<R: EventHandler + Queries>(
         &mut self,
         figures: Figures,
-        reactor: &mut R,
+        handler: &mut R,
     ) -> Result<(), StepFault> {
         let now = self.seconds();
         match &mut self.control {
-            Some(control) => control.consult(figures, reactor, now),
+            Some(control) => control.answer_query(figures, handler, now),
             None => Ok(()),
         }
     }
 
-    fn tell(&mut self, figures: Figures) {
+    fn answer_status(&mut self, figures: Figures) {
         let now = self.seconds();
         if let Some(control) = &mut self.control {
             control.tell(figures, now);
@@ -367,9 +367,9 @@ fn rest_of_second(time: Duration) -> Duration {
 }
 
 // What a token tells: the connection of that number may be ready, or one may have come.
-fn told_by(token: usize) -> Told {
+fn told_by(token: usize) -> PollEvent {
     if token == LISTENER {
-        return Told::Incoming;
+        return PollEvent::Incoming;
     }
-    Told::Ready(token as u64)
+    PollEvent::Ready(token as u64)
 }

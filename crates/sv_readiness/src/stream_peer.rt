@@ -8,7 +8,7 @@ use crate::limits::MAX_SENT_AT_ONCE;
 use mio::event::Source;
 use mio::{Interest, Registry, Token};
 use std::io::{Read, Write};
-use sv_front::{Peer, Tried};
+use sv_connection::{Peer, Tried};
 
 /// A stream whose readiness is reported under a token, from the first call on that would have to wait: of a connection that is answered and closed before
 /// one does, nothing is ever asked of the system.
@@ -119,13 +119,13 @@ impl<'a, T: Source> StreamPeer<'a, T> {
 
 impl<T: Read + Write + Source> Peer for StreamPeer<'_, T> {
     ghost use Rattle.std.specs.Prelude.{◌≡◌, ◌⊎◌};
-    ghost use Rattle.sv_readiness.specs.Calls.{Pauses};
+    ghost use Rattle.sv_readiness.specs.Calls.{Blocks};
     ghost use Rattle.sv_streams.specs.Standard.{IsCallOf};
 
     ghost ways = { record {
       makes = λ before call after. IsCallOf (T.remaining before.stream) (T.contents before.stream) call (T.remaining after.stream) (T.contents after.stream);
-      pauses = λ before after. Pauses (T.remaining before.stream) (T.contents before.stream) (T.remaining after.stream) (T.contents after.stream)
-          ⊎ ((between : T) × Pauses (T.remaining before.stream) (T.contents before.stream) (T.remaining between) (T.contents between)
+      blocks = λ before after. Blocks (T.remaining before.stream) (T.contents before.stream) (T.remaining after.stream) (T.contents after.stream)
+          ⊎ ((between : T) × Blocks (T.remaining before.stream) (T.contents before.stream) (T.remaining between) (T.contents between)
           × T.keeps between after.stream);
       arms = λ before after. T.keeps before.stream after.stream;
     } };
@@ -133,17 +133,17 @@ impl<T: Read + Write + Source> Peer for StreamPeer<'_, T> {
     fn read(&mut self, buffer: &mut [u8]) -> Tried {
         if self.is_drained {
             self.wait_for_more();
-            return Tried::Paused;
+            return Tried::WouldBlock;
         }
         let tried = try_read(&mut self.stream, buffer);
         self.is_drained = leaves_room(tried, buffer.len());
-        if tried == Tried::Paused {
+        if tried == Tried::WouldBlock {
             self.wait_for_more();
         }
         tried
     }
 
-    fn would_wait(&mut self) -> bool {
+    fn would_block(&mut self) -> bool {
         if !self.is_drained {
             return false;
         }
@@ -156,7 +156,7 @@ impl<T: Read + Write + Source> Peer for StreamPeer<'_, T> {
         let tried = try_write(&mut self.stream, bytes);
         match tried {
             Tried::Done(count) => self.written = self.written.saturating_add(count),
-            Tried::Paused => self.wait_for_room(),
+            Tried::WouldBlock => self.wait_for_room(),
             Tried::Failed => {}
         }
         tried

@@ -4,16 +4,17 @@
 
 mod context;
 mod counted_words;
+mod handler;
 mod happening;
 mod laws;
 mod limits;
 mod reaction;
-mod reactor;
 mod seeded_words;
 mod step_fault;
 
 pub use context::{Context, Words};
 pub use counted_words::CountedWords;
+pub use handler::{EventHandler, reactions_are_a_run};
 pub use happening::Happening;
 pub use laws::{
     callers_logged_in, constraints_change_by_edits_alone, ended_readings_stay, feedings_may_be_cut,
@@ -24,6 +25,5 @@ pub use laws::{
 };
 pub use limits::{LAST_MOMENT, MAX_CONNECTIONS};
 pub use reaction::Reaction;
-pub use reactor::{Reactor, reactions_are_a_run};
 pub use seeded_words::SeededWords;
 pub use step_fault::StepFault;

@@ -1,4 +1,11 @@
+mod Cut
 mod EscapeLemmas
 pub mod FieldLemmas
+mod Lawful
+mod LineLemmas
 mod NameLemmas
+mod PlayLemmas
+mod ProgressLemmas
 mod ReadBackLemmas
+mod RunJoins
+mod WholeLemmas

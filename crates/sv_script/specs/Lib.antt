@@ -1,7 +1,15 @@
+pub mod Asked
 pub mod Editing
 pub mod Escape
 pub mod Fields
 pub mod Laws
 pub mod Line
+pub mod Lines
 pub mod Names
+pub mod PlaySteps
 pub mod Printed
+pub mod Replay
+pub mod ReplayFault
+pub mod ReplayLaws
+pub mod Whole
+pub mod WholeLaws

@@ -4,7 +4,7 @@ use std::alloc::Global;
 use sv_journal::{Entry, Journal, RefusalCause};
 use sv_policy::{Edit, EditFault};
 use sv_rows::Draft;
-use sv_run::{Happening, Reaction, Reactor, StepFault};
+use sv_run::{EventHandler, Happening, Reaction, StepFault};
 use sv_text::Bytes;
 use sv_wire::Awaited;
 
@@ -103,7 +103,7 @@ impl Echo {
     }
 }
 
-impl Reactor for Echo {
+impl EventHandler for Echo {
     ghost use Rattle.sv_wire.specs.declared.inbox.Awaited.TheVariants.{Message};
 
     ghost steps = { λ _ _ _ _. Unit {0} };

@@ -1,5 +1,5 @@
 //! Tests of what runs a container: tables of the lines of scripts, whose rows a reader can check against the form of scripts, and the texts of a stored run;
-//! of readers, writers and the clock; and of replays and connections over a reactor of their own, whose calls fail in turn.
+//! of readers, writers and the clock; and of replays and connections over a handler of their own, whose calls fail in turn.
 #![tactic(auto)]
 
 #[cfg(test)]

@@ -2,8 +2,8 @@
 
 use crate::echo::Echo;
 use std::alloc::Global;
-use sv_replay::replay;
 use sv_rows::{Asks, Draft, Strays, cell, hold, unescaped};
+use sv_script::replay;
 use sv_streams::MemoryStream;
 use sv_text::NoMemory;
 

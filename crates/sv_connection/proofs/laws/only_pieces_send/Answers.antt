@@ -1,4 +1,4 @@
-use Rattle.sv_connection.proofs.Running.{only_pieces_send}
+use Rattle.sv_connection.proofs.WholeCourse.{only_pieces_send}
 use Rattle.sv_connection.proofs.laws.only_pieces_send.Goals as goal
 use Rattle.sv_run.specs.Contexts.{theory_of}
 

@@ -1,0 +1,48 @@
+-- A connection that is served beside others, as the turns of one that is served by itself.
+use Rattle.std.specs.Prelude.{◌≡◌, ℕ, ◌<◌, false, List, [], ◌∷◌, ◌++◌, flat_map, length, map, Ok}
+use Rattle.std.specs.List.{AllByRecursion, concat}
+use Rattle.sv_connection.specs.Turns.{AtClose, AtEnd, AtFailedRead, AtFailedWrite, Ending, GoesOn, IsEnding, Turn, brought, calls_of, last_answers, last_calls, last_events, piece_of}
+use Rattle.sv_connection.specs.Turns as turn
+use Rattle.sv_connection.specs.Course.{Along}
+use Rattle.sv_connection.specs.LoopLaws.{end_calls}
+use Rattle.sv_connection.specs.Notes.{answer_of, event_of, moment_of}
+use Rattle.sv_connection.specs.Phases.{is_closing}
+use Rattle.sv_connection.specs.Slots.{Action, Ends, Hands, Open, ConnectionState, Unused, Writes}
+use Rattle.sv_connection.specs.Ways.{Ways}
+use Rattle.sv_run.specs.Events.{Opened}
+use Rattle.sv_run.specs.declared.reaction.Reaction.{Reaction}
+use Rattle.sv_streams.specs.Calls.{Call, Gave, Took}
+
+-- the calls, as if each piece had been read by itself as it was handed on: a read cut into pieces
+abbrev pub cut_calls : Action → List Call
+cut_calls (Hands bytes moment reaction awaited) = Gave bytes ∷ []
+cut_calls (Writes bytes) = Took bytes ∷ []
+cut_calls (Ends cause reaction) = end_calls cause
+cut_calls other = []
+
+module _ {S : Type 0} where
+  -- no turn is under way, and nothing waits to be written; or one is, of which that waits
+  abbrev pub IsUnderWay : List Turn → ConnectionState S → Type 0
+  IsUnderWay [] at = (at.unsent ≡ []) × (is_closing at.phase ≡ false)
+  IsUnderWay (turn ∷ []) at =
+      (0 < length turn.bytes) × (concat turn.parts ++ at.unsent ≡ turn.reaction.sends) × (turn.reaction.closes ≡ is_closing at.phase)
+  IsUnderWay (turn ∷ other ∷ turns) at = ⊥
+
+-- these turns of a connection by itself are what was done
+pub record AreTurns (number : ℕ) (actions : List Action) (opening : Reaction) (turns : List Turn) : Type 0 where
+  pub happened : flat_map (event_of number) actions ≡ Opened number ∷ map (piece_of number) turns
+  pub answered : flat_map answer_of actions ≡ Ok opening ∷ map brought turns
+  pub told : flat_map moment_of actions ≡ map turn.moment_of turns
+  pub called : flat_map cut_calls actions ≡ flat_map calls_of turns
+
+-- an open connection went through turns that go on, and is in one more at most
+pub record IsAlone {S : Type 0} (number : ℕ) (actions : List Action) (at : ConnectionState S) : Type 0 where
+  pub opening : Reaction
+  pub turns : List Turn
+  pub go_on : AllByRecursion GoesOn turns
+  pub under_way : List Turn
+  pub is_under_way : IsUnderWay under_way at
+  pub are_turns : AreTurns number actions opening (turns ++ under_way)
+
+abbrev pub ServedAsIfAlone : {S : Type 0} → Ways S → Type 0
+ServedAsIfAlone {S} ways = (number : ℕ) (actions : List Action) (at : ConnectionState S) → Along ways Unused actions (Open at) → IsAlone number actions at

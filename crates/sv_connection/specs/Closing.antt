@@ -1,0 +1,21 @@
+-- How a connection that is over is closed (RFC 9112, section 9.6).
+use Rattle.std.specs.Prelude.{◌||◌, cond, length, nat_eq, not}
+use Rattle.sv_connection.specs.Phases.{is_refused}
+use Rattle.sv_connection.specs.Slots.{ConnectionState}
+use Rattle.sv_connection.specs.declared.close_reason.CloseReason.{CloseReason}
+use Rattle.sv_connection.specs.declared.close_reason.CloseReason.TheVariants.{PeerEnded, AnswerCloses, ReadFails, WriteFails, GivenUp}
+use Rattle.sv_connection.specs.declared.closing.Closing.{Closing}
+use Rattle.sv_connection.specs.declared.closing.Closing.TheVariants.{AtOnce, Answered, InStages}
+
+module _ {S : Type 0} where
+  -- behind an answer that closes: a peer whose message was refused may still send it, and one of which more came sends on
+  abbrev pub behind_answer : ConnectionState S → Closing
+  behind_answer at = cond (is_refused at.phase || not (nat_eq (length at.ahead) 0)) InStages Answered
+
+  -- at once where its peer has ended or is gone; where it is given up in stages, since its peer may still send
+  abbrev pub closing_of : ConnectionState S → CloseReason → Closing
+  closing_of at PeerEnded = AtOnce
+  closing_of at AnswerCloses = behind_answer at
+  closing_of at ReadFails = AtOnce
+  closing_of at WriteFails = AtOnce
+  closing_of at GivenUp = InStages

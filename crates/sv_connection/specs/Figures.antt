@@ -1,0 +1,25 @@
+-- How things stand with the connections that are known.
+use Rattle.std.specs.Prelude.{ℕ, List, filter, length, map}
+use Rattle.sv_connection.specs.Finishing.{is_writing}
+use Rattle.sv_connection.specs.Holding.{held}
+use Rattle.sv_connection.specs.Known.{Known}
+use Rattle.sv_connection.specs.Slots.{ConnectionState}
+use Rattle.sv_connection.specs.declared.figures.Figures.{Figures}
+
+module _ {S : Type 0} where
+  -- where those that are known stand
+  abbrev pub standings : Known S → List (ConnectionState S)
+  standings known = map (λ entry. entry.1) known.entries
+
+  -- to how many of them something waits to be written
+  abbrev pub writing : Known S → ℕ
+  writing known = length (filter is_writing (standings known))
+
+  -- how many are known, to how many of them something waits to be written, how many bytes all hold together, and how many were opened
+  abbrev pub figures_of : Known S → Figures
+  figures_of known = record {
+    connections = length known.entries;
+    writing = writing known;
+    held = held known;
+    opened = known.next;
+  }

@@ -1,0 +1,91 @@
+-- One connection, as far as it gets without waiting.
+use Rattle.std.specs.Prelude.{◌≡◌, ◌⊎◌, ℕ, ◌+◌, ◌≤◌, true, List, [], ◌∷◌, Option, None, Some, Result, Ok, Err, flat_map, length}
+use Rattle.sv_connection.specs.LoopLaws.{calls_of}
+use Rattle.sv_connection.specs.Notes.{Talks}
+use Rattle.sv_connection.specs.Slots.{Arms, Causes, Action, Hands, Leads, Open, Blocks, Reads, ConnectionState, Writes}
+use Rattle.sv_connection.specs.Ways.{Ways}
+use Rattle.sv_connection.specs.declared.allowance.Allowance.{Allowance}
+use Rattle.sv_connection.specs.declared.close_reason.CloseReason.{CloseReason}
+use Rattle.sv_connection.specs.declared.close_reason.CloseReason.TheVariants.{GivenUp}
+use Rattle.sv_connection.specs.declared.limits.TheConstants.{BYTES_AT_ONCE, CALLS_AT_ONCE}
+use Rattle.sv_connection.specs.declared.step.Step.{Step}
+use Rattle.sv_connection.specs.declared.step.Step.TheVariants.{GoesOn, Rests, IsOver}
+use Rattle.sv_run.specs.Events.{Happening, Piece}
+use Rattle.sv_run.specs.Reacting.{Reacting}
+use Rattle.sv_run.specs.declared.reaction.Reaction.{Reaction}
+use Rattle.sv_run.specs.declared.step_fault.StepFault.{StepFault}
+use Rattle.sv_run.specs.declared.step_fault.StepFault.TheVariants.{NoMemory}
+use Rattle.sv_streams.specs.Calls.{taken}
+use Rattle.sv_text.specs.declared.no_memory.NoMemory.{NoMemory as OutOfMemory}
+use Rattle.sv_wire.specs.declared.inbox.Awaited.{Awaited}
+
+-- an event was refused, or memory had run out before one
+abbrev pub Fails : {R : Type 0} → Reacting R → StepFault → R → R → Type 0
+Fails steps fault before after =
+    ((fault ≡ NoMemory) × (after ≡ before)) ⊎ ((happening : Happening) × steps before happening (Err fault) after)
+
+-- of what may be done at once, a action takes its calls and the bytes that it writes
+abbrev pub Spends : Allowance → Action → Allowance → Type 0
+Spends before action after =
+    (length (calls_of action) + after.calls ≤ before.calls) × (length (taken (calls_of action)) + after.bytes ≤ before.bytes)
+
+-- what is done of a connection before others have their turn: as many calls that give or take, and as many bytes written, at most
+abbrev pub IsTurn : List Action → Type 0
+IsTurn actions = (length (flat_map calls_of actions) ≤ CALLS_AT_ONCE) × (length (taken (flat_map calls_of actions)) ≤ BYTES_AT_ONCE)
+
+module _ {S : Type 0} (ways : Ways S) where
+  -- it is armed, or given up
+  abbrev pub IsArmed : ConnectionState S → Step → ConnectionState S → Type 0
+  IsArmed before GoesOn after = ⊥
+  IsArmed before Rests after = Leads ways (Open before) Arms (Open after)
+  IsArmed before (IsOver cause) after = cause ≡ GivenUp
+
+  -- the call that it needs would have to wait, or it is armed
+  abbrev pub ComesToRest : ConnectionState S → ConnectionState S → Type 0
+  ComesToRest before after = Leads ways (Open before) Blocks (Open after) ⊎ Leads ways (Open before) Arms (Open after)
+
+  -- a read was tried, or others have their turn
+  abbrev pub TakesIn : ConnectionState S → Allowance → Result Step OutOfMemory → ConnectionState S → Allowance → Type 0
+  TakesIn before left (Ok GoesOn) after left_after =
+      (bytes : List ℕ) × Leads ways (Open before) (Reads bytes) (Open after) × Spends left (Reads bytes) left_after
+  TakesIn before left (Ok Rests) after left_after = ComesToRest before after
+  TakesIn before left (Ok (IsOver cause)) after left_after = Causes ways before cause after.stream
+  TakesIn before left (Err refused) after left_after = Unit {0}
+
+  -- a write was tried, or others have their turn
+  abbrev pub SendsOn : ConnectionState S → Allowance → Step → ConnectionState S → Allowance → Type 0
+  SendsOn before left GoesOn after left_after =
+      (bytes : List ℕ) × Leads ways (Open before) (Writes bytes) (Open after) × Spends left (Writes bytes) left_after
+  SendsOn before left Rests after left_after = ComesToRest before after
+  SendsOn before left (IsOver cause) after left_after = Causes ways before cause after.stream
+
+  module _ {R C : Type 0} (steps : Reacting R) (awaits : R → ℕ → Awaited) (tells : C → ℕ → C → Type 0) (number : ℕ) (before : R) (clock : C) (at : ConnectionState S) where
+    -- a piece was handed on
+    abbrev pub HandsOn : Result (Unit {0}) StepFault → R → C → ConnectionState S → Type 0
+    HandsOn (Ok done) after clock_after at_after =
+        (bytes : List ℕ) × (moment : ℕ) × (reaction : Reaction) × (awaited : Awaited) × tells clock moment clock_after
+        × steps before (Piece number bytes moment) (Ok reaction) after × (awaits after number ≡ awaited) × Leads ways (Open at) (Hands bytes moment reaction awaited) (Open at_after)
+    HandsOn (Err fault) after clock_after at_after = (happening : Happening) × steps before happening (Err fault) after
+
+    -- one thing was done, of what may still be done
+    abbrev pub StepsOnce : Allowance → Result Step StepFault → R → C → ConnectionState S → Allowance → Type 0
+    StepsOnce left (Ok GoesOn) after clock_after at_after left_after =
+        (action : Action) × Talks steps awaits tells ways number before clock (Open at) (action ∷ []) after clock_after (Open at_after) × Spends left action left_after
+    StepsOnce left (Ok Rests) after clock_after at_after left_after =
+        (action : Action) × Talks steps awaits tells ways number before clock (Open at) (action ∷ []) after clock_after (Open at_after)
+        × (calls_of action ≡ []) × (at_after.rests ≡ true)
+    StepsOnce left (Ok (IsOver cause)) after clock_after at_after left_after =
+        (after ≡ before) × (clock_after ≡ clock) × Causes ways at cause at_after.stream
+    StepsOnce left (Err fault) after clock_after at_after left_after = Fails steps fault before after
+
+    -- it was driven until it rests, others have their turn, or it is over
+    abbrev pub Drives : Result (Option CloseReason) StepFault → R → C → ConnectionState S → Type 0
+    Drives (Ok None) after clock_after at_after =
+        (actions : List Action) × Talks steps awaits tells ways number before clock (Open at) actions after clock_after (Open at_after)
+        × IsTurn actions × (at_after.rests ≡ true)
+    Drives (Ok (Some cause)) after clock_after at_after =
+        (actions : List Action) × (between : ConnectionState S) × Talks steps awaits tells ways number before clock (Open at) actions after clock_after (Open between)
+        × IsTurn actions × Causes ways between cause at_after.stream
+    Drives (Err fault) after clock_after at_after =
+        (actions : List Action) × (middle : R) × (clock_middle : C) × (between : ConnectionState S)
+        × Talks steps awaits tells ways number before clock (Open at) actions middle clock_middle (Open between) × IsTurn actions × Fails steps fault middle after

@@ -1,0 +1,54 @@
+//! The end: what waits to be written is written, and nothing else is done.
+
+ghost use Rattle.std.specs.Prelude.{◌≡◌};
+ghost use Rattle.sv_connection.specs.Finishing.{OnlyWrites};
+ghost use Rattle.sv_connection.specs.declared.poller.PollEvent.TheVariants.{Asked};
+
+use crate::close_reason::CloseReason;
+use crate::connection_table::ConnectionTable;
+use crate::limits::FINISH_SECONDS;
+use crate::poller::{PollEvent, Poller};
+use sv_run::MAX_CONNECTIONS;
+
+/// Writes what waits to be written to connections, as they are told to be ready, until nothing waits, [`FINISH_SECONDS`] have passed, or it is told to
+/// stop. A connection is let go where nothing waits to be written to it, or a write fails. None is read or opened, and no event is told.
+pub(crate) fn finish<N: Poller>(table: &mut ConnectionTable<N::Peer>, poller: &mut N)
+    ensures { OnlyWrites N.Peer.ways table.old table.new }
+{
+    let end = poller.seconds().saturating_add(FINISH_SECONDS);
+    let_go(table, poller);
+    for _ in 0..u64::MAX {
+        if table.is_empty() || poller.seconds() >= end {
+            return;
+        }
+        let told = poller.wait();
+        if told == PollEvent::Stop {
+            return;
+        }
+        take(table, told, poller);
+    }
+}
+
+// Does what the poller tells, as far as it is to write or to tell how things stand.
+fn take<N: Poller>(table: &mut ConnectionTable<N::Peer>, told: PollEvent, poller: &mut N)
+    ensures writes { OnlyWrites N.Peer.ways table.old table.new }
+    ensures asked { told ≡ Asked → table.new ≡ table.old }
+{
+    match told {
+        PollEvent::Ready(number) => table.send_out(number, poller),
+        PollEvent::Asked => poller.answer_status(table.figures()),
+        PollEvent::Incoming | PollEvent::Crowded | PollEvent::Second | PollEvent::Stop => {}
+    }
+}
+
+// Lets go of the connections to which nothing waits to be written.
+fn let_go<N: Poller>(table: &mut ConnectionTable<N::Peer>, poller: &mut N)
+    ensures { OnlyWrites N.Peer.ways table.old table.new }
+{
+    for _ in 0..MAX_CONNECTIONS {
+        let Some(number) = table.written() else {
+            return;
+        };
+        table.forget(number, CloseReason::GivenUp, poller);
+    }
+}

@@ -1,0 +1,174 @@
+//! Bytes that wait.
+
+ghost use Rattle.std.specs.Prelude.{◌≡◌, ◌<◌, ◌≤◌, [], drop, length, vec_items};
+ghost use Rattle.sv_connection.specs.Ways.{TriesRead};
+
+use crate::limits::FIRST_READ_BYTES;
+use crate::peer::{Peer, Tried};
+use std::alloc::Global;
+use std::marker::Model;
+use sv_text::{Bytes, NoMemory};
+
+/// Bytes that wait to be handed on or to be written. Contracts see their list. No more is kept than twice as many bytes as wait, or the room of a first
+/// read. Behind them stands what is left of the room of a read, which is made once.
+#[derive(Drop)]
+pub(crate) struct Pending {
+    bytes: Vec<u8>,
+    at: usize,
+    end: usize,
+}
+
+impl Model for Pending {
+    ghost use Rattle.std.specs.Prelude.{ℕ, List, drop, take, ◌+◌, ◌≤◌, vec_len};
+
+    ghost Value = { List ℕ };
+
+    ghost view = { λ p. drop p.at (take p.end p.bytes.items) };
+
+    ghost invariant = { λ p. (p.at + p.at ≤ p.end) × (p.end ≤ vec_len p.bytes) };
+}
+
+impl Pending {
+    ghost use Rattle.std.specs.Prelude.{◌≡◌, ◌≤◌, ◌==◌, ◌<◌, [], length, drop, take};
+    ghost use Rattle.sv_connection.specs.Ways.{Refills};
+
+    /// No bytes.
+    pub fn new(alloc: Global) -> Pending
+        ensures { result ≡ [] }
+    {
+        Pending {
+            bytes: Vec::new(alloc),
+            at: 0,
+            end: 0,
+        }
+    }
+
+    /// All bytes of a text.
+    pub fn of(bytes: Bytes) -> Pending
+        ensures { result ≡ bytes }
+    {
+        let bytes = bytes.into_vec();
+        let end = bytes.len();
+        Pending { bytes, at: 0, end }
+    }
+
+    /// Its memory.
+    pub fn into_vec(self) -> Vec<u8> {
+        self.bytes
+    }
+
+    /// Whether no bytes wait.
+    #[inline(always)]
+    pub fn is_empty(&self) -> bool
+        ensures { result ≡ (length self.now == 0) }
+    {
+        self.as_slice().is_empty()
+    }
+
+    /// How many bytes wait.
+    pub fn len(&self) -> usize
+        ensures { result ≡ length self.now }
+    {
+        self.as_slice().len()
+    }
+
+    /// The bytes.
+    #[inline(always)]
+    pub fn as_slice(&self) -> &[u8]
+        ensures { result.now ≡ self.now }
+    {
+        let bytes = self.bytes.as_slice().split_at(self.end).0;
+        bytes.split_at(self.at).1
+    }
+
+    /// The first of the bytes, so many at most.
+    pub fn front(&self, most: usize) -> &[u8]
+        requires { 0 < most }
+        ensures first { result.now ≡ take most self.now }
+        ensures some { 0 < length self.now → 0 < length result.now }
+    {
+        let bytes = self.as_slice();
+        if bytes.len() <= most {
+            return bytes;
+        }
+        bytes.split_at(most).0
+    }
+
+    /// Passes over so many bytes. Where that is more than half of all, their memory is given back, but for the room of a first read.
+    #[inline(always)]
+    pub fn skip(&mut self, count: usize)
+        requires { count ≤ length self.old }
+        ensures { self.new ≡ drop count self.old }
+    {
+        let at = self.at + count;
+        if at == self.end && self.bytes.capacity() <= FIRST_READ_BYTES {
+            self.at = 0;
+            self.end = 0;
+        } else if at > self.end - at {
+            self.bytes.truncate(self.end);
+            keep_rest(&mut self.bytes, at);
+            self.at = 0;
+            self.end = self.bytes.len();
+        } else {
+            self.at = at;
+        }
+    }
+
+    /// Reads once, so many bytes at most, where no bytes wait. Where the read is known to have to wait, no memory is taken for it.
+    ///
+    /// # Errors
+    /// Memory ran out, and nothing was read.
+    #[inline(always)]
+    pub fn refill<P: Peer>(&mut self, peer: &mut P, most: usize) -> Result<Tried, NoMemory>
+        requires idle { self.old ≡ [] }
+        requires room { 0 < most }
+        ensures { Refills P.ways peer.old result peer.new self.new }
+    {
+        self.at = 0;
+        self.end = 0;
+        if peer.would_block() {
+            return Ok(Tried::WouldBlock);
+        }
+        self.bytes.resize(most, 0)?;
+        match read_into(peer, &mut self.bytes) {
+            Tried::Done(count) => {
+                self.end = count;
+                Ok(Tried::Done(count))
+            }
+            Tried::WouldBlock => Ok(Tried::WouldBlock),
+            Tried::Failed => Ok(Tried::Failed),
+        }
+    }
+}
+
+// Lets go of so many bytes at the front, and of their memory where that is more than a first read takes.
+fn keep_rest(bytes: &mut Vec<u8>, at: usize)
+    requires { at ≤ length (vec_items bytes.old) }
+    ensures { vec_items bytes.new ≡ drop at (vec_items bytes.old) }
+{
+    let len = bytes.len();
+    bytes.copy_within(at..len, 0);
+    bytes.truncate(len - at);
+    if bytes.capacity() > FIRST_READ_BYTES {
+        bytes.shrink_to_fit();
+    }
+}
+
+// Reads once into all of a room, at whose front what came then stands. Where nothing comes, the room is given back.
+#[inline(always)]
+fn read_into<P: Peer>(peer: &mut P, room: &mut Vec<u8>) -> Tried
+    requires { 0 < length (vec_items room.old) }
+    ensures { TriesRead P.ways peer.old result (vec_items room.new) peer.new }
+{
+    match peer.read(room.as_mut_slice()) {
+        Tried::Done(count) => Tried::Done(count),
+        Tried::WouldBlock => {
+            *room = Vec::new(*room.allocator());
+            Tried::WouldBlock
+        }
+        Tried::Failed => {
+            *room = Vec::new(*room.allocator());
+            Tried::Failed
+        }
+    }
+}

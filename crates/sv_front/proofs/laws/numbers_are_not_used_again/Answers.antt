@@ -1,5 +1,0 @@
-use Rattle.sv_front.proofs.LawLemmas.{over_stays}
-use Rattle.sv_front.proofs.laws.numbers_are_not_used_again.Goals as goal
-
-pub returns : goal.returns
-returns g c = over_stays g.P.Peer.ways

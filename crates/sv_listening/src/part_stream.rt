@@ -1,0 +1,83 @@
+//! A stream that is read in parts.
+
+ghost use Rattle.std.specs.Prelude.{◌≡◌, [], Ok, Err, Result};
+ghost use Rattle.sv_listening.specs.Parts.{InParts};
+
+use crate::kept::Kept;
+use std::marker::Model;
+use sv_streams::{ReadFailed, Sink, Source, Stream, WriteFailed};
+
+/// A stream that is read in parts: what one read of the stream below gave is kept, and each read gives of it what stands before and with the first
+/// empty line and the line ends behind that. So no read gives the ends of many requests, however many a peer sends at once: what each brings can be
+/// written before the next is given.
+#[derive(Drop)]
+pub struct PartStream<S> {
+    stream: S,
+    kept: Kept,
+}
+
+impl<S> Model for PartStream<S> {
+    ghost use Rattle.sv_listening.specs.Parts.{InParts};
+
+    ghost Value = { InParts S };
+
+    ghost view = { λ p. record { stream = p.stream; kept = p.kept } };
+}
+
+impl<S> PartStream<S> {
+    ghost use Rattle.std.specs.Prelude.{◌≡◌, []};
+
+    /// The stream that reads this one in parts.
+    pub fn new(stream: S) -> PartStream<S>
+        ensures { result ≡ record { stream = stream; kept = [] } }
+    {
+        PartStream {
+            stream,
+            kept: Kept::new(),
+        }
+    }
+
+    /// Gives the stream below up, and what was read of it and not given.
+    pub fn into_stream(self) -> S
+        ensures { result ≡ self.stream }
+    {
+        let PartStream { stream, kept } = self;
+        drop(kept);
+        stream
+    }
+}
+
+impl<S: Source> PartStream<S> {
+    ghost use Rattle.sv_listening.specs.Parts.{HasCome};
+
+    // Reads once where nothing is kept.
+    fn come(&mut self) -> Result<(), ReadFailed>
+        ensures { HasCome S.makes self.old result self.new }
+    {
+        if self.kept.is_empty() {
+            return self.kept.refill(&mut self.stream);
+        }
+        Ok(())
+    }
+}
+
+impl<S: Stream> Stream for PartStream<S> {
+    ghost use Rattle.sv_listening.specs.Parts.{MakesParts};
+
+    ghost makes = { MakesParts S.makes };
+}
+
+impl<S: Source> Source for PartStream<S> {
+    fn read(&mut self, buffer: &mut [u8]) -> Result<usize, ReadFailed> {
+        match self.come() {
+            Ok(()) => Ok(self.kept.give(buffer)),
+            Err(failed) => Err(failed),
+        }
+    }
+}
+
+impl<S: Sink> Sink for PartStream<S> {
+    fn write(&mut self, bytes: &[u8]) -> Result<usize, WriteFailed> {
+        self.stream.write(bytes)
+    }
+}

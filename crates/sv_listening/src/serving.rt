@@ -1,0 +1,50 @@
+//! A container over the connections of a listener.
+
+use crate::socket_acceptor::SocketAcceptor;
+use std::alloc::Global;
+use std::io::{Read, Write};
+use std::net::{OpenListener, OpenStream};
+use sv_connection::{READ_BYTES, ServeFault, serve_connections};
+use sv_run::EventHandler;
+use sv_streams::{Clock, Sink, write_all};
+use sv_text::{NoMemory, Text};
+
+/// Writes the line `listening PORT`, accepts so many connections of the listener one after another and serves each until it is over, and writes
+/// the line `served COUNT`. How long a connection may take is told by the host's clock that never goes back, the moments of its pieces by the other.
+///
+/// # Errors
+/// [`ServeFault::Output`], [`ServeFault::NoMemory`], or [`ServeFault::Connection`] where no connection could be accepted or an event of one was refused
+/// otherwise than for memory.
+pub fn serve_on<N: OpenListener, H: std::time::Clock, R: EventHandler, C: Clock, O: Sink>(
+    alloc: Global,
+    listener: &N,
+    host: &H,
+    count: u64,
+    handler: &mut R,
+    clock: &mut C,
+    output: &mut O,
+) -> Result<(), ServeFault>
+where
+    N::Stream: Read + Write + OpenStream,
+{
+    let mut buffer = [0; READ_BYTES];
+    let Ok(address) = listener.local_addr() else {
+        return Err(ServeFault::Connection);
+    };
+    print(output, line(alloc, "listening", u64::from(address.port())))?;
+    let mut acceptor = SocketAcceptor::new(listener, host);
+    serve_connections(handler, &mut acceptor, clock, count, &mut buffer)?;
+    print(output, line(alloc, "served", count))
+}
+
+fn line(alloc: Global, word: &str, number: u64) -> Result<Text, NoMemory> {
+    Ok(Text::from_string(format!(in alloc; "{word} {number}\n")?))
+}
+
+fn print<O: Sink>(output: &mut O, line: Result<Text, NoMemory>) -> Result<(), ServeFault> {
+    let line = line?;
+    match write_all(output, line.as_bytes()) {
+        Ok(()) => Ok(()),
+        Err(_) => Err(ServeFault::Output),
+    }
+}

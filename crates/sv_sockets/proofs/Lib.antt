@@ -1,6 +1,0 @@
-mod DroppingLemmas
-mod Items
-mod LineEnds
-mod OwnTexts
-mod PartLemmas
-mod Pieces

@@ -1,5 +1,0 @@
-use Rattle.sv_sockets.proofs.Items as lemmas
-use Rattle.sv_sockets.proofs.bounds.parts_complete_little.Goals as goal
-
-pub returns : goal.returns
-returns c = lemmas.parts_complete_little

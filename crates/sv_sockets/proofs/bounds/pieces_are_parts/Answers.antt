@@ -1,5 +1,0 @@
-use Rattle.sv_sockets.proofs.LineEnds as lemmas
-use Rattle.sv_sockets.proofs.bounds.pieces_are_parts.Goals as goal
-
-pub returns : goal.returns
-returns c = lemmas.pieces_are_parts

@@ -1,6 +1,0 @@
-use Rattle.std.proofs.Common.{◌≡◌, ◌<◌, ◌≤◌, ℕ, true, get_or}
-use Rattle.sv_sockets.specs.Parts.{is_line_end}
-use Rattle.sv_sockets.proofs.part_len.part_len.Given as goal
-
-abbrev pub invariant-loop-place : goal.invariant-loop-place
-invariant-loop-place l = (later : ℕ) → l.first ≤ later → later < l.place → is_line_end (get_or l.bytes later 0) ≡ true
