@@ -12,10 +12,11 @@ use crate::limits::{
 };
 use crate::peer::Peer;
 use sv_run::EventHandler;
-use sv_streams::Clock;
+use sv_streams::{Clock, MAX_READS};
 
 /// The limits of this crate as numbers.
 pub fn limits_are_as_stated()
+    ensures reads { MAX_READS ≡ 1000000 }
     ensures accepted { ACCEPTED_AT_ONCE ≡ 32 }
     ensures read { READ_BYTES ≡ 16384 }
     ensures first_read { FIRST_READ_BYTES ≡ 1024 }
