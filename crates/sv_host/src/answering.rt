@@ -142,8 +142,8 @@ fn answer_itself<C>(
     send(is_head(message), message.keep, response, date, output)
 }
 
-// Answers a message whose target is `*`, the server itself. This function and the two below are separate and cold
-// because a function initializes the storage of all its locals on entry, and few messages take these paths.
+// Answers a message whose target is `*`, the server itself. This function and the three cold ones below are
+// separate because a function initializes the storage of all its locals on entry, and few messages take these paths.
 #[cold]
 #[inline(never)]
 pub(crate) fn answer_star<C>(

@@ -22,7 +22,7 @@ module _ {R I O : Type 0} (steps : Reacting R) (stops : R → JournalState → T
       writes_join takes (first ++ second) third output played_to after (Ok tt)
       (writes_join takes first second output begun played_to (Ok tt) writes then_writes) last_writes
 
-  -- the result of writing the text of the stop is complete only after a complete run, for each end of the replay
+  -- for each end of the replay: if the output is complete, it is one text
   ended_well : (result : Result (Unit {0}) ReplayFault) (begun played_to : O) (after : R) (stopped : JournalState) (script_after : I) (output_after : O)
       → WritesAll takes (start_text started.entries) output (Ok tt) begun
       → Replays steps gives takes before script begun (Ok tt) after script_after played_to → stops after stopped

@@ -27,7 +27,7 @@ pub trait Stops: EventHandler + Sized {
 /// stops the handler, and writes the text of the stop. It stops the handler in every case.
 ///
 /// # Errors
-/// A [`ReplayFault`]. After [`ReplayFault::Script`], where the script is at fault, the text of the stop is written.
+/// A [`ReplayFault`]. After [`ReplayFault::Script`], which blames the script, the text of the stop is written.
 /// Nothing is written after a failed write or after memory has run out.
 pub fn run_started<R: Stops, I: Source, O: Sink>(
     alloc: Global,

@@ -20,8 +20,8 @@ pub fn a_refused_run_is_cut<R: Stops, I: Source, O: Sink>()
     ensures { ARefusedRunIsCut R.steps R.stops I.makes O.makes }
 {}
 
-/// The output of such a run is the beginning of the text of every complete run whose start has the same entries and
-/// whose first events have the same reactions.
+/// The output of a run that ran out of memory is the beginning of the text of every complete run whose start has the
+/// same entries and whose first events have the same reactions.
 pub fn a_cut_text_begins_the_whole<R: Stops, I: Source, O: Sink>()
     ensures { ACutTextBeginsTheWhole R.steps R.stops I.makes O.makes }
 {}
