@@ -1,4 +1,4 @@
--- As many contexts stop as there are.
+-- The number of contexts that stop is the number of contexts.
 use Rattle.std.proofs.Common.{◌≡◌, Bool, true, false, List, length, refl}
 use Rattle.std.proofs.lemmas.List.{length-map}
 use Rattle.sv_container.specs.Stopping.{contexts_to_stop}

@@ -2,7 +2,7 @@
 use Rattle.std.proofs.Common.{◌≡◌, ℕ, zero, suc, ◌<◌, ◌≤◌, List, [], ◌∷◌, length, map, slice_index_or, slice_set, refl, ap, arith}
 
 module _ {A : Type 0} (f : A → A) where
-  -- the first so many items are mapped
+  -- the first `count` items are mapped
   abbrev pub mapped_to : ℕ → List A → List A
   mapped_to zero items = items
   mapped_to (suc count) [] = []

@@ -1,4 +1,4 @@
--- Contexts that are moved by calls or edited.
+-- Contexts that calls or edits change.
 use Rattle.std.proofs.Common.{◌≡◌, List, [], ◌∷◌, length, map, ap, ◌∙◌, suc, inl, inr}
 use Rattle.sv_component.specs.Steps.{ComponentSteps}
 use Rattle.sv_context.specs.Conduct.{conduct}
@@ -14,7 +14,7 @@ module _ {S F L : Type 0} (moving : ComponentSteps S F L) where
       ap (λ (context : ContextState S F L). context.content.context_path) edited.4.stays
       ∙ ap (λ (content : Content). content.context_path) edited.3.stays.content
 
-  -- none comes or goes, and each keeps its path
+  -- no context is added or removed, and each keeps its path
   pub paths_kept : (before after : List (ContextState S F L)) → AltersAll (conduct moving) before after
       → map (λ context. context.content.context_path) after ≡ map (λ context. context.content.context_path) before
   paths_kept [] after alters = ap (map (λ context. context.content.context_path)) alters

@@ -1,4 +1,4 @@
--- Contexts that stop without a word of their sessions.
+-- Contexts that stop without notifications about their sessions.
 use Rattle.std.proofs.Common.{◌≡◌, true, List, [], ◌∷◌, ◌++◌, length, map, refl, sym, ap, ◌∙◌, subst}
 use Rattle.sv_component.proofs.Running.{runs_grown}
 use Rattle.sv_component.specs.Runs.{IsRun}

@@ -1,4 +1,4 @@
--- A path that an earlier one is, too.
+-- A path that repeats an earlier one.
 use Rattle.std.proofs.Common.{◌≡◌, ℕ, ◌+◌, ◌<◌, true, List, [], ◌∷◌, ◌++◌, map, length, get_or, take, drop, sym, ap, ◌∙◌, append_assoc}
 use Rattle.std.proofs.lemmas.List.{take_more, take-append-drop, map-append}
 use Rattle.sv_container.specs.Paths.{IsRepeatedFirst}

@@ -1,4 +1,4 @@
--- A container: started contexts behind connections.
+-- A container: started contexts and their connections.
 use Rattle.sv_container.specs.declared.container.Container.{Container}
 use Rattle.sv_context.specs.State.{ContextState}
 use Rattle.sv_host.specs.Host as host

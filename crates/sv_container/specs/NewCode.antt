@@ -1,4 +1,4 @@
--- The names and numbers of what refuses a container.
+-- The names and numbers of the codes that refuse a container.
 use Rattle.std.specs.Prelude.{ℕ, List, [], codes}
 use Rattle.sv_container.specs.declared.new_fault.NewCode.{NewCode}
 use Rattle.sv_container.specs.declared.new_fault.NewCode.TheVariants.{DuplicateContext, TooManyContexts, PartsMismatch, InitFailed, NoMemory}
@@ -19,13 +19,13 @@ code_number PartsMismatch = 11
 code_number InitFailed = 12
 code_number NoMemory = 13
 
--- the code of a container one of whose contexts does not start
+-- the code of a container if one of its contexts does not start
 abbrev pub code_of : StartCode → NewCode
 code_of start.PartsMismatch = PartsMismatch
 code_of start.InitFailed = InitFailed
 code_of start.NoMemory = NoMemory
 
--- the context path that goes with it: want of memory names none
+-- the context path that goes with the code: empty if memory ran out
 abbrev pub named_path : StartCode → List ℕ → List ℕ
 named_path start.PartsMismatch path = path
 named_path start.InitFailed path = path

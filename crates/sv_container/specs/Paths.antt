@@ -6,7 +6,7 @@ use Rattle.sv_container.specs.declared.new_fault.NewCode.TheVariants.{DuplicateC
 use Rattle.sv_schema.specs.Names.{repeats}
 use Rattle.sv_schema.specs.Table.{is_among}
 
--- the first path of a list that an earlier one is, too
+-- the first path of a list that repeats an earlier one
 pub record IsRepeatedFirst (paths : List (List ℕ)) (path : List ℕ) : Type 0 where
   pub front : List (List ℕ)
   pub rest : List (List ℕ)
@@ -14,13 +14,12 @@ pub record IsRepeatedFirst (paths : List (List ℕ)) (path : List ℕ) : Type 0 
   pub differ : repeats front ≡ false
   pub repeated : is_among front path ≡ true
 
--- paths that the contexts of a container may have
+-- the paths that the contexts of a container may have
 pub record ArePermitted (paths : List (List ℕ)) : Type 0 where
   pub differ : repeats paths ≡ false
   pub few : length paths ≤ MAX_CONTEXTS
 
--- what a code says of context paths with which nothing starts, and of the path that goes with it: one that is there twice comes before one past
--- the limit
+-- a code refuses the context paths and names one of them: a repeated path takes precedence over one past the limit
 abbrev pub Forbids : NewCode → List (List ℕ) → List ℕ → Type 0
 Forbids DuplicateContext paths path = IsRepeatedFirst paths path
 Forbids TooManyContexts paths path = (repeats paths ≡ false) × (slice_get paths MAX_CONTEXTS ≡ Some path)

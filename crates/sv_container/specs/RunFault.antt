@@ -1,4 +1,4 @@
--- What ends a run of the server early.
+-- Faults that end a run of the server early.
 use Rattle.std.specs.Prelude.{ℕ, List, ◌++◌, codes, Result, Ok, Err}
 use Rattle.std.specs.Fmt.{decimal}
 use Rattle.sv_container.specs.NewCode.{code_number}
@@ -15,7 +15,7 @@ number Output = 3
 number NoMemory = 4
 number Connection = 5
 
--- the exit status: 1 for what the program stands on, 2 for the script, 3 for want of memory
+-- the exit status: 1 for a failed start, output or connection, 2 for the script, 3 for running out of memory
 abbrev pub status : RunFault → ℕ
 status (Script line) = 2
 status (Start code context) = 1
@@ -30,7 +30,7 @@ fault_text Output = codes "file stdout"
 fault_text NoMemory = codes "no memory"
 fault_text Connection = codes "socket"
 
--- the fault of a run by that of the replay of its script
+-- the fault of a run from the fault of the replay of its script
 abbrev pub fault_of : ReplayFault → RunFault
 fault_of (replays.Script line) = Script line
 fault_of replays.Output = Output

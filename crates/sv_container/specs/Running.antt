@@ -1,4 +1,4 @@
--- A container that runs, and then stops.
+-- A running container, which stops at the end.
 use Rattle.std.specs.Prelude.{ℕ, List}
 use Rattle.sv_component.specs.Steps.{ComponentSteps}
 use Rattle.sv_container.specs.Container.{state_of}
@@ -17,7 +17,7 @@ abbrev pub run_of : {S F L W : Type 0} → Running S F L W → State (ContextSta
 run_of running = state_of running.container
 
 module _ {S F L W : Type 0} (moving : ComponentSteps S F L) where
-  -- it takes an event as the run of a container says
+  -- it handles an event as the run of a container specifies
   abbrev pub StepsOf : (W → ℕ × ℕ → W → Type 0) → Reacting (Running S F L W)
   StepsOf draws before happening result after =
       StepsSo (theory moving draws) (run_of before) happening result (run_of after)

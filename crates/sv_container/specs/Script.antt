@@ -1,4 +1,4 @@
--- The run of a script by a container: from the bytes of the script to those of the output.
+-- The run of a script by a container, from input bytes to output bytes.
 use Rattle.std.specs.Prelude.{◌≡◌, ℕ, List, Result, Ok, Err}
 use Rattle.sv_component.specs.Steps.{ComponentSteps}
 use Rattle.sv_container.specs.Starting.{Starts}
@@ -19,15 +19,15 @@ use Rattle.sv_streams.specs.Calls.{Making}
 use Rattle.sv_run.specs.Counted.{DrawsCount}
 use Rattle.sv_run.specs.declared.counted_words.CountedWords.{CountedWords}
 
--- how words that count are drawn
+-- how counted words are drawn
 abbrev pub draws : CountedWords → ℕ × ℕ → CountedWords → Type 0
 draws before pair after = DrawsCount before.drawn pair after.drawn
 
--- words of which none is drawn
+-- no word has been drawn
 abbrev pub AreFresh : CountedWords → Type 0
 AreFresh words = words.drawn ≡ 0
 
--- a start was refused: what it noted is the whole output
+-- a start was refused: its entries are the whole output
 abbrev pub refused_by : NewCode → List ℕ → Result (Unit {0}) ReplayFault → Result (Unit {0}) RunFault
 refused_by code context (Ok done) = Err (Start code context)
 refused_by code context (Err fault) = Err (fault_of fault)
@@ -36,7 +36,7 @@ abbrev pub PrintsRefused : {O : Type 0} → Making O → NewCode → List ℕ �
 PrintsRefused takes code context started output result after =
     (printed : Result (Unit {0}) ReplayFault) × PrintsOf takes start_text started output printed after × (result ≡ refused_by code context printed)
 
--- for want of memory nothing is written
+-- if memory ran out, nothing is written
 abbrev pub EndsUnstarted : {O : Type 0} → Making O → NewCode → List ℕ → JournalState → O → Result (Unit {0}) RunFault → O → Type 0
 EndsUnstarted takes codes_of_start.NoMemory context started output result after = (result ≡ Err NoMemory) × (after ≡ output)
 EndsUnstarted takes codes_of_start.DuplicateContext context started output result after =
@@ -50,7 +50,7 @@ EndsUnstarted takes codes_of_start.InitFailed context started output result afte
 
 module _ {S F L I O : Type 0} (moving : ComponentSteps S F L) (gives : Making I)
     (takes : Making O) where
-  -- what follows a start
+  -- the rest of the run, after a start
   abbrev pub Follows : Result (Container S F L CountedWords) (NewFault S F L) → JournalState → I → O → Result (Unit {0}) RunFault → I → O → Type 0
   Follows (Ok container) started script output result script_after output_after =
       (ended : Result (Unit {0}) ReplayFault)
@@ -60,7 +60,7 @@ module _ {S F L I O : Type 0} (moving : ComponentSteps S F L) (gives : Making I)
   Follows (Err fault) started script output result script_after output_after =
       (script_after ≡ script) × EndsUnstarted takes fault.code fault.context started output result output_after
 
-  -- the deployments are started with words that count, the script is replayed, and what was started is stopped
+  -- the deployments are started with counted words, the script is replayed, and everything that was started is stopped
   pub record RunsScript (deployments : List (Deployment S F L)) (script : I) (output : O) (result : Result (Unit {0}) RunFault) (script_after : I)
       (output_after : O) : Type 0 where
     pub words : CountedWords

@@ -14,7 +14,7 @@ use Rattle.sv_program.specs.declared.command_fault.CommandFault.{CommandFault}
 use Rattle.sv_program.specs.declared.command_fault.CommandFault.TheVariants as fault
 use Rattle.sv_run.specs.declared.seeded_words.SeededWords.{SeededWords}
 
--- the fault of a container that did not start, by its code and the context that goes with it
+-- the fault of a container that did not start, from its code and the context path that goes with it
 abbrev pub start_fault : NewCode → List ℕ → CommandFault
 start_fault code.NoMemory context = fault.NoMemory
 start_fault code.DuplicateContext context = fault.Start (code_number code.DuplicateContext) context
@@ -27,7 +27,7 @@ abbrev pub AreWordsOf : List ℕ → SeededWords → Type 0
 AreWordsOf seed words = words.generator ≡ of_seed seed
 
 module _ {S F L : Type 0} (moving : ComponentSteps S F L) where
-  -- a container starts with the deployments and the words of the seed, or its fault is told
+  -- a container starts with the deployments and the words of the seed, or its fault is reported
   abbrev pub StartsWith : List (Deployment S F L) → List ℕ → Result (Container S F L SeededWords) CommandFault → Type 0
   StartsWith deployments seed (Ok container) =
       (words : SeededWords) × AreWordsOf seed words

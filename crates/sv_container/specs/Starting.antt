@@ -22,18 +22,18 @@ module _ {S F L : Type 0} (moving : ComponentSteps S F L) where
     pub context : fault.context ≡ named_path failure.code failure.context
     pub back : fault.deployments.items ≡ failure.deployments.items
 
-  -- nothing was called, and all is handed back as it was
+  -- nothing was called, and the deployments are returned unchanged
   pub record DoesNothing (deployments : List (Deployment S F L)) (before : JournalState) (fault : NewFault S F L) (after : JournalState) : Type 0 where
     pub back : fault.deployments.items ≡ deployments
     pub journal : after ≡ before
 
-  -- a start is refused before its first call, or by a context that does not start
+  -- a start is refused before its first call, or because a context does not start
   abbrev pub RefusesDeployments : List (Deployment S F L) → JournalState → NewFault S F L → JournalState → Type 0
   RefusesDeployments deployments before fault after =
       (Forbids fault.code (paths_of deployments) fault.context × DoesNothing deployments before fault after)
       ⊎ (ArePermitted (paths_of deployments) × Fails deployments before fault after)
 
-  -- the deployments become contexts, and the run begins with them, or the start is refused
+  -- the deployments become contexts and the run begins with them, or the start is refused
   abbrev pub Starts : {W : Type 0} → List (Deployment S F L) → W → JournalState → Result (Container S F L W) (NewFault S F L) → JournalState → Type 0
   Starts deployments words before (Ok container) after =
       (contexts : List (ContextState S F L)) × DeploysAll moving deployments before contexts after

@@ -9,11 +9,12 @@ use std::alloc::Global;
 use sv_context::{Context, StopRoom};
 use sv_host::Host;
 
-/// Started contexts behind connections, with a source of random words. No two contexts have one path. Who has one shuts it down.
+/// Started contexts and their connections, with a source of random words. The context paths differ. The owner must shut
+/// the container down.
 pub struct Container<S, F, L, W> {
     pub(crate) alloc: Global,
     pub(crate) host: Host<Context<S, F, L>, W>,
-    // Room for what the stop hands back, so that it wants no memory.
+    // Memory reserved for the results of the shutdown, so that the shutdown need not allocate it.
     pub(crate) stop: StopRoom<S, F, L>,
     ghost permitted: { ArePermitted (map (λ context. context.content.context_path) (state_of host).world.contexts) },
     ghost room_to_stop: { HasRoomToStop (length (state_of host).world.contexts) stop },

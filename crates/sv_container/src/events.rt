@@ -16,13 +16,14 @@ use sv_run::{EventHandler, Happening, Reaction, StepFault, Words};
 use sv_wire::Awaited;
 
 impl<S: Servlet, F: Filter, L: Listener, W: Words> Container<S, F, L, W> {
-    /// Takes an event: the moment is raised, the sessions that have expired end, and then it happens (RFC 9112, section 9; Jakarta Servlet
-    /// 6.0, section 7.5).
+    /// Handles an event: raises the time, ends the sessions that have expired, and lets the event happen (RFC 9112,
+    /// section 9; Jakarta Servlet 6.0, section 7.5).
     ///
     /// # Errors
-    /// [`StepFault`], the first that stands. After one other than `NoMemory` nothing has changed. After `NoMemory` what the event brought is
-    /// lost: the sessions that have expired have ended, the event broke off, each further event is refused as `Stopped`, and the container can be
-    /// shut down. Each context was moved by the calls made so far, of which those that put a servlet out of service for good destroyed it, once.
+    /// The first [`StepFault`] that applies. After any fault but `NoMemory`, nothing has changed. After `NoMemory`, the
+    /// reaction to the event is lost: the expired sessions have ended, the event broke off, each later event is refused
+    /// as `Stopped`, and the container can be shut down. The calls made so far have changed the contexts. A call that
+    /// took a servlet out of service for good also destroyed it, once.
     pub fn step(&mut self, happening: Happening) -> Result<Reaction, StepFault>
         ensures steps { StepsSo (theory (steps_of S.servlet_step F.filter_step L.listener_step) W.draws)
             (state_of self.old) (happening_of happening.entry) result (state_of self.new) }
@@ -31,15 +32,16 @@ impl<S: Servlet, F: Filter, L: Listener, W: Words> Container<S, F, L, W> {
         self.host.step(happening)
     }
 
-    /// Returns what is awaited of a connection, by the head and the bytes that are held of its stream (RFC 9112, section 2.2): nothing of one
-    /// that has closed or is not known.
+    /// Returns what is awaited of a connection, according to the head and the bytes that are held of its stream (RFC
+    /// 9112, section 2.2): nothing if it has closed or is not known.
     pub fn awaits(&self, connection: u64) -> Awaited
         ensures { result ≡ awaited_in (state_of self.now).connections connection }
     {
         self.host.awaits(connection)
     }
 
-    /// Takes the memory of what an event brought, of which nothing is needed any more, for what those to come bring: what is little of it is kept.
+    /// Reclaims the memory of an earlier event's bytes and journal, which the caller no longer needs. Later events
+    /// reuse it. Only small buffers are kept.
     pub fn recycle(&self, bytes: Vec<u8>, journal: Journal) {
         self.host.recycle(bytes, journal);
     }

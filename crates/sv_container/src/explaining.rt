@@ -1,4 +1,4 @@
-//! What would become of a request to a container, and its contexts.
+//! Explains the outcome of a request without handling it, and lists the contexts.
 
 ghost use Rattle.std.specs.Prelude.{◌≡◌};
 ghost use Rattle.std.specs.Option.{option_copied};
@@ -12,20 +12,20 @@ use sv_context::Context;
 use sv_explain::{ExplainFault, Explanation, explain_request};
 
 impl<S, F, L, W> Container<S, F, L, W> {
-    /// The contexts as they stand, in the order in which they were deployed.
+    /// Returns the contexts in their current state, in the order in which they were deployed.
     pub fn contexts(&self) -> &[Context<S, F, L>]
         ensures { result.now ≡ (state_of self.now).world.contexts }
     {
         self.host.contexts()
     }
 
-    /// What would become of a request with this method and this target, from the named user of its context or without a caller (Jakarta
-    /// Servlet 6.0, sections 3.5, 10.5, 12.1 and 13.8). Nothing is called, and nothing changes. A password is not asked for. The target is
-    /// read as a path with an optional query, and a method may have any length.
+    /// Returns the outcome of a request with this method and this target, by the named user of its context or without a
+    /// caller (Jakarta Servlet 6.0, sections 3.5, 10.5, 12.1 and 13.8). It calls nothing, changes nothing and asks for
+    /// no password. The target is read as a path with an optional query, and the method may have any length.
     ///
     /// # Errors
-    /// [`ExplainFault::BadMethod`] before anything is said of the target, [`ExplainFault::NoSuchUser`] where the target has a context and that
-    /// context's users lack the named one, and [`ExplainFault::NoMemory`].
+    /// [`ExplainFault::BadMethod`] before the target is examined, [`ExplainFault::NoSuchUser`] if the target has a
+    /// context whose users do not include the named one, and [`ExplainFault::NoMemory`].
     pub fn explain(
         &self,
         method: &str,

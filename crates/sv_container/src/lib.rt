@@ -1,5 +1,6 @@
-//! A container: started contexts behind connections, which takes events one by one (Jakarta Servlet 6.0; RFC 9112); its start with a seed, and its whole
-//! runs by a script, from the bytes of the script to those of the output.
+//! A container: started contexts and their connections, which handles events one by one (Jakarta Servlet 6.0; RFC
+//! 9112). The crate also starts a container with a seed, and runs a whole script, from its input bytes to its output
+//! bytes.
 #![tactic(auto)]
 
 mod container;

@@ -1,4 +1,4 @@
 //! Limits of a container.
 
-/// As many contexts may a container have.
+/// The maximum number of contexts of a container.
 pub const MAX_CONTEXTS: usize = 64;

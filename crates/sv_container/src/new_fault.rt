@@ -1,4 +1,4 @@
-//! Why a container did not start.
+//! Reasons why a container did not start.
 
 ghost use Rattle.std.specs.Prelude.{◌≡◌, Some};
 ghost use Rattle.sv_container.specs.NewCode.{code_name, code_number, code_of};
@@ -9,36 +9,37 @@ use sv_context::let_go;
 use sv_lifecycle::{Deployment, StartCode};
 use sv_text::Text;
 
-/// Why a container did not start: the first cause that stands. It is printed as its name.
+/// The reason why a container did not start, the first one that applies. It is printed as its name.
 #[derive(Clone, Copy, Debug, PartialEq, Eq)]
 pub enum NewCode {
-    /// A context path is there twice. Nothing was called.
+    /// A context path occurs twice. Nothing was called.
     DuplicateContext = 1,
     /// There are more than [`MAX_CONTEXTS`](crate::MAX_CONTEXTS) deployments. Nothing was called.
     TooManyContexts = 2,
-    /// The components of a context are not those of its descriptor. The contexts before it are stopped.
+    /// The components of a context do not match its descriptor. The contexts before it are stopped.
     PartsMismatch = 11,
-    /// A component's `init` failed. Its context is stopped, and those before it.
+    /// A component's `init` failed. Its context and those before it are stopped.
     InitFailed = 12,
-    /// There was no memory: nothing was called, or one context did not start for it, and it is stopped with those before it.
+    /// Memory ran out. Either nothing was called, or one context did not start because of it, and that context and
+    /// those before it are stopped.
     NoMemory = 13,
 }
 
-/// A container that did not start. Who has one takes it apart.
+/// A container that did not start, with its deployments. The owner must take it apart.
 pub struct NewFault<S, F, L> {
-    /// Why it did not start.
+    /// The reason.
     pub code: NewCode,
-    /// The context path that goes with the code: the first that repeats an earlier one, the first past the limit, or that of the context
-    /// that did not start. Want of memory names none.
+    /// The context path that goes with the code: the first that repeats an earlier one, the first past the limit, or
+    /// that of the context that did not start. It is empty if memory ran out.
     pub context: Text,
-    /// All that was handed in, in its order, the components as the calls left them.
+    /// All deployments that the caller passed, in order, with the components as the calls left them.
     pub deployments: Vec<Deployment<S, F, L>>,
 }
 
 impl<S: Servlet, F: Filter, L: Listener> NewFault<S, F, L> {
     ghost use Rattle.std.specs.Prelude.{◌≡◌};
 
-    /// Its code, and the context path that goes with it, without what was handed in.
+    /// Returns the code and the context path that goes with it, and drops the deployments.
     pub fn into_cause(self) -> (NewCode, Text)
         ensures code { result.0 ≡ self.code }
         ensures context { result.1 ≡ self.context }
@@ -54,7 +55,7 @@ impl<S: Servlet, F: Filter, L: Listener> NewFault<S, F, L> {
 }
 
 impl NewCode {
-    /// The number of the code.
+    /// Returns the number of the code.
     pub fn number(self) -> u8
         ensures { result ≡ code_number self }
     {
@@ -67,7 +68,7 @@ impl NewCode {
         }
     }
 
-    // The code of a container one of whose contexts does not start.
+    // Returns the code of a container if one of its contexts does not start.
     pub(crate) fn of_start(code: StartCode) -> NewCode
         ensures { result ≡ code_of code }
     {

@@ -1,4 +1,4 @@
-//! What refuses deployments before the first call.
+//! Checks that refuse deployments before the first call.
 
 ghost use Rattle.std.specs.Prelude.{◌≡◌, false, [], IfOk, MatchOption, MatchResult};
 ghost use Rattle.sv_container.specs.Paths.{ArePermitted, Forbids, IsRepeatedFirst};
@@ -12,7 +12,7 @@ use sv_lifecycle::Deployment;
 use sv_schema::Names;
 use sv_text::{NoMemory, Text};
 
-/// Why nothing is started, and the context path that goes with it.
+/// The reason why nothing is started, and the context path that goes with it.
 #[derive(Drop)]
 pub(crate) struct Refusal {
     pub(crate) code: NewCode,
@@ -20,7 +20,7 @@ pub(crate) struct Refusal {
 }
 
 impl Refusal {
-    /// Want of memory.
+    /// Returns the refusal for running out of memory.
     pub(crate) fn no_memory(alloc: Global) -> Refusal
         ensures code { result.code ≡ NewCode.NoMemory }
         ensures context { result.context ≡ [] }
@@ -31,7 +31,7 @@ impl Refusal {
         }
     }
 
-    /// The refusal of the deployments, which are handed back.
+    /// Returns the fault, with the deployments for the caller.
     pub(crate) fn of<S, F, L>(self, deployments: Vec<Deployment<S, F, L>>) -> NewFault<S, F, L>
         ensures { result ≡ record { code = self.code; context = self.context; deployments = deployments } }
     {
@@ -44,7 +44,7 @@ impl Refusal {
     }
 }
 
-/// The empty path. It takes no memory.
+/// Returns the empty path. It does not allocate.
 pub(crate) fn no_path(alloc: Global) -> Text
     ensures { result ≡ [] }
 {
@@ -87,7 +87,7 @@ fn limit<S, F, L>(alloc: Global, deployments: &[Deployment<S, F, L>]) -> Result<
     }
 }
 
-// The first context path that an earlier one is, too.
+// Returns the first context path that repeats an earlier one, if any.
 fn first_repeated<S, F, L>(
     alloc: Global,
     deployments: &[Deployment<S, F, L>],

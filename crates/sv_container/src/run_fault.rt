@@ -1,4 +1,4 @@
-//! What ends a run of the server early.
+//! Faults that end a run of the server early.
 
 ghost use Rattle.std.specs.Prelude.{◌≡◌, Some};
 ghost use Rattle.sv_container.specs.RunFault as spec;
@@ -10,25 +10,26 @@ use sv_script::ReplayFault;
 use sv_text::Text;
 use sv_uri::shown_context;
 
-/// Why a run of the server ended early. What was started is stopped. It is printed as the program names it.
+/// The reason why a run of the server ended early. Everything that was started is stopped. The fault is printed as the
+/// program names it.
 #[derive(Debug, Drop)]
 pub enum RunFault {
-    /// The line of this number, counted from 1, cannot be read, or asks for an event that a container refuses, other than for memory. The text of
-    /// the stop is written.
+    /// The line with this number, counted from 1, cannot be read, or asks for an event that the container refuses for a
+    /// reason other than memory. The text of the shutdown is written.
     Script(u64),
-    /// The container did not start, other than for memory: the code, and the context path that goes with it. The text of the start is written,
-    /// where one is promised.
+    /// The container did not start for a reason other than memory: the code, and the context path that goes with it.
+    /// The text of the start is written, if one is promised.
     Start(NewCode, Text),
-    /// A write of the output failed. A part of the text may have been written.
+    /// A write of the output failed. Part of the text may have been written.
     Output,
-    /// Memory ran out. What was written is a part of the text, from the first byte on.
+    /// Memory ran out. The bytes written are the beginning of the text.
     NoMemory,
-    /// No connection could be had, or an event of one was refused, other than for memory.
+    /// No connection was available, or an event of one was refused for a reason other than memory.
     Connection,
 }
 
 impl RunFault {
-    /// The number of the fault.
+    /// Returns the number of the fault.
     pub fn number(&self) -> u8
         ensures { result ≡ spec.number self.now }
     {
@@ -41,7 +42,7 @@ impl RunFault {
         }
     }
 
-    /// The exit status of a program whose run ended with this fault.
+    /// Returns the exit status of a program whose run ended with this fault.
     pub fn status(&self) -> u8
         ensures { result ≡ spec.status self.now }
     {
@@ -76,7 +77,7 @@ impl fmt::Display for RunFault {
 
 impl Error for RunFault {}
 
-/// The fault of a run by that of the replay of its script.
+/// Returns the fault of a run from the fault of the replay of its script.
 pub(crate) fn fault_of(fault: ReplayFault) -> RunFault
     ensures { result ≡ spec.fault_of fault }
 {
@@ -87,7 +88,7 @@ pub(crate) fn fault_of(fault: ReplayFault) -> RunFault
     }
 }
 
-/// How a run ended by how the replay of its script did.
+/// Returns the result of a run from the result of the replay of its script.
 pub(crate) fn ended_by(played: Result<(), ReplayFault>) -> Result<(), RunFault>
     ensures { result ≡ spec.ended_by played }
 {

@@ -13,7 +13,7 @@ use sv_run::{EventHandler, Happening, Reaction, StepFault, Words};
 use sv_script::Stops;
 use sv_wire::Awaited;
 
-/// A container that runs, and then stops.
+/// A running container, which stops at the end.
 pub struct Running<S, F, L, W> {
     /// The container.
     pub container: Container<S, F, L, W>,

@@ -1,4 +1,4 @@
-//! The run of a script.
+//! Runs a script.
 
 ghost use Rattle.sv_component.specs.Steps.{steps_of};
 ghost use Rattle.sv_container.specs.Script.{PrintsRefused, EndsUnstarted, RunsScript};
@@ -16,12 +16,14 @@ use sv_script::{print_start, run_started};
 use sv_streams::{Sink, Source};
 use sv_text::Text;
 
-/// Runs a script: starts a container of the deployments, whose words count, writes the text of the start, replays the script, shuts the
-/// container down, and writes the text of the shutdown (Jakarta Servlet 6.0, sections 2.3, 11.3.3 and 11.3.4).
+/// Runs a script. It starts a container of the deployments with [`CountedWords`], writes the text of the start, replays
+/// the script, shuts the container down, and writes the text of the shutdown (Jakarta Servlet 6.0, sections 2.3, 11.3.3
+/// and 11.3.4).
 ///
 /// # Errors
-/// [`RunFault`]. However the run ends, what was started is shut down. Behind `Script` the text of the shutdown is written, behind `Start` that
-/// of the start alone, and nothing behind a write that failed, nor once memory was wanted.
+/// [`RunFault`]. However the run ends, everything that was started is shut down. After `Script`, the text of the
+/// shutdown is written; after `Start`, only the text of the start. Nothing is written after a failed write or after
+/// memory has run out.
 pub fn run_script<S: Servlet, F: Filter, L: Listener, I: Source, O: Sink>(
     alloc: Global,
     script: &mut I,
@@ -43,7 +45,7 @@ pub fn run_script<S: Servlet, F: Filter, L: Listener, I: Source, O: Sink>(
     }
 }
 
-// Writes the text of a start that was refused, unless for want of memory.
+// Writes the text of a refused start, unless it ran out of memory.
 fn refuse<O: Sink>(
     alloc: Global,
     code: NewCode,

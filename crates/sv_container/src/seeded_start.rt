@@ -1,4 +1,4 @@
-//! The start of a container with the random words of a seed.
+//! Starts a container with the random words of a seed.
 
 ghost use Rattle.sv_component.specs.Steps.{steps_of};
 ghost use Rattle.std.specs.Prelude.{◌≡◌, length};
@@ -43,7 +43,7 @@ pub fn start<S: Servlet, F: Filter, L: Listener>(
     }
 }
 
-// The fault of a container that did not start.
+// Returns the fault of a container that did not start.
 fn start_fault(code: NewCode, context: Text) -> CommandFault
     ensures { result ≡ spec.start_fault code context }
 {

@@ -1,4 +1,4 @@
-//! How a container starts.
+//! Starts a container.
 
 ghost use Rattle.sv_component.specs.Steps.{steps_of};
 ghost use Rattle.std.specs.Prelude.{◌≡◌, IfOk, length, map};
@@ -23,10 +23,12 @@ use sv_lifecycle::{Deployment, StartCode};
 use sv_text::{NoMemory, Text};
 
 impl<S: Servlet, F: Filter, L: Listener, W: Drop> Container<S, F, L, W> {
-    /// Starts a container: the contexts are deployed in the order of their list (Jakarta Servlet 6.0, sections 2.3.1, 6.2.1 and 11.3.3).
+    /// Starts a container. It deploys the contexts in the order of the list (Jakarta Servlet 6.0, sections 2.3.1, 6.2.1
+    /// and 11.3.3).
     ///
     /// # Errors
-    /// [`NewCode`] with all that was handed in. Where a context does not start, those before it are undeployed in the order of the list.
+    /// [`NewFault`] with all deployments that the caller passed. If a context does not start, those before it are
+    /// undeployed in the order of the list.
     pub fn new(
         alloc: Global,
         deployments: Vec<Deployment<S, F, L>>,
@@ -45,7 +47,7 @@ impl<S: Servlet, F: Filter, L: Listener, W: Drop> Container<S, F, L, W> {
     }
 }
 
-// Room for the contexts of deployments, and the index of their paths.
+// Allocates the memory for the contexts of deployments, and builds the index of their paths.
 fn prepare<S: Servlet, F: Filter, L: Listener>(
     alloc: Global,
     deployments: &[Deployment<S, F, L>],
@@ -65,7 +67,7 @@ fn prepare<S: Servlet, F: Filter, L: Listener>(
     }
 }
 
-// Starts the contexts of deployments for which there is room.
+// Starts the contexts of deployments in the memory that is reserved for them.
 fn start<S: Servlet, F: Filter, L: Listener, W: Drop>(
     alloc: Global,
     deployments: Vec<Deployment<S, F, L>>,
@@ -85,7 +87,7 @@ fn start<S: Servlet, F: Filter, L: Listener, W: Drop>(
     }
 }
 
-// A container of started contexts.
+// Returns a container of started contexts.
 fn container_of<S, F, L, W>(
     alloc: Global,
     contexts: Vec<Context<S, F, L>>,
@@ -105,7 +107,7 @@ fn container_of<S, F, L, W>(
     }
 }
 
-// The fault of a container whose contexts did not start.
+// Returns the fault of a container whose contexts did not start.
 fn fault_of<S, F, L>(alloc: Global, fault: DeployAllFault<S, F, L>) -> NewFault<S, F, L>
     ensures code { result.code ≡ code_of fault.code }
     ensures context { result.context ≡ named_path fault.code fault.context }
@@ -123,7 +125,7 @@ fn fault_of<S, F, L>(alloc: Global, fault: DeployAllFault<S, F, L>) -> NewFault<
     }
 }
 
-// The context path that goes with a start that failed.
+// Returns the context path that goes with a failed start.
 fn named_path(alloc: Global, code: StartCode, path: Text) -> Text
     ensures { result ≡ named_path code path }
 {

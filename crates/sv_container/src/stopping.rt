@@ -1,4 +1,4 @@
-//! How a container stops.
+//! Stops a container.
 
 ghost use Rattle.sv_component.specs.Steps.{steps_of};
 ghost use Rattle.std.specs.Prelude.{◌≡◌, map};
@@ -17,8 +17,9 @@ use sv_journal::Journal;
 use sv_text::NoMemory;
 
 impl<S: Servlet, F: Filter, L: Listener, W: Drop> Container<S, F, L, W> {
-    /// Stops the contexts in their order, and hands their components back (Jakarta Servlet 6.0, sections 2.3.4, 6.2.1 and 11.3.4). It takes
-    /// no memory but the journal's, and no refusal of memory holds it up. After an event that wanted memory nothing is told of sessions.
+    /// Stops the contexts in order, and returns their components (Jakarta Servlet 6.0, sections 2.3.4, 6.2.1 and
+    /// 11.3.4). It allocates only for the journal, and a failed allocation does not interrupt it. After an event that
+    /// ran out of memory, it notifies nothing about sessions.
     pub fn shutdown(self) -> Shutdown<S, F, L>
         ensures { ShutsDown (steps_of S.servlet_step F.filter_step L.listener_step) (state_of self) result.parts.items result.journal }
     {
@@ -29,7 +30,7 @@ impl<S: Servlet, F: Filter, L: Listener, W: Drop> Container<S, F, L, W> {
     }
 }
 
-// The journal of a stop: a broken one where an event wanted memory.
+// Returns the journal of a shutdown, a broken one if an event ran out of memory.
 fn journal_to_stop<C: HasContextPath, W>(alloc: Global, host: &Host<C, W>) -> Journal
     ensures { result ≡ journal_to_stop (hosts.state_of host.now).stopped }
 {
@@ -40,7 +41,7 @@ fn journal_to_stop<C: HasContextPath, W>(alloc: Global, host: &Host<C, W>) -> Jo
     journal
 }
 
-// The contexts that stop: without their sessions where an event wanted memory.
+// Returns the contexts to stop, without their sessions if an event ran out of memory.
 fn contexts_to_stop<S: Servlet, F: Filter, L: Listener, W: Drop>(
     alloc: Global,
     host: Host<Context<S, F, L>, W>,
@@ -55,7 +56,7 @@ fn contexts_to_stop<S: Servlet, F: Filter, L: Listener, W: Drop>(
     contexts
 }
 
-// Ends the sessions of contexts without a word.
+// Ends the sessions of contexts without notifying listeners.
 fn forget_sessions<S: Servlet, F: Filter, L: Listener>(
     alloc: Global,
     contexts: &mut [Context<S, F, L>],

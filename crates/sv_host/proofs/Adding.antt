@@ -1,4 +1,4 @@
--- What has been brought so far, with what comes behind it.
+-- The output so far, with later effects.
 use Rattle.std.proofs.Common.{◌≡◌, Bool, true, false, ◌||◌, List, [], None, refl, sym, ap, ◌∙◌, append_assoc, append-nil}
 use Rattle.sv_host.specs.Output.{Adds, reaction_of, then_brings}
 use Rattle.sv_host.specs.declared.output.Output.{Output}
@@ -28,7 +28,7 @@ module _ {Context : Type 0} where
   adds_on start reached next front more first later =
       later ∙ ap (λ r. then_brings r more) first ∙ brings_both (reaction_of start) front more
 
-  -- where it did not close before, it closes where the effect does
+  -- if the output did not close the connection before, it closes exactly if the effect does
   pub adds_closes : (start reached : Output) (effect : Effect Context) → Adds start effect reached → start.closes ≡ false → reached.closes ≡ effect.closes
   adds_closes start reached effect adds stays = ap (λ (r : Reaction). r.closes) adds ∙ ap (λ t. t || effect.closes) stays
 
@@ -51,7 +51,7 @@ module _ (Context : Type 0) where
         edited = sym (first-at_none output.edited) i;
       }
 
--- an event brings what was told, and then its effect
+-- an event adds the entries of expiry, and then its own effect
 pub brings_all : {Context : Type 0} (output : Output) (journal : JournalState) (told : List Entry) (effect : Effect Context) (end : Reaction)
     → reaction_of output ≡ record { sends = []; closes = false; journal = new_journal; edited = None } → journal ≡ noting told output.journal
     → end ≡ then_brings (record (reaction_of output) { journal = journal }) effect → end ≡ shown (joined (telling told) effect)

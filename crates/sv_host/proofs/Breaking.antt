@@ -1,4 +1,4 @@
--- What is left where memory ends an event.
+-- The state after an event that memory ended.
 use Rattle.std.proofs.Common.{◌≡◌, ◌⊎◌, ℕ, ◌<◌, inl, inr, true, false, List, [], ◌∷◌, ◌++◌, length, None, Result, Ok, Err, IfErr, slice_index_or, slice_set, refl, sym, subst}
 use Rattle.sv_body.proofs.BoolLemmas.{MatchBool-from_false}
 use Rattle.sv_host.proofs.Handling.{there_at}
@@ -21,7 +21,7 @@ use Rattle.sv_message.specs.declared.message.Message.{Message}
 use Rattle.sv_message.specs.declared.response.Response.{Response}
 
 module _ {C W : Type 0} (theory : Theory C W) (moment : ℕ) (message : Message) (words : ℕ × ℕ) (before : List C) where
-  -- memory ended the answer, with some request given or none
+  -- memory ran out while the message was answered, after zero or one requests were given
   abbrev pub Broken : Destination → List C → Type 0
   Broken where_to after = (given : List (Given C)) × BreaksAnswer theory moment where_to message words before given after
 
@@ -78,7 +78,7 @@ module _ {C W : Type 0} (theory : Theory C W) (moment : ℕ) where
   none_done_if (Ok done) at world broken = tt
   none_done_if (Err fault) at world broken = broken
 
-  -- items in front of one
+  -- the items before one item
   pub took_next : (before : List Item) (start reached next : World C W) (front more : Effect C) (one : Item)
       → front.closes ≡ false → more.closes ≡ false
       → Takes theory moment before start front reached → TakesItem theory moment one reached more next
@@ -125,7 +125,7 @@ module _ {C W : Type 0} (theory : Theory C W) (state : State C W) where
     inr record { held = feeds.held; holds = feeds.holds; items = items; left = feeds.left; feeds = feeds.feeds; breaks = broken.1 },
   )
 
-  -- an event that was not begun
+  -- an event that did not begin
   pub not_begun : (happening : Happening) → BreaksOff theory state happening [] state.world
   not_begun (Opened number) = (refl, refl)
   not_begun (Piece number bytes moment) = inl (refl, refl)
@@ -145,7 +145,7 @@ module _ {C W : Type 0} (theory : Theory C W) (state : State C W) where
   broken_off result happening number bytes moment after is broken =
       subst (λ h. IfErr result (λ _. (given : List (Given C)) × BreaksOff theory state h given after)) (sym is) broken
 
-  -- where the expired sessions have ended before
+  -- memory ran out after the expired sessions had ended
   abbrev pub BrokenEvent : Happening → World C W → Type 0
   BrokenEvent happening after =
       (told : List Entry) × (contexts : List C) × (given : List (Given C))

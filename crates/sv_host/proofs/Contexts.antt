@@ -1,4 +1,4 @@
--- Contexts that are moved one after another.
+-- Contexts that calls change one after another.
 use Rattle.std.proofs.Common.{◌≡◌, ℕ, zero, suc, ◌<◌, ◌≤◌, List, [], ◌∷◌, ◌++◌, inl, inr, Result, Ok, Err, IfErr, length, map, slice_index_or, slice_set, refl, sym, ap, ◌∙◌, subst, arith, append-nil, append_assoc}
 use Rattle.std.proofs.lemmas.List.{with_items_is}
 use Rattle.std.specs.Vec.{with_items}
@@ -16,7 +16,7 @@ if_err (Err fault) holds = holds
 
 module _ {Context : Type 0} (conduct : Conduct Context) where
   module _ (moment : ℕ) where
-    -- the expired sessions of the first so many contexts end
+    -- the expired sessions of the first `count` contexts end
     abbrev pub ExpiresTo : ℕ → List Context → List Entry → List Context → Type 0
     ExpiresTo zero before told after = (told ≡ []) × (after ≡ before)
     ExpiresTo (suc count) [] told after = (told ≡ []) × (after ≡ [])
@@ -126,7 +126,7 @@ module _ {Context : Type 0} (conduct : Conduct Context) where
           later.4,
         )
 
-    -- contexts that are moved, and then perhaps edited, were altered
+    -- contexts changed by calls, and then perhaps edited, are altered
     pub moves_alter : (before after : List Context) → MovesAll conduct before after → AltersAll conduct before after
     moves_alter [] after moves = moves
     moves_alter (context ∷ contexts) after moves = (moves.0, moves.1, inl moves.2, moves_alter contexts moves.1 moves.3, moves.4)
@@ -168,7 +168,7 @@ module _ {Context : Type 0} (conduct : Conduct Context) where
       ap (map path_of) moves.4
       ∙ (λ i. keeps context moves.0 moves.2 i ∷ paths_kept path_of keeps contexts moves.1 moves.3 i)
 
-  -- so do those of a vector that was lent
+  -- the contexts of a borrowed vector also keep their paths
   module _ {Z : Type 0} (held : Vec Context Z) (given after : List Context) (all : length after ≡ held.len) (is : given ≡ held.items) where
     pub moves_lent : MovesAll conduct given after → MovesAll conduct held.items (with_items held after).items
     moves_lent moves =

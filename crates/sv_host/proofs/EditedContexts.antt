@@ -1,4 +1,4 @@
--- The context that has a path, edited.
+-- Editing the context that has a path.
 use Rattle.std.proofs.Common.{◌≡◌, ◌≢◌, ℕ, zero, suc, ◌<◌, List, [], ◌∷◌, None, Some, Result, Ok, Err, IfOk, length, map, slice_index_or, slice_set, refl, sym, ap, ◌∙◌, subst, arith}
 use Rattle.sv_host.proofs.Handling.{there_at}
 use Rattle.sv_host.specs.Output.{Adds}
@@ -40,7 +40,7 @@ module _ {C W : Type 0} (theory : Theory C W) where
         is_after = refl;
       }
 
-  -- want of memory leaves what was there
+  -- running out of memory leaves the contexts unchanged
   pub unedited : (before new : List C) (place : ℕ) (old context : C) → place < length before → old ≡ slice_index_or before place old → context ≡ old
       → slice_set before place context ≡ before
   unedited [] new place old context within is same = refl

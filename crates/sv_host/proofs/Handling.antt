@@ -1,4 +1,4 @@
--- What answers a message.
+-- Answering a message.
 use Rattle.std.proofs.Common.{◌≡◌, ℕ, zero, suc, ◌<◌, ◌||◌, List, [], ◌∷◌, ◌++◌, length, Some, Result, Ok, Err, IfOk, slice_get, slice_index_or, slice_set, refl, sym, ap, ◌∙◌, subst, arith}
 use Rattle.sv_host.specs.Output.{then_brings}
 use Rattle.sv_journal.specs.declared.entry.Entry.{Entry}
@@ -25,13 +25,13 @@ there_at [] place item within is = absurd (omega (arith, within))
 there_at (first ∷ items) zero item within is = ap Some (sym is)
 there_at (first ∷ items) (suc place) item within is = there_at items place item (omega (arith, within)) is
 
--- a message is answered so, and that is brought
+-- a message is answered, and its effect is added to the reaction
 abbrev pub AnswersMessage : {C W : Type 0} → Theory C W → ℕ → Destination → Message → ℕ × ℕ → List C → List C → Reaction → Reaction → Type 0
 AnswersMessage {C} theory moment where_to message words before after start end =
     (effect : Effect C) × Responds theory moment where_to message words before effect after × (end ≡ then_brings start effect)
 
 module _ (C : Type 0) (moment : ℕ) (message : Message) (start : Reaction) where
-  -- an entry is noted, and the text is sent behind it
+  -- an entry is noted, and then the text is sent
   pub noted_and_sent : {T E : Type 0} (result : Result T E) (entry : Entry) (response : Response) (middle end : Reaction)
       → middle ≡ record start { journal = noting (entry ∷ []) start.journal }
       → IfOk result (λ _. (text : List ℕ) × IsAnswerTo message moment response text
@@ -46,7 +46,7 @@ module _ (C : Type 0) (moment : ℕ) (message : Message) (start : Reaction) wher
         ∙ (λ i. record (then_brings start (answered {Context = C} entry sends.0 (closes_behind message response))) { edited = sym (first-at_none start.edited) i }),
   )
 
-  -- the answer that was given is the one that is meant
+  -- the given response is the intended one
   pub answered_as : {T E : Type 0} (result : Result T E) (entry : Entry) (given meant : Response) (end : Reaction) → given ≡ meant
       → IfOk result (λ _. (text : List ℕ) × IsAnswerTo message moment given text
       × (end ≡ then_brings start (answered {Context = C} entry text (closes_behind message given))))

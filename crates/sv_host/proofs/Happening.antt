@@ -1,4 +1,4 @@
--- What the arms of an event come to.
+-- The results of the arms of an event.
 use Rattle.std.proofs.Common.{◌≡◌, ℕ, true, false, List, [], None, Some, Result, Ok, Err, IfOk, IsSome, refl, sym, ap, ◌∙◌, subst, eqb, append-nil}
 use Rattle.std.proofs.lemmas.Map.{update_here, update-update}
 use Rattle.sv_host.proofs.Adding.{adds_nothing}
@@ -16,17 +16,17 @@ use Rattle.sv_run.specs.State.{State, World, settled_at}
 use Rattle.sv_wire.specs.Inbox.{Held, spent_for_good}
 use Rattle.sv_wire.specs.declared.item.Item.{Item}
 
--- only what a connection holds last is seen
+-- only the last update of a connection is visible
 held_twice : (number : ℕ) (one other : Held) (connections : Connections) → with_held number other (with_held number one connections) ≡ with_held number other connections
 held_twice number one other connections =
     λ i. record { held = λ q. update-update eqb connections.held number (Some one) (Some other) q i; known = connections.known }
 
--- a connection of which a piece was read is known
+-- after a piece of a connection was read, the connection is known
 pub fed_known : (before after : Connections) (number : ℕ) (piece : List ℕ) (items : List Item) → FeedsOne before number piece items after → IsSome (after.held number)
 fed_known before after number piece items feeds =
     subst IsSome (sym (ap (λ (k : Connections). k.held number) feeds.is_after ∙ update_here before.held number (Some feeds.left))) refl
 
--- the moment that is set is the one after the event
+-- the time that is set is the time after the event
 pub raised_to : (happening : Happening) (date before moment after : ℕ) → before ≡ date → moment ≡ moment_after before happening → after ≡ moment
     → after ≡ moment_after date happening
 raised_to happening date before moment after same raised given = given ∙ raised ∙ ap (λ m. moment_after m happening) same
@@ -60,7 +60,7 @@ module _ {C W : Type 0} (theory : Theory C W) (state : State C W) where
 
   module _ (number : ℕ) (piece : List ℕ) (items : List Item) (fed connections : Connections) (world : World C W) (effect : Effect C)
       (feeds : FeedsOne state.connections number piece items fed) (takes : Takes theory state.moment items state.world effect world) where
-    -- a piece behind which the connection stays open
+    -- a piece after which the connection stays open
     pub takes_open : connections ≡ fed → effect.closes ≡ false → TakesPiece theory state number piece effect (record state { connections = connections; world = world })
     takes_open same stays =
         record {
@@ -83,7 +83,7 @@ module _ {C W : Type 0} (theory : Theory C W) (state : State C W) where
           is_after = λ i. record state { connections = (same ∙ feeds.is_after) i; world = world };
         }
 
-    -- a piece behind which it closes
+    -- a piece after which the connection closes
     pub takes_closing : connections ≡ with_held number spent_for_good fed → effect.closes ≡ true
         → TakesPiece theory state number piece effect (record state { connections = connections; world = world })
     takes_closing ended closes =

@@ -17,12 +17,12 @@ use Rattle.sv_wire.specs.declared.item.Item.TheVariants.{Continue, Refuse}
 use Rattle.sv_wire_fault.specs.declared.wire_fault.WireFault.{WireFault}
 
 module _ {C W : Type 0} (theory : Theory C W) (moment : ℕ) (all : List Item) where
-  -- whatever handles the rest handles all
+  -- handling the remaining items completes the handling of all items
   abbrev pub TakesOn : World C W → Effect C → World C W → List Item → Type 0
   TakesOn start front reached rest =
       (later : Effect C) (after : World C W) → Takes theory moment rest reached later after → Takes theory moment all start (joined front later) after
 
-  -- an item that does not close the connection is handled behind the others
+  -- an item that keeps the connection open is handled after the others
   pub goes_on : (start reached next : World C W) (front more : Effect C) (item : Item) (rest : List Item)
       → more.closes ≡ false → TakesOn start front reached (item ∷ rest)
       → TakesItem theory moment item reached more next → TakesOn start (joined front more) next rest
@@ -30,7 +30,7 @@ module _ {C W : Type 0} (theory : Theory C W) (moment : ℕ) (all : List Item) w
       subst (λ r. Takes theory moment all start r after) (sym (joined-assoc front more later))
       (completes (joined more later) after (next, more, later, takes, MatchBool-from_false more.closes _ _ stays handled, refl))
 
-  -- behind one that closes it, none is handled
+  -- after an item that closes the connection, none is handled
   pub stops : (start reached next : World C W) (front more : Effect C) (item : Item) (rest : List Item)
       → more.closes ≡ true → TakesOn start front reached (item ∷ rest)
       → TakesItem theory moment item reached more next → Takes theory moment all start (joined front more) next
@@ -42,7 +42,7 @@ module _ {C W : Type 0} (theory : Theory C W) (moment : ℕ) (all : List Item) w
   ends start reached front completes = subst (λ r. Takes theory moment all start r reached) (joined-nothing front) (completes nothing reached (refl, refl))
 
 module _ {C W : Type 0} (theory : Theory C W) (moment : ℕ) where
-  -- the item is handled, and that is brought
+  -- the item is handled, and its effect is added to the reaction
   abbrev pub TakesAndBrings : World C W → World C W → Reaction → Reaction → Item → Type 0
   TakesAndBrings before after start end item = (effect : Effect C) × TakesItem theory moment item before effect after × (end ≡ then_brings start effect)
 

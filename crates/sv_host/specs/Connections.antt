@@ -1,11 +1,11 @@
--- The reading of a piece of one of several connections.
+-- Reading a piece of one of several connections.
 use Rattle.std.specs.Prelude.{◌≡◌, ℕ, List, Some}
 use Rattle.sv_run.specs.Connections.{Connections, with_held}
 use Rattle.sv_run.specs.Feeding.{Feeds}
 use Rattle.sv_wire.specs.Inbox.{Held}
 use Rattle.sv_wire.specs.declared.item.Item.{Item}
 
--- the piece of a connection completes the items, and no other connection holds anything else
+-- the piece of a connection completes the items, and changes no other connection
 pub record FeedsOne (before : Connections) (number : ℕ) (piece : List ℕ) (items : List Item) (after : Connections) : Type 0 where
   pub held : Held
   pub left : Held

@@ -1,4 +1,4 @@
--- Contexts behind connections (RFC 9112, section 9; Jakarta Servlet 6.0, section 7.5).
+-- A host of contexts and their connections (RFC 9112, section 9; Jakarta Servlet 6.0, section 7.5).
 use Rattle.std.specs.Prelude.{◌≡◌, false, List, Result, Ok, Err}
 use Rattle.sv_host.specs.declared.host.Host.{Host}
 use Rattle.sv_run.specs.Connections.{connections_of, no_connections}
@@ -18,12 +18,12 @@ state_of host =
       connections = connections_of host.connections;
     }
 
--- before any event
+-- the state before any event
 abbrev pub opening : {C W : Type 0} → List C → W → State C W
 opening contexts words = record { stopped = false; world = world_of contexts words; moment = 0; connections = no_connections }
 
 module _ {C W : Type 0} (theory : Theory C W) where
-  -- an event is taken as the run says, and the reaction is what is seen of its effect
+  -- an event is handled as the run specifies, and the reaction is the visible part of its effect
   abbrev pub StepsSo : State C W → Happening → Result Reaction StepFault → State C W → Type 0
   StepsSo before happening (Ok reaction) after = (effect : Effect C) × Steps theory before happening (Ok effect) after × (reaction ≡ shown effect)
   StepsSo before happening (Err fault) after = Steps theory before happening (Err fault) after

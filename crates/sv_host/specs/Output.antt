@@ -1,4 +1,4 @@
--- What an event has brought so far.
+-- The output of an event so far.
 use Rattle.std.specs.Prelude.{◌≡◌, ◌||◌, ◌++◌}
 use Rattle.std.specs.Option.{option_or}
 use Rattle.sv_host.specs.declared.output.Output.{Output}
@@ -8,7 +8,7 @@ use Rattle.sv_run.specs.declared.reaction.Reaction.{Reaction}
 abbrev pub reaction_of : Output → Reaction
 reaction_of output = record { sends = output.sends.items; closes = output.closes; journal = output.journal; edited = output.edited }
 
--- a reaction, and then what an effect brings
+-- a reaction followed by an effect
 abbrev pub then_brings : {Context : Type 0} → Reaction → Effect Context → Reaction
 then_brings reaction effect =
     record {
@@ -18,6 +18,6 @@ then_brings reaction effect =
       edited = option_or reaction.edited effect.edited;
     }
 
--- what an effect brings is added
+-- the effect is added to the output
 abbrev pub Adds : {Context : Type 0} → Output → Effect Context → Output → Type 0
 Adds before effect after = reaction_of after ≡ then_brings (reaction_of before) effect

@@ -1,4 +1,4 @@
-//! The answers to messages.
+//! Answers to messages.
 
 ghost use Rattle.std.specs.Prelude.{◌≡◌, ◌++◌, ◌||◌, ℕ, true, false, List, IfOk, bytes_eq, codes, not};
 ghost use Rattle.http.specs.StatusCode.{IsStatusCode};
@@ -28,7 +28,7 @@ use sv_wire_fault::WireFault;
 
 const CONTINUE: &[u8] = b"HTTP/1.1 100 Continue\r\n\r\n";
 
-// A response without fields or a body.
+// Returns a response without fields or a body.
 fn empty_response(alloc: Global) -> Response
     ensures { result ≡ empty_response }
 {
@@ -40,7 +40,7 @@ fn empty_response(alloc: Global) -> Response
     }
 }
 
-// The status and its phrase, as plain text.
+// Returns the status code and its phrase as a plain text response.
 fn plain_response(alloc: Global, status: u16) -> Result<Response, NoMemory>
     requires { IsStatusCode status }
     ensures { GivesAnswer result (plain_response status) }
@@ -55,7 +55,7 @@ fn plain_response(alloc: Global, status: u16) -> Result<Response, NoMemory>
     })
 }
 
-// The status and its phrase, as a line.
+// Returns the status code and its phrase as a line.
 fn plain_text(alloc: Global, status: u16) -> Result<Vec<u8>, NoMemory>
     requires { IsStatusCode status }
     ensures { IfOk result (λ text. text.items ≡ plain_text status) }
@@ -64,7 +64,7 @@ fn plain_text(alloc: Global, status: u16) -> Result<Vec<u8>, NoMemory>
     Ok(format!(in alloc; "{status} {phrase}\n")?.into_bytes())
 }
 
-// The phrase of a status, empty where it has none.
+// Returns the phrase of a status code, empty if it has none.
 #[tactic(auto, unfolding(sv_message::specs::Phrases::phrase_of))]
 fn phrase_of(status: u16) -> &'static str
     requires { IsStatusCode status }
@@ -74,7 +74,7 @@ fn phrase_of(status: u16) -> &'static str
     code.canonical_reason().unwrap_or("")
 }
 
-// Says that a body may be sent.
+// Sends the interim response that invites the body.
 #[tactic(auto, unfolding(sv_run::specs::Items::continue_text))]
 pub(crate) fn send_continue<C>(output: &mut Output) -> Result<(), NoMemory>
     ensures { IfOk result (λ _. Adds {Context = C} output.old (sending continue_text) output.new) }
@@ -83,8 +83,8 @@ pub(crate) fn send_continue<C>(output: &mut Output) -> Result<(), NoMemory>
     Ok(())
 }
 
-// Sends the answer to a message, behind what was sent: without its body where the head alone is asked for, and as the last one of its connection
-// where the message does not keep that.
+// Appends the response to a message to the output. A response to HEAD has no body. The connection closes after the
+// response if the message does not keep it open.
 pub(crate) fn send(
     head_only: bool,
     keep: bool,
@@ -105,20 +105,21 @@ pub(crate) fn send(
     Ok(())
 }
 
-// Takes room, and leaves none.
+// Takes the buffer, and leaves an empty one.
 fn taken(room: &mut Vec<u8>) -> Vec<u8> {
     let none = Vec::new(*room.allocator());
     mem::replace(room, none)
 }
 
-// Whether the connection closes behind a body, of a message that keeps it or does not: one of them ends it.
+// Returns whether the connection closes after the response: the message does not keep it open, or the end of the body
+// is the end of the connection.
 fn closes_behind(keep: bool, body: &Body) -> bool
     ensures { result ≡ (not keep || ends_connection body.now) }
 {
     !keep || body.ends_connection()
 }
 
-// Whether the head alone is asked for.
+// Returns whether the method is HEAD.
 pub(crate) fn is_head(message: &Message) -> bool
     ensures { result ≡ bytes_eq message.now.method (codes "HEAD") }
 {
@@ -141,8 +142,8 @@ fn answer_itself<C>(
     send(is_head(message), message.keep, response, date, output)
 }
 
-// Answers a message that asks for the server itself. This and the two below stand apart since a function fills the rooms of all its
-// locals where it begins, and few messages are answered so.
+// Answers a message whose target is `*`, the server itself. This function and the three cold ones below are
+// separate because a function initializes the storage of all its locals on entry, and few messages take these paths.
 #[cold]
 #[inline(never)]
 pub(crate) fn answer_star<C>(
@@ -194,7 +195,7 @@ pub(crate) fn answer_hidden<C>(
     answer_itself::<C>(message, entry, &response, date, output)
 }
 
-// Answers what was refused before it was a message. The connection closes.
+// Answers input that was refused before it became a message. The connection closes.
 #[cold]
 #[inline(never)]
 pub(crate) fn refuse<C>(
@@ -214,7 +215,7 @@ pub(crate) fn refuse<C>(
     Ok(())
 }
 
-// Notes an entry.
+// Notes an entry. Fails if the journal has run out of memory.
 fn note(entry: Entry, output: &mut Output) -> Result<(), NoMemory>
     ensures { IfOk result (λ _. reaction_of output.new ≡ record (reaction_of output.old) { journal = with_entry entry output.old.journal }) }
 {

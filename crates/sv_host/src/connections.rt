@@ -11,7 +11,7 @@ use std::marker::Model;
 use sv_text::NoMemory;
 use sv_wire::{Awaited, Inbox, Item};
 
-/// The connections that are known, each with its inbox. A look-up takes as long among many as among few.
+/// The known connections, each with its inbox. The time of a look-up does not depend on their number.
 #[derive(Drop)]
 pub struct Connections {
     alloc: Global,
@@ -25,7 +25,7 @@ impl Model for Connections {
 }
 
 impl Connections {
-    /// None is known. It takes no memory.
+    /// Returns an empty collection. It does not allocate.
     pub fn new(alloc: Global) -> Connections
         ensures { connections_of result ≡ no_connections }
     {
@@ -35,21 +35,21 @@ impl Connections {
         }
     }
 
-    /// How many are known.
+    /// Returns the number of known connections.
     pub fn len(&self) -> usize
         ensures { result ≡ (connections_of self.now).known }
     {
         self.inboxes.len()
     }
 
-    /// Whether a connection is known.
+    /// Returns whether a connection is known.
     pub fn is_known(&self, number: u64) -> bool
         ensures { result ≡ is_some ((connections_of self.now).held number) }
     {
         self.inboxes.contains_key(&number)
     }
 
-    /// Returns what is awaited of a connection: nothing of one that is not known.
+    /// Returns what is awaited of a connection: nothing if it is not known.
     #[inline(always)]
     pub fn awaits(&self, number: u64) -> Awaited
         ensures { result ≡ awaited_in (connections_of self.now) number }
@@ -60,10 +60,10 @@ impl Connections {
         }
     }
 
-    /// A connection is known from now on.
+    /// Adds a connection, which is known from then on.
     ///
     /// # Errors
-    /// `NoMemory` where a growth was refused: nothing is said of the connections then, and their container is stopped.
+    /// `NoMemory` if an allocation fails. The connections are then unspecified, and their container is stopped.
     pub fn open(&mut self, number: u64) -> Result<(), NoMemory>
         requires { (connections_of self.old).held number ≡ None }
         ensures { IfOk result (λ _. connections_of self.new ≡ opened number (connections_of self.old)) }
@@ -72,7 +72,7 @@ impl Connections {
         Ok(())
     }
 
-    /// A connection is known no more.
+    /// Removes a connection, which is then no longer known.
     pub fn forget(&mut self, number: u64)
         requires { IsSome ((connections_of self.old).held number) }
         ensures { connections_of self.new ≡ forgotten number (connections_of self.old) }
@@ -80,10 +80,11 @@ impl Connections {
         self.inboxes.remove(&number);
     }
 
-    /// Reads a piece of a connection into a list, which holds the items that it completes, in order, in place of what it held before.
+    /// Reads a piece of a connection. The list then holds the items that the piece completes, in order, in place of its
+    /// previous items.
     ///
     /// # Errors
-    /// `NoMemory` where a growth was refused: nothing is said of the connections then, and their container is stopped.
+    /// `NoMemory` if an allocation fails. The connections are then unspecified, and their container is stopped.
     #[inline(always)]
     pub fn feed(&mut self, number: u64, piece: &[u8], items: &mut Vec<Item>) -> Result<(), NoMemory>
         requires { IsSome ((connections_of self.old).held number) }
@@ -95,7 +96,7 @@ impl Connections {
         }
     }
 
-    /// Nothing more is read of a connection, which is known until it ends or is lost.
+    /// Stops reading from a connection. It stays known until its input ends or it is lost.
     pub fn close(&mut self, number: u64)
         requires { IsSome ((connections_of self.old).held number) }
         ensures { connections_of self.new ≡ with_held number spent_for_good (connections_of self.old) }

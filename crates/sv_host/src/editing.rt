@@ -1,4 +1,4 @@
-//! The editing of the constraints of the context that has a path.
+//! Edits of the constraints of the context that has a path.
 
 ghost use Rattle.std.specs.Prelude.{◌≡◌, ◌≢◌, Err, IfSome, MatchResult, bytes_eq, length, map, position, ◌<◌};
 ghost use Rattle.sv_policy.specs.declared.edit_fault.EditFault.TheVariants as fault;
@@ -12,7 +12,7 @@ use sv_policy::{Edit, EditFault};
 use sv_run::{Context, Words};
 use sv_text::NoMemory;
 
-// Has the first context that has the path edit its constraints; where none has it, there is no such.
+// Edits the constraints of the first context that has the path, or fails with `NoSuch` if none has it.
 pub(crate) fn edit_context<C: Context, W: Words>(
     alloc: Global,
     contexts: &mut [C],
@@ -31,7 +31,7 @@ pub(crate) fn edit_context<C: Context, W: Words>(
     contexts[place].edit(alloc, edit)
 }
 
-// The place of the first context that has the path.
+// Returns the place of the first context that has the path.
 fn place_of<C: HasContextPath>(contexts: &[C], path: &str) -> Option<usize>
     ensures place { result ≡ position (λ context. bytes_eq path.now (C.path_of context)) contexts.now }
     ensures bound { IfSome result (λ place. place < length contexts.now) }
@@ -45,7 +45,7 @@ fn has_path<C: HasContextPath>(context: &C, path: &str) -> bool
     path == context.context_path()
 }
 
-// The answer that is told; want of memory is none.
+// Returns the answer to report, or `NoMemory` if the edit ran out of memory, which is no answer.
 pub(crate) fn told_of(answer: Result<u64, EditFault>) -> Result<Result<u64, EditFault>, NoMemory>
     ensures { MatchResult result (λ told. (told ≡ answer) × (answer ≢ Err fault.NoMemory)) (λ _. answer ≡ Err fault.NoMemory) }
 {

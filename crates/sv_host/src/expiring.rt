@@ -1,4 +1,4 @@
-//! The end of expired sessions, in all contexts.
+//! The end of expired sessions in all contexts.
 
 ghost use Rattle.std.specs.Prelude.{◌≡◌, true, List};
 ghost use Rattle.sv_journal.specs.declared.entry.Entry.{Entry};
@@ -9,8 +9,8 @@ use std::alloc::Global;
 use sv_journal::Journal;
 use sv_run::Context;
 
-/// Ends the sessions that have expired at the moment, context by context. It takes no memory but the journal's, and ends them also where that
-/// breaks.
+/// Ends the sessions that have expired at `moment`, context by context. It allocates only for the journal, and ends the
+/// sessions even if the journal runs out of memory.
 #[inline(always)]
 pub fn expire_all<C: Context>(alloc: Global, contexts: &mut [C], moment: u64, journal: &mut Journal)
     ensures expires { (told : List Entry) × ExpiresAll C.conduct contexts.old moment told contexts.new

@@ -1,4 +1,4 @@
-//! What refuses an event, and the moment after one.
+//! The faults that refuse an event, and the time after an event.
 
 ghost use Rattle.std.specs.Prelude.{◌≡◌};
 ghost use Rattle.sv_run.specs.Connections.{connections_of};
@@ -8,7 +8,7 @@ ghost use Rattle.sv_run.specs.Seen.{happening_of};
 use crate::connections::Connections;
 use sv_run::{Happening, LAST_MOMENT, MAX_CONNECTIONS, StepFault};
 
-/// The moment after an event that nothing refuses.
+/// Returns the time after an event that is not refused.
 pub fn moment_after(before: u64, happening: Happening) -> u64
     ensures { result ≡ moment_after before (happening_of happening.entry) }
 {
@@ -19,7 +19,7 @@ pub fn moment_after(before: u64, happening: Happening) -> u64
     }
 }
 
-/// What refuses an event of a container that is not stopped, but for want of memory.
+/// Returns the fault that refuses an event of a running container, if any, apart from running out of memory.
 #[inline(always)]
 pub fn fault_of(connections: &Connections, happening: Happening) -> Option<StepFault>
     ensures { result ≡ fault_of (connections_of connections.now) (happening_of happening.entry) }
@@ -34,7 +34,7 @@ pub fn fault_of(connections: &Connections, happening: Happening) -> Option<StepF
     }
 }
 
-/// What refuses an opening.
+/// Returns the fault of an opening, if any.
 fn opening_fault(connections: &Connections, number: u64) -> Option<StepFault>
     ensures { result ≡ opening_fault ((connections_of connections.now).held number) (connections_of connections.now).known }
 {
@@ -47,7 +47,7 @@ fn opening_fault(connections: &Connections, number: u64) -> Option<StepFault>
     }
 }
 
-/// What refuses an event of a connection that has to be known.
+/// Returns the fault of an event that requires a known connection, if any.
 fn unknown_fault(connections: &Connections, number: u64) -> Option<StepFault>
     ensures { result ≡ unknown_fault ((connections_of connections.now).held number) }
 {

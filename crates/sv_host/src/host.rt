@@ -1,4 +1,4 @@
-//! Contexts behind connections.
+//! The host of a container's contexts, which handles the events of their connections.
 
 ghost use Rattle.std.specs.Prelude.{◌≡◌, ◌⊎◌, [], List, None, IfErr, IfOk, IsSome, false, map};
 ghost use Rattle.sv_host.specs.Host.{StepsSo, opening, state_of};
@@ -30,7 +30,7 @@ use sv_run::{Context, EventHandler, Happening, Reaction, StepFault, Words};
 use sv_text::NoMemory;
 use sv_wire::{Awaited, DateText, Item};
 
-/// Contexts behind connections, with a source of random words.
+/// Contexts and their connections, with a source of random words.
 #[derive(Drop)]
 pub struct Host<C: HasContextPath, W> {
     alloc: Global,
@@ -39,14 +39,14 @@ pub struct Host<C: HasContextPath, W> {
     contexts: Indexed<C>,
     words: W,
     connections: Connections,
-    // What the last piece brought, of which nothing is said behind its event. The next has its memory.
+    // The items of the last piece, which are unspecified after its event. The next piece reuses their memory.
     items: Vec<Item>,
     spare: Spare,
 }
 
 impl<C: HasContextPath, W> Host<C, W> {
-    /// The contexts in their order, with the index of their paths, before any event: no connection is known, and the moment is 0. It takes no
-    /// memory.
+    /// Creates a host of the contexts in order, with the index of their paths, before any event: no connection is
+    /// known, and the time is 0. It does not allocate.
     pub fn new(alloc: Global, contexts: Vec<C>, index: ContextIndex, words: W) -> Host<C, W>
         requires { index ≡ map C.path_of contexts.items }
         ensures { state_of result ≡ opening contexts.items words }
@@ -63,14 +63,14 @@ impl<C: HasContextPath, W> Host<C, W> {
         }
     }
 
-    /// Whether an event wanted memory.
+    /// Returns whether an event ran out of memory.
     pub fn is_stopped(&self) -> bool
         ensures { result ≡ (state_of self.now).stopped }
     {
         self.stopped
     }
 
-    /// Returns what is awaited of a connection: nothing of one that has closed or is not known.
+    /// Returns what is awaited of a connection: nothing if it has closed or is not known.
     #[inline(always)]
     pub fn awaits(&self, connection: u64) -> Awaited
         ensures { result ≡ awaited_in (state_of self.now).connections connection }
@@ -78,7 +78,7 @@ impl<C: HasContextPath, W> Host<C, W> {
         self.connections.awaits(connection)
     }
 
-    /// The contexts in their order.
+    /// Returns the contexts in order.
     pub fn contexts(&self) -> &[C]
         ensures { result.now ≡ (state_of self.now).world.contexts }
     {
@@ -87,13 +87,15 @@ impl<C: HasContextPath, W> Host<C, W> {
 }
 
 impl<C: Context, W: Words> Host<C, W> {
-    /// Takes an event: the moment is raised, the sessions that have expired end, and then it happens (RFC 9112, section 9; Jakarta Servlet
-    /// 6.0, sections 7.5 and 13.8). A connection and the context of a request are found as fast among many as among few.
+    /// Handles an event: raises the time, ends the sessions that have expired, and lets the event happen (RFC 9112,
+    /// section 9; Jakarta Servlet 6.0, sections 7.5 and 13.8). The time to find a connection or the context of a
+    /// request does not depend on their number.
     ///
     /// # Errors
-    /// [`StepFault`], the first that stands. After one other than `NoMemory` nothing has changed, and after `NoMemory` each event is refused
-    /// as `Stopped`; what the event brought is lost then, the sessions that have expired have ended, and the event broke off: a context that was
-    /// given no message of it is as it was then.
+    /// The first [`StepFault`] that applies. After any fault but `NoMemory`, nothing has changed. After `NoMemory`,
+    /// each later event is refused as `Stopped`. The reaction to the event is lost, the expired sessions have ended,
+    /// and the event broke off. A context that was given no message of the event is then as it was after its expired
+    /// sessions ended.
     pub fn step(&mut self, happening: Happening) -> Result<Reaction, StepFault>
         ensures steps { StepsSo (theory_of C.path_of C.conduct W.draws) (state_of self.old) (happening_of happening.entry) result (state_of self.new) }
         ensures alters { AltersAll C.conduct (state_of self.old).world.contexts (state_of self.new).world.contexts }
@@ -113,7 +115,7 @@ impl<C: Context, W: Words> Host<C, W> {
         }
     }
 
-    // An event that nothing refuses but want of memory.
+    // Handles an event that can only fail by running out of memory.
     fn accept(&mut self, happening: Happening) -> Result<Reaction, NoMemory>
         requires runs { (state_of self.old).stopped ≡ false }
         requires fits { fault_of (state_of self.old).connections (happening_of happening) ≡ None }
@@ -142,7 +144,7 @@ impl<C: Context, W: Words> Host<C, W> {
         Ok(output.into_reaction())
     }
 
-    // What an event has brought before it happens.
+    // Returns the empty output of an event.
     fn output(&self) -> Output
         ensures { reaction_of result ≡ record { sends = []; closes = false; journal = new_journal; edited = None } }
     {
@@ -150,12 +152,13 @@ impl<C: Context, W: Words> Host<C, W> {
         Output::new(self.alloc, room, self.spare.take_journal(self.alloc))
     }
 
-    /// Takes the memory of what an event brought, of which nothing is needed any more, for what those to come bring: what is little of it is kept.
+    /// Reclaims the memory of an earlier event's bytes and journal, which the caller no longer needs. Later events
+    /// reuse it. Only small buffers are kept.
     pub fn recycle(&self, room: Vec<u8>, journal: Journal) {
         self.spare.keep(room, journal);
     }
 
-    // The event itself, at its moment.
+    // Lets the event itself happen, at its time.
     fn happen(&mut self, happening: Happening, output: &mut Output) -> Result<(), NoMemory>
         requires fits { fault_of (state_of self.old).connections (happening_of happening) ≡ None }
         requires unclosed { output.old.closes ≡ false }
@@ -188,7 +191,7 @@ impl<C: Context, W: Words> Host<C, W> {
         }
     }
 
-    // The constraints of the context that has the path are edited.
+    // Edits the constraints of the context that has the path.
     fn edit(&mut self, path: &str, edit: &Edit, output: &mut Output) -> Result<(), NoMemory>
         ensures edits { IfOk result (λ _. (effect : Effect C)
             × EditsContext (theory_of C.path_of C.conduct W.draws) (state_of self.old) path.now edit.now effect (state_of self.new)
@@ -204,7 +207,8 @@ impl<C: Context, W: Words> Host<C, W> {
         Ok(())
     }
 
-    // A piece of a connection: the items that it completes are handled, and behind one that closes the connection nothing more is read.
+    // Reads a piece of a connection and handles the items that it completes. After an item that closes the connection,
+    // nothing more is read.
     fn take_piece(&mut self, number: u64, piece: &[u8], output: &mut Output) -> Result<(), NoMemory>
         requires known { IsSome ((state_of self.old).connections.held number) }
         requires unclosed { output.old.closes ≡ false }
@@ -234,7 +238,7 @@ impl<C: Context, W: Words> Host<C, W> {
 }
 
 impl<C: HasContextPath, W: Drop> Host<C, W> {
-    /// The contexts back, in their order. It takes no memory.
+    /// Returns the contexts in order. It does not allocate.
     pub fn into_contexts(self) -> Vec<C>
         ensures { result.items ≡ (state_of self).world.contexts }
     {

@@ -30,7 +30,7 @@ use sv_text::NoMemory;
 use sv_uri::path::Canon;
 use sv_wire::DateText;
 
-/// Contexts in their order, with an index of their paths. Contracts see their list.
+/// Contexts in order, with an index of their paths. Contracts see only the list of contexts.
 #[derive(Drop)]
 pub(crate) struct Indexed<C: HasContextPath> {
     contexts: Vec<C>,
@@ -48,7 +48,7 @@ impl<C: HasContextPath> Model for Indexed<C> {
 }
 
 impl<C: HasContextPath> Indexed<C> {
-    /// The contexts in their order, with the index of their paths.
+    /// Creates an indexed list of contexts from the contexts in order and the index of their paths.
     pub(crate) fn new(contexts: Vec<C>, index: ContextIndex) -> Indexed<C>
         requires { index ≡ map C.path_of contexts.items }
         ensures { result ≡ contexts.items }
@@ -56,14 +56,14 @@ impl<C: HasContextPath> Indexed<C> {
         Indexed { contexts, index }
     }
 
-    /// The contexts in their order.
+    /// Returns the contexts in order.
     pub(crate) fn as_slice(&self) -> &[C]
         ensures { result.now ≡ self.now }
     {
         self.contexts.as_slice()
     }
 
-    /// The contexts back, in their order.
+    /// Returns the contexts in order, and drops the index.
     pub(crate) fn into_vec(self) -> Vec<C>
         ensures { result.items ≡ self }
     {
@@ -71,7 +71,8 @@ impl<C: HasContextPath> Indexed<C> {
         contexts
     }
 
-    /// The place of the context of a path, as [`context_place`](sv_context_path::context_place) finds it, as fast among many as among few.
+    /// Returns the place of the context for a path, as [`context_place`](sv_context_path::context_place) finds it. The
+    /// time does not depend on the number of contexts.
     pub(crate) fn place(&self, path: &str) -> Option<usize>
         ensures chosen { result ≡ position (λ context. is_chosen (map C.path_of self.now) path.now (C.path_of context)) self.now }
         ensures bound { IfSome result (λ place. place < length self.now) }
@@ -82,7 +83,7 @@ impl<C: HasContextPath> Indexed<C> {
 }
 
 impl<C: Context> Indexed<C> {
-    /// Ends the sessions that have expired at the moment, context by context.
+    /// Ends the sessions that have expired at `moment`, context by context.
     #[inline(always)]
     pub(crate) fn expire_all(&mut self, alloc: Global, moment: u64, journal: &mut Journal)
         ensures expires { (told : List Entry) × ExpiresAll C.conduct self.old moment told self.new
@@ -92,7 +93,7 @@ impl<C: Context> Indexed<C> {
         expire_all(alloc, self.contexts.as_mut_slice(), moment, journal);
     }
 
-    /// Has the first context that has the path edit its constraints.
+    /// Edits the constraints of the first context that has the path.
     pub(crate) fn edit<W: Words>(
         &mut self,
         alloc: Global,
@@ -107,7 +108,7 @@ impl<C: Context> Indexed<C> {
         edit_context::<C, W>(alloc, self.contexts.as_mut_slice(), path, edit)
     }
 
-    /// Has the context at the place handle a message.
+    /// Lets the context at a place handle a message.
     pub(crate) fn handle_at<W: Words>(
         &mut self,
         alloc: Global,

@@ -1,4 +1,4 @@
-//! The handling of what a stream says, in its order.
+//! Handling the items of a stream, in order.
 
 ghost use Rattle.std.specs.Prelude.{◌≡◌, IfErr, IfOk, List, false};
 ghost use Rattle.sv_host.specs.Output.{Adds};
@@ -43,7 +43,8 @@ fn take_item<C: Context, W: Words>(
     }
 }
 
-// Handles items in their order, of which nothing is said then, and none behind one that closes the connection (RFC 9112, section 9.6).
+// Handles items in order, and none after an item that closes the connection (RFC 9112, section 9.6). The items are
+// unspecified afterwards.
 pub(crate) fn take_items<C: Context, W: Words>(
     alloc: Global,
     contexts: &mut Indexed<C>,

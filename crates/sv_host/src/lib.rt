@@ -1,5 +1,5 @@
-//! Contexts behind connections: what refuses an event, the end of expired sessions, the handling of what the streams say, and what an event
-//! brings.
+//! The host of contexts and their connections: refusing events, ending expired sessions, handling the items of the
+//! streams, and building the reaction to an event.
 #![tactic(auto)]
 
 mod answering;

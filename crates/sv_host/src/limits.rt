@@ -1,7 +1,7 @@
-//! Limits of memory that is kept.
+//! Limits of the memory that is kept for reuse.
 
-/// For how many bytes what was sent may have room that is kept for what is sent next.
+/// The maximum capacity, in bytes, of a buffer for sent bytes that is kept for the next event.
 pub(crate) const MAX_KEPT_BYTES: usize = 4_096;
 
-/// How many entries a journal may have whose room is kept for the next one.
+/// The maximum number of entries of a journal whose memory is kept for the next one.
 pub(crate) const MAX_KEPT_ENTRIES: usize = 16;

@@ -1,4 +1,4 @@
-//! The handling of messages: by the container itself, or by the context that a message is for.
+//! Handling messages, by the container itself or by the context at the message's destination.
 
 ghost use Rattle.std.specs.Prelude.{IfErr, IfOk, List};
 ghost use Rattle.sv_host.specs.Output.{Adds};
@@ -23,7 +23,7 @@ use sv_uri::fault::CanonFault;
 use sv_uri::path::Canon;
 use sv_wire::DateText;
 
-// Handles a message, which draws a pair of words whoever answers it.
+// Handles a message. It draws a pair of words, no matter what answers it.
 pub(crate) fn take_message<C: Context, W: Words>(
     alloc: Global,
     contexts: &mut Indexed<C>,
@@ -43,7 +43,7 @@ pub(crate) fn take_message<C: Context, W: Words>(
     respond::<C, W>(alloc, contexts, date, message, pair, output)
 }
 
-// Answers a message, or has the context answer it that it is for.
+// Answers a message, or lets the context at its destination answer it.
 fn respond<C: Context, W: Words>(
     alloc: Global,
     contexts: &mut Indexed<C>,
@@ -75,7 +75,7 @@ fn respond<C: Context, W: Words>(
     }
 }
 
-// Answers a message whose target has that canonical path, or has the context answer it that serves the path.
+// Answers a message whose target has the canonical path `canon`, or lets the context that serves the path answer it.
 fn respond_at<C: Context, W: Words>(
     alloc: Global,
     contexts: &mut Indexed<C>,

@@ -1,4 +1,4 @@
-//! What an event has brought so far.
+//! The output of an event so far.
 
 ghost use Rattle.std.specs.Prelude.{◌≡◌, false, [], None};
 ghost use Rattle.sv_host.specs.Output.{Adds, reaction_of};
@@ -11,7 +11,7 @@ use sv_policy::EditFault;
 use sv_run::Reaction;
 use sv_text::Bytes;
 
-/// A reaction that grows, and room for its bytes, of which nothing is said.
+/// A growing reaction, and a buffer for its bytes with unspecified contents.
 #[derive(Drop)]
 pub struct Output {
     pub(crate) room: Vec<u8>,
@@ -22,7 +22,7 @@ pub struct Output {
 }
 
 impl Output {
-    /// Nothing yet, with that room and that journal, which is empty. It takes no memory.
+    /// Creates an empty output with a buffer and an empty journal. It does not allocate.
     pub fn new(alloc: Global, room: Vec<u8>, journal: Journal) -> Output
         requires { journal ≡ new_journal }
         ensures { reaction_of result ≡ record { sends = []; closes = false; journal = new_journal; edited = None } }
@@ -36,14 +36,14 @@ impl Output {
         }
     }
 
-    /// Tells the answer to an edit.
+    /// Reports the answer to an edit. If an answer is present already, that one stays.
     pub(crate) fn tell_edited<C>(&mut self, answer: Result<u64, EditFault>)
         ensures { Adds {Context = C} self.old (editing answer) self.new }
     {
         self.edited = self.edited.or(Some(answer));
     }
 
-    /// The whole reaction.
+    /// Returns the finished reaction.
     pub fn into_reaction(self) -> Reaction
         ensures { result ≡ reaction_of self }
     {

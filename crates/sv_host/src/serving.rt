@@ -19,7 +19,7 @@ use sv_text::NoMemory;
 use sv_uri::path::Canon;
 use sv_wire::DateText;
 
-// Has the context at the place handle a message.
+// Lets the context at a place handle a message, and appends its response to the output.
 pub(crate) fn handle_at<C: Context, W: Words>(
     alloc: Global,
     contexts: &mut [C],

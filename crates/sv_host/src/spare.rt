@@ -1,4 +1,4 @@
-//! Memory of what an event brought, for the next.
+//! Memory of earlier events, kept for the next.
 
 ghost use Rattle.std.specs.Prelude.{◌≡◌, []};
 ghost use Rattle.sv_journal.specs.Journal.{new_journal};
@@ -8,7 +8,7 @@ use std::alloc::Global;
 use std::cell::Cell;
 use sv_journal::Journal;
 
-/// The memory of what events brought, where it is little. What is brought is never read from it: contracts see nothing of it.
+/// Small buffers and journals of earlier events. Their contents are never read, so contracts do not mention them.
 #[derive(Drop)]
 pub(crate) struct Spare {
     room: Cell<Vec<u8>>,
@@ -16,7 +16,7 @@ pub(crate) struct Spare {
 }
 
 impl Spare {
-    /// None. It takes no memory.
+    /// Creates an empty store of spare memory. It does not allocate.
     pub(crate) fn new(alloc: Global) -> Spare {
         Spare {
             room: Cell::new(Vec::new(alloc)),
@@ -24,7 +24,7 @@ impl Spare {
         }
     }
 
-    /// Keeps what is little of it. What the entries hold is let go.
+    /// Keeps the buffer and the journal if they are small, and drops the contents of the entries.
     pub(crate) fn keep(&self, room: Vec<u8>, journal: Journal) {
         if room.capacity() <= MAX_KEPT_BYTES {
             self.room.set(room);
@@ -34,12 +34,12 @@ impl Spare {
         }
     }
 
-    /// Room for bytes, of which nothing is said.
+    /// Returns a buffer with unspecified contents.
     pub(crate) fn take_room(&self, alloc: Global) -> Vec<u8> {
         self.room.replace(Vec::new(alloc))
     }
 
-    /// An empty journal.
+    /// Returns an empty journal.
     pub(crate) fn take_journal(&self, alloc: Global) -> Journal
         ensures { result ≡ new_journal }
     {

@@ -1,4 +1,4 @@
--- An event beside a connection that is not its own.
+-- An event and a connection that is not its own.
 use Rattle.std.proofs.Common.{◌≡◌, ◌≢◌, ℕ, ◌+◌, ◌-◌, Bool, true, false, cond, List, Option, None, Some, Result, refl, sym, ap, ◌∙◌, subst, eqb, eqb-true}
 use Rattle.std.specs.Map.{update}
 use Rattle.std.proofs.lemmas.Map.{update_apart}
@@ -16,7 +16,7 @@ use Rattle.sv_session.specs.Expiry as expiry
 use Rattle.sv_session.specs.Store.{Store}
 use Rattle.sv_wire.specs.Inbox.{Held, nothing_held}
 
--- what two connections hold can be set in either order
+-- updates of two different connections commute
 crossed : (held : ℕ → Option Held) (number other : ℕ) (one two : Option Held) → other ≢ number
     → update eqb (update eqb held number one) other two ≡ update eqb (update eqb held other two) number one
 crossed held number other one two apart = λ i q. at q (eqb other q) refl (eqb number q) refl i
@@ -28,7 +28,7 @@ crossed held number other one two apart = λ i q. at q (eqb other q) refl (eqb n
     at q false here t there = rw here refl
 
 module _ {Context Words : Type 0} where
-  -- an event is refused by its own connection alone
+  -- only its own connection can refuse an event
   pub fault_beside : (state : State Context Words) (number : ℕ) (held : Held) (happening : Happening) → connection_of happening ≢ Some number
       → fault_of (holding number held state).connections happening ≡ fault_of state.connections happening
   fault_beside state number held (Opened other) apart =
@@ -54,7 +54,7 @@ module _ {Context Words : Type 0} (theory : Theory Context Words) where
       (settled_there theory moment before place edits.context edits.there settled))
       settled)
 
-  -- an event keeps the moment, and leaves no session that has expired
+  -- an event keeps the time, and leaves no session that has expired
   pub happens_settled : EditsAlone theory.path_of theory.conduct → EndsExpired theory → (state after : State Context Words) (happening : Happening) (effect : Effect Context)
       → Happens theory state happening effect after → AreSettled theory state.moment state.world.contexts
       → (after.moment ≡ state.moment) × AreSettled theory state.moment after.world.contexts × (after.stopped ≡ state.stopped)
@@ -91,7 +91,7 @@ module _ {Context Words : Type 0} (theory : Theory Context Words) where
     ap (λ (s : State Context Words). s.stopped) happens.is_after,
   )
 
-  -- an event of a state is one of the state in which a connection that is not its own holds something else
+  -- an event still happens if a connection that is not its own holds something else
   pub record HappensBeside (state : State Context Words) (number : ℕ) (held : Held) (happening : Happening) (effect : Effect Context)
       (after : State Context Words) : Type 0 where
     pub later : State Context Words
@@ -200,7 +200,7 @@ module _ {Context Words : Type 0} (theory : Theory Context Words) where
         is_after = ap (λ (s : State Context Words). holding number held s) happens.is_after;
       }
 
-  -- an event of another connection leaves what a connection holds
+  -- an event does not change what another connection holds
   pub happens_apart : (state after : State Context Words) (number : ℕ) (happening : Happening) (effect : Effect Context)
       → connection_of happening ≢ Some number → Happens theory state happening effect after
       → after.connections.held number ≡ state.connections.held number

@@ -1,4 +1,5 @@
--- What an event that wanted memory keeps of the contexts that were given no request, or none that touches them.
+-- The unchanged parts of contexts after an event that ran out of memory: of contexts that were given no request, or
+-- none that touches the part.
 use Rattle.std.proofs.Common.{◌≡◌, ◌≢◌, ℕ, zero, suc, Bool, true, false, inl, inr, List, [], ◌∷◌, ◌++◌, map, Option, Some, refl, sym, ap, ◌∙◌, subst, slice_get, slice_set}
 use Rattle.std.specs.List.{AllByRecursion}
 use Rattle.std.proofs.lemmas.List.{map-id}
@@ -24,12 +25,12 @@ all_parts P (x ∷ xs) ys all = let rest = all_parts P xs ys all.1 in ((all.0, r
 same_value : {X : Type 0} (one other : X) → ◌≡◌ {A = Option X} (Some one) (Some other) → one ≡ other
 same_value one other same = cc
 
--- a part of a context, and which requests may touch it
+-- a part of a context, and the requests that may touch it
 module _ {Context Words : Type 0} (theory : Theory Context Words) {X : Type 0} (part : Context → X) (touches : Context → Request → Bool) (place : ℕ) where
   abbrev pub Untouched : List (Given Context) → Type 0
   Untouched given = AllByRecursion (λ it. it.place ≡ place → touches it.context it.request ≡ false) given
 
-  -- the part of the context at the place is as it was
+  -- the part of the context at the place is unchanged
   abbrev pub Same : List Context → List Context → Type 0
   Same before after = slice_get (map part after) place ≡ slice_get (map part before) place
 
@@ -48,7 +49,7 @@ module _ {Context Words : Type 0} (theory : Theory Context Words) {X : Type 0} (
     same_contexts : (before after : List Context) → after ≡ before → Same before after
     same_contexts before after is = ap (λ cs. slice_get (map part cs) place) is
 
-    -- ---- what was handled
+    -- ---- handled items
 
     responds_same : (moment : ℕ) (to : Destination) (message : MessageRecord) (words : ℕ × ℕ) (before after : List Context) (effect : Effect Context)
         → Responds theory moment to message words before effect after → Untouched (given_for_all effect.deeds) → Same before after
@@ -81,7 +82,7 @@ module _ {Context Words : Type 0} (theory : Theory Context Words) {X : Type 0} (
         (λ rest. takes_same moment items takes.0 after takes.2 rest both.1)
         ∙ item_same moment item before takes.0 takes.1 takes.3 both.0
 
-    -- ---- what broke off
+    -- ---- items that broke off
 
     left_same : (given : Given Context) (left : Context) → IsLeftBy theory given left → touches given.context given.request ≡ false → part left ≡ part given.context
     left_same given left (inl cut) none = cut_short given.context left given.request cut none
@@ -131,7 +132,7 @@ module _ {Context Words : Type 0} (theory : Theory Context Words) {X : Type 0} (
     breaks_same before (Tick moment) after given nothing untouched = nothing_same before.world after given nothing
     breaks_same before (Edited path edit) after given nothing untouched = nothing_same before.world after given nothing
 
-    -- where an expiry keeps the part too, the event does
+    -- if expiry keeps the part too, the event does
     module _ (by_expiry : (context after : Context) (moment : ℕ) (told : List Entry) → theory.conduct.Expires context moment told after → part after ≡ part context) where
       expiry_same : (contexts after : List Context) (moment : ℕ) (told : List Entry) → ExpiresAll theory.conduct contexts moment told after
           → map part after ≡ map part contexts
@@ -151,7 +152,7 @@ others_untouched : {Context Words : Type 0} (theory : Theory Context Words) (pla
 others_untouched theory place [] others = tt
 others_untouched theory place (it ∷ given) others = (λ is. absurd (others.0 is), others_untouched theory place given others.1)
 
--- a context that was given no request is as the expiry left it
+-- a context that was given no request is as expiry left it
 pub others_stay : {Context Words : Type 0} (theory : Theory Context Words) → OthersStay theory
 others_stay {Context} theory before after happening breaks place others =
     ap (λ cs. slice_get cs place) (sym (map-id after.world.contexts))

@@ -23,7 +23,7 @@ use Rattle.sv_wire.specs.declared.item.Item.{Item}
 use Rattle.sv_wire.specs.declared.item.Item.TheVariants.{Continue, Message, Refuse}
 use Rattle.sv_message.specs.declared.message.Message.{Message as MessageRecord}
 
--- what stands at a place of a list in which another place was set
+-- the member at a place after some place was set is the new member or an old one
 pub at_set : {X : Type 0} (items : List X) (set place : ℕ) (new there : X) → slice_get (slice_set items set new) place ≡ Some there
     → ((place ≡ set) × (new ≡ there)) ⊎ ((place ≢ set) × (slice_get items place ≡ Some there))
 at_set [] set place new there found = absurd (cc)
@@ -37,11 +37,11 @@ at_set (item ∷ items) (suc set) (suc place) new there found = next (at_set ite
     next (inl here) = inl (ap suc here.0, here.1)
     next (inr apart) = inr (λ same. apart.0 (cc), apart.1)
 
--- no container is stopped and runs
+-- no container is both stopped and running
 pub runs_on : {b : Bool} → b ≡ true → b ≡ false → ⊥
 runs_on is not = absurd (cc)
 
--- a container that is stopped stays so
+-- a container that is stopped stays stopped
 pub stopped_stays : {Context Words : Type 0} (theory : Theory Context Words) (before after : State Context Words) (happenings : List Happening) (answers : List (Answer Context))
     → Run theory before happenings answers after → before.stopped ≡ true → after.stopped ≡ true
 stopped_stays theory before after [] [] run stopped = ap (λ s. s.stopped) run ∙ stopped
@@ -55,7 +55,7 @@ stopped_stays theory before after (happening ∷ happenings) (Err TooManyConnect
 stopped_stays theory before after (happening ∷ happenings) (Err NoMemory ∷ answers) run stopped = absurd (runs_on stopped run.1.runs)
 
 module _ {Context Words : Type 0} (theory : Theory Context Words) (place number caller : ℕ) where
-  -- whatever holds the caller then held it before, and all along, or got it by a login
+  -- a session that holds the caller held it before, and throughout, or got it by a login
   abbrev Came : List Context → List (Deed Context) → List Context → Type 0
   Came before deeds after =
       HoldsAt theory place number caller after
@@ -174,7 +174,7 @@ module _ {Context Words : Type 0} (theory : Theory Context Words) (place number 
         (came_same takes.0.contexts after.contexts (ap (λ (w : World Context Words). w.contexts) none.1)))
         (λ rest. came_takes moment items takes.0 after takes.2 rest)))
 
-    -- an edit keeps the sessions, and with them their callers
+    -- an edit keeps the sessions, and so their callers
     came_edited : (found : Option ℕ) (before after : List Context) (edit : Edit) (answer : Result ℕ EditFault) → EditsIn theory found before edit answer after
         → Came before [] after
     came_edited None before after edit answer edits holds = came_same before after edits.1 holds
@@ -218,7 +218,7 @@ module _ {Context Words : Type 0} (theory : Theory Context Words) (place number 
         (subst (λ cs. Came before.world.contexts [] cs) (sym (ap (λ (s : State Context Words). s.world.contexts) happens.is_after))
         (came_edited (place_with theory before.world.contexts path) before.world.contexts happens.contexts edit happens.answer happens.edits))
 
-    -- sessions that end take their callers along
+    -- sessions lose their callers when they end
     held_before : (contexts after : List Context) (moment : ℕ) (told : List Entry) (at : ℕ) → ExpiresAll theory.conduct contexts moment told after
         → (context : Context) → slice_get after at ≡ Some context → Holds theory number caller context
         → (old : Context) × (slice_get contexts at ≡ Some old) × Holds theory number caller old

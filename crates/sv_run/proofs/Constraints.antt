@@ -1,4 +1,4 @@
--- Which constraints stand.
+-- The constraints after a run.
 use Rattle.std.proofs.Common.{◌≡◌, ◌≢◌, ℕ, zero, suc, Bool, true, false, cond, List, [], ◌∷◌, ◌++◌, map, Option, None, Some, Result, Ok, Err, refl, sym, ap, ◌∙◌, subst, slice_get, slice_set, bytes_eq, get_or, position}
 use Rattle.std.specs.Option.{option_map}
 use Rattle.std.proofs.lemmas.Grind.{fold-append}
@@ -33,14 +33,14 @@ use Rattle.sv_message.specs.declared.message.Message.{Message as MessageRecord}
 some_is : {X : Type 0} {a b : X} → ◌≡◌ {A = Option X} (Some a) (Some b) → a ≡ b
 some_is same = cc
 
--- a member that cannot be told from what stood at its place
+-- replacing a member by one with the same image keeps the images of the list
 same_map : {X Y : Type 0} (f : X → Y) (items : List X) (place : ℕ) (old new : X) → slice_get items place ≡ Some old → f new ≡ f old
     → map f (slice_set items place new) ≡ map f items
 same_map f [] place old new there same = refl
 same_map f (item ∷ items) zero old new there same = ap (λ y. y ∷ map f items) (same ∙ ap f (sym (some_is there)))
 same_map f (item ∷ items) (suc place) old new there same = ap (λ ys. f item ∷ ys) (same_map f items place old new there same)
 
--- what stands at a place that was set, and at another
+-- the member at the place that was set, and at another place
 pub get_set : {X : Type 0} (items : List X) (place : ℕ) (old new : X) → slice_get items place ≡ Some old → slice_get (slice_set items place new) place ≡ Some new
 get_set [] place old new there = absurd (cc)
 get_set (item ∷ items) zero old new there = refl
@@ -53,7 +53,7 @@ get_apart (item ∷ items) zero (suc place) new apart = refl
 get_apart (item ∷ items) (suc set) zero new apart = refl
 get_apart (item ∷ items) (suc set) (suc place) new apart = get_apart items set place new (λ same. apart (ap suc same))
 
--- two tests whose first places are one pass the same member
+-- two tests that first hold at the same place accept the same member
 pass_alike : (paths : List (List ℕ)) (path other : List ℕ) (place : ℕ) → position (bytes_eq path) paths ≡ Some place → position (bytes_eq other) paths ≡ Some place
     → bytes_eq path other ≡ true
 pass_alike paths path other place one two =
@@ -61,14 +61,14 @@ pass_alike paths path other place one two =
     let second : other ≡ get_or paths place [] = (bytes_eq-Decides other (get_or paths place [])).0 (position-Some (bytes_eq other) paths place [] two).1 in
     (bytes_eq-Decides path other).1 (first ∙ sym second)
 
--- what stands after an answer that is not for want of memory
+-- the constraints after an answer other than `NoMemory`
 stands_after : (old new : Standing) (answer : Result ℕ EditFault) (outcome : Result (ℕ × Standing) EditFault) → GivesOutcome old new answer outcome
     → answer ≢ Err faults.NoMemory → new ≡ standing_after old outcome
 stands_after old new answer (Err fault) gives answers = gives.1
 stands_after old new (Ok number) (Ok done) gives answers = gives.1
 stands_after old new (Err fault) (Ok done) gives answers = absurd (answers (ap Err gives.0))
 
--- an edit is not refused but for want of memory
+-- a refused event is no edit
 refused_edits_none : (path : List ℕ) (connections : Connections) (happening : Happening) (fault : StepFault) → fault_of connections happening ≡ Some fault
     → edit_for path happening ≡ []
 refused_edits_none path connections (Opened number) fault is = refl
@@ -79,7 +79,7 @@ refused_edits_none path connections (Tick moment) fault is = refl
 refused_edits_none path connections (Edited other edit) fault is = absurd (cc)
 
 module _ {Context Words : Type 0} (theory : Theory Context Words) where
-  -- the same constraints stand in each context, at the same paths
+  -- each context has the same constraints and the same path as before
   record Kept (before after : List Context) : Type 0 where
     pub paths : map theory.path_of after ≡ map theory.path_of before
     pub policies : map theory.conduct.policy_of after ≡ map theory.conduct.policy_of before
@@ -134,7 +134,7 @@ module _ {Context Words : Type 0} (theory : Theory Context Words) where
         }
 
     module _ (path : List ℕ) (place : ℕ) where
-      -- at the place, where the path is the context's, the constraints stand as the edits have left them
+      -- at the place of the context with the path, the constraints are the result of the edits
       record Leaves (before : List Context) (edits : List Edit) (after : List Context) : Type 0 where
         pub paths : map theory.path_of after ≡ map theory.path_of before
         pub stands : place_with theory before path ≡ Some place → (standing : Standing) → policy_at theory before place ≡ Some standing
@@ -154,7 +154,7 @@ module _ {Context Words : Type 0} (theory : Theory Context Words) where
                 ∙ ap Some (sym (fold-append edited standing edits more));
           }
 
-      -- an edit of a context changes its constraints, and no others
+      -- an edit of a context changes only its own constraints
       at_place : (before after : List Context) (at : ℕ) (edit : Edit) (answer : Result ℕ EditFault) (edits : EditsAt theory at before edit answer after)
           → policy_at theory after at ≡ Some (theory.conduct.policy_of edits.edited)
       at_place before after at edit answer edits =

@@ -1,4 +1,4 @@
--- Pieces that are cut, over whole states.
+-- Cut pieces, over whole states.
 use Rattle.std.proofs.Common.{◌≡◌, ℕ, Bool, true, false, ◌||◌, ◌⊎◌, inl, inr, List, [], ◌∷◌, ◌++◌, map, Ok, Option, Some, refl, sym, ap, ◌∙◌, subst, eqb, append-nil, append_assoc}
 use Rattle.std.proofs.lemmas.Map.{update_here, update-update}
 use Rattle.sv_body.proofs.BoolLemmas.{MatchBool-from_false}
@@ -18,11 +18,11 @@ use Rattle.sv_run.proofs.Taking.{TakesBehind, expiring_settles, takes_in_parts, 
 use Rattle.sv_wire.specs.declared.item.Item.{Item}
 use Rattle.sv_wire.specs.Inbox.{Held, spent_for_good}
 
--- no truth is both
+-- no Boolean is both true and false
 not_both : {b : Bool} → b ≡ true → b ≡ false → ⊥
 not_both is not = absurd (cc)
 
--- only what a connection holds last is seen
+-- only the last update of a connection is visible
 pub held_last : {Context Words : Type 0} (state : State Context Words) (number : ℕ) (one other : Held)
     → holding number other (holding number one state) ≡ holding number other state
 held_last state number one other =
@@ -33,7 +33,7 @@ held_last state number one other =
 pub same_held : (one other : Held) → ◌≡◌ {A = Option Held} (Some one) (Some other) → one ≡ other
 same_held one other same = cc
 
--- a text in two parts, and in two others: what lies between the cuts is the end of one part and the start of another
+-- one text cut at two places: the text between the cuts ends one part and begins another
 cut_twice : {X : Type 0} (first second part unread : List X) → first ++ second ≡ part ++ unread
     → ((more : List X) × (part ≡ first ++ more) × (second ≡ more ++ unread)) ⊎ ((more : List X) × (first ≡ part ++ more))
 cut_twice [] second part unread same = inl (part, refl, same)
@@ -52,13 +52,13 @@ cut_twice {X} (x ∷ first) second (y ∷ part) unread same = next (heads same) 
     next is (inl behind) = inl (behind.0, (λ i. sym is i ∷ behind.1 i), behind.2)
     next is (inr before) = inr (before.0, (λ i. is i ∷ before.1 i))
 
--- a connection that is closed holds that nothing more is read
+-- a connection that is closed reads nothing more
 closed_stays : (closes : Bool) → spent_for_good ≡ held_where closes spent_for_good
 closed_stays true = refl
 closed_stays false = refl
 
 module _ {Context Words : Type 0} (theory : Theory Context Words) where
-  -- what comes behind the first part of a piece: nothing is read of it where that closes the connection
+  -- the second part of a piece: none of it is read if the first part closes the connection
   piece_behind : (state after : State Context Words) (number : ℕ) (second more unread : List ℕ) (between world : World Context Words)
       (closes : Bool) (back : Effect Context) (held left : Held) (items : List Item)
       → second ≡ more ++ unread → ((closes || back.closes) ≡ false → unread ≡ [])
@@ -97,7 +97,7 @@ module _ {Context Words : Type 0} (theory : Theory Context Words) where
         is_after = is_after ∙ sym (held_last (record state { world = world }) number held (held_where back.closes left));
       }
 
-  -- the two parts of a piece, one behind the other
+  -- the two parts of a piece, one after the other
   record TakesParts (before : State Context Words) (number : ℕ) (first second : List ℕ) (effect : Effect Context) (after : State Context Words) : Type 0 where
     pub between : State Context Words
     pub front : Effect Context
@@ -108,7 +108,7 @@ module _ {Context Words : Type 0} (theory : Theory Context Words) where
 
   module _ (state after : State Context Words) (number : ℕ) (first second : List ℕ) (effect : Effect Context)
       (piece : TakesPiece theory state number (first ++ second) effect after) where
-    -- the first part ends within what is read
+    -- the first part ends within the bytes that are read
     cut_within : (more : List ℕ) → piece.feeds.part ≡ first ++ more → second ≡ more ++ piece.feeds.unread → TakesParts state number first second effect after
     cut_within more is_part is_second =
         let fed = piece.feeds in
@@ -202,7 +202,7 @@ module _ {Context Words : Type 0} (theory : Theory Context Words) where
             (sym (piece.feeds.is_piece ∙ ap (λ more. piece.feeds.part ++ more) none ∙ append-nil piece.feeds.part))
             (sym (ap (λ more. second ++ more) none ∙ append-nil second))
 
-  -- a connection that is closed brings nothing
+  -- a closed connection has no effect
   closed_brings : (state after : State Context Words) (number : ℕ) (bytes : List ℕ) (effect : Effect Context)
       → (piece : TakesPiece theory state number bytes effect after) → piece.held ≡ spent_for_good
       → (effect ≡ nothing) × (after ≡ holding number spent_for_good state)
@@ -292,7 +292,7 @@ module _ {Context Words : Type 0} (theory : Theory Context Words) where
       subst (λ (s : State Context Words). AreSettled theory s.moment s.world.contexts) (sym piece.is_after)
       (takes_settled theory state.moment ends piece.items state.world piece.world effect piece.takes settled)
 
-  -- and it does not raise the moment again
+  -- and it does not raise the time again
   piece_raised : (state after : State Context Words) (number : ℕ) (bytes : List ℕ) (effect : Effect Context) (moment : ℕ)
       → (piece : TakesPiece theory state number bytes effect after) → raised state.moment moment ≡ state.moment
       → raised after.moment moment ≡ after.moment

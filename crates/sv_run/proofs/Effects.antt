@@ -1,4 +1,4 @@
--- Effects that are joined.
+-- Joined effects.
 use Rattle.std.proofs.Common.{◌≡◌, Bool, true, false, ◌||◌, Option, None, Some, refl, append_assoc, append-nil}
 use Rattle.std.specs.Option.{option_or}
 use Rattle.sv_run.specs.Effect.{Effect, nothing, joined}

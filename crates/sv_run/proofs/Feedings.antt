@@ -1,4 +1,4 @@
--- Pieces that are cut.
+-- Cut pieces.
 use Rattle.std.proofs.Common.{◌≡◌, ℕ, Bool, true, false, ◌||◌, ◌⊎◌, List, [], ◌∷◌, ◌++◌, Option, None, refl, sym, ap, ◌∙◌, subst, inl, inr, append_assoc, append-nil}
 use Rattle.std.specs.Bool.{MatchBool}
 use Rattle.std.proofs.lemmas.Bool.{MatchBool-at_true}
@@ -13,7 +13,7 @@ use Rattle.sv_wire.proofs.ReadsLemmas.{gives_more, readings_join, readings_are_u
 use Rattle.sv_run.specs.Laws.{FeedsInParts}
 use Rattle.sv_run.specs.Feeding.{Feeds, FeedsWhere, held_where}
 
--- a reading that has ended stays as it is, whatever follows
+-- once an item has ended the reading, further bytes change nothing
 pub readings_that_end_stay : (owed : Option OwedHead) (first second : List ℕ) (items : List Item) (left : Option OwedHead) (rest : List ℕ)
     → are_ended items ≡ true → Reads owed first items left rest → Reads owed (first ++ second) items left rest
 readings_that_end_stay owed first second [] left rest ends reads = absurd (cc)
@@ -31,7 +31,7 @@ readings_that_end_stay owed first second (item ∷ items) left rest ends reads =
     by_last true last none later = none
     by_last false goes_on behind later = later (subst (λ t. (t || are_ended items) ≡ true) goes_on ends) behind
 
--- where nothing more is read
+-- if nothing more is read
 feeds_spent : (before : Held) (piece : List ℕ) → before.spent ≡ true → Feeds before piece [] before
 feeds_spent before piece spent = MatchBool-from_true before.spent _ _ spent (refl, refl)
 
@@ -109,7 +109,7 @@ module _ (before after : Held) (first second : List ℕ) (items : List Item) whe
           MatchBool-from_false before.spent _ _ goes_on
           (subst (λ text. Reads before.owed text items after.owed after.rest) (append_assoc before.rest first second) whole.0, whole.1)
 
--- where a piece completes no item, it completes no other
+-- if a piece completes no item, it completes none in any other reading
 pub feeds_nothing : (before one other : Held) (piece : List ℕ) (items : List Item) → Feeds before piece [] one → Feeds before piece items other → items ≡ []
 feeds_nothing before one other piece items none some = by_spent before.spent refl none some
   where
@@ -121,19 +121,19 @@ feeds_nothing before one other piece items none some = by_spent before.spent ref
     by_spent false goes_on first second =
         sym (readings_are_unique before.owed (before.rest ++ piece) [] items one.owed one.rest other.owed other.rest first.0 second.0).0
 
--- a piece that is read whole, where the connection does not close
+-- the piece is read whole, and the connection stays open
 pub feeds_where : (before after : Held) (piece : List ℕ) (items : List Item) → Feeds before piece items after → FeedsWhere false before piece items after
 feeds_where before after piece items feeds =
     record { part = piece; unread = []; is_piece = sym (append-nil piece); is_all = λ stays. refl; left = after; feeds = feeds; is_after = refl }
 
--- where the connection does not close, the piece is read whole
+-- if the connection stays open, the piece is read whole
 pub where_all : (closes : Bool) (before after : Held) (piece : List ℕ) (items : List Item) → closes ≡ false → FeedsWhere closes before piece items after
     → Feeds before piece items after
 where_all closes before after piece items stays fed =
     subst (λ text. Feeds before text items after) (sym (fed.is_piece ∙ ap (λ more. fed.part ++ more) (fed.is_all stays) ∙ append-nil fed.part))
     (subst (λ h. Feeds before fed.part items h) (sym (fed.is_after ∙ ap (λ t. held_where t fed.left) stays)) fed.feeds)
 
--- where a piece completes no item, a part of it completes none
+-- if a piece completes no item, a part of it completes none
 pub where_nothing : (closes : Bool) (before one other : Held) (piece : List ℕ) (items : List Item) → Feeds before piece [] one → FeedsWhere closes before piece items other
     → items ≡ []
 where_nothing closes before one other piece items none some =

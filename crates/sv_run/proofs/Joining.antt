@@ -1,4 +1,4 @@
--- Runs one behind another, and events that are refused.
+-- Runs one after another, and refused events.
 use Rattle.std.proofs.Common.{◌≡◌, true, List, [], ◌∷◌, Ok, Err, refl, ap, ◌∙◌, subst}
 use Rattle.std.specs.List.{AllByRecursion}
 use Rattle.sv_run.specs.Contexts.{Theory}
@@ -16,7 +16,7 @@ module _ {Context Words : Type 0} (theory : Theory Context Words) where
   refused_events_change_nothing before after happening TooManyConnections refuses other = refuses.stays
   refused_events_change_nothing before after happening NoMemory refuses other = absurd (other refl)
 
-  -- a stopped container answers nothing else
+  -- a stopped container refuses every event as Stopped
   all_stopped : (before after : State Context Words) (happenings : List Happening) (answers : List (Answer Context)) → before.stopped ≡ true
       → Run theory before happenings answers after → AllByRecursion (λ answer. answer ≡ Err Stopped) answers × (after ≡ before)
   all_stopped before after [] [] stopped run = (tt, run)

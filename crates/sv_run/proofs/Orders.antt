@@ -17,7 +17,7 @@ use Rattle.sv_run.proofs.Taking.{expiring_settles}
 use Rattle.sv_wire.specs.Inbox.{Held}
 
 module _ {Context Words : Type 0} (theory : Theory Context Words) where
-  -- a piece that completes no item changes what its connection holds, and nothing else
+  -- a piece that completes no item changes only what its connection holds
   record IsQuiet (state : State Context Words) (number : ℕ) (held : Held) (bytes : List ℕ) (effect : Effect Context) (after : State Context Words) : Type 0 where
     pub left : Held
     pub feeds : Feeds held bytes [] left

@@ -1,4 +1,4 @@
--- What became of messages, and what the journal tells of it.
+-- The deeds for messages, and the journal's reports of them.
 use Rattle.std.proofs.Common.{◌≡◌, ℕ, true, List, [], ◌∷◌, ◌++◌, map, filter, Option, Some, None, Result, Ok, Err, refl, sym, ap, ◌∙◌, subst}
 use Rattle.std.specs.List.{AllByRecursion}
 use Rattle.std.proofs.lemmas.List.{map-append}
@@ -33,7 +33,7 @@ pub all_append : {X : Type 0} (P : X → Type 0) (xs ys : List X) → AllByRecur
 all_append P [] ys first second = second
 all_append P (x ∷ xs) ys first second = (first.0, all_append P xs ys first.1 second)
 
--- what the container answers itself has an outcome, but does not enter
+-- a message that the container answers itself has an outcome, but does not enter
 abbrev IsOwn : Destination → Type 0
 IsOwn (Itself entry response) = (is_outcome entry ≡ true) × ((context path : List ℕ) → ¬ (entry ≡ entries.Entered context path))
 IsOwn (Within place canon) = Unit {0}
@@ -50,7 +50,7 @@ own_of : (place_for : List ℕ → Option ℕ) (target : Target) → IsOwn (dest
 own_of place_for Star = (refl, λ context path same. absurd (cc))
 own_of place_for (Path target) = own_at place_for (canonical target)
 
--- each outcome has an entry, and only that of a message that entered says so
+-- each outcome has an entry, and only a message that entered has an entry that says so
 is_told : (context path : List ℕ) (came : Outcome) → is_outcome (outcome_entry context path came) ≡ true
 is_told context path Protected = refl
 is_told context path (LoggedIn number target) = refl
@@ -75,7 +75,7 @@ one_told : (entry : Entry) (behind : List Entry) → is_outcome entry ≡ true �
 one_told entry behind is none = rw (is, none) refl
 
 module _ {Context Words : Type 0} (theory : Theory Context Words) where
-  -- the entries tell what became of the messages, and each entered where it is allowed
+  -- the entries report the deeds for the messages, and each message enters exactly if it is allowed
   pub record Tells (entries : List Entry) (deeds : List (Deed Context)) : Type 0 where
     pub told : filter is_outcome entries ≡ map (deed_entry theory) deeds
     pub enters : AllByRecursion (EntersWhereAllowed theory) deeds

@@ -1,4 +1,4 @@
--- Events that are taken behind others.
+-- Events that follow other events.
 use Rattle.std.proofs.Common.{◌≡◌, List, [], ◌∷◌, ◌++◌, Result, map, refl, subst, ap, ◌∙◌}
 use Rattle.sv_run.specs.Contexts.{Theory}
 use Rattle.sv_run.specs.Events.{Happening}

@@ -1,4 +1,4 @@
--- Cuts and orders beside refused events.
+-- Cuts and orders with refused events.
 use Rattle.std.proofs.Common.{◌≡◌, ◌≢◌, ◌⊎◌, ℕ, true, false, inl, inr, List, [], ◌∷◌, ◌++◌, map, Option, None, Some, Ok, Err, refl, sym, ap, ◌∙◌, subst, append-nil}
 use Rattle.std.specs.List.{AllByRecursion}
 use Rattle.std.proofs.lemmas.Map.{update_here}
@@ -29,13 +29,13 @@ module _ {Context Words : Type 0} (theory : Theory Context Words) where
   happens_runs state after (Tick moment) effect happens = ap (λ (s : State Context Words). s.stopped) happens.1
   happens_runs state after (Edited path edit) effect happens = ap (λ (s : State Context Words). s.stopped) happens.is_after
 
-  -- an accepted event leaves a container that runs
+  -- an accepted event leaves the container running
   pub accepted_runs : (before after : State Context Words) (happening : Happening) (effect : Effect Context) → Accepts theory before happening effect after
       → after.stopped ≡ false
   accepted_runs before after happening effect accepts =
       happens_runs (settled_at (moment_after before.moment happening) accepts.contexts before) after happening accepts.brings accepts.happens ∙ accepts.runs
 
-  -- an event of a container that is stopped is refused for that, and one of another for its own fault
+  -- a stopped container refuses an event as Stopped, and a running one refuses it for the event's own fault
   abbrev IsRefusedFor : State Context Words → Happening → StepFault → State Context Words → Type 0
   IsRefusedFor before happening fault after = ((before.stopped ≡ true) × (fault ≡ Stopped)) ⊎ (Refuses theory before happening fault after × (fault ≢ Stopped))
 
@@ -46,7 +46,7 @@ module _ {Context Words : Type 0} (theory : Theory Context Words) where
   refused_for before after happening TooManyConnections ample steps = inr (steps, λ is. absurd (cc))
   refused_for before after happening NoMemory ample steps = absurd (ample refl)
 
-  -- a fault of its own refuses an event of a container that runs
+  -- a running container refuses an event that has a fault of its own
   refuses : (before : State Context Words) (happening : Happening) (fault : StepFault) → fault ≢ NoMemory → fault ≢ Stopped → before.stopped ≡ false
       → fault_of before.connections happening ≡ Some fault → Steps theory before happening (Err fault) before
   refuses before happening Stopped ample runs_not runs is_fault = absurd (runs_not refl)
@@ -57,7 +57,7 @@ module _ {Context Words : Type 0} (theory : Theory Context Words) where
   ample_fault : (fault : StepFault) → WantsNoMemory {Context = Context} (Err fault) → fault ≢ NoMemory
   ample_fault fault ample is = ample (ap Err is)
 
-  -- ---- two events, of which neither changes what refuses the other
+  -- ---- two events, neither of which changes the fault of the other
 
   module _ (before : State Context Words) (first second : Happening) (journal : List Entry) (after : State Context Words)
       (first_beside : (after : State Context Words) (effect : Effect Context) → Accepts theory before first effect after
@@ -217,7 +217,7 @@ module _ {Context Words : Type 0} (theory : Theory Context Words) where
   -- ---- the parts of a piece
 
   module _ (number moment : ℕ) where
-    -- a piece that is refused is refused whatever it says
+    -- if a piece is refused, the same refusal applies to any other bytes
     same_refusal : (before after : State Context Words) (text other : List ℕ) (fault : StepFault) → fault ≢ NoMemory
         → Steps theory before (Piece number text moment) (Err fault) after → Steps theory before (Piece number other moment) (Err fault) before
     same_refusal before after text other Stopped ample steps = (steps.0, refl)
@@ -272,7 +272,7 @@ module _ {Context Words : Type 0} (theory : Theory Context Words) where
         (subst (λ s. Run theory s (pieces_of number moment parts) answers after) stays run.2) in
         ((is, later.0), later.1)
 
-    -- behind a piece that is accepted, the connection is known
+    -- after an accepted piece, the connection is known
     known_on : (before after : State Context Words) (bytes : List ℕ) (effect : Effect Context) → Accepts theory before (Piece number bytes moment) effect after
         → unknown_fault (after.connections.held number) ≡ None
     known_on before after bytes effect accepts =

@@ -1,4 +1,4 @@
--- Events of a state in which no session has expired.
+-- Events in a state in which no session has expired.
 use Rattle.std.proofs.Common.{◌≡◌, ℕ, false, List, [], None, refl, sym, ap, ◌∙◌, subst, arith}
 use Rattle.sv_journal.specs.declared.entry.Entry.{Entry}
 use Rattle.sv_run.specs.Contexts.{Theory}
@@ -8,7 +8,7 @@ use Rattle.sv_run.specs.Lawful.{AreSettled, EndsExpired}
 use Rattle.sv_run.specs.State.{State, settled_at}
 use Rattle.sv_run.proofs.Taking.{settled_stay, settled_only}
 
--- a moment is raised once
+-- raising the time twice is raising it once
 pub raised_once : (before moment : ℕ) → raised (raised before moment) moment ≡ raised before moment
 raised_once before moment = omega arith
 
@@ -38,7 +38,7 @@ module _ {Context Words : Type 0} (theory : Theory Context Words) (ends : EndsEx
       (subst (λ cs. Happens theory (settled_at state.moment cs state) happening accepts.brings after) nobody.1
       (subst (λ m. Happens theory (settled_at m accepts.contexts state) happening accepts.brings after) same accepts.happens))
 
--- an event that does not raise the moment
+-- an event that does not raise the time
 pub record AcceptsNow {Context Words : Type 0} (theory : Theory Context Words) (before : State Context Words) (happening : Happening)
     (effect : Effect Context) (after : State Context Words) : Type 0 where
   pub runs : before.stopped ≡ false

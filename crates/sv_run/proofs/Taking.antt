@@ -1,4 +1,4 @@
--- Items that are handled one behind another, and sessions that end.
+-- Items that are handled one after another, and the end of sessions.
 use Rattle.std.proofs.Common.{◌≡◌, ℕ, zero, suc, Bool, true, false, ◌||◌, List, [], ◌∷◌, ◌++◌, Some, refl, sym, ap, ◌∙◌, subst, slice_get, slice_set}
 use Rattle.std.specs.Bool.{MatchBool}
 use Rattle.sv_body.proofs.BoolLemmas.{MatchBool-from_true, MatchBool-from_false}
@@ -15,7 +15,7 @@ use Rattle.sv_wire.specs.declared.item.Item.{Item}
 use Rattle.sv_wire.specs.declared.item.Item.TheVariants.{Continue, Message, Refuse}
 use Rattle.sv_message.specs.declared.message.Message.{Message as MessageRecord}
 
--- what follows from both, follows
+-- case analysis on a Boolean
 pub either : {A B P : Type 0} (t : Bool) → MatchBool t A B → (A → P) → (B → P) → P
 either true holds first second = first holds
 either false holds first second = second holds
@@ -45,13 +45,13 @@ module _ {Context Words : Type 0} (theory : Theory Context Words) where
       (ends.settles context expires.2 moment expires.0 expires.4, expiring_settles ends contexts expires.3 moment expires.1 expires.5)
 
   module _ (moment : ℕ) where
-    -- ---- items one behind another
+    -- ---- items one after another
 
-    -- behind what closes the connection no item is handled, and behind anything else the items are
+    -- after an item that closes the connection no item is handled; after any other item the rest are
     abbrev pub TakesBehind : Bool → List Item → World Context Words → Effect Context → World Context Words → Type 0
     TakesBehind closes items before effect after = MatchBool closes (TakesNone theory moment before effect after) (Takes theory moment items before effect after)
 
-    -- the items in front are handled, and then the others
+    -- the first items are handled, and then the others
     pub record TakesInParts (items more : List Item) (before : World Context Words) (effect : Effect Context) (after : World Context Words) : Type 0 where
       pub between : World Context Words
       pub front : Effect Context
@@ -127,7 +127,7 @@ module _ {Context Words : Type 0} (theory : Theory Context Words) where
           ap (λ r. joined r back) begins.5 ∙ joined-assoc begins.1 begins.2 back,
         )
 
-    -- ---- a message leaves no session that has expired at its moment
+    -- ---- a message leaves no session that has expired at its time
 
     pub settled_there : (contexts : List Context) (place : ℕ) (context : Context) → slice_get contexts place ≡ Some context
         → AreSettled theory moment contexts → HasNoneExpired theory moment context

@@ -1,4 +1,5 @@
--- How far an event came that wanted memory (RFC 9112, section 9): what was begun stays, and nothing else is done.
+-- How far an event proceeds that runs out of memory (RFC 9112, section 9): it keeps the changes made so far, and does
+-- nothing else.
 use Rattle.std.specs.Prelude.{◌≡◌, ◌⊎◌, ℕ, false, List, [], ◌∷◌, ◌++◌, slice_get, slice_set, Some}
 use Rattle.std.specs.List.{flat_map}
 use Rattle.sv_journal.specs.declared.entry.Entry.{Entry}
@@ -14,13 +15,13 @@ use Rattle.sv_wire.specs.declared.item.Item.TheVariants.{Continue, Message, Refu
 use Rattle.sv_message.specs.declared.message.Message.{Message as MessageRecord}
 use Rattle.sv_message.specs.declared.response.Response.{Response}
 
--- a request that was given to the context at a place, which then was so
+-- a request that was given to the context at a place, with the context as it was at that time
 pub record Given (Context : Type 0) : Type 0 where
   pub place : ℕ
   pub context : Context
   pub request : Request
 
--- what was given for a message that was answered: nothing where the container answered it itself
+-- the requests given to contexts for an answered message: none if the container answered it itself
 abbrev pub given_for : {Context : Type 0} → Deed Context → List (Given Context)
 given_for (Answered entry) = []
 given_for (Handled place handling) = record { place = place; context = handling.context; request = handling.request } ∷ []
@@ -28,19 +29,19 @@ given_for (Handled place handling) = record { place = place; context = handling.
 abbrev pub given_for_all : {Context : Type 0} → List (Deed Context) → List (Given Context)
 given_for_all deeds = flat_map given_for deeds
 
--- nothing is given, and nothing changes
+-- no request is given, and nothing changes
 abbrev pub DoesNothing : {Context A : Type 0} → A → List (Given Context) → A → Type 0
 DoesNothing before given after = (given ≡ []) × (after ≡ before)
 
 module _ {Context Words : Type 0} (theory : Theory Context Words) where
-  -- memory ended the handling of a request, or it was handled, and memory ended the sending of its answer
+  -- memory ran out while the context handled the request, or while its response was sent
   abbrev pub IsLeftBy : Given Context → Context → Type 0
   IsLeftBy given left =
       theory.conduct.CutsShort given.context given.request left
       ⊎ ((entries : List Entry) × (response : Response)
       × theory.conduct.Handles record { context = given.context; request = given.request; entries = entries; response = response; after = left })
 
-  -- the context at a place was given the request, and no other has changed
+  -- the context at the place was given the request, and no other context has changed
   pub record BreaksAt (place : ℕ) (request : Request) (before : List Context) (given : List (Given Context)) (after : List Context) : Type 0 where
     pub context : Context
     pub there : slice_get before place ≡ Some context
@@ -50,13 +51,13 @@ module _ {Context Words : Type 0} (theory : Theory Context Words) where
     pub is_given : given ≡ record { place = place; context = context; request = request } ∷ []
 
   module _ (moment : ℕ) where
-    -- memory ended the answer to a message: it was given to the context that it is for, or to none
+    -- memory ran out while a message was answered: the message was given to the context at its destination, or to none
     abbrev pub BreaksAnswer : Destination → MessageRecord → ℕ × ℕ → List Context → List (Given Context) → List Context → Type 0
     BreaksAnswer (Itself entry response) message words before given after = DoesNothing before given after
     BreaksAnswer (Within place canon) message words before given after =
         DoesNothing before given after ⊎ BreaksAt place (request_of message canon moment words) before given after
 
-    -- memory ended the handling of an item. A message has drawn its pair of words
+    -- memory ran out while an item was handled; a message has drawn its pair of words
     abbrev pub BreaksItem : Item → World Context Words → List (Given Context) → World Context Words → Type 0
     BreaksItem Continue before given after = DoesNothing before given after
     BreaksItem (Refuse fault) before given after = DoesNothing before given after
@@ -64,7 +65,7 @@ module _ {Context Words : Type 0} (theory : Theory Context Words) where
         (words : ℕ × ℕ) × theory.Draws before.words words after.words
         × BreaksAnswer (destination theory before.contexts message.target) message words before.contexts given after.contexts
 
-    -- the items in front of one are handled, and memory ended the handling of that one
+    -- the items before one item were handled, and memory ran out while that item was handled
     pub record BreaksItems (items : List Item) (before : World Context Words) (given : List (Given Context)) (after : World Context Words) : Type 0 where
       pub front : List Item
       pub item : Item
@@ -78,7 +79,7 @@ module _ {Context Words : Type 0} (theory : Theory Context Words) where
       pub breaks : BreaksItem item between last after
       pub is_given : given ≡ given_for_all effect.deeds ++ last
 
-  -- memory ended the handling of a piece: what it completes was read
+  -- memory ran out while a piece was handled, after its items were read
   pub record BreaksPiece (before : State Context Words) (number : ℕ) (piece : List ℕ) (given : List (Given Context)) (after : World Context Words) : Type 0 where
     pub held : Held
     pub holds : before.connections.held number ≡ Some held

@@ -1,4 +1,5 @@
--- What the run of a container rests on: what one context does with a moment, with a request and with an edit, and where random words come from.
+-- The assumptions of a container's run: how a context expires sessions, handles requests and takes edits, and how
+-- random words are drawn.
 use Rattle.std.specs.Prelude.{ℕ, List, Option, Result}
 use Rattle.sv_journal.specs.declared.entry.Entry.{Entry}
 use Rattle.sv_outcome.specs.Outcome.{Findings}
@@ -11,14 +12,15 @@ use Rattle.sv_uri.specs.declared.path.Canon.{Canon}
 use Rattle.sv_message.specs.declared.message.Message.{Message}
 use Rattle.sv_message.specs.declared.response.Response.{Response}
 
--- a message that a context handles: its target's canonical path and query, the moment, and the pair of random words that it was given
+-- a message that a context handles, the canonical path and query of its target, the time, and the pair of random words
+-- that it was given
 pub record Request : Type 0 where
   pub message : Message
   pub canon : Canon
   pub moment : ℕ
   pub words : ℕ × ℕ
 
--- a request that a context handled: the context before and after it, the entries of the journal, and the answer
+-- a request that a context handled: the context before and after it, the entries of the journal, and the response
 pub record Handling (Context : Type 0) : Type 0 where
   pub context : Context
   pub request : Request
@@ -26,24 +28,24 @@ pub record Handling (Context : Type 0) : Type 0 where
   pub response : Response
   pub after : Context
 
--- what one context does. A context is one value, with those of its components and its sessions in it
+-- the behavior of one context. A context is one value, which includes its components and its sessions
 pub record Conduct (Context : Type 0) : Type 1 where
   pub sessions_of : Context → Store
-  -- its constraints as they stand
+  -- its current constraints
   pub policy_of : Context → Standing
-  -- what is found of a request, by which its outcome is decided
+  -- the findings about a request, which decide its outcome
   pub found : Context → Request → Findings
   -- the caller whose name and password a request sends as a login does, if they fit one
   pub caller_sent : Context → Request → Option ℕ
-  -- a request is handled so
+  -- the handling of a request
   pub Handles : Handling Context → Type 0
-  -- memory ends the handling of a request, and that is what it leaves of the context
+  -- memory runs out during the request, and leaves the context in the last state
   pub CutsShort : Context → Request → Context → Type 0
-  -- the sessions that have expired at the moment end, of which the entries tell
+  -- the sessions that have expired at the time end, with the entries about them
   pub Expires : Context → ℕ → List Entry → Context → Type 0
-  -- its constraints are edited, and that is the answer
+  -- an edit of its constraints, with its answer
   pub Edits : Context → Edit → Result ℕ EditFault → Context → Type 0
-  -- its components are moved by some calls, and neither what it was deployed with nor its constraints change
+  -- some calls change its components, but neither its deployment nor its constraints
   pub Moves : Context → Context → Type 0
 
 pub record Theory (Context Words : Type 0) : Type 1 where
@@ -60,6 +62,6 @@ abbrev pub request_of : Message → Canon → ℕ → ℕ × ℕ → Request
 request_of message canon moment words = record { message = message; canon = canon; moment = moment; words = words }
 
 module _ {Context Words : Type 0} (theory : Theory Context Words) where
-  -- no session of a context has expired at a moment
+  -- no session of the context has expired at the time
   abbrev pub HasNoneExpired : ℕ → Context → Type 0
   HasNoneExpired moment context = expiry.HasNoneExpired moment (theory.conduct.sessions_of context)

@@ -12,7 +12,7 @@ module _ {Context Words : Type 0} (theory : Theory Context Words) where
   abbrev pub place_with : List Context → List ℕ → Option ℕ
   place_with contexts path = position (bytes_eq path) (map theory.path_of contexts)
 
-  -- the context at a place is edited, and the others stay. Want of memory is no answer
+  -- the context at the place is edited, and the others stay; running out of memory is no answer
   pub record EditsAt (place : ℕ) (before : List Context) (edit : Edit) (answer : Result ℕ EditFault) (after : List Context) : Type 0 where
     pub context : Context
     pub there : slice_get before place ≡ Some context
@@ -21,7 +21,7 @@ module _ {Context Words : Type 0} (theory : Theory Context Words) where
     pub answers : answer ≢ Err NoMemory
     pub is_after : after ≡ slice_set before place edited
 
-  -- no context that has the path is no such
+  -- if no context has the path, the answer is `NoSuch`
   abbrev pub EditsIn : Option ℕ → List Context → Edit → Result ℕ EditFault → List Context → Type 0
   EditsIn None before edit answer after = (answer ≡ Err NoSuch) × (after ≡ before)
   EditsIn (Some place) before edit answer after = EditsAt place before edit answer after

@@ -1,4 +1,4 @@
--- What an event brings. Effects are joined in their order.
+-- The effects of an event. Effects are joined in order.
 use Rattle.std.specs.Prelude.{ℕ, Bool, true, false, ◌||◌, List, [], ◌∷◌, ◌++◌, Option, None, Some, Result}
 use Rattle.std.specs.Option.{option_or}
 use Rattle.sv_journal.specs.Journal.{JournalState}
@@ -7,12 +7,13 @@ use Rattle.sv_policy.specs.declared.edit_fault.EditFault.{EditFault}
 use Rattle.sv_run.specs.Contexts.{Handling}
 use Rattle.sv_run.specs.declared.reaction.Reaction.{Reaction}
 
--- what became of a message: the container answered it itself, with that entry, or the context at a place handled it
+-- the deed for a message: the container answered it itself, with that entry, or the context at a place handled it
 pub data Deed (Context : Type 0) : Type 0 where
   Answered : Entry → Deed Context
   Handled : ℕ → Handling Context → Deed Context
 
--- the bytes for the connection and whether it closes, the entries of the journal, what became of each message, and the answer to an edit
+-- the bytes for the connection and whether it closes, the entries of the journal, the deed of each message, and the
+-- answer to an edit
 pub record Effect (Context : Type 0) : Type 0 where
   pub sends : List ℕ
   pub closes : Bool
@@ -23,44 +24,44 @@ pub record Effect (Context : Type 0) : Type 0 where
 abbrev pub whole : List Entry → JournalState
 whole entries = record { entries = entries; whole = true }
 
--- a journal that has gained entries
+-- the journal with entries appended
 abbrev pub noting : List Entry → JournalState → JournalState
 noting entries journal = record journal { entries = journal.entries ++ entries }
 
 module _ {Context : Type 0} where
-  -- what is seen of an effect
+  -- the reaction that shows an effect
   abbrev pub shown : Effect Context → Reaction
   shown effect = record { sends = effect.sends; closes = effect.closes; journal = whole effect.journal; edited = effect.edited }
 
   abbrev pub nothing : Effect Context
   nothing = record { sends = []; closes = false; journal = []; deeds = []; edited = None }
 
-  -- bytes alone
+  -- an effect that only sends bytes
   abbrev pub sending : List ℕ → Effect Context
   sending bytes = record nothing { sends = bytes }
 
-  -- entries alone
+  -- an effect that only has entries
   abbrev pub telling : List Entry → Effect Context
   telling entries = record nothing { journal = entries }
 
-  -- that the connection closes, alone
+  -- an effect that only closes the connection
   abbrev pub closing : Effect Context
   closing = record nothing { closes = true }
 
-  -- the answer to an edit, alone
+  -- an effect that only answers an edit
   abbrev pub editing : Result ℕ EditFault → Effect Context
   editing answer = record nothing { edited = Some answer }
 
-  -- a message that the container answered itself
+  -- the effect of a message that the container answered itself
   abbrev pub answered : Entry → List ℕ → Bool → Effect Context
   answered entry text closes = record nothing { sends = text; closes = closes; journal = entry ∷ []; deeds = Answered entry ∷ [] }
 
-  -- a message that the context at a place handled
+  -- the effect of a message that the context at a place handled
   abbrev pub handled : ℕ → Handling Context → List ℕ → Bool → Effect Context
   handled place handling text closes =
       record nothing { sends = text; closes = closes; journal = handling.entries; deeds = Handled place handling ∷ [] }
 
-  -- one behind another; of answers to edits the first that is there
+  -- one effect followed by another; the first answer to an edit counts
   abbrev pub joined : Effect Context → Effect Context → Effect Context
   joined first second =
       record {

@@ -17,7 +17,7 @@ use Rattle.sv_run.specs.declared.step_fault.StepFault.TheVariants.{Stopped, BadC
 use Rattle.sv_wire.specs.declared.item.Item.{Item}
 use Rattle.sv_wire.specs.Inbox.{Held}
 
--- connections have numbers, moments are in seconds since 1970, and a context that is edited has a path
+-- connections have numbers, times are in seconds since 1970, and an edited context is named by its path
 pub data Happening : Type 0 where
   Opened : ℕ → Happening
   Piece : ℕ → List ℕ → ℕ → Happening
@@ -26,7 +26,7 @@ pub data Happening : Type 0 where
   Tick : ℕ → Happening
   Edited : List ℕ → Edit → Happening
 
--- the connection of an event
+-- the connection of an event, if it has one
 abbrev pub connection_of : Happening → Option ℕ
 connection_of (Opened number) = Some number
 connection_of (Piece number bytes moment) = Some number
@@ -38,7 +38,7 @@ connection_of (Edited path edit) = None
 abbrev pub raised : ℕ → ℕ → ℕ
 raised before moment = min LAST_MOMENT (max before moment)
 
--- the moment after an event: the greatest so far, at most the last one that a date can show
+-- the time after an event: the greatest time so far, at most the last one that a date can show
 abbrev pub moment_after : ℕ → Happening → ℕ
 moment_after before (Piece number bytes moment) = raised before moment
 moment_after before (Tick moment) = raised before moment
@@ -47,17 +47,17 @@ moment_after before (Ended number) = before
 moment_after before (Lost number) = before
 moment_after before (Edited path edit) = before
 
--- what refuses an opening
+-- the fault of an opening, if any
 abbrev pub opening_fault : Option Held → ℕ → Option StepFault
 opening_fault (Some held) known = Some BadConnection
 opening_fault None known = if nat_le MAX_CONNECTIONS known then Some TooManyConnections else None
 
--- what refuses an event of a connection that has to be known
+-- the fault of an event that requires a known connection, if any
 abbrev pub unknown_fault : Option Held → Option StepFault
 unknown_fault (Some held) = None
 unknown_fault None = Some BadConnection
 
--- what refuses an event, but for want of memory
+-- the fault of an event, if any, apart from running out of memory
 abbrev pub fault_of : Connections → Happening → Option StepFault
 fault_of connections (Opened number) = opening_fault (connections.held number) connections.known
 fault_of connections (Piece number bytes moment) = unknown_fault (connections.held number)
@@ -75,13 +75,13 @@ module _ {Context : Type 0} (conduct : Conduct Context) where
       × conduct.Expires context moment first settled × ExpiresAll contexts moment later others
       × (told ≡ first ++ later) × (after ≡ settled ∷ others)
 
-  -- each context is moved by some calls
+  -- some calls change each context
   abbrev pub MovesAll : List Context → List Context → Type 0
   MovesAll [] after = after ≡ []
   MovesAll (context ∷ contexts) after =
       (moved : Context) × (others : List Context) × conduct.Moves context moved × MovesAll contexts others × (after ≡ moved ∷ others)
 
-  -- a context is moved by some calls, and then perhaps edited
+  -- some calls change a context, and then perhaps an edit does
   abbrev pub Alters : Context → Context → Type 0
   Alters before after =
       conduct.Moves before after
@@ -93,7 +93,7 @@ module _ {Context : Type 0} (conduct : Conduct Context) where
       (altered : Context) × (others : List Context) × Alters context altered × AltersAll contexts others × (after ≡ altered ∷ others)
 
 module _ {Context Words : Type 0} (theory : Theory Context Words) where
-  -- a piece of a connection: the items that it completes are handled, and the rest is held, unless the connection closes
+  -- a piece of a connection: its completed items are handled, and the rest is held, unless the connection closes
   pub record TakesPiece (before : State Context Words) (number : ℕ) (piece : List ℕ) (effect : Effect Context) (after : State Context Words) : Type 0 where
     pub held : Held
     pub holds : before.connections.held number ≡ Some held
@@ -104,7 +104,7 @@ module _ {Context Words : Type 0} (theory : Theory Context Words) where
     pub takes : Takes theory before.moment items before.world effect world
     pub is_after : after ≡ holding number left (record before { world = world })
 
-  -- the event itself, at its moment
+  -- the event itself, at its time
   abbrev pub Happens : State Context Words → Happening → Effect Context → State Context Words → Type 0
   Happens before (Opened number) effect after = (effect ≡ nothing) × (after ≡ record before { connections = opened number before.connections })
   Happens before (Piece number bytes moment) effect after = TakesPiece before number bytes effect after
@@ -113,7 +113,7 @@ module _ {Context Words : Type 0} (theory : Theory Context Words) where
   Happens before (Tick moment) effect after = (effect ≡ nothing) × (after ≡ before)
   Happens before (Edited path edit) effect after = EditsContext theory before path edit effect after
 
-  -- an event that nothing refuses: the moment is raised, the expired sessions end, and then it happens
+  -- an event without a fault: the time is raised, the expired sessions end, and then the event happens
   pub record Accepts (before : State Context Words) (happening : Happening) (effect : Effect Context) (after : State Context Words) : Type 0 where
     pub runs : before.stopped ≡ false
     pub no_fault : fault_of before.connections happening ≡ None
@@ -130,7 +130,7 @@ module _ {Context Words : Type 0} (theory : Theory Context Words) where
     pub is_fault : fault_of before.connections happening ≡ Some fault
     pub stays : after ≡ before
 
-  -- how far the event itself came, at its moment: a piece was handled up to an item, and of anything else nothing was done
+  -- how far the event itself proceeded, at its time: a piece was handled up to an item, and any other event did nothing
   abbrev pub BreaksOff : State Context Words → Happening → List (Given Context) → World Context Words → Type 0
   BreaksOff before (Piece number bytes moment) given after = DoesNothing before.world given after ⊎ BreaksPiece theory before number bytes given after
   BreaksOff before (Opened number) given after = DoesNothing before.world given after
@@ -139,7 +139,8 @@ module _ {Context Words : Type 0} (theory : Theory Context Words) where
   BreaksOff before (Tick moment) given after = DoesNothing before.world given after
   BreaksOff before (Edited path edit) given after = DoesNothing before.world given after
 
-  -- want of memory stops the container: the expired sessions end all the same, and the event broke off, with those requests given to contexts
+  -- running out of memory stops the container: the expired sessions still end, and the event broke off after some
+  -- requests were given to contexts
   pub record Breaks (before : State Context Words) (happening : Happening) (after : State Context Words) : Type 0 where
     pub runs : before.stopped ≡ false
     pub no_fault : fault_of before.connections happening ≡ None
@@ -151,7 +152,7 @@ module _ {Context Words : Type 0} (theory : Theory Context Words) where
     pub breaks : BreaksOff (settled_at (moment_after before.moment happening) contexts before) happening given after.world
     pub moves : MovesAll theory.conduct before.world.contexts after.world.contexts
 
-  -- an event with what it brings, or why it is refused
+  -- an event with its effect, or the reason why it is refused
   abbrev pub Steps : State Context Words → Happening → Result (Effect Context) StepFault → State Context Words → Type 0
   Steps before happening (Ok effect) after = Accepts before happening effect after
   Steps before happening (Err Stopped) after = (before.stopped ≡ true) × (after ≡ before)

@@ -1,4 +1,4 @@
--- The reading of a piece behind what a connection holds (RFC 9112, sections 2.2 and 9.6).
+-- Reading a piece after the bytes that a connection holds (RFC 9112, sections 2.2 and 9.6).
 use Rattle.std.specs.Prelude.{◌≡◌, ℕ, Bool, false, List, [], ◌++◌, if◌then◌else◌}
 use Rattle.std.specs.Bool.{MatchBool}
 use Rattle.sv_wire.specs.declared.item.Item.{Item}
@@ -6,18 +6,18 @@ use Rattle.sv_wire.specs.Inbox.{Held, spent_for_good}
 use Rattle.sv_wire.specs.Items.{are_ended}
 use Rattle.sv_wire.specs.Reads.{Reads}
 
--- the piece completes the items, and `after` is held then. Where nothing more is read, it completes none
+-- the piece completes the items, and leaves `after` held; if nothing more is read, it completes none
 abbrev pub Feeds : Held → List ℕ → List Item → Held → Type 0
 Feeds before piece items after =
     MatchBool before.spent ((items ≡ []) × (after ≡ before))
     (Reads before.owed (before.rest ++ piece) items after.owed after.rest × (after.spent ≡ are_ended items))
 
--- what is held where the connection closes or not
+-- what the connection holds afterwards, depending on whether it closes
 abbrev pub held_where : Bool → Held → Held
 held_where closes left = if closes then spent_for_good else left
 
--- a part of the piece completes the items, and `after` is held then. Where the connection does not close, that is all of the piece; where it closes
--- behind the items, what follows may stay unread, and nothing more is read
+-- a part of the piece completes the items, and leaves `after` held. If the connection stays open, that part is the
+-- whole piece. If the connection closes after the items, the rest may stay unread, and nothing more is read
 pub record FeedsWhere (closes : Bool) (before : Held) (piece : List ℕ) (items : List Item) (after : Held) : Type 0 where
   pub part : List ℕ
   pub unread : List ℕ

@@ -1,4 +1,4 @@
--- The handling of what a stream says, in its order (RFC 9112, sections 9.2, 9.3 and 9.6).
+-- Handling the items of a stream, in order (RFC 9112, sections 9.2, 9.3 and 9.6).
 use Rattle.std.specs.Prelude.{◌≡◌, ℕ, Bool, true, false, ◌||◌, not, List, [], ◌∷◌, codes, bytes_eq, slice_get, slice_set, Some}
 use Rattle.std.specs.Bool.{MatchBool}
 use Rattle.httpdate.specs.declared.date.HttpDate.{HttpDate}
@@ -20,7 +20,7 @@ use Rattle.sv_wire_fault.specs.declared.wire_fault.WireFault.{WireFault}
 unfoldable pub continue_text : List ℕ
 continue_text = codes "HTTP/1.1 100 Continue\r\n\r\n"
 
--- the text of a response at a moment
+-- the text of a response at a time
 abbrev pub IsTextAt : ℕ → Response → Bool → Bool → List ℕ → Type 0
 IsTextAt moment response head_only keep text = (date : HttpDate) × IsDateAt moment date × (text ≡ response_text response head_only keep date)
 
@@ -28,7 +28,7 @@ IsTextAt moment response head_only keep text = (date : HttpDate) × IsDateAt mom
 abbrev pub IsAnswerTo : MessageRecord → ℕ → Response → List ℕ → Type 0
 IsAnswerTo message moment response text = IsTextAt moment response (bytes_eq message.method (codes "HEAD")) message.keep text
 
--- whether the connection closes behind the response to a message
+-- whether the connection closes after the response to a message
 abbrev pub closes_behind : MessageRecord → Response → Bool
 closes_behind message response = not message.keep || ends_connection response.body
 
@@ -39,7 +39,7 @@ module _ {Context Words : Type 0} (theory : Theory Context Words) (moment : ℕ)
     pub handles : theory.conduct.Handles handling
     pub is_after : after ≡ slice_set before place handling.after
 
-  -- a message is answered by the container itself, or by the context that it is for
+  -- a message is answered by the container itself, or by the context at its destination
   abbrev pub Responds : Destination → MessageRecord → ℕ × ℕ → List Context → Effect Context → List Context → Type 0
   Responds (Itself entry response) message words before effect after =
       (text : List ℕ) × IsAnswerTo message moment response text × (effect ≡ answered entry text (closes_behind message response)) × (after ≡ before)
@@ -49,7 +49,7 @@ module _ {Context Words : Type 0} (theory : Theory Context Words) (moment : ℕ)
       × HandlesAt place before handling after
       × IsAnswerTo message moment handling.response text × (effect ≡ handled place handling text (closes_behind message handling.response))
 
-  -- a message draws a pair of words, whoever answers it
+  -- a message draws a pair of words, no matter what answers it
   abbrev pub TakesMessage : MessageRecord → World Context Words → Effect Context → World Context Words → Type 0
   TakesMessage message before effect after =
       (words : ℕ × ℕ) × theory.Draws before.words words after.words
@@ -69,7 +69,7 @@ module _ {Context Words : Type 0} (theory : Theory Context Words) (moment : ℕ)
   abbrev pub TakesNone : World Context Words → Effect Context → World Context Words → Type 0
   TakesNone before effect after = (effect ≡ nothing) × (after ≡ before)
 
-  -- one item behind another, and none behind one that closes the connection
+  -- one item after another, and none after an item that closes the connection
   abbrev pub Takes : List Item → World Context Words → Effect Context → World Context Words → Type 0
   Takes [] before effect after = TakesNone before effect after
   Takes (item ∷ items) before effect after =

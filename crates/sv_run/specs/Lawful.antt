@@ -1,4 +1,4 @@
--- What the laws of runs want of a context.
+-- The requirements of the laws of runs on contexts.
 use Rattle.std.specs.Prelude.{◌≡◌, ◌⊎◌, ℕ, Bool, true, false, List, [], ◌∷◌, filter, Option, Some, Result}
 use Rattle.std.specs.List.{AllByRecursion}
 use Rattle.sv_context_path.specs.Within.{path_within}
@@ -14,7 +14,7 @@ use Rattle.sv_policy.specs.declared.edit_fault.EditFault.{EditFault}
 use Rattle.sv_run.specs.Contexts.{Conduct, Handling, HasNoneExpired, Theory}
 use Rattle.sv_session.specs.Calls.{HoldsCaller}
 
--- whether an entry says what became of a message; the others say what was called and what listeners heard
+-- whether an entry reports the outcome of a message; the other entries report calls and notifications
 abbrev pub is_outcome : Entry → Bool
 is_outcome (Entered context path) = true
 is_outcome (SentToLogin context why) = true
@@ -23,12 +23,12 @@ is_outcome (Hidden cause) = true
 is_outcome (Told context listener event) = false
 is_outcome (Called context component call answer) = false
 
--- no calls move nothing, and what is moved by some calls and then by others is moved by calls
+-- the changes that calls make are reflexive and transitive
 pub record IsMotion {Context : Type 0} (conduct : Conduct Context) : Type 0 where
   pub stands : (context : Context) → conduct.Moves context context
   pub goes_on : (before between after : Context) → conduct.Moves before between → conduct.Moves between after → conduct.Moves before after
 
--- what is moved by calls keeps its context path
+-- calls keep the context path
 abbrev pub KeepsPath : {Context : Type 0} → (Context → List ℕ) → Conduct Context → Type 0
 KeepsPath {Context} path_of conduct = (before after : Context) → conduct.Moves before after → path_of after ≡ path_of before
 
@@ -42,16 +42,16 @@ module _ {Context Words : Type 0} (theory : Theory Context Words) where
   abbrev pub AreSettled : ℕ → List Context → Type 0
   AreSettled moment contexts = AllByRecursion (HasNoneExpired theory moment) contexts
 
-  -- sessions end when they have expired, and only then
+  -- exactly the expired sessions end
   pub record EndsExpired : Type 0 where
-    -- once the expired have ended, none has expired
+    -- after the expired sessions have ended, none has expired
     pub settles : (context after : Context) (moment : ℕ) (told : List Entry)
         → theory.conduct.Expires context moment told after → HasNoneExpired theory moment after
-    -- where none has expired, that they end is possible, tells nothing and changes nothing
+    -- if no session has expired, then expiry is possible, adds no entry and changes nothing
     pub stays : (context : Context) (moment : ℕ) → HasNoneExpired theory moment context → theory.conduct.Expires context moment [] context
     pub ends_nothing : (context after : Context) (moment : ℕ) (told : List Entry)
         → HasNoneExpired theory moment context → theory.conduct.Expires context moment told after → (told ≡ []) × (after ≡ context)
-    -- no request leaves a session that has expired at its own moment
+    -- a request leaves no session that has expired at the request's own time
     pub keeps : (handling : Handling Context) → theory.conduct.Handles handling
         → HasNoneExpired theory handling.request.moment handling.context → HasNoneExpired theory handling.request.moment handling.after
 
@@ -65,19 +65,19 @@ module _ {Context Words : Type 0} (theory : Theory Context Words) where
       outcome_entry (theory.path_of handling.context)
       (path_within (theory.path_of handling.context) handling.request.canon.path) (outcome_of handling)
 
-  -- the entry of a request's outcome stands first, and behind it no other outcome
+  -- the first entry reports the outcome of the request, and no other entry reports an outcome
   pub record StartsWithOutcome (handling : Handling Context) : Type 0 where
     pub behind : List Entry
     pub are : handling.entries ≡ entry_of handling ∷ behind
     pub no_other : filter is_outcome behind ≡ []
 
-  -- a request has just one outcome, and it is told; what expires has none
+  -- a request has exactly one outcome, which is reported; expiry reports none
   pub record TellsOutcomes : Type 0 where
     pub tells : (handling : Handling Context) → theory.conduct.Handles handling → StartsWithOutcome handling
     pub ends_silently : (context after : Context) (moment : ℕ) (told : List Entry)
         → theory.conduct.Expires context moment told after → filter is_outcome told ≡ []
 
-  -- a session of that number holds that caller
+  -- the session with that number holds that caller
   abbrev pub Holds : ℕ → ℕ → Context → Type 0
   Holds number caller context = HoldsCaller number caller (theory.conduct.sessions_of context)
 
@@ -87,19 +87,19 @@ module _ {Context Words : Type 0} (theory : Theory Context Words) where
     pub passed : outcome_of handling ≡ outcomes.LoggedIn number target
     pub fits : theory.conduct.caller_sent handling.context handling.request ≡ Some caller
 
-  -- a session gets a caller by a login alone
+  -- a session gets a caller only by a login
   pub record GivesCallersByLogin : Type 0 where
     pub by_login : (handling : Handling Context) (number caller : ℕ) → theory.conduct.Handles handling → Holds number caller handling.after
         → Holds number caller handling.context ⊎ LogsIn number caller handling
     pub not_by_expiry : (context after : Context) (moment : ℕ) (told : List Entry) (number caller : ℕ)
         → theory.conduct.Expires context moment told after → Holds number caller after → Holds number caller context
 
-  -- the same constraints stand as before, at the same path
+  -- the constraints and the path are unchanged
   pub record KeepsConstraints (before after : Context) : Type 0 where
     pub path : theory.path_of after ≡ theory.path_of before
     pub policy : theory.conduct.policy_of after ≡ theory.conduct.policy_of before
 
-  -- an edit changes the constraints as they stand by its outcome, and nothing else changes them
+  -- an edit changes the current constraints by its outcome, and nothing else changes them
   pub record ChangesConstraintsByEdits : Type 0 where
     pub edits : (before after : Context) (edit : Edit) (answer : Result ℕ EditFault)
         → theory.conduct.Edits before edit answer after

@@ -26,13 +26,13 @@ use Rattle.sv_wire.specs.Reads.{Reads}
 use Rattle.sv_wire.specs.declared.item.Item.{Item}
 use Rattle.sv_wire.specs.declared.owed_head.OwedHead.{OwedHead}
 
--- a reading that has ended stays as it is, whatever follows
+-- once an item has ended the reading, further bytes change nothing
 abbrev pub EndedReadingsStay : Type 0
 EndedReadingsStay =
     (owed : Option OwedHead) (first second : List ℕ) (items : List Item) (left : Option OwedHead) (rest : List ℕ)
     → are_ended items ≡ true → Reads owed first items left rest → Reads owed (first ++ second) items left rest
 
--- the two parts of a piece complete the same items, and the same is held then
+-- the two parts of a piece complete the same items and leave the same state held
 abbrev pub FeedsInParts : Held → List ℕ → List ℕ → List Item → Held → Type 0
 FeedsInParts before first second items after =
     (front : List Item) × (more : List Item) × (between : Held)
@@ -43,16 +43,16 @@ FeedingsMayBeCut =
     (before after : Held) (first second : List ℕ) (items : List Item)
     → Feeds before (first ++ second) items after ↔ FeedsInParts before first second items after
 
--- the text of a piece that comes in parts
+-- the text of a piece that arrives in parts
 abbrev pub text_of_parts : List (List ℕ) → List ℕ
 text_of_parts [] = []
 text_of_parts (part ∷ parts) = part ++ text_of_parts parts
 
--- the parts as pieces at one moment
+-- the parts as pieces at one time
 abbrev pub pieces_of : ℕ → ℕ → List (List ℕ) → List Happening
 pieces_of number moment parts = map (λ part. Piece number part moment) parts
 
--- effects that differ in their entries alone
+-- effects that differ only in their entries
 pub record AreAlike {Context : Type 0} (one other : Effect Context) : Type 0 where
   pub sends : one.sends ≡ other.sends
   pub closes : one.closes ≡ other.closes
@@ -66,7 +66,7 @@ pub record CompletesNothing {Context Words : Type 0} (state : State Context Word
   pub holds : state.connections.held number ≡ Some held
   pub feeds : Feeds held bytes [] left
 
--- the edits of the context with the path among events, in their order
+-- the edits, among the events, of the context with the path, in order
 abbrev pub edit_for : List ℕ → Happening → List Edit
 edit_for path (Edited other edit) = if bytes_eq path other then edit ∷ [] else []
 edit_for path (Opened number) = []
@@ -79,7 +79,7 @@ abbrev pub edits_of : List ℕ → List Happening → List Edit
 edits_of path happenings = flat_map (edit_for path) happenings
 
 module _ {Context Words : Type 0} (theory : Theory Context Words) where
-  -- two pieces at one moment
+  -- two pieces at one time
   pub record AcceptsInParts (before : State Context Words) (number : ℕ) (first second : List ℕ) (moment : ℕ) (effect : Effect Context)
       (after : State Context Words) : Type 0 where
     pub between : State Context Words
@@ -89,14 +89,14 @@ module _ {Context Words : Type 0} (theory : Theory Context Words) where
     pub goes_on : Accepts theory between (Piece number second moment) back after
     pub is_joined : effect ≡ joined front back
 
-  -- a piece brings what its two parts bring
+  -- a piece has the same result as its two parts
   abbrev pub PiecesMayBeCut : Type 0
   PiecesMayBeCut =
       (before after : State Context Words) (number : ℕ) (first second : List ℕ) (moment : ℕ) (effect : Effect Context)
       → Accepts theory before (Piece number (first ++ second) moment) effect after
       ↔ AcceptsInParts before number first second moment effect after
 
-  -- and what its parts bring, however many they are
+  -- a piece has the same result as any number of its parts
   abbrev pub PiecesMayComeInParts : Type 0
   PiecesMayComeInParts =
       (before after : State Context Words) (number : ℕ) (first : List ℕ) (parts : List (List ℕ)) (moment : ℕ) (effect : Effect Context)
@@ -104,7 +104,7 @@ module _ {Context Words : Type 0} (theory : Theory Context Words) where
       ↔ ((effects : List (Effect Context))
       × Run theory before (pieces_of number moment (first ∷ parts)) (map Ok effects) after × (effect ≡ joined_all effects))
 
-  -- two events, one behind the other, with the journals joined
+  -- two events, one after the other, with their journals joined
   pub record AcceptsBoth (before : State Context Words) (first second : Happening) (front back : Effect Context) (journal : List Entry)
       (after : State Context Words) : Type 0 where
     pub between : State Context Words
@@ -112,7 +112,7 @@ module _ {Context Words : Type 0} (theory : Theory Context Words) where
     pub goes_on : Accepts theory between second back after
     pub is_joined : journal ≡ front.journal ++ back.journal
 
-  -- the same in the other order, with effects that are alike
+  -- the same two events in the other order, with effects that are alike
   pub record AcceptsOtherwise (before : State Context Words) (first second : Happening) (front back : Effect Context) (journal : List Entry)
       (after : State Context Words) : Type 0 where
     pub other_front : Effect Context
@@ -121,7 +121,7 @@ module _ {Context Words : Type 0} (theory : Theory Context Words) where
     pub first_alike : AreAlike front other_back
     pub second_alike : AreAlike back other_front
 
-  -- of a piece that completes no item and an event of another connection, neither of which raises the moment, either order brings the same
+  -- a piece that completes no item commutes with an event of another connection, if neither of them raises the time
   abbrev pub OrdersAreAlike : Type 0
   OrdersAreAlike =
       (before after : State Context Words) (number : ℕ) (bytes : List ℕ) (moment : ℕ) (other : Happening) (journal : List Entry)
@@ -134,34 +134,35 @@ module _ {Context Words : Type 0} (theory : Theory Context Words) where
       × (AcceptsBoth before other (Piece number bytes moment) one two journal after
       → AcceptsOtherwise before other (Piece number bytes moment) one two journal after)
 
-  -- a refused event changes nothing, unless it wants memory
+  -- a refused event changes nothing, unless it ran out of memory
   abbrev pub RefusedEventsChangeNothing : Type 0
   RefusedEventsChangeNothing =
       (before after : State Context Words) (happening : Happening) (fault : StepFault)
       → Steps theory before happening (Err fault) after → fault ≢ NoMemory → after ≡ before
 
-  -- behind an event that wanted memory each one is refused as Stopped, and nothing changes any more
+  -- after an event has run out of memory, each later event is refused as Stopped, and nothing changes
   abbrev pub WantOfMemoryStops : Type 0
   WantOfMemoryStops =
       (before between after : State Context Words) (happening : Happening) (happenings : List Happening) (answers : List (Answer Context))
       → Steps theory before happening (Err NoMemory) between → Run theory between happenings answers after
       → AllByRecursion (λ answer. answer ≡ Err Stopped) answers × (after ≡ between)
 
-  -- in an event that wants memory, a context that was given no request is as the end of its expired sessions left it
+  -- if an event runs out of memory, a context that was given no request is unchanged apart from the end of its expired
+  -- sessions
   abbrev pub OthersStay : Type 0
   OthersStay =
       (before after : State Context Words) (happening : Happening) (breaks : Breaks theory before happening after) (place : ℕ)
       → AllByRecursion (λ given. given.place ≢ place) breaks.given
       → slice_get after.world.contexts place ≡ slice_get breaks.contexts place
 
-  -- runs one behind another are a run
+  -- a run followed by another run is a run
   abbrev pub RunsJoin : Type 0
   RunsJoin =
       (before between after : State Context Words) (first second : List Happening) (answers more : List (Answer Context))
       → Run theory before first answers between → Run theory between second more after
       → Run theory before (first ++ second) (answers ++ more) after
 
-  -- a run over two lists of events is one over the first, and then one over the second
+  -- a run over two lists of events is a run over the first followed by a run over the second
   pub record RunsInParts (before : State Context Words) (first second : List Happening) (answers : List (Answer Context))
       (after : State Context Words) : Type 0 where
     pub front : List (Answer Context)
@@ -176,7 +177,7 @@ module _ {Context Words : Type 0} (theory : Theory Context Words) where
       (before after : State Context Words) (first second : List Happening) (answers : List (Answer Context))
       → Run theory before (first ++ second) answers after → RunsInParts before first second answers after
 
-  -- the entry that says what became of a message
+  -- the entry that reports the outcome of a message
   abbrev pub deed_entry : Deed Context → Entry
   deed_entry (Answered entry) = entry
   deed_entry (Handled place handling) = entry_of theory handling
@@ -187,7 +188,7 @@ module _ {Context Words : Type 0} (theory : Theory Context Words) where
     pub why : OwnedWhy
     pub verdict : (theory.conduct.found handling.context handling.request).verdict ≡ decisions.Open why
 
-  -- a request enters exactly where it is allowed; what the container answers itself never does
+  -- a request enters exactly if it is allowed; a message that the container answers itself never enters
   abbrev pub EntersWhereAllowed : Deed Context → Type 0
   EntersWhereAllowed (Answered entry) = (context path : List ℕ) → entry ≢ entries.Entered context path
   EntersWhereAllowed (Handled place handling) =
@@ -195,20 +196,21 @@ module _ {Context Words : Type 0} (theory : Theory Context Words) where
       ≡ entries.Entered (theory.path_of handling.context) (path_within (theory.path_of handling.context) handling.request.canon.path))
       ↔ IsAllowed handling
 
-  -- over every list of events, the journal tells the outcome of each message once, in order, and a request enters exactly where the combined
-  -- constraints allow it
+  -- for every list of events, the journal reports the outcome of each message once, in order, and a request enters
+  -- exactly if the combined constraints allow it
   abbrev pub RequestsEnterExactlyWhereAllowed : Type 0
   RequestsEnterExactlyWhereAllowed =
       (before after : State Context Words) (happenings : List Happening) (answers : List (Answer Context))
       → Run theory before happenings answers after
       → (filter is_outcome (journal_of answers) ≡ map deed_entry (deeds_of answers)) × AllByRecursion EntersWhereAllowed (deeds_of answers)
 
-  -- whatever became of a message, a session of that number of the context at the place still holds the caller then
+  -- after the message, the session with that number still holds the caller in the context at the place
   abbrev pub KeepsCaller : ℕ → ℕ → ℕ → Deed Context → Type 0
   KeepsCaller place number caller (Answered entry) = Unit {0}
   KeepsCaller place number caller (Handled other handling) = place ≡ other → Holds theory number caller handling.after
 
-  -- a request to the context at the place was a login on the session of that number as that caller, and each later one left it so
+  -- a request to the context at the place was a login on the session with that number as that caller, and each later
+  -- request kept the caller
   pub record LoggedInBefore (place number caller : ℕ) (deeds : List (Deed Context)) : Type 0 where
     pub earlier : List (Deed Context)
     pub login : Handling Context
@@ -217,13 +219,14 @@ module _ {Context Words : Type 0} (theory : Theory Context Words) where
     pub logs_in : LogsIn theory number caller login
     pub stays : AllByRecursion (KeepsCaller place number caller) later
 
-  -- a session of that number of the context at the place holds the caller
+  -- the session with that number holds the caller in the context at the place
   pub record HoldsAt (place number caller : ℕ) (contexts : List Context) : Type 0 where
     pub context : Context
     pub there : slice_get contexts place ≡ Some context
     pub holds : Holds theory number caller context
 
-  -- until memory is refused, a session holds a caller only by a login that fits, which nothing has undone
+  -- as long as no event runs out of memory, a session gains a caller only by a successful login that nothing has undone
+  -- since
   abbrev pub CallersLoggedIn : Type 0
   CallersLoggedIn =
       (before after : State Context Words) (happenings : List Happening) (answers : List (Answer Context)) (place number caller : ℕ)
@@ -231,12 +234,12 @@ module _ {Context Words : Type 0} (theory : Theory Context Words) where
       → ¬ (HoldsAt place number caller before.world.contexts) → HoldsAt place number caller after.world.contexts
       → LoggedInBefore place number caller (deeds_of answers)
 
-  -- the constraints of the context at a place, as they stand
+  -- the current constraints of the context at a place
   abbrev pub policy_at : List Context → ℕ → Option Standing
   policy_at contexts place = slice_get (map theory.conduct.policy_of contexts) place
 
-  -- until memory is refused, nothing but edits changes the constraints: those of a context stand as its own edits have left them, one after another,
-  -- whatever was edited in others
+  -- as long as no event runs out of memory, only edits change the constraints: those of a context are the result of its
+  -- own edits, in order, and edits of other contexts do not affect them
   abbrev pub ConstraintsChangeByEditsAlone : Type 0
   ConstraintsChangeByEditsAlone =
       (before after : State Context Words) (happenings : List Happening) (answers : List (Answer Context)) (path : List ℕ) (place : ℕ) (standing : Standing)

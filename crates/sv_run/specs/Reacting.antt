@@ -1,4 +1,4 @@
--- What takes the events of a container one by one.
+-- Handlers of a container's events, one by one.
 use Rattle.std.specs.Prelude.{◌≡◌, List, [], ◌∷◌, map, Result, Ok, Err}
 use Rattle.sv_run.specs.Contexts.{Theory}
 use Rattle.sv_run.specs.Effect.{shown}
@@ -8,11 +8,11 @@ use Rattle.sv_run.specs.State.{State}
 use Rattle.sv_run.specs.declared.reaction.Reaction.{Reaction}
 use Rattle.sv_run.specs.declared.step_fault.StepFault.{StepFault}
 
--- how an event is taken: what takes it before, the event, what it brings or why it is refused, and what takes it after
+-- how an event is handled: the handler before it, the event, its reaction or fault, and the handler after it
 abbrev pub Reacting : Type 0 → Type 1
 Reacting R = R → Happening → Result Reaction StepFault → R → Type 0
 
--- the events are taken one after another, each with its answer
+-- the events are handled one after another, each with its answer
 abbrev pub Reacts : {R : Type 0} → Reacting R → R → List Happening → List (Result Reaction StepFault) → R → Type 0
 Reacts steps before [] [] after = after ≡ before
 Reacts {R} steps before (happening ∷ happenings) (answer ∷ answers) after =
@@ -20,19 +20,19 @@ Reacts {R} steps before (happening ∷ happenings) (answer ∷ answers) after =
 Reacts steps before [] (answer ∷ answers) after = ⊥
 Reacts steps before (happening ∷ happenings) [] after = ⊥
 
--- what is seen of an answer
+-- the visible part of an answer
 abbrev pub answer_shown : {Context : Type 0} → Answer Context → Result Reaction StepFault
 answer_shown (Ok effect) = Ok (shown effect)
 answer_shown (Err fault) = Err fault
 
 module _ {R Context Words : Type 0} (steps : Reacting R) (theory : Theory Context Words) where
-  -- events are taken as the run of a container says, of which the reactions are what is seen
+  -- each event is handled as the run of a container specifies, and the reaction shows its answer
   abbrev pub StepsLike : (R → State Context Words) → Type 0
   StepsLike state_of =
       (before after : R) (happening : Happening) (result : Result Reaction StepFault) → steps before happening result after
       → (answer : Answer Context) × Steps theory (state_of before) happening answer (state_of after) × (result ≡ answer_shown answer)
 
-  -- where each event is taken so, events one after another are a run
+  -- if each event is handled so, the events one after another are a run
   abbrev pub ReactionsAreARun : Type 0
   ReactionsAreARun =
       (state_of : R → State Context Words) → StepsLike state_of

@@ -1,4 +1,4 @@
--- Events one behind another.
+-- Events one after another.
 use Rattle.std.specs.Prelude.{◌≡◌, List, [], ◌∷◌, ◌++◌, Result, Ok, Err}
 use Rattle.sv_journal.specs.declared.entry.Entry.{Entry}
 use Rattle.sv_run.specs.Contexts.{Theory}
@@ -20,13 +20,13 @@ module _ {Context Words : Type 0} (theory : Theory Context Words) where
   Run before (happening ∷ happenings) [] after = ⊥
 
 module _ {Context : Type 0} where
-  -- the entries of the accepted events, in their order
+  -- the entries of the accepted events, in order
   abbrev pub journal_of : List (Answer Context) → List Entry
   journal_of [] = []
   journal_of (Ok effect ∷ answers) = effect.journal ++ journal_of answers
   journal_of (Err fault ∷ answers) = journal_of answers
 
-  -- what became of their messages
+  -- the deeds of the accepted events, in order
   abbrev pub deeds_of : List (Answer Context) → List (Deed Context)
   deeds_of [] = []
   deeds_of (Ok effect ∷ answers) = effect.deeds ++ deeds_of answers

@@ -6,14 +6,14 @@ use Rattle.rand_chacha.specs.ChaCha.{ChaCha, next_word}
 abbrev pub key_word : ChaCha → ℕ × ChaCha
 key_word = next_word 10
 
--- a number of 64 bits: the next two words, the first of them high
+-- a 64-bit number: the next two words, the high word first
 abbrev pub long_word : ChaCha → ℕ × ChaCha
 long_word generator =
     let high = key_word generator in
     let low = key_word high.1 in
     (high.0 * 2 ^ 32 + low.0, low.1)
 
--- a pair: the next two numbers of 64 bits
+-- a pair: the next two 64-bit numbers
 abbrev pub Draws : ChaCha → ℕ × ℕ → ChaCha → Type 0
 Draws before pair after =
     let first = long_word before in

@@ -1,4 +1,4 @@
--- What the events of the code say.
+-- The events of the code, as the events of the specification.
 use Rattle.sv_run.specs.Events as events
 use Rattle.sv_run.specs.declared.happening.Happening.{Happening}
 use Rattle.sv_run.specs.declared.happening.Happening.TheVariants.{Opened, Piece, Ended, Lost, Tick, Edit}

@@ -1,4 +1,4 @@
--- The texts of what refuses an event.
+-- The texts of the faults that refuse an event.
 use Rattle.std.specs.Prelude.{ℕ, List, codes}
 use Rattle.sv_run.specs.declared.step_fault.StepFault.{StepFault}
 use Rattle.sv_run.specs.declared.step_fault.StepFault.TheVariants.{Stopped, BadConnection, TooManyConnections, NoMemory}

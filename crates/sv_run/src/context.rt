@@ -1,4 +1,4 @@
-//! What a container wants of a context, and of a source of random words.
+//! The traits that a container requires of a context and of a source of random words.
 
 ghost use Rattle.std.specs.Prelude.{◌≡◌, ℕ, true, List, Err, IfErr, IfOk, IsTrue};
 ghost use Rattle.http.specs.StatusCode.{IsStatusCode};
@@ -17,15 +17,17 @@ use sv_policy::{Edit, EditFault};
 use sv_text::NoMemory;
 use sv_uri::path::Canon;
 
-/// A deployed context, which handles requests. The laws of runs speak of what it does, its [`conduct`](crate).
+/// A deployed context, which handles requests. The laws of runs refer to its behavior, its [`conduct`](crate).
 pub trait Context: HasContextPath + Sized {
     ghost conduct: { Conduct Self };
 
-    /// Handles a message whose target has that canonical path, which the context serves. The moment is the container's, and the words are the
-    /// message's own. It may take what stands in the message, of which nothing is said then: none of it need be copied.
+    /// Handles a message whose target has the canonical path `canon`, which the context serves. `moment` is the
+    /// container's time, and `words` are the random words of this message. The context may move parts out of the
+    /// message, so that it need not copy them; the message is unspecified afterwards.
     ///
-    /// `NoMemory` says that a growth was refused, or that a component wants memory: the handling was cut short, and the context can then be
-    /// undeployed, and no more.
+    /// # Errors
+    /// `NoMemory` if an allocation fails or a component runs out of memory. The handling is cut short, and the context
+    /// can then only be undeployed.
     fn handle(
         &mut self,
         alloc: Global,
@@ -49,21 +51,22 @@ pub trait Context: HasContextPath + Sized {
         ensures cut_short { IfErr result (λ _. conduct.CutsShort self.old (request_of message.old canon.now moment words) self.new) }
         ensures moves { conduct.Moves self.old self.new };
 
-    /// Takes the memory of a response that was written.
+    /// Reclaims the memory of a response that has been written.
     fn recycle(&mut self, response: Response)
         ensures { self.new ≡ self.old };
 
-    /// Ends the sessions that have expired at the moment. It takes no memory but the journal's, and ends them also where that breaks.
+    /// Ends the sessions that have expired at `moment`. It allocates only for the journal, and ends the sessions even
+    /// if the journal runs out of memory.
     fn expire(&mut self, alloc: Global, moment: u64, journal: &mut Journal)
         ensures expires { (told : List Entry) × conduct.Expires self.old moment told self.new
             × (journal.new.whole ≡ true → journal.new ≡ noting told journal.old) }
         ensures moves { conduct.Moves self.old self.new };
 
-    /// Edits the constraints: the number of the one that is appended or withdrawn. The next request is decided by them as they stand then. No component
-    /// is called, and nothing is told.
+    /// Edits the constraints, and returns the number of the constraint that was appended or withdrawn. The constraints
+    /// then in force decide the next request. The edit calls no component and notifies no listener.
     ///
     /// # Errors
-    /// The first [`EditFault`] that stands: the context is as it was before.
+    /// The first [`EditFault`] that applies. The context is unchanged.
     fn edit(&mut self, alloc: Global, edit: &Edit) -> Result<u64, EditFault>
         ensures edits { conduct.Edits self.old edit.now result self.new }
         ensures refused { result ≡ Err fault.NoMemory → self.new ≡ self.old };
@@ -79,7 +82,7 @@ pub trait Context: HasContextPath + Sized {
 pub trait Words {
     ghost draws: { Self → ℕ × ℕ → Self → Type 0 };
 
-    /// The next pair of words. It takes no memory.
+    /// Returns the next pair of words. It does not allocate.
     fn pair(&mut self) -> (u64, u64)
         ensures { draws self.old result self.new };
 }

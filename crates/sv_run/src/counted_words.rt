@@ -1,17 +1,18 @@
-//! Words that only count, so that a script gives the same output each time.
+//! A counter in place of random words, so that a script gives the same output each time.
 
 ghost use Rattle.std.specs.Prelude.{◌≡◌};
 
 use crate::context::Words;
 
-/// Words for scripts: the pair of the k-th message is 0 and k, from 1 on. The count stays at the greatest number.
+/// Words for scripts: the pair of the k-th message is 0 and k, counted from 1. The count saturates at the greatest
+/// number.
 #[derive(Drop)]
 pub struct CountedWords {
     drawn: u64,
 }
 
 impl CountedWords {
-    /// Words of which none is drawn.
+    /// Returns a counter from which no pair has been drawn.
     pub fn new() -> CountedWords
         ensures { result.drawn ≡ 0 }
     {

@@ -1,4 +1,4 @@
-//! What takes the events of a container.
+//! Event handlers of a container.
 
 ghost use Rattle.sv_run.specs.Contexts.{theory_of};
 ghost use Rattle.sv_run.specs.Reacting.{ReactionsAreARun};
@@ -11,35 +11,37 @@ use crate::step_fault::StepFault;
 use sv_journal::Journal;
 use sv_wire::Awaited;
 
-/// What takes the events of a container one by one, as a container does.
+/// A handler of a container's events. It handles them one after another, as a container does.
 pub trait EventHandler {
     ghost use Rattle.std.specs.Prelude.{◌≡◌, ℕ};
     ghost use Rattle.sv_run.specs.Reacting.{Reacting};
     ghost use Rattle.sv_wire.specs.declared.inbox.Awaited.{Awaited};
 
-    /// How an event is taken.
+    /// The relation between the handler before an event, the event, its result and the handler after it.
     ghost steps: { Reacting Self };
 
-    /// What is awaited of the connection of a number.
+    /// What the handler awaits of the connection with a given number.
     ghost awaited: { Self → ℕ → Awaited };
 
-    /// Takes an event.
+    /// Handles an event.
     ///
     /// # Errors
-    /// Why the event is refused, as [`StepFault`] says.
+    /// A [`StepFault`] if the event is refused.
     fn step(&mut self, happening: Happening) -> Result<Reaction, StepFault>
         ensures { steps self.old (happening_of happening.entry) result self.new };
 
-    /// Returns what is awaited of a connection: the first byte of a message between two requests, the rest of one while it is received.
+    /// Returns what the handler awaits of a connection. Between two requests it awaits the first byte of a message, and
+    /// during a message the rest of it.
     fn awaits(&self, connection: u64) -> Awaited
         ensures { result ≡ awaited self.now connection };
 
-    /// Takes the memory of bytes and of a journal that events brought, and of which nothing is needed any more, for what those to come bring. Left out,
-    /// it is let go.
+    /// Reclaims the memory of bytes and of a journal that earlier events returned and that the caller no longer needs.
+    /// Later events reuse it. The default implementation drops both.
     fn recycle(&self, _bytes: Vec<u8>, _journal: Journal) {}
 }
 
-/// What takes each event as the run of a container says takes events one after another as a run.
+/// The law that events handled one after another form a run of a container, if each of them is handled as the run
+/// specifies.
 pub fn reactions_are_a_run<R: EventHandler, C: Context, W: Words>()
     ensures { ReactionsAreARun R.steps (theory_of C.path_of C.conduct W.draws) }
 {}

@@ -2,8 +2,8 @@
 
 use sv_policy::Edit;
 
-/// An event of a container. A connection has a number, and a moment is in seconds since 1970. Of moments the greatest so far counts, at most
-/// [`LAST_MOMENT`](crate::LAST_MOMENT).
+/// An event of a container. Connections are identified by numbers, and times are in seconds since 1970. The container's
+/// time is the greatest time so far, at most [`LAST_MOMENT`](crate::LAST_MOMENT).
 #[derive(Clone, Copy)]
 pub enum Happening<'a> {
     /// A connection was accepted.
@@ -11,13 +11,13 @@ pub enum Happening<'a> {
         /// Its number, which no known connection has.
         connection: u64,
     },
-    /// Bytes came in on a connection.
+    /// A connection received bytes.
     Piece {
         connection: u64,
         bytes: &'a [u8],
         moment: u64,
     },
-    /// The input of a connection has ended.
+    /// The input of a connection ended.
     Ended {
         connection: u64,
     },
@@ -25,13 +25,13 @@ pub enum Happening<'a> {
     Lost {
         connection: u64,
     },
-    /// Time went on.
+    /// Time passed.
     Tick {
         moment: u64,
     },
     /// The constraints of a context are edited.
     Edit {
-        /// The path of the context, `""` for the root.
+        /// The path of the context, `""` for the root context.
         context: &'a str,
         edit: &'a Edit,
     },

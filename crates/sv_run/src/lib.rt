@@ -1,5 +1,5 @@
-//! The run of a container: what each event brings, over contexts of which only their conduct is known, and what holds of every list of events. Beside
-//! it what a container is handed: the sources of its random words.
+//! The run of a container: the effects of each event, over contexts that are known only by their conduct, and the laws
+//! of every list of events. The crate also has the sources of random words that a container uses.
 #![tactic(auto)]
 
 mod context;

@@ -1,19 +1,20 @@
-//! What an event brings.
+//! The reaction to an event.
 
 use sv_journal::Journal;
 use sv_policy::EditFault;
 use sv_text::Bytes;
 
-/// What an accepted event brings.
+/// The reaction to an accepted event.
 #[derive(Drop)]
 pub struct Reaction {
-    /// The bytes to be sent on the event's connection.
+    /// The bytes to send on the event's connection.
     pub sends: Bytes,
-    /// Whether the connection closes behind them.
+    /// Whether the connection closes after these bytes.
     pub closes: bool,
-    /// What was entered, refused, called and told, in order. It is whole.
+    /// The journal of the event: the requests that entered or were refused, the calls and the notifications, in order.
+    /// It is complete.
     pub journal: Journal,
-    /// The answer to an edit: the number of the constraint that was appended or withdrawn, or why it was refused, which is never want of memory.
-    /// `None` for every other event.
+    /// The answer to an edit: the number of the constraint that was appended or withdrawn, or the fault, which is never
+    /// `NoMemory`. `None` for every other event.
     pub edited: Option<Result<u64, EditFault>>,
 }

@@ -1,4 +1,4 @@
-//! Words that cannot be foreseen without their seed.
+//! Random words that cannot be predicted without their seed.
 
 ghost use Rattle.std.specs.Prelude.{◌≡◌, length};
 ghost use Rattle.rand_chacha.specs.ChaCha.{of_seed};
@@ -9,18 +9,18 @@ use rand_chacha::ChaCha20Rng;
 use rand_core::SeedableRng;
 use rand_core::utils::NextWord;
 
-/// The numbers that a word of the key stream takes.
+/// The number of values of a word of the key stream.
 const WORD_VALUES: u64 = 1 << 32;
 
-/// The key stream of ChaCha20 for a seed (RFC 8439, section 2.4), four of its words a pair: two for each number of the pair, the first of
-/// them high.
+/// The key stream of ChaCha20 for a seed (RFC 8439, section 2.4). A pair consumes four of its words, two for each
+/// number, the high word first.
 #[derive(Drop)]
 pub struct SeededWords {
     generator: ChaCha20Rng,
 }
 
 impl SeededWords {
-    /// The words of a seed, from the beginning of its key stream. The seed has 32 bytes.
+    /// Returns the words of a seed, from the beginning of its key stream. The seed has 32 bytes.
     pub fn from_seed(seed: &[u8]) -> SeededWords
         requires { length seed.now ≡ 32 }
         ensures { result.generator ≡ of_seed seed.now }
@@ -45,7 +45,7 @@ impl Words for SeededWords {
     }
 }
 
-// The number of the next two words of the key stream.
+// Returns the 64-bit number that the next two words of the key stream form.
 fn long_word(generator: &mut ChaCha20Rng) -> u64
     ensures { (result, generator.new) ≡ long_word generator.old }
 {

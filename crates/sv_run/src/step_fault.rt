@@ -1,4 +1,4 @@
-//! Why an event is refused.
+//! Reasons to refuse an event.
 
 ghost use Rattle.std.specs.Prelude.{◌≡◌, Some};
 ghost use Rattle.sv_run.specs.StepFault.{fault_name};
@@ -8,17 +8,19 @@ use std::error::Error;
 use std::fmt;
 use sv_text::NoMemory as OutOfMemory;
 
-/// Why a container refuses an event. Where several faults stand, the first is told. It is printed as its name, want of memory as `no memory`.
+/// The reason why a container refuses an event. If several faults apply, the first one is reported. A fault is printed
+/// as its name, `NoMemory` as `no memory`.
 #[derive(Clone, Copy, Debug, PartialEq, Eq)]
 pub enum StepFault {
     /// The container is stopped. Nothing has changed.
     Stopped = 1,
-    /// The connection is not known, or is opened and known already. Nothing has changed, the moment neither.
+    /// The connection is not known, or is opened although it is known already. Nothing has changed, not even the time.
     BadConnection = 2,
-    /// As many connections are known as there may be. Nothing has changed.
+    /// The maximum number of connections is known. Nothing has changed.
     TooManyConnections = 3,
-    /// A growth was refused, or a component wants memory: the container is stopped, and what the event brought is lost. The sessions that have
-    /// expired have ended; the event itself broke off, and the components of each context were moved by the calls made so far.
+    /// An allocation failed, or a component ran out of memory. The container is stopped, and the reaction to the event
+    /// is lost. The expired sessions have ended, the event itself broke off, and the calls made so far have changed the
+    /// components of the contexts.
     NoMemory = 4,
 }
 

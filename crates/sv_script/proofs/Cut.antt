@@ -1,4 +1,4 @@
--- A run of a script that memory cut.
+-- A run of a script that ran out of memory.
 use Rattle.std.proofs.Common.{◌≡◌, ◌⊎◌, ℕ, ◌+◌, List, [], ◌∷◌, ◌++◌, Result, Ok, Err, refl, sym, ap, ◌∙◌, inl, inr, subst, append_assoc}
 use Rattle.sv_journal.specs.Journal.{JournalState}
 use Rattle.sv_script.specs.Asked.{reaction_text, reactions_text}
@@ -13,7 +13,7 @@ use Rattle.sv_script.specs.Whole.{PlaysOnce, PrintsOf, PrintsStop, blame}
 use Rattle.sv_streams.specs.Calls.{Making, WritesAll}
 use Rattle.sv_streams.proofs.CallJoins.{writes_join}
 
--- the texts of the first events begin those of all
+-- the texts of the first events are the beginning of the texts of all events
 texts_begin : (number : ℕ) (front behind : List Reaction) → Begins (reactions_text number front) (reactions_text number (front ++ behind))
 texts_begin number [] behind = (reactions_text number behind, refl)
 texts_begin number (reaction ∷ front) behind =
@@ -23,7 +23,7 @@ texts_begin number (reaction ∷ front) behind =
           ∙ ap (λ text. reaction_text number reaction ++ text) later.1,
     )
 
--- a text begins another behind the same front, and with something behind that
+-- if a text begins another, it still does with a common text before both and with more text after the other
 begins_between : {X : Type 0} (start front whole stop : List X) → Begins front whole → Begins (start ++ front) (start ++ whole ++ stop)
 begins_between start front whole stop begins = (
   begins.0 ++ stop,
@@ -44,7 +44,7 @@ module _ {R I O : Type 0} (steps : Reacting R) (stops : R → JournalState → T
       (texts_begin 1 cut.played.reactions first.0)))
 
   module _ (started : JournalState) (before : R) (script : I) (output : O) (script_after : I) (output_after : O) where
-    -- nothing was written behind the replay
+    -- nothing was written after the replay
     cut_at : (begun played_to : O) (its_end : Result (Unit {0}) ReplayFault) (its_after : R) (its_stop : JournalState)
         → WritesAll takes (start_text started.entries) output (Ok tt) begun
         → (r : Replays steps gives takes before script begun its_end its_after script_after played_to)
@@ -86,7 +86,7 @@ module _ {R I O : Type 0} (steps : Reacting R) (stops : R → JournalState → T
     once_begun (Err NoMemory) begun played_to after stopped writes r stops_with prints =
         cut_at begun played_to (Err NoMemory) after stopped writes r r.writes stops_with prints.1
 
-    -- where there was no memory for the text of the start, nothing else was done
+    -- if memory ran out for the text of the start, nothing else was done
     never_begun : (played : Result (Unit {0}) ReplayFault) (begun played_to : O) (after : R) (its_stop : JournalState) → begun ≡ output → played ≡ Err NoMemory
         → after ≡ before → script_after ≡ script → played_to ≡ begun → stops after its_stop
         → PrintsStop takes played its_stop played_to (Err NoMemory) output_after

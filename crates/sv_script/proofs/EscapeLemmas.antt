@@ -1,4 +1,4 @@
--- What a text that is read begins with.
+-- The beginning of a text that is read.
 use Rattle.std.proofs.Common.{◌≡◌, ℕ, ◌+◌, ◌*◌, false, eqb, List, [], ◌∷◌, ◌++◌, Some, None, Option, refl, sym, ap, ◌∙◌, append_assoc, append-nil}
 use Rattle.std.proofs.lemmas.Bool.{ne_eqb}
 use Rattle.std.specs.Option.{option_map, option_and_then}
@@ -33,11 +33,11 @@ pub one_digit_behind : (high : ℕ) → unescaped (92 ∷ 120 ∷ high ∷ []) �
 unfolding unescaped
 one_digit_behind high = refl
 
--- a letter, if it is one
+-- an escape with a letter
 pub with_letter : (text rest : List ℕ) (letter : ℕ) → text ≡ letter ∷ rest → (letter ≡ 120 → ⊥) → unescaped (92 ∷ text) ≡ preceded_by (named_byte letter) (unescaped rest)
 with_letter text rest letter first other = ap (λ behind. unescaped (92 ∷ behind)) first ∙ named_first letter rest (ne_eqb letter 120 other)
 
--- two digits, if they are ones
+-- an escape with two hexadecimal digits
 pub with_digits : (text low_on rest : List ℕ) (high low : ℕ) → text ≡ high ∷ low_on → low_on ≡ low ∷ rest
     → unescaped (92 ∷ 120 ∷ text) ≡ preceded_by (hex_byte high low) (unescaped rest)
 with_digits text low_on rest high low first second =

@@ -27,7 +27,7 @@ number_read : {E : Type 0} (text : List ℕ) (r : Result ℕ E) → list_all is_
 number_read text (Ok value) digits (fits, is) = rw (digits, is) (grind (arith, nat_tests))
 number_read text (Err fault) digits refused = rw digits (grind (arith, nat_tests))
 
--- what is parsed of digits is the number that they are
+-- parsing digits returns the number that they denote
 pub number_parsed : {E : Type 0} (text : List ℕ) (r : Result ℕ E) → list_all is_ascii_digit text ≡ true → ParsesUnsigned 64 10 text r → result_ok r ≡ number text
 number_parsed text r digits parsed =
     number_read text r digits (parse_digits model 64 text r parsed (digits_alone text ∙ digits))

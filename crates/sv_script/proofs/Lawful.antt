@@ -14,7 +14,7 @@ use Rattle.sv_run.specs.declared.step_fault.StepFault.{StepFault}
 use Rattle.sv_script.specs.WholeLaws.{PlaysALawfulRun, entries_of}
 use Rattle.sv_run.proofs.Reactions.{run_of}
 
--- the entries of answers as they are seen
+-- the entries of the visible answers
 abbrev entries_shown : List (Result Reaction StepFault) → List Entry
 entries_shown [] = []
 entries_shown (Ok reaction ∷ answers) = reaction.journal.entries ++ entries_shown answers

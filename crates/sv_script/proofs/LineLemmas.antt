@@ -1,4 +1,4 @@
--- Lines at the front of a text.
+-- Lines at the beginning of a text.
 use Rattle.std.proofs.Common.{◌≡◌, ℕ, ◌<◌, Bool, true, false, eqb, List, [], ◌∷◌, ◌++◌, refl, subst, sym, ap, ◌∙◌, inl, inr, append_assoc, append-nil, length, arith, flat_map, ⊎_elim, ◌⊎◌}
 use Rattle.std.proofs.lemmas.Bool.{cases_Bool, eqb-true, or_parts}
 use Rattle.std.specs.List.{AllByRecursion}
@@ -18,14 +18,14 @@ next_grows ended ended_then more line text behind none (inr ((no_feed, is, some)
       both.1,
     )
 
--- more was read, and nothing behind the end
+-- reading more text keeps the lines, if nothing is read after the end
 pub grows : (ended ended_then : Bool) (more : List ℕ) (lines : List (List ℕ)) (text rest : List ℕ)
     → (ended ≡ true → (more ≡ []) × (ended_then ≡ true)) → AreNext ended lines text rest → AreNext ended_then lines (text ++ more) (rest ++ more)
 grows ended ended_then more [] text rest none is = ap (λ t. t ++ more) is
 grows ended ended_then more (line ∷ lines) text rest none (behind, next, later) =
     (behind ++ more, next_grows ended ended_then more line text behind none next, grows ended ended_then more lines behind rest none later)
 
--- a line more
+-- one more line
 pub line_more : (ended : Bool) (lines : List (List ℕ)) (line text rest behind : List ℕ)
     → AreNext ended lines text rest → IsNext ended line rest behind → AreNext ended (lines ++ line ∷ []) text behind
 line_more ended [] line text rest behind is next = let P : List ℕ → Type 0 = λ t. IsNext ended line t behind in (behind, subst P is next, refl)
@@ -54,13 +54,13 @@ first_of_lines ended line text behind (inl (none, is)) = ap lines_of is ∙ cut_
 first_of_lines ended line text behind (inr ((none, is, some), empty, at_end)) =
     ap lines_of is ∙ last_line line none some ∙ ap (λ rest. line ∷ lines_of rest) (sym empty)
 
--- they are the first of the text's lines
+-- they are the first lines of the text
 pub first_lines : (ended : Bool) (lines : List (List ℕ)) (text rest : List ℕ) → AreNext ended lines text rest → lines_of text ≡ lines ++ lines_of rest
 first_lines ended [] text rest is = ap lines_of (sym is)
 first_lines ended (line ∷ lines) text rest (behind, next, later) =
     first_of_lines ended line text behind next ∙ ap (λ others. line ∷ others) (first_lines ended lines behind rest later)
 
--- where nothing is left, they are the text's lines
+-- if nothing is left, they are the lines of the text
 pub are_lines : (ended : Bool) (lines : List (List ℕ)) (text : List ℕ) → AreNext ended lines text [] → lines ≡ lines_of text
 are_lines ended lines text are = sym (first_lines ended lines text [] are ∙ append-nil lines)
 
@@ -73,7 +73,7 @@ begun_by b [] (c ∷ text) (inr is) = cc
 begun_by b (line ∷ lines) text (inl is) = inl (ap (λ t. b ∷ t) is)
 begun_by b (line ∷ lines) text (inr is) = inr (ap (λ t. b ∷ t) is)
 
--- the lines, each with a line feed, are the text
+-- the lines, each followed by a line feed, are the text
 pub lines_whole : (text : List ℕ) → (flat_map with_line_feed (lines_of text) ≡ text) ⊎ (flat_map with_line_feed (lines_of text) ≡ with_line_feed text)
 lines_whole [] = inl refl
 lines_whole (b ∷ text) =
@@ -91,7 +91,7 @@ apart_by : (b : ℕ) (lines : List (List ℕ)) → eqb b 10 ≡ false → AllByR
 apart_by b [] other all = (rw other refl, tt)
 apart_by b (line ∷ lines) other (here, all) = (rw (other, here) refl, all)
 
--- no line has one
+-- no line contains a line feed
 pub lines_apart : (text : List ℕ) → AllByRecursion HasNoLineFeed (lines_of text)
 lines_apart [] = tt
 lines_apart (b ∷ text) =

@@ -10,7 +10,7 @@ use Rattle.sv_script.specs.Fields.{text_of}
 use Rattle.sv_script.specs.Names.{has_form, is_name, name_of, named}
 use Rattle.sv_script.specs.declared.names.NameKind.{NameKind}
 
--- a text that is UTF-8, and one that is none
+-- bytes that are UTF-8, and bytes that are not
 pub is_text : (bytes : List ℕ) → IsUtf8 bytes → text_of bytes ≡ Some bytes
 is_text bytes is = rw (is_utf8-from_IsUtf8 bytes is) refl
 
@@ -21,7 +21,7 @@ is_no_text bytes none = by (is_utf8 bytes) refl
     by true same = absurd (none (IsUtf8-from_is_utf8 bytes same))
     by false same = refl
 
--- the part before the first that passes, and the others
+-- the part before the first byte that passes the test, and the other parts
 pub parted : (test : ℕ → Bool) (text : List ℕ) (place : ℕ) → position test text ≡ Some place
     → slice_split test text ≡ take place text ∷ slice_split test (drop (place + 1) text)
 parted test text place found =
@@ -72,7 +72,7 @@ is_none kind text none = by (is_name kind text) refl none
     by true same found = absurd (cc)
     by false same found = same
 
--- the names in front were read, and the others are left
+-- the first names were read, and the others are left
 abbrev pub AreRead : NameKind → List (List ℕ) → List (List ℕ) → List (List ℕ) → Type 0
 AreRead kind all names left = named kind all ≡ option_map (λ more. names ++ more) (named kind left)
 

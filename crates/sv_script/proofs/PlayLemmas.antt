@@ -1,4 +1,4 @@
--- A line that is played.
+-- Playing a line.
 use Rattle.std.proofs.Common.{◌≡◌, ℕ, ◌+◌, List, [], ◌∷◌, Option, None, Some, Ok, Err, refl, subst, sym, ap, ◌∙◌, inr, append-nil, arith}
 use Rattle.std.specs.Option.{option_to_list}
 use Rattle.sv_script.specs.Asked.{event_of, moment_behind, reaction_text, reactions_text}
@@ -25,13 +25,13 @@ one_text number reaction = sym (append-nil (reaction_text number reaction))
 abbrev pub course_of : ℕ → ℕ → ℕ → Course
 course_of moment lines events = record { moment = moment; lines = lines; events = events }
 
--- the course behind it
+-- the course after a line
 course_behind : (moment moment_then lines events accepted accepted_then : ℕ) → moment ≡ moment_then → accepted ≡ accepted_then
     → course_of moment lines (events + accepted) ≡ course_of moment_then lines (events + accepted_then)
 course_behind moment moment_then lines events accepted accepted_then told counted =
     ap (λ (m : ℕ). course_of m lines (events + accepted)) told ∙ ap (λ (n : ℕ). course_of moment_then lines (events + n)) counted
 
--- its event was accepted, and the text is written
+-- the event of the line was accepted, and its text is written
 pub line_accepted : {R O : Type 0} (steps : Reacting R) (takes : Making O) (course : Course) (before after handler : R) (output output_after sink : O)
     (line : List ℕ) (said : ScriptLine) (event : Happening) (moment accepted : ℕ)
     → asked line ≡ Ok said → event_of course.moment said ≡ Some event → TakesEvent steps takes course before output event (Ok tt) after output_after
@@ -50,7 +50,7 @@ line_accepted {R} {O} steps takes course before after handler output output_afte
       course_behind moment (moment_behind course.moment said) (course.lines + 1) course.events accepted 1 told counted,
     )
 
--- it asks for no event
+-- the line asks for no event
 pub nothing_asked : {R O : Type 0} (steps : Reacting R) (takes : Making O) (course : Course) (before handler : R) (output sink : O)
     (line : List ℕ) (said : ScriptLine) (moment accepted : ℕ)
     → asked line ≡ Ok said → event_of course.moment said ≡ None → handler ≡ before → sink ≡ output
@@ -66,7 +66,7 @@ nothing_asked {R} {O} steps takes course before handler output sink line said mo
       course_behind moment (moment_behind course.moment said) (course.lines + 1) course.events accepted 0 told counted,
     )
 
--- its event was refused, or the text was not written
+-- the event of the line was refused, or its text was not written
 pub line_stopped : {R O : Type 0} (steps : Reacting R) (takes : Making O) (course : Course) (before after : R) (output output_after : O)
     (line : List ℕ) (said : ScriptLine) (event : Happening) (fault : ReplayFault)
     → asked line ≡ Ok said → event_of course.moment said ≡ Some event → TakesEvent steps takes course before output event (Err fault) after output_after

@@ -1,4 +1,4 @@
--- How far a replay has come.
+-- The progress of a replay.
 use Rattle.std.proofs.Common.{◌≡◌, ℕ, ◌+◌, ◌-◌, ◌*◌, ◌<◌, ◌≤◌, Bool, true, ◌||◌, List, [], ◌∷◌, ◌++◌, None, Some, Ok, Err, Result, refl, subst, sym, ap, ◌∙◌, inl, inr, length, length-append, map, arith}
 use Rattle.std.proofs.lemmas.List.{map-append}
 use Rattle.std.specs.Option.{option_to_list}
@@ -24,7 +24,7 @@ use Rattle.sv_script.proofs.LineLemmas.{are_lines, grows, line_more}
 use Rattle.sv_script.proofs.RunJoins.{events_more, moment_more, text_join}
 use Rattle.sv_run.proofs.Reactions.{reacts_join}
 
--- as many lines are left, at most
+-- an upper bound of the number of lines that are left
 abbrev pub left : LinesState → ℕ
 left state = piece_bytes * (max_reads - state.reads) + length (unread state)
 
@@ -36,7 +36,7 @@ pub record Reading (calls : List Call) (failed : ℕ) (state : LinesState) : Typ
   pub within : state.reads ≤ max_reads
   pub ended : state.ended ≡ meets_end calls
 
--- the lines that were played, and what they brought
+-- the lines that were played, and the reactions to them
 pub record Progress {R I O : Type 0} (steps : Reacting R) (gives : Making I) (takes : Making O) (before : R) (script : I) (output : O)
     (state : LinesState) (course : Course) (handler : R) (source : I) (sink : O) : Type 0 where
   pub calls : List Call
@@ -78,7 +78,7 @@ fell_by : (reads reads_then more given text left line : ℕ) → given ≤ 8192 
     → text + given ≡ line + (1 + left) → 8192 * (1000000 - reads_then) + left + 1 ≤ 8192 * (1000000 - reads) + text
 fell_by reads reads_then more given text left line measured counted within is = omega arith
 
--- a line less is left
+-- reading a line lowers the bound
 fell : (state after : LinesState) (more : List Call) (failed : ℕ) (line : List ℕ) → AreReads state more failed after → state.reads ≤ max_reads
     → IsNext after.ended line (unread state ++ given more) (unread after) → left after + 1 ≤ left state
 fell state after more failed line are within (inl (none, is)) =
@@ -113,7 +113,7 @@ module _ {R I O : Type 0} (steps : Reacting R) (gives : Making I) (takes : Makin
   }
 
   module _ (state after : LinesState) (course : Course) (handler : R) (source source_after : I) (sink : O) (p : Progress steps gives takes before script output state course handler source sink) where
-    -- what stands in what is read by then
+    -- the next lines in the text read by then
     next_lines : (more : List Call) (failed : ℕ) → AreReads state more failed after → AreNext after.ended p.lines (given (p.calls ++ more)) (unread state ++ given more)
     next_lines more failed are =
         let P : List ℕ → Type 0 = λ text. AreNext after.ended p.lines text (unread state ++ given more) in
@@ -150,7 +150,7 @@ module _ {R I O : Type 0} (steps : Reacting R) (gives : Making I) (takes : Makin
         let same : course.events + 1 ≡ 1 + length p.reactions = omega arith in
         ap (λ (n : ℕ). reactions_text 1 p.reactions ++ reactions_text n reactions) same ∙ sym (text_join 1 p.reactions reactions)
 
-    -- a line more was played
+    -- one more line was played
     pub line_played : (course_after : Course) (handler_after : R) (sink_after : O) (line : List ℕ) → NextLine gives source state (Ok (Some line)) source_after after
         → PlaysLine steps takes course handler sink line (Ok tt) course_after handler_after sink_after
         → Progress steps gives takes before script output after course_after handler_after source_after sink_after
@@ -184,12 +184,12 @@ module _ {R I O : Type 0} (steps : Reacting R) (gives : Making I) (takes : Makin
           room = omega arith;
         }
 
-    -- a line less is left
+    -- playing a line lowers the bound
     pub line_less : (line : List ℕ) → NextLine gives source state (Ok (Some line)) source_after after → left after < left state
     line_less line (more, made, are, next) =
         let falls : left after + 1 ≤ left state = fell state after more 0 line are p.reading.within next in omega arith
 
-    -- as far as the lines were played
+    -- the progress of the replay after further reads
     abbrev pub played_to : List Call → Played R
     played_to more = record {
       calls = p.calls ++ more;
@@ -240,7 +240,7 @@ module _ {R I O : Type 0} (steps : Reacting R) (gives : Making I) (takes : Makin
           ends = (is_number ∙ ap (λ (n : ℕ). n + 1) p.is_lines, inl (inr (no_feed, inl reading.fails), refl));
         }
 
-    -- as many reads were made as may be
+    -- the maximum number of reads was made
     pub too_many : (number : ℕ) → number ≡ course.lines + 1 → NextLine gives source state (Err TooManyReads) source_after after
         → Replays steps gives takes before script output (Err (faults.Script number)) handler source_after sink
     too_many number is_number (more, made, are, (kept, no_feed, many)) =
@@ -255,7 +255,7 @@ module _ {R I O : Type 0} (steps : Reacting R) (gives : Making I) (takes : Makin
           ends = (is_number ∙ ap (λ (n : ℕ). n + 1) p.is_lines, inl (inr (no_feed, inr (reading.fails, omega arith)), refl));
         }
 
-    -- there was no memory for a line
+    -- memory for a line ran out
     pub no_line : NextLine gives source state (Err NoMemory) source_after after → Replays steps gives takes before script output (Err faults.NoMemory) handler source_after sink
     no_line (more, made, are, kept) = record {
       played = played_to more;

@@ -1,4 +1,4 @@
--- The text of bytes stands for these bytes.
+-- The escaped text of bytes reads back as these bytes.
 use Rattle.std.proofs.Common.{◌≡◌, ℕ, ◌+◌, ◌*◌, ◌/◌, ◌%◌, ◌<◌, Bool, true, false, cond, codes, eqb, List, [], ◌∷◌, ◌++◌, Some, refl, ap, ◌∙◌, ⊎_elim, arith}
 use Rattle.std.proofs.lemmas.Bool.Decides.{eqb_tells, nat_tests}
 use Rattle.std.proofs.lemmas.List.Elements.{All-head, All-tail}

@@ -1,4 +1,4 @@
--- What a line more asks for, and brings.
+-- The request of one more line, and its reaction.
 use Rattle.std.proofs.Common.{◌≡◌, ℕ, ◌+◌, List, [], ◌∷◌, ◌++◌, refl, sym, ap, ◌∙◌, append_assoc, append-nil, length, arith, subst, Err}
 use Rattle.std.specs.Option.{option_to_list}
 use Rattle.sv_script.specs.Asked.{event_of, events_of, moment_behind, moment_behind_all, reaction_text, reactions_text}

@@ -14,7 +14,7 @@ use Rattle.sv_streams.proofs.CallJoins.{writes_join}
 
 module _ {R I O : Type 0} (steps : Reacting R) (stops : R → JournalState → Type 0) (gives : Making I) (takes : Making O) (started : JournalState) (before : R)
     (script : I) (output : O) where
-  -- the three texts are one
+  -- the three texts form one
   three : (begun played_to after : O) (first second third : List ℕ) → WritesAll takes first output (Ok tt) begun
       → WritesAll takes second begun (Ok tt) played_to → WritesAll takes third played_to (Ok tt) after
       → WritesAll takes (first ++ second ++ third) output (Ok tt) after
@@ -22,7 +22,7 @@ module _ {R I O : Type 0} (steps : Reacting R) (stops : R → JournalState → T
       writes_join takes (first ++ second) third output played_to after (Ok tt)
       (writes_join takes first second output begun played_to (Ok tt) writes then_writes) last_writes
 
-  -- however the replay ended, what it asks of the stop's text is what a run that was written to its end has
+  -- for each end of the replay: if the output is complete, it is one text
   ended_well : (result : Result (Unit {0}) ReplayFault) (begun played_to : O) (after : R) (stopped : JournalState) (script_after : I) (output_after : O)
       → WritesAll takes (start_text started.entries) output (Ok tt) begun
       → Replays steps gives takes before script begun (Ok tt) after script_after played_to → stops after stopped
@@ -70,7 +70,7 @@ module _ {R I O : Type 0} (steps : Reacting R) (stops : R → JournalState → T
   blamed line (Err NoMemory) result begun played_to after stopped script_after output_after writes r stops_so prints same is =
       absurd (subst IsWritten same is)
 
-  -- once the start is written
+  -- after the text of the start was written
   once_begun : (played result : Result (Unit {0}) ReplayFault) (begun played_to : O) (after : R) (stopped : JournalState) (script_after : I) (output_after : O)
       → WritesAll takes (start_text started.entries) output (Ok tt) begun
       → Replays steps gives takes before script begun played after script_after played_to → stops after stopped
@@ -85,7 +85,7 @@ module _ {R I O : Type 0} (steps : Reacting R) (stops : R → JournalState → T
   once_begun (Err NoMemory) result begun played_to after stopped script_after output_after writes r stops_so (same, stays) is =
       absurd (subst IsWritten same is)
 
-  -- where the start was not written
+  -- if the text of the start was not written
   never_begun : (fault : ReplayFault) (played result : Result (Unit {0}) ReplayFault) (begun played_to : O) (stopped : JournalState) (output_after : O)
       → PrintsOf takes start_text started output (Err fault) begun → played ≡ Err fault → PrintsStop takes played stopped played_to result output_after
       → IsWritten result → ⊥

@@ -17,7 +17,7 @@ use Rattle.sv_script.specs.declared.line.ScriptLine.{ScriptLine}
 use Rattle.sv_script.specs.declared.line.ScriptLine.TheVariants.{Edit}
 use Rattle.sv_script.specs.declared.names.NameKind.TheVariants.{Method, Role}
 
--- the path of a context as it is written: `/` is the root's, too
+-- the path of a context as written in a script: `/` is also the root
 abbrev pub shown_path : List ℕ → List ℕ
 shown_path text = if bytes_eq text (codes "/") then [] else text
 
@@ -27,7 +27,7 @@ path_of context = option_map shown_path (text_of context)
 abbrev pub pattern_of : List ℕ → Option (List ℕ)
 pattern_of text = option_and_then (λ pattern. if is_pattern pattern then Some pattern else None) (text_of text)
 
--- `!` and names for all methods but these, or names for these alone
+-- `!` and names for all methods but these, or names for only these
 abbrev pub listed_methods : List ℕ → Option Methods
 listed_methods [] = option_map Only (names_of Method [])
 listed_methods (b ∷ omitted) = if b == byte "!" then option_map Except (names_of Method omitted) else option_map Only (names_of Method (b ∷ omitted))
@@ -36,7 +36,7 @@ listed_methods (b ∷ omitted) = if b == byte "!" then option_map Except (names_
 abbrev pub methods_of : List ℕ → Option Methods
 methods_of text = if bytes_eq text (codes "*") then Some All else listed_methods text
 
--- `open` for everyone, `nobody` for no role, and names for these
+-- `open` for everyone, `nobody` for no role, and names for these roles
 abbrev pub auth_of : List ℕ → Option Auth
 auth_of text =
     if bytes_eq text (codes "open") then Some Absent

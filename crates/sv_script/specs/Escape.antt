@@ -1,4 +1,4 @@
--- Bytes as texts of a script: what is no plain byte is written with a backslash.
+-- Bytes as texts of a script. A byte that is not plain is written with a backslash.
 use Rattle.std.specs.Prelude.{◌≡◌, ℕ, ◌+◌, ◌*◌, ◌/◌, ◌%◌, ◌<◌, Bool, true, ◌==◌, ◌&&◌, nat_le, List, [], ◌∷◌, ◌++◌, codes, length, flat_map, Option, Some, None, if◌then◌else◌}
 use Rattle.std.specs.Char.{digit_value, is_digit}
 use Rattle.std.specs.Fmt.{digit_glyph}
@@ -40,7 +40,7 @@ hex_digit b = if is_digit b 16 then Some (digit_value b) else None
 abbrev pub hex_byte : ℕ → ℕ → Option ℕ
 hex_byte high low = option_and_then (λ h. option_map (λ l. 16 * h + l) (hex_digit low)) (hex_digit high)
 
--- the byte that a backslash and this letter stand for
+-- the byte that a backslash and this letter mean, if any
 abbrev pub named_byte : ℕ → Option ℕ
 named_byte letter =
     if letter == byte "r" then Some carriage_return
@@ -48,20 +48,20 @@ named_byte letter =
     else if letter == byte "\\" then Some (byte "\\")
     else None
 
--- this byte, and then those
+-- this byte followed by the bytes
 abbrev pub preceded : ℕ → Option (List ℕ) → Option (List ℕ)
 preceded b bytes = option_map (λ behind. b ∷ behind) bytes
 
--- the byte, where there is one, and then those
+-- the byte, if there is one, followed by the bytes
 abbrev pub preceded_by : Option ℕ → Option (List ℕ) → Option (List ℕ)
 preceded_by first bytes = option_and_then (λ b. preceded b bytes) first
 
--- a byte that begins no `\xHH`, the byte behind it, and what stands for what is behind the one and behind the other
+-- a byte that begins no `\xHH`, and the next byte, with the meaning of the text after the first and after both
 abbrev pub begun : ℕ → ℕ → Option (List ℕ) → Option (List ℕ) → Option (List ℕ)
 begun b next behind_one behind_two =
     if b == byte "\\" then preceded_by (named_byte next) behind_two else preceded b behind_one
 
--- the bytes that a text stands for, none where a backslash in it begins none of `\r`, `\n`, `\\` and `\xHH`
+-- the bytes that a text means, none if a backslash in it begins none of `\r`, `\n`, `\\` and `\xHH`
 unfoldable pub unescaped : List ℕ → Option (List ℕ)
 unescaped [] = Some []
 unescaped (b ∷ []) = if b == byte "\\" then None else Some (b ∷ [])
@@ -71,6 +71,6 @@ unescaped (b ∷ next ∷ high ∷ low ∷ rest) =
     else begun b next (unescaped (next ∷ high ∷ low ∷ rest)) (unescaped (high ∷ low ∷ rest))
 unescaped (b ∷ next ∷ rest) = begun b next (unescaped (next ∷ rest)) (unescaped rest)
 
--- the text stands for this byte and what the shorter rest stands for
+-- the text means this byte followed by the meaning of the shorter rest
 abbrev pub Begins : List ℕ → ℕ → List ℕ → Type 0
 Begins text b rest = (unescaped text ≡ preceded b (unescaped rest)) × (length rest < length text)

@@ -6,18 +6,18 @@ use Rattle.std.specs.List.{list_all}
 use Rattle.std.specs.Str.{byte, is_utf8}
 use Rattle.std.specs.Str.Parse.{digits_value}
 
--- what stands before the first blank and behind it, where there is one
+-- the text before the first blank and the text after it, if there is a blank
 abbrev pub at_blank : List ℕ → Option (List ℕ × List ℕ)
 at_blank text = option_map (λ place. (take place text, drop (place + 1) text)) (position (λ b. b == byte " ") text)
 
--- the text that bytes are, where they are UTF-8
+-- the bytes as a text, if they are UTF-8
 abbrev pub text_of : List ℕ → Option (List ℕ)
 text_of bytes = if is_utf8 bytes then Some bytes else None
 
--- one decimal digit or more, of a number that fits 64 bits
+-- one or more decimal digits of a number that fits 64 bits
 abbrev pub is_number : List ℕ → Bool
 is_number text = list_all is_ascii_digit text && nat_lt 0 (length text) && nat_lt (digits_value 10 text) (2 ^ 64)
 
--- the number that the text is
+-- the number that the text denotes
 abbrev pub number : List ℕ → Option ℕ
 number text = if is_number text then Some (digits_value 10 text) else None

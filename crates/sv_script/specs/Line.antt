@@ -1,4 +1,4 @@
--- What a line of a script asks for.
+-- The lines of a script.
 use Rattle.std.specs.Prelude.{ℕ, Bool, true, ◌==◌, List, [], ◌∷◌, codes, Option, Some, None, Result, Ok, if◌then◌else◌}
 use Rattle.std.specs.Option.{option_map, option_and_then, ok_or}
 use Rattle.std.specs.Str.{byte, bytes_eq}
@@ -19,7 +19,7 @@ is_skipped (b ∷ text) = b == byte "#"
 abbrev pub piece : List ℕ → Option ScriptLine
 piece rest = option_and_then (λ cut. option_and_then (λ connection. option_map (Send connection) (unescaped cut.1)) (number cut.0)) (at_blank rest)
 
--- what a word asks for with what is behind its blank
+-- the request of a word with the rest of the line after its blank
 abbrev pub asked_by : List ℕ → List ℕ → Option ScriptLine
 asked_by word rest =
     if bytes_eq word (codes "open") then option_map Open (number rest)
@@ -31,15 +31,15 @@ asked_by word rest =
     else if bytes_eq word (codes "withdraw") then withdrawing rest
     else None
 
--- what a line asks for that is not skipped
+-- the request of a line that is not skipped
 abbrev pub spoken : List ℕ → Option ScriptLine
 spoken line = option_and_then (λ cut. asked_by cut.0 cut.1) (at_blank line)
 
--- what a line asks for
+-- the request of a line
 abbrev pub asked : List ℕ → Result ScriptLine LineFault
 asked line = if is_skipped line then Ok Nothing else ok_or (spoken line) Unreadable
 
--- the fault, apart from want of memory
+-- the fault, apart from running out of memory
 abbrev pub line_fault : LineFault → Option LineFault
 line_fault Unreadable = Some Unreadable
 line_fault NoMemory = None

@@ -14,7 +14,7 @@ is_comma b = b == byte ","
 abbrev pub is_shown : ℕ → Bool
 is_shown b = nat_le 32 b && not (b == 127)
 
--- one byte or more, up to the limit; a method is a token, and a role has no control characters
+-- one or more bytes, up to the limit; a method is a token, and a role has no control characters
 abbrev pub has_form : NameKind → List ℕ → Bool
 has_form Method name = nat_le 1 (length name) && nat_le (length name) MAX_METHOD_BYTES && list_all is_token_byte name
 has_form Role name = nat_le 1 (length name) && nat_le (length name) MAX_ROLE_BYTES && list_all is_shown name
@@ -22,15 +22,15 @@ has_form Role name = nat_le 1 (length name) && nat_le (length name) MAX_ROLE_BYT
 abbrev pub is_name : NameKind → List ℕ → Bool
 is_name kind text = is_utf8 text && has_form kind text
 
--- the name that the text is
+-- the text as a name
 abbrev pub name_of : NameKind → List ℕ → Option (List ℕ)
 name_of kind text = if is_name kind text then Some text else None
 
--- the names, if each is one
+-- the names, if each of them is valid
 abbrev pub named : NameKind → List (List ℕ) → Option (List (List ℕ))
 named kind names = if list_all (is_name kind) names then Some names else None
 
--- what stands between the commas, nothing where no text is left
+-- the parts between the commas, none if no text is left
 abbrev pub parts_of : Option (List ℕ) → List (List ℕ)
 parts_of None = []
 parts_of (Some text) = slice_split is_comma text

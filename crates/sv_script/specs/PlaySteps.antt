@@ -17,7 +17,7 @@ use Rattle.sv_script.specs.declared.line.ScriptLine.{ScriptLine}
 use Rattle.sv_streams.specs.Calls.{Making, WritesAll}
 use Rattle.sv_streams.specs.declared.stream.WriteFailed.{WriteFailed}
 
--- the line by its number is read, or it is not
+-- the line with that number is read, or it is not
 abbrev pub Reads : ℕ → List ℕ → Result ScriptLine ReplayFault → Type 0
 Reads number line (Ok said) = asked line ≡ Ok said
 Reads number line (Err (Script told)) = (told ≡ number) × (asked line ≡ Err Unreadable)
@@ -45,12 +45,12 @@ module _ {R O : Type 0} (steps : Reacting R) (takes : Making O) (course : Course
   TakesEvent event (Err NoMemory) after output_after =
       (output_after ≡ output) × ((answer : Result Reaction StepFault) × WantsMemory answer × steps before event answer after)
 
-  -- what a line asks for is accepted
+  -- the event of a line, if any, is accepted
   pub record Accepts (said : ScriptLine) (reactions : List Reaction) (after : R) : Type 0 where
     pub reacts : Reacts steps before (option_to_list (event_of course.moment said)) (map Ok reactions) after
     pub at_most_one : length reactions ≤ 1
 
-  -- the line is played, and the course goes on
+  -- the line is played, and the course advances
   abbrev pub PlaysLine : List ℕ → Result (Unit {0}) ReplayFault → Course → R → O → Type 0
   PlaysLine line (Ok done) course_after after output_after =
       (said : ScriptLine) × (reactions : List Reaction) × (asked line ≡ Ok said) × Accepts said reactions after

@@ -1,4 +1,4 @@
--- What a replay prints: lines, each with a line feed at its end.
+-- The texts that a replay prints: lines, each with a line feed at its end.
 use Rattle.std.specs.Prelude.{ℕ, Bool, List, [], ◌∷◌, ◌++◌, codes, flat_map, if◌then◌else◌, Option, None, Some, Result, Ok, Err}
 use Rattle.std.specs.Fmt.{decimal}
 use Rattle.sv_journal.specs.Entry.{entry_text}
@@ -17,7 +17,7 @@ entry_line entry = line_of (entry_text entry)
 abbrev pub entry_lines : List Entry → List ℕ
 entry_lines entries = flat_map entry_line entries
 
--- the bytes that were sent, where there are any
+-- the bytes that were sent, if any
 abbrev pub sends_lines : List ℕ → List ℕ
 sends_lines [] = []
 sends_lines (b ∷ bytes) = line_of (codes "sends " ++ escaped (b ∷ bytes))
@@ -38,8 +38,8 @@ edited_lines None = []
 edited_lines (Some (Ok number)) = line_of (codes "edited " ++ decimal number)
 edited_lines (Some (Err fault)) = line_of (codes "edit refused " ++ decimal (edit_code fault))
 
--- an accepted event by its number from 1: the entries that it added, the bytes that it sent, whether it closed the connection, and the answer to
--- an edit
+-- an accepted event by its number, counted from 1: its entries, the bytes that it sent, whether it closed the
+-- connection, and the answer to an edit
 abbrev pub event_text : ℕ → List Entry → List ℕ → Bool → Option (Result ℕ EditFault) → List ℕ
 event_text number entries sends closes edited =
     line_of (codes "event " ++ decimal number) ++ entry_lines entries ++ sends_lines sends ++ closes_lines closes ++ edited_lines edited

@@ -1,4 +1,4 @@
--- The replay of a script: its lines in order, the events that they ask for, and the texts of these.
+-- The replay of a script: its lines in order, the events that they ask for, and the texts of these events.
 use Rattle.std.specs.Prelude.{◌≡◌, ◌⊎◌, ℕ, ◌+◌, ◌≤◌, false, true, List, [], ◌∷◌, ◌++◌, length, map, Some, Result, Ok, Err}
 use Rattle.sv_script.specs.Asked.{event_of, events_of, moment_behind_all, reaction_text, reactions_text}
 use Rattle.sv_script.specs.Lines.{AreNext, IsNext, lines_of}
@@ -16,7 +16,7 @@ use Rattle.sv_streams.specs.Calls.{AreMade, Call, Making, WritesAll, failures, g
 use Rattle.sv_streams.specs.Lines.{has_line_feed, max_reads}
 use Rattle.sv_streams.specs.declared.stream.WriteFailed.{WriteFailed}
 
--- the texts of events were written, but for the last one, in which a write failed
+-- the texts of all events but the last were written, and a write of the last failed
 pub record FailsAtLast {O : Type 0} (takes : Making O) (reactions : List Reaction) (output after : O) : Type 0 where
   pub earlier : List Reaction
   pub last : Reaction
@@ -26,15 +26,15 @@ pub record FailsAtLast {O : Type 0} (takes : Making O) (reactions : List Reactio
   pub failed : WriteFailed
   pub fails : WritesAll takes (reaction_text (length earlier + 1) last) between (Err failed) after
 
--- the texts of events were written, up to where a write failed
+-- the texts of the events were written, up to a failed write
 abbrev pub Writes : {O : Type 0} → Making O → List Reaction → O → Result (Unit {0}) ReplayFault → O → Type 0
 Writes takes reactions output (Ok done) after = WritesAll takes (reactions_text 1 reactions) output (Ok tt) after
 Writes takes reactions output (Err Output) after = FailsAtLast takes reactions output after
 Writes takes reactions output (Err (Script number)) after = WritesAll takes (reactions_text 1 reactions) output (Ok tt) after
 Writes takes reactions output (Err NoMemory) after = WritesAll takes (reactions_text 1 reactions) output (Ok tt) after
 
--- how far a script was played: the calls that read it, the lines that were played and what was read behind them, what they asked for, what
--- the events brought, and what took these
+-- the progress of a replay: the calls that read the script, the lines played and the text read after them, the requests
+-- of the lines, the reactions to their events, and the handler
 pub record Played (R : Type 0) : Type 0 where
   pub calls : List Call
   pub lines : List (List ℕ)
@@ -43,7 +43,7 @@ pub record Played (R : Type 0) : Type 0 where
   pub reactions : List Reaction
   pub handler : R
 
--- memory ran out behind a step: for the text of what it brought, or it was refused for that
+-- memory ran out after a step: for the text of its reaction, or because the step was refused for that reason
 abbrev pub WantsMemory : Result Reaction StepFault → Type 0
 WantsMemory (Ok reaction) = Unit {0}
 WantsMemory (Err refusal) = is_of_script refusal ≡ false
@@ -59,7 +59,7 @@ module _ {R : Type 0} (played : Played R) where
   abbrev pub IsFormless : Type 0
   IsFormless = NoneFailed × ((line : List ℕ) × (behind : List ℕ) × IsNextLine line behind × (asked line ≡ Err Unreadable))
 
-  -- the next line is not whole, since a read failed, or as many were made as may be
+  -- the next line is incomplete, because a read failed or the maximum number of reads was made
   abbrev pub IsCutOff : Type 0
   IsCutOff = (has_line_feed played.rest ≡ false) × ((failures played.calls ≡ 1) ⊎ (NoneFailed × (max_reads ≤ reads played.calls)))
 
@@ -72,7 +72,7 @@ module _ {R : Type 0} (steps : Reacting R) where
     pub is_event : event_of moment said ≡ Some event
     pub answers : steps before event answer after
 
-  -- the next line does so
+  -- the next line asks for an event, which has this answer
   abbrev pub AnswersNext : Played R → Result Reaction StepFault → R → Type 0
   AnswersNext played answer after =
       NoneFailed played
@@ -87,7 +87,7 @@ module _ {R : Type 0} (steps : Reacting R) where
     pub are_read : map asked played.lines ≡ map Ok played.said
     pub reacts : Reacts steps before (events_of 0 played.said) (map Ok played.reactions) played.handler
 
-  -- how it ended: at the end of what is read, at a line, by its number from 1, at a write, or for want of memory
+  -- how the replay ended: at the end of the script, at a line by its number from 1, at a write, or out of memory
   abbrev pub Ends : Played R → Result (Unit {0}) ReplayFault → R → Type 0
   Ends played (Ok done) after =
       NoneFailed played × (meets_end played.calls ≡ true) × (played.lines ≡ lines_of (given played.calls)) × (after ≡ played.handler)
@@ -99,7 +99,7 @@ module _ {R : Type 0} (steps : Reacting R) where
   Ends played (Err NoMemory) after =
       (NoneFailed played × (after ≡ played.handler)) ⊎ ((answer : Result Reaction StepFault) × WantsMemory answer × AnswersNext played answer after)
 
-  -- a script was replayed up to some line: what was written is the text of what its events brought
+  -- a script was replayed up to some line, and the output is the text of the reactions to its events
   pub record Replays {I O : Type 0} (gives : Making I) (takes : Making O) (before : R) (script : I) (output : O) (result : Result (Unit {0}) ReplayFault)
       (after : R) (script_after : I) (output_after : O) : Type 0 where
     pub played : Played R

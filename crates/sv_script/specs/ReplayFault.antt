@@ -1,4 +1,4 @@
--- What ends a replay early.
+-- Faults that end a replay early.
 use Rattle.std.specs.Prelude.{ℕ, Bool, false, true, List, ◌++◌, codes}
 use Rattle.std.specs.Fmt.{decimal}
 use Rattle.sv_script.specs.declared.replay_fault.ReplayFault.{ReplayFault}
@@ -6,7 +6,7 @@ use Rattle.sv_script.specs.declared.replay_fault.ReplayFault.TheVariants.{Script
 use Rattle.sv_run.specs.declared.step_fault.StepFault.{StepFault}
 use Rattle.sv_run.specs.declared.step_fault.StepFault.TheVariants as refusals
 
--- whether the script is to blame for a refusal
+-- whether the script is at fault for a refusal
 abbrev pub is_of_script : StepFault → Bool
 is_of_script refusals.Stopped = false
 is_of_script refusals.BadConnection = true

@@ -18,7 +18,7 @@ use Rattle.sv_script.specs.Printed.{shutdown_text, start_text}
 use Rattle.sv_script.specs.Whole.{RunsWhole}
 use Rattle.sv_streams.specs.Calls.{AreMade, Making, WritesAll}
 
--- the run was written to its end: it ended well, or a line of the script is to blame
+-- the output is complete: the run ended well, or a line of the script is at fault
 abbrev pub IsWritten : Result (Unit {0}) ReplayFault → Type 0
 IsWritten (Ok done) = Unit {0}
 IsWritten (Err (Script line)) = Unit {0}
@@ -26,7 +26,7 @@ IsWritten (Err Output) = ⊥
 IsWritten (Err NoMemory) = ⊥
 
 module _ {R I O : Type 0} (steps : Reacting R) (stops : R → JournalState → Type 0) (gives : Making I) (takes : Making O) where
-  -- what was written, from the start to the stop: all that the events of the lines brought, up to where the script ended
+  -- the output from the start to the stop: the texts of all events of the lines, up to the end of the replay
   pub record IsOneText (started : JournalState) (before : R) (script : I) (output : O) (result : Result (Unit {0}) ReplayFault) (script_after : I)
       (output_after : O) : Type 0 where
     pub played : Played R
@@ -44,20 +44,20 @@ module _ {R I O : Type 0} (steps : Reacting R) (stops : R → JournalState → T
       → RunsWhole steps stops gives takes started before script output result script_after output_after
       → IsWritten result → IsOneText started before script output result script_after output_after
 
--- the first text begins the other
+-- the first text is the beginning of the other
 abbrev pub Begins : {X : Type 0} → List X → List X → Type 0
 Begins {X} front whole = (behind : List X) × (front ++ behind ≡ whole)
 
 module _ {R I O : Type 0} (steps : Reacting R) (stops : R → JournalState → Type 0) (gives : Making I) (takes : Making O) where
-  -- memory was refused to the text of the start: nothing was read or written, and what was started was stopped
+  -- memory ran out for the text of the start: nothing was read or written, and the handler was stopped
   pub record IsUnwritten (before : R) (script : I) (output : O) (script_after : I) (output_after : O) : Type 0 where
     pub stopped : JournalState
     pub stops_so : stops before stopped
     pub unread : script_after ≡ script
     pub unwritten : output_after ≡ output
 
-  -- memory was refused later: what was written is the text of the start and of the events that were accepted and whose text there was memory for, and
-  -- nothing behind it; what was started was stopped
+  -- memory ran out later: the output is the text of the start and of the accepted events whose text fitted in memory,
+  -- and nothing else; the handler was stopped
   pub record IsCut (started : JournalState) (before : R) (script : I) (output : O) (script_after : I) (output_after : O) : Type 0 where
     pub played : Played R
     pub plays : Plays steps before played
@@ -69,14 +69,15 @@ module _ {R I O : Type 0} (steps : Reacting R) (stops : R → JournalState → T
     pub stops_so : stops after stopped
     pub writes : WritesAll takes (start_text started.entries ++ reactions_text 1 played.reactions) output (Ok tt) output_after
 
-  -- a run that answers want of memory has written no more behind the refusal, and stopped
+  -- a run that reports `NoMemory` has written nothing after memory ran out, and the handler was stopped
   abbrev pub ARefusedRunIsCut : Type 0
   ARefusedRunIsCut =
       (started : JournalState) (before : R) (script : I) (output : O) (script_after : I) (output_after : O)
       → RunsWhole steps stops gives takes started before script output (Err NoMemory) script_after output_after
       → IsUnwritten before script output script_after output_after ⊎ IsCut started before script output script_after output_after
 
-  -- what it wrote begins what every run writes to its end whose start notes the same entries and whose first events bring the same
+  -- its output is the beginning of the output of every complete run whose start has the same entries and whose first
+  -- events have the same reactions
   abbrev pub ACutTextBeginsTheWhole : Type 0
   ACutTextBeginsTheWhole =
       (started : JournalState) (before : R) (script : I) (output : O) (script_after : I) (output_after : O)
@@ -88,13 +89,13 @@ module _ {R I O : Type 0} (steps : Reacting R) (stops : R → JournalState → T
       → Begins (start_text started.entries ++ reactions_text 1 cut.played.reactions)
       (start_text other_started.entries ++ reactions_text 1 whole.played.reactions ++ shutdown_text whole.stopped.entries)
 
--- the entries that are told of events
+-- the entries that report events
 abbrev pub entries_of : List Reaction → List Entry
 entries_of reactions = flat_map (λ reaction. reaction.journal.entries) reactions
 
 module _ {R Context Words : Type 0} (steps : Reacting R) (theory : Theory Context Words) where
-  -- the events that a script asks for are a run, of which the texts of the events tell: the entries tell the outcome of each message once, in
-  -- order, and a request enters exactly where the combined constraints allow it
+  -- the events that a script asks for are a run, and the texts report it: the entries report the outcome of each
+  -- message once, in order, and a request enters exactly if the combined constraints allow it
   pub record PlaysALawfulRun (state_of : R → State Context Words) (before : R) (played : Played R) : Type 0 where
     pub answers : List (Answer Context)
     pub runs : Run theory (state_of before) (events_of 0 played.said) answers (state_of played.handler)

@@ -1,12 +1,12 @@
-//! How far a replay has come.
+//! The progress of a replay.
 
-/// How far a replay has come. It begins with zeros.
+/// The progress of a replay. It begins with zeros.
 #[derive(Clone, Copy)]
 pub(crate) struct Course {
-    /// The moment that was told last, in seconds since 1970.
+    /// The last time that a line set, in seconds since 1970.
     pub moment: u64,
-    /// As many lines were played.
+    /// The number of lines played.
     pub lines: u64,
-    /// As many events were accepted.
+    /// The number of events accepted.
     pub events: u64,
 }

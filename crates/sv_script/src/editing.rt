@@ -13,7 +13,7 @@ use sv_mapping::{Pattern, PatternFault};
 use sv_policy::{Edit, NewConstraint};
 use sv_text::{Listed, NoMemory, Text};
 
-/// What `append` asks for with what is behind its blank: a context, a pattern, methods and roles.
+/// Reads the rest of an `append` line after its blank: a context, a pattern, methods and roles.
 pub(crate) fn appending(alloc: Global, rest: &[u8]) -> Result<Option<ScriptLine>, NoMemory>
     ensures { GivesAnswer result (spec.appending rest.now) }
 {
@@ -29,7 +29,7 @@ pub(crate) fn appending(alloc: Global, rest: &[u8]) -> Result<Option<ScriptLine>
     Ok(Some(ScriptLine::Edit(path, Edit::Append(addition))))
 }
 
-/// What `withdraw` asks for with what is behind its blank: a context and a number.
+/// Reads the rest of a `withdraw` line after its blank: a context and a number.
 pub(crate) fn withdrawing(alloc: Global, rest: &[u8]) -> Result<Option<ScriptLine>, NoMemory>
     ensures { GivesAnswer result (spec.withdrawing rest.now) }
 {
@@ -45,7 +45,7 @@ pub(crate) fn withdrawing(alloc: Global, rest: &[u8]) -> Result<Option<ScriptLin
     Ok(Some(ScriptLine::Edit(path, Edit::Withdraw(number))))
 }
 
-// The path of a context as it is written: `/` is the root's, too.
+// Returns the path of a context as written in a script: `/` is also the root.
 fn path_of(alloc: Global, context: &[u8]) -> Result<Option<Text>, NoMemory>
     ensures { GivesAnswer result (spec.path_of context.now) }
 {
@@ -55,14 +55,14 @@ fn path_of(alloc: Global, context: &[u8]) -> Result<Option<Text>, NoMemory>
     Ok(Some(Text::copy_of(alloc, shown_path(path))?))
 }
 
-// The path that a text shows.
+// Returns the path that a text shows.
 fn shown_path(text: &str) -> &str
     ensures { result.now ≡ spec.shown_path text.now }
 {
     if text == "/" { "" } else { text }
 }
 
-// A constraint of one pattern: the pattern, methods and roles.
+// Reads a constraint of one pattern: the pattern, methods and roles.
 fn addition_of(alloc: Global, text: &[u8]) -> Result<Option<NewConstraint>, NoMemory>
     ensures { GivesAnswer result (spec.addition_of text.now) }
 {
@@ -87,7 +87,7 @@ fn addition_of(alloc: Global, text: &[u8]) -> Result<Option<NewConstraint>, NoMe
     }))
 }
 
-// A collection of one pattern and its methods.
+// Returns a collection of one pattern and its methods.
 fn collection_of(
     alloc: Global,
     pattern: &[u8],
@@ -122,7 +122,7 @@ fn pattern_of(alloc: Global, text: &[u8]) -> Result<Option<Pattern>, NoMemory>
     }
 }
 
-// `*` for all, `!` and names for all but these, and names for these alone.
+// Reads methods: `*` for all, `!` and names for all but these, names for only these.
 fn methods_of(alloc: Global, text: &[u8]) -> Result<Option<Methods>, NoMemory>
     ensures { GivesAnswer result (spec.methods_of text.now) }
 {
@@ -137,7 +137,7 @@ fn methods_of(alloc: Global, text: &[u8]) -> Result<Option<Methods>, NoMemory>
     }
 }
 
-// `open` for everyone, `nobody` for no role, and names for these.
+// Reads roles: `open` for everyone, `nobody` for no role, names for these roles.
 fn auth_of(alloc: Global, text: &[u8]) -> Result<Option<Auth>, NoMemory>
     ensures { GivesAnswer result (spec.auth_of text.now) }
 {

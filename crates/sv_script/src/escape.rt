@@ -1,4 +1,4 @@
-//! Bytes as texts of a script: what is no plain byte is written with a backslash.
+//! Bytes as texts of a script. A byte that is not plain is written with a backslash.
 
 ghost use Rattle.std.specs.Prelude.{◌≡◌, ◌<◌, true, None, ◌∷◌, ◌++◌, length, MatchOption, OnOk};
 ghost use Rattle.std.specs.Fmt.{digit_glyph};
@@ -9,11 +9,11 @@ ghost use Rattle.sv_script.specs.Escape as spec;
 use std::alloc::Global;
 use sv_text::{Bytes, NoMemory};
 
-/// The text of bytes: CR, LF and the backslash as `\r`, `\n` and `\\`, every other byte outside 32 to 126 as `\xHH` with digits
-/// in upper case, and all others as they are.
+/// Returns the text of bytes: CR, LF and the backslash as `\r`, `\n` and `\\`, every other byte outside 32 to 126 as
+/// `\xHH` with upper-case digits, and all others as they are.
 ///
 /// # Errors
-/// Memory ran out.
+/// `NoMemory` if an allocation fails.
 pub fn escaped(alloc: Global, bytes: &[u8]) -> Result<Bytes, NoMemory>
     ensures { GivesAnswer result (spec.escaped bytes.now) }
 {
@@ -48,7 +48,7 @@ fn push_byte_text(text: &mut Vec<u8>, byte: u8) -> Result<(), NoMemory>
     }
 }
 
-// Whether the byte stands for itself in a text.
+// Returns whether the byte is written as itself in a text.
 fn is_plain(byte: u8) -> bool
     ensures { result ≡ is_plain byte }
 {
@@ -62,11 +62,11 @@ fn upper_digit(digit: u8) -> u8
     if digit < 10 { 48 + digit } else { 55 + digit }
 }
 
-/// The bytes that a text stands for: `\r`, `\n`, `\\` and `\xHH`, with digits of both cases, are a byte each, and every byte but the
-/// backslash is itself. None where a backslash begins no such escape.
+/// Returns the bytes that a text means. `\r`, `\n`, `\\` and `\xHH`, with digits of either case, are one byte each, and
+/// every byte but the backslash is itself. `None` if a backslash begins no such escape.
 ///
 /// # Errors
-/// Memory ran out.
+/// `NoMemory` if an allocation fails.
 pub fn unescaped(alloc: Global, text: &[u8]) -> Result<Option<Bytes>, NoMemory>
     ensures { GivesAnswer result (spec.unescaped text.now) }
 {
@@ -82,7 +82,7 @@ pub fn unescaped(alloc: Global, text: &[u8]) -> Result<Option<Bytes>, NoMemory>
     Ok(Some(Bytes::from_vec(bytes)))
 }
 
-// The byte that the text begins with, and what is behind its text.
+// Returns the byte that the text begins with, and the rest of the text.
 fn first_byte(text: &[u8]) -> Option<(u8, &[u8])>
     requires { 0 < length text.now }
     ensures { MatchOption result (spec.unescaped text.now ≡ None) (λ first. spec.Begins text.now first.0 first.1.now) }
@@ -95,7 +95,7 @@ fn first_byte(text: &[u8]) -> Option<(u8, &[u8])>
     }
 }
 
-// The byte of an escape, and what is behind the escape.
+// Returns the byte of an escape, and the text after the escape.
 fn byte_behind_backslash(text: &[u8]) -> Option<(u8, &[u8])>
     ensures { MatchOption result (spec.unescaped (92 ∷ text.now) ≡ None) (λ first. spec.Begins (92 ∷ text.now) first.0 first.1.now) }
 {
@@ -108,7 +108,7 @@ fn byte_behind_backslash(text: &[u8]) -> Option<(u8, &[u8])>
     }
 }
 
-// The byte that a backslash and this letter stand for.
+// Returns the byte that a backslash and this letter mean, if any.
 fn named_byte(letter: u8) -> Option<u8>
     ensures { result ≡ named_byte letter }
 {
@@ -120,7 +120,7 @@ fn named_byte(letter: u8) -> Option<u8>
     }
 }
 
-// The byte of the two hexadecimal digits behind `\x`, and what is behind them.
+// Returns the byte of the two hexadecimal digits after `\x`, and the text after them.
 fn byte_of_digits(text: &[u8]) -> Option<(u8, &[u8])>
     ensures { MatchOption result (spec.unescaped (92 ∷ 120 ∷ text.now) ≡ None) (λ first. spec.Begins (92 ∷ 120 ∷ text.now) first.0 first.1.now) }
 {

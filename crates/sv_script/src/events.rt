@@ -1,4 +1,4 @@
-//! What the lines of a script ask for.
+//! The events that the lines of a script ask for.
 
 ghost use Rattle.std.specs.Prelude.{◌≡◌};
 ghost use Rattle.std.specs.Option.{option_map};
@@ -8,7 +8,7 @@ ghost use Rattle.sv_run.specs.Seen.{happening_of};
 use crate::ScriptLine;
 use sv_run::Happening;
 
-/// The event that is asked for at a moment, where one is.
+/// Returns the event that a line asks for at a time, if any.
 pub(crate) fn event_of(said: &ScriptLine, moment: u64) -> Option<Happening<'_>>
     ensures { option_map happening_of result ≡ spec.event_of moment said.now }
 {
@@ -36,7 +36,7 @@ pub(crate) fn event_of(said: &ScriptLine, moment: u64) -> Option<Happening<'_>>
     }
 }
 
-/// The moment behind a line: the last one that was told.
+/// Returns the time after a line: the last time that a line set.
 pub(crate) fn moment_behind(said: &ScriptLine, moment: u64) -> u64
     ensures { result ≡ spec.moment_behind moment said.now }
 {

@@ -1,4 +1,4 @@
-//! Why a line of a script is not read.
+//! Reasons why a line of a script cannot be read.
 
 ghost use Rattle.std.specs.Prelude.{◌≡◌};
 ghost use Rattle.sv_script.specs.declared.fault.LineFault.TheVariants as fault;
@@ -6,7 +6,7 @@ ghost use Rattle.sv_script.specs.declared.fault.LineFault.TheVariants as fault;
 use std::alloc::{AllocError, AllocFailed};
 use sv_text::NoMemory;
 
-/// Why a line of a script is not read.
+/// The reason why a line of a script cannot be read.
 #[derive(Clone, Copy, Debug, PartialEq, Eq)]
 pub enum LineFault {
     /// The line has none of the forms of a script's lines.

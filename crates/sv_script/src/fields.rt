@@ -6,7 +6,7 @@ ghost use Rattle.std.specs.Char.{is_ascii_digit};
 ghost use Rattle.std.specs.List.{list_all};
 ghost use Rattle.sv_script.specs.Fields as spec;
 
-/// What stands before the first blank and behind it, where there is one.
+/// Returns the text before the first blank and the text after it, if there is a blank.
 pub fn at_blank(text: &[u8]) -> Option<(&[u8], &[u8])>
     ensures { option_map (λ cut. (cut.0.now, cut.1.now)) result ≡ spec.at_blank text.now }
 {
@@ -20,7 +20,7 @@ fn first_blank(text: &[u8]) -> Option<usize>
     text.iter().position(|b| *b == b' ')
 }
 
-/// The text that bytes are, where they are UTF-8.
+/// Returns the bytes as a text, if they are UTF-8.
 pub fn text_of(bytes: &[u8]) -> Option<&str>
     ensures { option_copied result ≡ spec.text_of bytes.now }
 {
@@ -30,7 +30,7 @@ pub fn text_of(bytes: &[u8]) -> Option<&str>
     }
 }
 
-/// The number that a text of decimal digits writes, where it fits.
+/// Returns the number that a text of decimal digits denotes, if it fits 64 bits.
 pub(crate) fn number(text: &[u8]) -> Option<u64>
     ensures { result ≡ spec.number text.now }
 {

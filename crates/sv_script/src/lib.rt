@@ -1,4 +1,4 @@
-//! The text of replays: what a script's line asks for, and what is printed of what came of it.
+//! The text of replays: reading the lines of a script, and printing the reactions to their events.
 #![tactic(auto)]
 
 mod course;

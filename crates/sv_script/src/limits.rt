@@ -1,7 +1,7 @@
-//! The limits of names in a script.
+//! Limits of names in a script.
 
-/// How many bytes the name of a method may have.
+/// The maximum length of the name of a method, in bytes.
 pub const MAX_METHOD_BYTES: usize = 15;
 
-/// How many bytes the name of a role may have.
+/// The maximum length of the name of a role, in bytes.
 pub const MAX_ROLE_BYTES: usize = 64;

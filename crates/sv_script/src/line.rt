@@ -1,4 +1,4 @@
-//! What a line of a script asks for.
+//! The lines of a script.
 
 ghost use Rattle.std.specs.Prelude.{◌≡◌};
 ghost use Rattle.sv_text.specs.Gives.{Gives, GivesAnswer};
@@ -12,32 +12,33 @@ use std::alloc::Global;
 use sv_policy::Edit;
 use sv_text::{Bytes, NoMemory, Text};
 
-/// What a line of a script asks for.
+/// The request that a line of a script makes.
 #[derive(Drop)]
 pub enum ScriptLine {
     /// Nothing: the line is empty, or a comment, which begins with `#`.
     Nothing,
-    /// `open C`: a connection of this number opens.
+    /// `open C`: the connection with this number opens.
     Open(u64),
-    /// `send C TEXT`: the bytes of the text, which may be none, arrive on the connection of this number.
+    /// `send C TEXT`: the bytes of the text, possibly none, arrive on the connection with this number.
     Send(u64, Bytes),
-    /// `end C`: the peer of the connection of this number ends its stream.
+    /// `end C`: the peer of the connection with this number ends its stream.
     End(u64),
-    /// `lost C`: the connection of this number is lost.
+    /// `lost C`: the connection with this number is lost.
     Lost(u64),
-    /// `tick M`: it is that moment, in seconds since 1970.
+    /// `tick M`: the time is M, in seconds since 1970.
     Tick(u64),
-    /// `append CONTEXT PATTERN METHODS ROLES` and `withdraw CONTEXT N`: the constraints of the context that has this path are edited so. The root
-    /// is written as `/` or as nothing. METHODS is `*`, or names with commas between them, or `!` and the names of those that are left out;
-    /// ROLES is `open` for everyone, `nobody`, or names. The transport is absent.
+    /// `append CONTEXT PATTERN METHODS ROLES` and `withdraw CONTEXT N`: the constraints of the context with this path
+    /// are edited. The root is written as `/` or as nothing. METHODS is `*`, or names with commas between them, or `!`
+    /// and the names of the methods that are left out. ROLES is `open` for everyone, `nobody`, or names. The transport
+    /// is absent.
     Edit(Text, Edit),
 }
 
-/// What a line asks for, given without its line feed. Its fields stand between single blanks, and a number is one decimal digit or
-/// more, below 2^64; a text is the rest of the line, blanks included.
+/// Reads a line, which is given without its line feed. Single blanks separate the fields. A number is one or more
+/// decimal digits, and is below 2^64. A text is the rest of the line, blanks included.
 ///
 /// # Errors
-/// [`LineFault::Unreadable`] where the line has none of the forms, and [`LineFault::NoMemory`].
+/// [`LineFault::Unreadable`] if the line has none of the forms, and [`LineFault::NoMemory`].
 pub fn read_line(alloc: Global, line: &[u8]) -> Result<ScriptLine, LineFault>
     ensures { Gives spec.line_fault result (spec.asked line.now) }
 {

@@ -13,7 +13,7 @@ use http_header::is_token_char;
 use std::alloc::Global;
 use sv_text::{Listed, NoMemory, Text};
 
-/// What names stand for.
+/// The kind of a name.
 #[derive(Clone, Copy)]
 pub enum NameKind {
     /// A method, whose name is a token (RFC 9110, section 5.6.2).
@@ -22,7 +22,7 @@ pub enum NameKind {
     Role,
 }
 
-/// The names in a text, in their order, if each has the form of its kind.
+/// Returns the names in a text, in order, if each has the form of its kind.
 pub(crate) fn names_of(
     alloc: Global,
     kind: NameKind,
@@ -43,7 +43,7 @@ pub(crate) fn names_of(
     Ok(Some(Listed::from_vec(names)))
 }
 
-// What stands before the first comma, and what stands behind it where there is one.
+// Returns the text before the first comma, and the text after it if there is a comma.
 fn at_comma(text: &[u8]) -> (&[u8], Option<&[u8]>)
     ensures { slice_split spec.is_comma text.now ≡ result.0.now ∷ spec.parts_of (option_copied result.1) }
 {
@@ -59,7 +59,7 @@ fn first_comma(text: &[u8]) -> Option<usize>
     text.iter().position(|b| *b == b',')
 }
 
-// The name that a text is, if it has the form.
+// Returns the text as a name, if it has the form.
 fn name_of(alloc: Global, kind: NameKind, text: &[u8]) -> Result<Option<Text>, NoMemory>
     ensures { GivesAnswer result (spec.name_of kind text.now) }
 {

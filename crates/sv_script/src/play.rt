@@ -1,4 +1,4 @@
-//! One line of a script: what it asks for, and the text of what came of it.
+//! Plays one line of a script, and writes the text of its reaction.
 
 ghost use Rattle.std.specs.Prelude.{◌<◌, ◌≤◌, ◌^◌};
 ghost use Rattle.sv_script.specs.Asked.{reaction_text};
@@ -13,10 +13,10 @@ use std::alloc::Global;
 use sv_run::{EventHandler, Happening, Reaction};
 use sv_streams::{Sink, write_all};
 
-/// Plays a line: what takes the events takes the one that the line asks for, and the text of what it brought is written.
+/// Plays a line: the handler handles the event that the line asks for, and the text of its reaction is written.
 ///
 /// # Errors
-/// As [`ReplayFault`] says. The course is spent.
+/// A [`ReplayFault`]. The course must not be used afterwards.
 pub(crate) fn play<R: EventHandler, O: Sink>(
     alloc: Global,
     course: &mut Course,
@@ -47,7 +47,7 @@ pub(crate) fn play<R: EventHandler, O: Sink>(
     Ok(())
 }
 
-// What the line of that number asks for.
+// Reads the line with that number.
 fn said_in(alloc: Global, line: &[u8], number: u64) -> Result<ScriptLine, ReplayFault>
     ensures { Reads number line.now result }
 {
@@ -58,7 +58,7 @@ fn said_in(alloc: Global, line: &[u8], number: u64) -> Result<ScriptLine, Replay
     }
 }
 
-// Lets an event be taken, and writes the text of what it brought.
+// Lets the handler handle an event, and writes the text of the reaction.
 fn take_event<R: EventHandler, O: Sink>(
     alloc: Global,
     course: &Course,
@@ -76,7 +76,7 @@ fn take_event<R: EventHandler, O: Sink>(
     }
 }
 
-// Writes the text of an accepted event by its number.
+// Writes the text of an accepted event with its number.
 fn print<O: Sink>(
     alloc: Global,
     number: u64,

@@ -1,4 +1,4 @@
-//! What a replay prints.
+//! The texts that a replay prints.
 
 ghost use Rattle.std.specs.Prelude.{◌≡◌, ◌++◌, OnOk};
 ghost use Rattle.std.specs.Fmt.{decimal};
@@ -11,10 +11,10 @@ use sv_journal::Entry;
 use sv_policy::EditFault;
 use sv_text::{Bytes, NoMemory};
 
-/// The text of the start: the line `start`, and a line for each entry.
+/// Returns the text of the start: the line `start`, and a line for each entry.
 ///
 /// # Errors
-/// Memory ran out.
+/// `NoMemory` if an allocation fails.
 pub fn start_text(alloc: Global, entries: &[Entry]) -> Result<Bytes, NoMemory>
     ensures { GivesAnswer result (spec.start_text entries.now) }
 {
@@ -24,11 +24,12 @@ pub fn start_text(alloc: Global, entries: &[Entry]) -> Result<Bytes, NoMemory>
     Ok(Bytes::from_vec(text))
 }
 
-/// The text of an accepted event by its number from 1: the line `event K`, a line for each entry that it added, `sends TEXT` where it
-/// sent bytes, `closes` where it closed the connection, and of an edit `edited N` or `edit refused CODE`.
+/// Returns the text of an accepted event by its number, counted from 1. It has the line `event K`, a line for each
+/// entry of the event, `sends TEXT` if it sent bytes, `closes` if it closed the connection, and for an edit `edited N`
+/// or `edit refused CODE`.
 ///
 /// # Errors
-/// Memory ran out.
+/// `NoMemory` if an allocation fails.
 pub fn event_text(
     alloc: Global,
     number: u64,
@@ -47,10 +48,10 @@ pub fn event_text(
     Ok(Bytes::from_vec(text))
 }
 
-/// The text of the shutdown: the line `shutdown`, and a line for each entry.
+/// Returns the text of the shutdown: the line `shutdown`, and a line for each entry.
 ///
 /// # Errors
-/// Memory ran out.
+/// `NoMemory` if an allocation fails.
 pub fn shutdown_text(alloc: Global, entries: &[Entry]) -> Result<Bytes, NoMemory>
     ensures { GivesAnswer result (spec.shutdown_text entries.now) }
 {
@@ -108,7 +109,7 @@ fn push_edited(text: &mut Vec<u8>, edited: Option<Result<u64, EditFault>>) -> Re
     }
 }
 
-// A line of a word and a number.
+// Appends a line of a word and a number.
 fn push_number(text: &mut Vec<u8>, word: &str, number: u64) -> Result<(), NoMemory>
     ensures { OnOk result (text.new.items ≡ text.old.items ++ spec.line_of (word.now ++ decimal number)) }
 {

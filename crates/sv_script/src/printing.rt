@@ -1,4 +1,4 @@
-//! The texts of a start and of a stop, written.
+//! Writes the texts of a start and of a stop.
 
 ghost use Rattle.std.specs.Prelude.{◌≡◌, true};
 ghost use Rattle.sv_script.specs.Printed as texts;
@@ -10,11 +10,11 @@ use std::alloc::Global;
 use sv_journal::{Entry, Journal};
 use sv_streams::{Sink, write_all};
 
-/// Writes the text of a start by its journal.
+/// Writes the text of a start from its journal.
 ///
 /// # Errors
-/// `Output` where a write failed: a part of the text may have been written. `NoMemory` where the journal is broken, or there was no memory for
-/// the text: nothing is written.
+/// `Output` if a write failed: part of the text may have been written. `NoMemory` if the journal is broken or memory
+/// for the text ran out: nothing is written.
 pub fn print_start<O: Sink>(
     alloc: Global,
     started: &Journal,
@@ -41,7 +41,7 @@ fn print_start_of<O: Sink>(
     print(text.as_slice(), output)
 }
 
-/// Writes the text of a stop by its journal, where the replay did not end for a write or for want of memory.
+/// Writes the text of a stop from its journal, unless the replay ended with a failed write or ran out of memory.
 pub(crate) fn print_stop<O: Sink>(
     alloc: Global,
     played: Result<(), ReplayFault>,

@@ -1,4 +1,4 @@
-//! What ends a replay early.
+//! Faults that end a replay early.
 
 ghost use Rattle.std.specs.Prelude.{◌≡◌, Some};
 ghost use Rattle.sv_script.specs.ReplayFault as spec;
@@ -7,16 +7,17 @@ use std::error::Error;
 use std::fmt;
 use sv_run::StepFault;
 
-/// What ends a replay before the end of its script. What was written is the text of the events that were accepted before.
+/// The fault that ends a replay before the end of its script. The output is the text of the events accepted before.
 #[derive(Clone, Copy, Debug, PartialEq, Eq)]
 pub enum ReplayFault {
-    /// The line of this number, counted from 1, has none of the forms, or was being read when a read failed or as many reads were made as may
-    /// be, or its event was refused since the connection is not known, or is known already, or as many are known as may be.
+    /// The line with this number, counted from 1, has none of the forms. Or it was being read when a read failed, or
+    /// when the maximum number of reads had been made. Or its event was refused because the connection is not known, is
+    /// known already, or would exceed the maximum number of connections.
     Script(u64),
-    /// A write failed. The event whose text was being written was accepted, and a part of that text may have been written.
+    /// A write failed. The event of the text was accepted, and part of that text may have been written.
     Output,
-    /// Memory ran out, or the event was refused since it did, or since what takes the events is stopped. Nothing of that event was written,
-    /// which may have been accepted.
+    /// Memory ran out. Or the event was refused because memory ran out, or because the handler is stopped. Nothing of
+    /// that event was written, although it may have been accepted.
     NoMemory,
 }
 
@@ -34,7 +35,7 @@ impl fmt::Display for ReplayFault {
 
 impl Error for ReplayFault {}
 
-/// The fault of a refused event, by the number of its line.
+/// Returns the fault of a refused event, by the number of its line.
 pub(crate) fn fault_of(line: u64, refusal: StepFault) -> ReplayFault
     ensures { result ≡ spec.fault_of line refusal }
 {

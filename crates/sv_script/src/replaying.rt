@@ -9,11 +9,12 @@ use std::alloc::Global;
 use sv_run::EventHandler;
 use sv_streams::{LineReader, LinesFault, Sink, Source};
 
-/// Replays a script: reads its lines in order, lets what takes the events take each event that they ask for, and writes the text of each that
-/// it accepts, before the next line is read. The moment of a piece is the last one that a line told, 0 before.
+/// Replays a script: reads its lines in order, lets the handler handle each event that they ask for, and writes the
+/// text of each accepted event before it reads the next line. The time of a piece is the last one that a line set, or
+/// 0.
 ///
 /// # Errors
-/// As [`ReplayFault`] says.
+/// A [`ReplayFault`].
 pub fn replay<R: EventHandler, I: Source, O: Sink>(
     alloc: Global,
     handler: &mut R,

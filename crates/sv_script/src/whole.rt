@@ -1,4 +1,4 @@
-//! The run of a script over what was started.
+//! The run of a script over a started handler.
 
 ghost use Rattle.sv_script.specs.Whole.{PlaysOnce, RunsWhole};
 
@@ -10,24 +10,25 @@ use sv_journal::Journal;
 use sv_run::EventHandler;
 use sv_streams::{Sink, Source};
 
-/// What takes the events of a container, and stops.
+/// A handler of a container's events that can be stopped.
 pub trait Stops: EventHandler + Sized {
     ghost use Rattle.sv_journal.specs.Journal.{JournalState};
 
-    /// What it notes as it stops.
+    /// The relation between the handler and the journal of its stop.
     ghost stops: { Self → JournalState → Type 0 };
 
-    /// Stops. No refusal of memory holds it up; what is noted is broken then.
+    /// Stops, and returns the journal of the stop. A failed allocation does not interrupt it, but the journal is then
+    /// broken.
     fn stop(self) -> Journal
         ensures { stops self result };
 }
 
-/// Runs a script over what was started with that journal: writes the text of the start, replays the script, stops, and writes the text of the
-/// stop. However it goes, what was started is stopped.
+/// Runs a script over a handler that was started with that journal: writes the text of the start, replays the script,
+/// stops the handler, and writes the text of the stop. It stops the handler in every case.
 ///
 /// # Errors
-/// [`ReplayFault::Script`] where the script is to blame: the text of the stop is written then. Nothing is written behind a write that failed, nor
-/// once memory was wanted.
+/// A [`ReplayFault`]. After [`ReplayFault::Script`], which blames the script, the text of the stop is written.
+/// Nothing is written after a failed write or after memory has run out.
 pub fn run_started<R: Stops, I: Source, O: Sink>(
     alloc: Global,
     started: &Journal,
@@ -44,7 +45,7 @@ pub fn run_started<R: Stops, I: Source, O: Sink>(
     print_stop(alloc, played, &stopped, output)
 }
 
-// Replays the script once the start is written.
+// Replays the script, if the text of the start was written.
 fn play_once<R: EventHandler, I: Source, O: Sink>(
     alloc: Global,
     begun: Result<(), ReplayFault>,
