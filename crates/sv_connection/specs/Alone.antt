@@ -13,7 +13,8 @@ use Rattle.sv_run.specs.Events.{Opened}
 use Rattle.sv_run.specs.declared.reaction.Reaction.{Reaction}
 use Rattle.sv_streams.specs.Calls.{Call, Gave, Took}
 
--- The stream calls of an action, with each read cut into its pieces: a piece is read when it is passed to the handler.
+-- The stream calls of an action, with each read cut into its pieces: a piece that is passed to the handler counts as a
+-- read of its own.
 abbrev pub cut_calls : Action → List Call
 cut_calls (Hands bytes moment reaction awaited) = Gave bytes ∷ []
 cut_calls (Writes bytes) = Took bytes ∷ []

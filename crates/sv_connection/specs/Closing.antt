@@ -8,7 +8,8 @@ use Rattle.sv_connection.specs.declared.closing.Closing.{Closing}
 use Rattle.sv_connection.specs.declared.closing.Closing.TheVariants.{AtOnce, Answered, InStages}
 
 module _ {S : Type 0} where
-  -- After the last response. A peer whose message was refused may still send it, and one that has sent more sends on.
+  -- After the last response: in stages if the message was refused, since the peer may still send it, or if more bytes
+  -- were received, since the peer sends on.
   abbrev pub behind_answer : ConnectionState S → Closing
   behind_answer at = cond (is_refused at.phase || not (nat_eq (length at.ahead) 0)) InStages Answered
 

@@ -15,7 +15,7 @@ abbrev pub AreTold : {C : Type 0} → (C → ℕ → C → Type 0) → C → Lis
 AreTold tells before [] after = after ≡ before
 AreTold {C} tells before (moment ∷ moments) after = (between : C) × tells before moment between × AreTold tells between moments after
 
--- The result of a connection that ended in this way, by the result of the event of its end.
+-- The result of a connection that ended in this way, given the result of its last event.
 abbrev pub told_as : Over → Result Reaction StepFault → Result Over StepFault
 told_as over (Ok reaction) = Ok over
 told_as over (Err fault) = Err fault

@@ -20,7 +20,7 @@ IsWriting other = ⊥
 abbrev pub is_writing : {S : Type 0} → ConnectionState S → Bool
 is_writing at = not (nat_eq (length at.unsent) 0)
 
--- The connection of a number is open no more, and the others stay.
+-- The connection of a number is no longer open, and the others stay.
 abbrev pub ForgetsOne : {S : Type 0} → ℕ → Known S → Known S → Type 0
 ForgetsOne number known known_after = (found known_after number ≡ None) × OthersStay number known known_after
 

@@ -20,7 +20,7 @@ module _ {S R C : Type 0} (ways : Ways S) (steps : Reacting R) (awaits : R → �
       (notes : List Note) × (middle : R) × (clock_middle : C) × (places : ℕ → Slot S)
       × Goes steps awaits tells ways before clock (place_in known) notes middle clock_middle places × Fails steps fault middle after
 
-  -- Rounds. All connections are at rest after each of them.
+  -- Rounds that each leave all connections at rest.
   abbrev pub Rounds : R → C → (ℕ → Slot S) → List (List Note) → R → C → (ℕ → Slot S) → Type 0
   Rounds before clock places [] after clock_after places_after = (after ≡ before) × (clock_after ≡ clock) × ((number : ℕ) → places_after number ≡ places number)
   Rounds before clock places (notes ∷ rounds) after clock_after places_after =

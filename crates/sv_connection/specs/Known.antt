@@ -67,7 +67,8 @@ abbrev pub Ticked : {R : Type 0} → Reacting R → ℕ → R → Result (Unit {
 Ticked steps moment before result after = (last : Result Reaction StepFault) × steps before (Tick moment) last after × (result ≡ tick_result last)
 
 module _ {S R : Type 0} (steps : Reacting R) where
-  -- The connection of a number is open no more, and the handler takes or refuses the event of its end for this reason.
+  -- The connection of a number is no longer open, and the handler takes or refuses the event of its end for this
+  -- reason.
   abbrev pub EndsOne : ℕ → CloseReason → R → Known S → Result (Unit {0}) StepFault → R → Known S → Type 0
   EndsOne number cause before known (Ok done) after known_after =
       (reaction : Reaction) × steps before (over_event number (over_by cause)) (Ok reaction) after

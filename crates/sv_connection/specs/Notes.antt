@@ -1,4 +1,4 @@
--- The actions of all connections, one after another.
+-- The actions of all connections, ticks and edits, one after another.
 use Rattle.std.specs.Prelude.{◌≡◌, ℕ, ◌++◌, List, [], ◌∷◌, cond, map, nat_eq, Result, Ok}
 use Rattle.sv_connection.specs.Connection.{AreTold}
 use Rattle.sv_connection.specs.Turns.{over_event}
@@ -97,7 +97,7 @@ module _ {R C : Type 0} (steps : Reacting R) (awaits : R → ℕ → Awaited) (t
     pub told : AreTold tells clock (moments notes) clock_after
 
   module _ {S : Type 0} (ways : Ways S) where
-    -- Actions of only one connection are taken.
+    -- Actions of only one connection are taken, and lead its number from one slot to another.
     pub record Talks (number : ℕ) (before : R) (clock : C) (place : Slot S) (actions : List Action) (after : R) (clock_after : C) (place_after : Slot S) : Type 0 where
       pub went : Went before clock (map (Of number) actions) after clock_after
       pub along : Along ways place actions place_after

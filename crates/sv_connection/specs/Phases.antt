@@ -57,8 +57,8 @@ awaits_body (Open Nothing) = false
 awaits_body Closing = false
 awaits_body Refused = false
 
--- Whether a piece ended a message whose body was awaited. No body is awaited then, or that of the next message, since
--- something was sent.
+-- Whether a piece ended a message whose body was awaited. Afterwards no body is awaited, or the awaited body is that of
+-- the next message, since something was sent.
 abbrev pub ends_body : Phase → List ℕ → Phase → Bool
 ends_body before sends after = awaits_body before && not (awaits_body after && nat_eq (length sends) 0)
 

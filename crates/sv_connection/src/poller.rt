@@ -54,7 +54,7 @@ pub trait Poller {
     ) -> Result<(), StepFault>
         ensures { EditsOnce R.steps handler.old result handler.new };
 
-    /// Answers the query that was reported when no event is taken any more, by the figures only.
+    /// Answers the query that was reported, by the figures only, once the handler takes no more events.
     fn answer_status(&mut self, figures: Figures);
 
     /// Returns the time in seconds since any fixed point. It should never go back.

@@ -26,7 +26,7 @@ read_on other pace now count = begun Reads now
 abbrev pub has_read : Pace → ℕ → ℕ → Pace
 has_read pace now count = read_on pace.doing pace now count
 
--- A write begins a window, unless a write precedes it.
+-- A write begins a window, unless the connection already writes.
 abbrev pub written_on : Doing → Pace → ℕ → Pace
 written_on Writes pace now = pace
 written_on other pace now = begun Writes now
@@ -34,7 +34,7 @@ written_on other pace now = begun Writes now
 abbrev pub writing : Pace → ℕ → Pace
 writing pace now = written_on pace.doing pace now
 
--- A read waits until the end of its window, or for the idle timeout if nothing was read yet.
+-- A read waits until the end of its window. If nothing was read since the last write, it waits for the idle timeout.
 abbrev pub wait_of : Doing → Pace → ℕ → ℕ
 wait_of Reads pace now = pace.until - now
 wait_of other pace now = SERVE_IDLE_SECONDS * 1000

@@ -2,7 +2,7 @@
 use Rattle.std.specs.Prelude.{◌≡◌, ◌+◌, ℕ, List, length, Option}
 use Rattle.std.specs.Io.KnownBytes.{Consumes}
 
--- The next bytes were dropped, and as many fewer may still be dropped.
+-- The next bytes were dropped, and the number that may still be dropped falls by their count.
 abbrev pub Drops : Option (List ℕ) → ℕ → ℕ → Option (List ℕ) → Type 0
 Drops before left left_after after = (bytes : List ℕ) × Consumes before after bytes × (left_after + length bytes ≡ left)
 

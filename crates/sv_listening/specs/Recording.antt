@@ -15,7 +15,7 @@ pub record Recorded (O : Type 0) : Type 0 where
   pub lost : ℕ
   pub moment : ℕ
 
--- The time after an event is reached.
+-- The time moves to the one after an event.
 abbrev pub at_moment : {O : Type 0} → Happening → Recorded O → Recorded O
 at_moment happening recorded = record recorded { moment = moment_after recorded.moment happening }
 

@@ -25,8 +25,8 @@ pub fn pieces_are_parts()
 
 /// The event of a part sends little, after any list of events that begins without connections. If it is accepted, it
 /// sends one text for each of some items, in their order. These are at most two responses to messages, one
-/// `100 Continue` and the response to one refusal (RFC 9110, section 15.2.1; RFC 9112, sections 2.2 and 9.3), so at most
-/// four texts. Each item but the call to continue is one deed, so it has at most three deeds.
+/// `100 Continue` and the response to one refusal (RFC 9110, section 15.2.1; RFC 9112, sections 2.2 and 9.3), so at
+/// most four texts. Each item but the call to continue is one deed, so it has at most three deeds.
 pub fn an_event_sends_little<C: Context, W: Words>()
     ensures { AnEventSendsLittle (theory_of C.path_of C.conduct W.draws) }
 {}

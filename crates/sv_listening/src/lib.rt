@@ -1,5 +1,5 @@
-//! Listeners and sockets for an event handler: it serves connections one after another or all at once, and records the
-//! entries of events in a journal. Also the seed of a container's random words.
+//! Listeners and sockets for an event handler. They serve the connections of a port, one after another or all at once,
+//! and record the entries of events in a journal. The crate also makes the seed of a container's random words.
 #![tactic(auto)]
 
 mod alarm;
