@@ -14,8 +14,8 @@ use sv_streams::Sink;
 use sv_text::{Bytes, NoMemory};
 
 /// A journal of entries. Each event's entries take one write. If this write fails or is partial, or memory runs out,
-/// only the entries of this event are lost. Lost events are counted, and a line with the count precedes the next entries
-/// that are written.
+/// only the entries of this event are lost. Lost events are counted, and a line with the count precedes the next
+/// entries that are written.
 #[derive(Drop)]
 pub struct Record<O, A> {
     alloc: Global,
