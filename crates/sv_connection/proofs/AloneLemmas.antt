@@ -1,4 +1,4 @@
--- The turns of a connection that is served beside others.
+-- The turns of a connection that is served alongside others.
 use Rattle.std.proofs.Common.{◌≡◌, ℕ, ◌<◌, ◌+◌, Bool, true, false, cond, List, [], ◌∷◌, ◌++◌, Ok, Result, refl, sym, ap, ◌∙◌, subst, append_assoc, append-nil, flat_map, length, length-append, arith}
 use Rattle.std.proofs.lemmas.List.{map-append}
 use Rattle.std.specs.List.{AllByRecursion, concat, list_any}
@@ -38,7 +38,7 @@ concat_one [] part = append-nil part
 concat_one (first ∷ parts) part = ap (λ back. first ++ back) (concat_one parts part) ∙ sym (append_assoc first (concat parts) part)
 
 module _ (number : ℕ) (actions : List Action) (opening : Reaction) where
-  -- a action that is no event and no call of a turn
+  -- An action without an event, and without a call of a turn.
   quiet_more : (turns : List Turn) (action : Action) → event_of number action ≡ [] → answer_of action ≡ [] → moment_of action ≡ [] → cut_calls action ≡ []
       → AreTurns number actions opening turns → AreTurns number (actions ++ action ∷ []) opening turns
   quiet_more turns action no_event no_answer no_moment no_call are = record {
@@ -48,7 +48,7 @@ module _ (number : ℕ) (actions : List Action) (opening : Reaction) where
     called = none_more cut_calls actions action no_call ∙ are.called;
   }
 
-  -- a piece more
+  -- One more piece.
   piece_more : (turns : List Turn) (bytes : List ℕ) (moment : ℕ) (reaction : Reaction) (awaited : Awaited) → AreTurns number actions opening turns
       → AreTurns number (actions ++ Hands bytes moment reaction awaited ∷ []) opening (turns ++ record { bytes = bytes; moment = moment; reaction = reaction; parts = [] } ∷ [])
   piece_more turns bytes moment reaction awaited are =
@@ -66,7 +66,7 @@ module _ (number : ℕ) (actions : List Action) (opening : Reaction) where
       opened : Result Reaction StepFault
       opened = Ok opening
 
-  -- a part more of the last turn
+  -- One more part of the last turn.
   part_more : (turns : List Turn) (last : Turn) (part : List ℕ) → AreTurns number actions opening (turns ++ last ∷ [])
       → AreTurns number (actions ++ Writes part ∷ []) opening (turns ++ record last { parts = last.parts ++ part ∷ [] } ∷ [])
   part_more turns last part are =
@@ -88,7 +88,7 @@ module _ (number : ℕ) (actions : List Action) (opening : Reaction) where
       opened : Result Reaction StepFault
       opened = Ok opening
 
--- a connection closes where the reaction says so
+-- A connection closes if its reaction says so.
 closes_as : (closes : Bool) (entries : List Entry) (awaited : Awaited) → is_closing (phase_by closes entries awaited) ≡ closes
 closes_as false entries awaited = refl
 closes_as true entries awaited = by_refusal (list_any is_refusal entries)
@@ -98,7 +98,7 @@ closes_as true entries awaited = by_refusal (list_any is_refusal entries)
     by_refusal false = refl
 
 module _ {S : Type 0} (ways : Ways S) (number : ℕ) where
-  -- what was under way goes on
+  -- The turn under way goes on.
   goes_on : (under : List Turn) (b : ConnectionState S) → IsUnderWay under b → b.unsent ≡ [] → is_closing b.phase ≡ false → AllByRecursion GoesOn under
   goes_on [] b is none still = tt
   goes_on (last ∷ []) b (some, sends, closes) none still = (

@@ -1,4 +1,4 @@
--- What the calls of turns read and write.
+-- The bytes that the calls of turns read and write.
 use Rattle.std.proofs.Common.{◌≡◌, ℕ, ◌+◌, ◌≤◌, Bool, true, false, ◌||◌, ◌⊎◌, List, [], ◌∷◌, ◌++◌, Some, refl, ap, ◌∙◌, inl, inr, append_assoc, append-nil, flat_map, length, map, arith}
 use Rattle.std.specs.List.{AllByRecursion, concat}
 use Rattle.sv_connection.specs.Laws.{IsLeft, bytes_of, last_bytes, last_sends, sends_of}
@@ -8,7 +8,7 @@ use Rattle.sv_connection.specs.declared.over.Over.TheVariants.{Closed, Lost}
 use Rattle.sv_streams.specs.Calls.{Gave, Took, WriteFailed, failures, given, meets_end, reads, taken}
 use Rattle.sv_streams.proofs.CallJoins.{end_join, failures_join, given_join, reads_join, taken_join}
 
--- writes
+-- Writes.
 none_given : (parts : List (List ℕ)) → given (map Took parts) ≡ []
 none_given [] = refl
 none_given (part ∷ parts) = none_given parts
@@ -25,7 +25,7 @@ none_failed : (parts : List (List ℕ)) → failures (map Took parts) ≡ 0
 none_failed [] = refl
 none_failed (part ∷ parts) = let rest : failures (map Took parts) ≡ 0 = none_failed parts in omega arith
 
--- a turn
+-- A turn.
 given_of : (turn : Turn) → given (calls_of turn) ≡ turn.bytes
 given_of turn = ap (λ bytes. turn.bytes ++ bytes) (none_given turn.parts) ∙ append-nil turn.bytes
 
@@ -35,7 +35,7 @@ reads_of turn = let rest : reads (map Took turn.parts) ≡ 0 = none_read turn.pa
 failures_of : (turn : Turn) → failures (calls_of turn) ≡ 0
 failures_of turn = let rest : failures (map Took turn.parts) ≡ 0 = none_failed turn.parts in omega arith
 
--- turns
+-- Turns.
 given_of_all : (turns : List Turn) → given (flat_map calls_of turns) ≡ flat_map bytes_of turns
 given_of_all [] = refl
 given_of_all (turn ∷ turns) =
@@ -68,7 +68,7 @@ failures_of_all (turn ∷ turns) =
     let rest : failures (flat_map calls_of turns) ≡ 0 = failures_of_all turns in
     omega arith
 
--- the last calls
+-- The last calls.
 given_last : (ending : Ending) → given (last_calls ending) ≡ last_bytes ending
 given_last AtEnd = refl
 given_last (AtClose turn) = given_of turn
@@ -101,7 +101,7 @@ reads_last (AtFailedWrite turn) =
 reads_last AtLimit = omega arith
 reads_last (AtRefusal bytes moment) = omega arith
 
--- so many reads were made
+-- There is at most one read more than turns.
 pub reads_within : (turns : List Turn) (ending : Ending) → reads (all_calls turns ending) ≤ length turns + 1
 reads_within turns ending =
     let joined : reads (flat_map calls_of turns ++ last_calls ending) ≡ reads (flat_map calls_of turns) + reads (last_calls ending) =

@@ -1,4 +1,4 @@
--- How far a connection has come.
+-- The progress of a connection.
 use Rattle.std.proofs.Common.{◌≡◌, ◌≢◌, ℕ, ◌+◌, ◌<◌, ◌≤◌, List, [], ◌∷◌, ◌++◌, None, Some, Ok, Err, Result, refl, sym, ap, ◌∙◌, inl, inr, append_assoc, append-nil, flat_map, length, length-append, map, arith}
 use Rattle.std.proofs.lemmas.List.{map-append}
 use Rattle.std.specs.List.{AllByRecursion}
@@ -33,7 +33,7 @@ ends_behind turns (AtFailedWrite turn) other is = is
 ends_behind turns AtLimit other is = absurd (other refl)
 ends_behind turns (AtRefusal bytes moment) other is = is
 
--- the turns that went on so far
+-- The turns that went on so far.
 pub record Progress {R S C : Type 0} (steps : Reacting R) (makes : Making S) (tells : C → ℕ → C → Type 0) (connection : ℕ)
     (before : R) (stream : S) (clock : C) (turns_taken : ℕ) (now : R) (stream_now : S) (clock_now : C) : Type 0 where
   pub opening : Reaction
@@ -48,13 +48,13 @@ pub record Progress {R S C : Type 0} (steps : Reacting R) (makes : Making S) (te
       now stream_now clock_now
 
 module _ {R S C : Type 0} (steps : Reacting R) (makes : Making S) (tells : C → ℕ → C → Type 0) (connection : ℕ) (before : R) (stream : S) (clock : C) where
-  -- the opening was refused
+  -- The opening was refused.
   pub opening_refused : (fault : StepFault) (after : R) → steps before (Opened connection) (Err fault) after
       → Connects steps makes tells connection before stream clock (Err fault) after stream clock
   opening_refused fault after step =
       inl (record { fault = fault; talks = record { reacts = (after, step, refl); are_made = refl; are_told = refl }; is_result = refl })
 
-  -- the connection was opened
+  -- The connection was opened.
   pub opened : (opening : Reaction) (after : R) → steps before (Opened connection) (Ok opening) after
       → Progress steps makes tells connection before stream clock 0 after stream clock
   opened opening after step = record {
@@ -67,7 +67,7 @@ module _ {R S C : Type 0} (steps : Reacting R) (makes : Making S) (tells : C →
 
   module _ (turns_taken : ℕ) (now after : R) (stream_now stream_after : S) (clock_now clock_after : C)
       (p : Progress steps makes tells connection before stream clock turns_taken now stream_now clock_now) where
-    -- a turn more went on
+    -- One more turn went on.
     pub turn_more : TakesTurn steps connection makes tells now stream_now clock_now None after stream_after clock_after
         → Progress steps makes tells connection before stream clock (turns_taken + 1) after stream_after clock_after
     turn_more (turn, goes_on, talks) =
@@ -110,7 +110,7 @@ module _ {R S C : Type 0} (steps : Reacting R) (makes : Making S) (tells : C →
           is_result = is_result;
         })
 
-    -- a turn brought the end
+    -- A turn ended the connection.
     pub over_then : (result : Result Over StepFault) → turns_taken < MAX_READS
         → TakesTurn steps connection makes tells now stream_now clock_now (Some result) after stream_after clock_after
         → Connects steps makes tells connection before stream clock result after stream_after clock_after
@@ -119,7 +119,7 @@ module _ {R S C : Type 0} (steps : Reacting R) (makes : Making S) (tells : C →
         let read : reads (all_calls p.turns ending) ≤ length p.turns + 1 = reads_within p.turns ending in
         served result ending last (ends_behind p.turns ending other is_ending) (omega arith) talks is_result
 
-    -- as many reads were made as may be
+    -- The limit of reads was met.
     pub limit_met : (result : Result Over StepFault) → turns_taken ≡ MAX_READS → TellsOver steps connection now Lost result after
         → stream_after ≡ stream_now → clock_after ≡ clock_now
         → Connects steps makes tells connection before stream clock result after stream_after clock_after

@@ -1,4 +1,4 @@
--- What the calls of a connection come to.
+-- The effects of a connection's calls.
 use Rattle.std.proofs.Common.{◌≡◌, ℕ, ◌-◌, ◌<◌, ◌≤◌, Bool, false, List, [], ◌++◌, append-nil, refl, sym, ap, ◌∙◌, subst, length, take, drop, min, arith}
 use Rattle.std.proofs.lemmas.List.{length-take, length-take-le, take-append-drop, take-take}
 use Rattle.sv_connection.specs.Slots.{ConnectionState}
@@ -10,7 +10,7 @@ use Rattle.sv_connection.specs.declared.phase.Phase.{Phase}
 use Rattle.sv_connection.specs.declared.step.Step.TheVariants.{GoesOn}
 use Rattle.sv_streams.specs.Calls.{Took}
 
--- so many bytes of a front are of the whole, and are its first
+-- A count of bytes in a front is at most the length of this front and of the whole.
 within_front : (count limit : ℕ) (bytes : List ℕ) → count ≤ length (take limit bytes) → (count ≤ limit) × (count ≤ length bytes)
 within_front count limit bytes within = let long : length (take limit bytes) ≡ min limit (length bytes) = length-take limit bytes in (omega arith, omega arith)
 
@@ -28,7 +28,7 @@ pub some_taken : (count : ℕ) (bytes : List ℕ) → count ≤ length bytes →
 some_taken count bytes within some = let taken : length (take count bytes) ≡ count = length-take-le count bytes within in omega arith
 
 module _ {S : Type 0} (ways : Ways S) where
-  -- a write took some bytes of a front
+  -- A write took some bytes of a front.
   pub wrote : (at : ConnectionState S) (stream stream_after : S) (ahead unsent left written : List ℕ) (phase : Phase) (rests : Bool) (under_way : ℕ) (count : ℕ) (allowed : Allowance)
       → record { stream = stream; ahead = ahead; unsent = unsent; phase = phase; rests = rests; under_way = under_way } ≡ at → 0 < allowed.calls
       → TriesWrite ways stream (Done count) written stream_after → written ≡ take allowed.bytes unsent → left ≡ drop count unsent

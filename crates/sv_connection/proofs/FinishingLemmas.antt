@@ -1,4 +1,4 @@
--- Writing on, of one connection and of all.
+-- Writing to one connection and to all.
 use Rattle.std.proofs.Common.{◌≡◌, ◌≢◌, ℕ, Bool, true, false, cond, nat_eq, eqb-true, inl, inr, List, [], ◌∷◌, ◌++◌, IsSome, Option, None, Some, refl, sym, ap, ◌∙◌, subst}
 use Rattle.std.proofs.lemmas.Bool.{cond-true, cond-false}
 use Rattle.std.specs.Cmp.{nat_eq_equiv}
@@ -44,7 +44,7 @@ module _ {S : Type 0} (ways : Ways S) where
     pub sent_over : (cause : CloseReason) → SendsOn ways before left (IsOver cause) after left_after → SendsOut ways first Fails after
     sent_over cause causes = (before, so_far, (cause, causes))
 
-  -- it was written on beyond all counting
+  -- The connection was written to up to the bound of the loop.
   pub sent_out : (first before : ConnectionState S) → WritesOn ways first before → SendsOut ways first Fails before
   sent_out first before so_far = (before, so_far, (GivenUp, tt))
 
@@ -61,7 +61,7 @@ module _ {S : Type 0} (ways : Ways S) where
       let sooner = first number later.0 later.1 in
       (sooner.0, sooner.1, writes_join sooner.0 later.0 at sooner.2 later.2)
 
-  -- the connection of a number is gone, and all others stand where they stood
+  -- The connection of a number is removed, and all others stay.
   gone : (number : ℕ) (known known_after : Known S) → found known_after number ≡ None
       → ((other : ℕ) → other ≢ number → found known_after other ≡ found known other) → OnlyWrites ways known known_after
   gone number known known_after none others other at is = by (nat_eq other number) refl
@@ -84,7 +84,7 @@ module _ {S : Type 0} (ways : Ways S) where
   forgot_then number sent known known_between known_after (at, at_after, is, is_after, sends, stay) (none, stay_then) =
       gone number known known_after none (λ other apart. stay_then.others other apart ∙ stay.others other apart)
 
-  -- it waits, and all others stand where they stood
+  -- The bytes of a connection still wait, and all others stay.
   waits_then : (number : ℕ) (known known_after : Known S) → WritesOutOne ways number known (Some Waits) known_after → OnlyWrites ways known known_after
   waits_then number known known_after (before, after, was, now, sends, stay) other at is = by (nat_eq other number) refl
     where
@@ -110,7 +110,7 @@ module _ {S : Type 0} (ways : Ways S) where
       waits_then number known known_after (subst P is wrote)
 
   module _ (number next : ℕ) (entries entries_after : List (ℕ × ConnectionState S)) where
-    -- a connection that is known was written on
+    -- An open connection was written to.
     pub wrote_out : (at at_after : ConnectionState S) → entries_after ≡ set_value (nat_eq number) entries at_after → Some at ≡ lookup (nat_eq number) entries
         → (known : Known S) → record { next = next; entries = entries } ≡ known → (sent : Sent) → SendsOut ways at sent at_after
         → WritesOutOne ways number known (Some sent) (record { next = next; entries = entries_after })
@@ -136,7 +136,7 @@ module _ {S : Type 0} (ways : Ways S) where
               at_each other ∙ cond-false (nat_eq number other) (Some at_after) (found old other) (other_number other number (λ same. apart (sym same)));
         }
 
-    -- no connection of that number is known
+    -- No open connection has this number.
     pub wrote_none : (known : Known S) → record { next = next; entries = entries } ≡ known → entries_after ≡ entries
         → WritesOutOne ways number known None (record { next = next; entries = entries_after })
     wrote_none known view same =

@@ -1,4 +1,4 @@
--- What was done of one connection, among all.
+-- The actions of one connection, among those of all.
 use Rattle.std.proofs.Common.{◌≡◌, ◌≢◌, ◌&&◌, IsSome, is_some, ℕ, ◌+◌, ◌<◌, ◌≤◌, Bool, true, false, cond, nat_eq, ltb, eqb-true, eq-eqb, inl, inr, List, [], ◌∷◌, ◌++◌, Option, None, Some, Result, Ok, Err, refl, sym, ap, ◌∙◌, subst, map, arith}
 use Rattle.std.proofs.lemmas.Bool.{cond-true, cond-false, lt-ltb, ltb-false, ltb-true}
 use Rattle.std.specs.Cmp.{nat_eq_equiv}
@@ -75,13 +75,13 @@ module _ {R C S : Type 0} (steps : Reacting R) (awaits : R → ℕ → Awaited) 
           let Q : List Action → Type 0 = λ ds. Along ways (places other) ds (places_after other) in
           subst Q (sym (actions_other number other actions apart)) (others other apart)
 
-  -- the places of the others
+  -- The slots of the other numbers stay.
   pub places_stay : (number : ℕ) (known known_after : Known S) → OthersStay number known known_after
       → (other : ℕ) → other ≢ number → place_in known_after other ≡ place_in known other
   places_stay number known known_after stay other apart =
       λ i. cond (ltb other (stay.next i)) (held_or_over (stay.others other apart i)) Unused
 
-  -- all rest where all others do and this one
+  -- All connections rest if all others do and this one does.
   pub all_rest : (number : ℕ) (places places_after : ℕ → Slot S) → ((other : ℕ) → other ≢ number → places_after other ≡ places other)
       → ((at : ConnectionState S) → places_after number ≡ Open at → at.rests ≡ true) → AreAtRest places → AreAtRest places_after
   all_rest number places places_after others rests before other at is = by (nat_eq other number) refl
@@ -100,7 +100,7 @@ both_stay : {S : Type 0} (number : ℕ) (known known_between known_after : Known
 both_stay number known known_between known_after first second =
     record { next = second.next ∙ first.next; others = λ other apart. second.others other apart ∙ first.others other apart }
 
--- moves behind moves
+-- Moves after moves.
 module _ {R C S : Type 0} (ways : Ways S) (steps : Reacting R) (awaits : R → ℕ → Awaited) (tells : C → ℕ → C → Type 0) where
   pub no_moves : {A : Type 0} (done : A) (before : R) (clock : C) (known : Known S) → Moves ways steps awaits tells before clock known (Ok done) before clock known
   no_moves done before clock known = ([], record { went = record { takes = refl; told = refl }; courses = λ number. refl }, λ rest. rest)
@@ -123,13 +123,13 @@ module _ {R C S : Type 0} (ways : Ways S) (steps : Reacting R) (awaits : R → �
     fails,
   )
 
-  -- memory ran out behind moves
+  -- Memory ran out after moves.
   pub starved : (before after : R) (clock clock_after : C) (known known_after : Known S)
       → Moves ways steps awaits tells {A = Unit {0}} before clock known (Ok tt) after clock_after known_after
       → Moves ways steps awaits tells {A = Unit {0}} before clock known (Err NoMemory) after clock_after known_after
   starved before after clock clock_after known known_after (notes, goes, rests) = (notes, after, clock_after, place_in known_after, goes, inl (refl, refl))
 
-  -- a tick
+  -- A tick.
   pub ticked : (before after : R) (clock clock_after : C) (known : Known S) (moment : ℕ) (result : Result Reaction StepFault)
       → tells clock moment clock_after → steps before (Tick moment) result after
       → Moves ways steps awaits tells {A = Unit {0}} before clock known (tick_result result) after clock_after known
@@ -154,7 +154,7 @@ module _ {R C S : Type 0} (ways : Ways S) (steps : Reacting R) (awaits : R → �
       let P : Result (Unit {0}) StepFault → Type 0 = λ r. Moves ways steps awaits tells before clock known r after clock_after known in
       subst P (sym is) (ticked before after clock clock_after known moment last told step)
 
-  -- to be asked: an edit at most
+  -- A query, which brings at most an edit.
   pub edited_once : (before after : R) (clock : C) (known : Known S) (result : Result (Unit {0}) StepFault) → EditsOnce steps before result after
       → Moves ways steps awaits tells before clock known result after clock known
   edited_once before after clock known (Ok done) (inl same) =
@@ -167,12 +167,12 @@ module _ {R C S : Type 0} (ways : Ways S) (steps : Reacting R) (awaits : R → �
   edited_once before after clock known (Err fault) (path, edit, step) =
       ([], before, clock, place_in known, record { went = record { takes = refl; told = refl }; courses = λ number. refl }, inr (Edited path edit, step))
 
-  -- one place is another
+  -- The slots with one replaced.
   abbrev pub placed : ℕ → Slot S → (ℕ → Slot S) → ℕ → Slot S
   placed number place places other = cond (nat_eq other number) place (places other)
 
   module _ (number : ℕ) (before : R) (clock : C) (known : Known S) where
-    -- of one number alone, which then stands elsewhere
+    -- Actions of only one number, which lead it to another slot.
     goes_to : (after : R) (clock_after : C) (place : Slot S) (actions : List Action)
         → Talks steps awaits tells ways number before clock (place_in known number) actions after clock_after place
         → Goes steps awaits tells ways before clock (place_in known) (map (Of number) actions) after clock_after (placed number place (place_in known))
@@ -250,7 +250,7 @@ module _ {R C S : Type 0} (ways : Ways S) (steps : Reacting R) (awaits : R → �
     )
 
 module _ {R C S : Type 0} (ways : Ways S) (steps : Reacting R) (awaits : R → ℕ → Awaited) (tells : C → ℕ → C → Type 0) (number : ℕ) (before after : R) (clock clock_after : C) where
-  -- a connection that is known and over by what it was given up for
+  -- An open connection was given up.
   pub gave_up : (known known_after : Known S) → true ≡ knows known number → (result : Result (Unit {0}) StepFault)
       → EndsOne steps number GivenUp before known result after known_after
       → Moves ways steps awaits tells before clock known result after clock known_after
@@ -308,7 +308,7 @@ module _ {R C S : Type 0} (ways : Ways S) (steps : Reacting R) (awaits : R → �
         let F : Slot S → Type 0 = λ p. Talks steps awaits tells ways number before clock p actions middle clock_middle (Open between) in
         (actions, middle, clock_middle, Open between, subst F (sym was) talks, fails)
 
-    -- a connection that is known was driven
+    -- An open connection was driven.
     pub drove : (known : Known S) → record { next = next; entries = entries } ≡ known → (result : Result (Option CloseReason) StepFault)
         → Drives ways steps awaits tells number before clock at result after clock_after at_after
         → DrivesOne ways steps awaits tells number before clock known result after clock_after (record { next = next; entries = entries_after })
@@ -316,7 +316,7 @@ module _ {R C S : Type 0} (ways : Ways S) (steps : Reacting R) (awaits : R → �
         let P : Known S → Type 0 = λ k. DrivesOne ways steps awaits tells number before clock k result after clock_after new in
         subst P view (drove_here result drives)
 
-    -- it holds no more than before, where its weight says so
+    -- The connection holds no more than before, if its weight did not grow.
     pub no_heavier : (known : Known S) → record { next = next; entries = entries } ≡ known → weight at_after ≤ weight at
         → weight_in (record { next = next; entries = entries_after }) number ≤ weight_in known number
     no_heavier known view lighter =
@@ -327,7 +327,7 @@ module _ {R C S : Type 0} (ways : Ways S) (steps : Reacting R) (awaits : R → �
         let P : Known S → Type 0 = λ k. weight_in new number ≤ weight_in k number in
         subst P view (subst O (sym is_now) (subst W is lighter))
 
--- where nothing changed it holds no more
+-- A table that did not change holds no more.
 pub as_heavy : {S : Type 0} (number next : ℕ) (entries entries_after : List (ℕ × ConnectionState S)) (known : Known S) → record { next = next; entries = entries } ≡ known
     → entries_after ≡ entries → weight_in (record { next = next; entries = entries_after }) number ≤ weight_in known number
 as_heavy {S = S} number next entries entries_after known view same =
@@ -340,7 +340,7 @@ closed_place true at is = cc
 closed_place false at is = cc
 
 module _ {R C S : Type 0} (ways : Ways S) (steps : Reacting R) (awaits : R → ℕ → Awaited) (tells : C → ℕ → C → Type 0) (number : ℕ) (before : R) (clock : C) where
-  -- no connection of that number is known
+  -- No open connection has this number.
   pub missed : (next : ℕ) (entries entries_after : List (ℕ × ConnectionState S)) (known : Known S) → record { next = next; entries = entries } ≡ known
       → entries_after ≡ entries → None ≡ lookup (nat_eq number) entries
       → DrivesOne ways steps awaits tells number before clock known (Ok None) before clock (record { next = next; entries = entries_after })

@@ -1,4 +1,4 @@
--- What connections hold.
+-- The bytes that connections hold.
 use Rattle.std.proofs.Common.{ℕ, ◌≤◌, inr, Result, Ok, Err, OnOk}
 use Rattle.sv_connection.specs.Holding.{HoldsWithin, held}
 use Rattle.sv_connection.specs.Known.{Known}

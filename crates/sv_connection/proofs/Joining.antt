@@ -1,4 +1,4 @@
--- What was done behind what was done before.
+-- Joining notes with later notes.
 use Rattle.std.proofs.Common.{◌≡◌, ℕ, Bool, true, false, cond, List, [], ◌∷◌, ◌++◌, Result, refl, sym, ap, ◌∙◌, subst, append_assoc, map, nat_eq}
 use Rattle.std.proofs.lemmas.List.{map-append}
 use Rattle.sv_connection.specs.Connection.{AreTold}
@@ -60,7 +60,7 @@ module _ {R C : Type 0} (steps : Reacting R) (awaits : R → ℕ → Awaited) (t
         told = subst M (sym (moments_join notes more)) (told_join tells clock clock_between clock_after (moments notes) (moments more) first.told second.told);
       }
 
-  -- a action brings what its event does
+  -- An action has the effect of its event.
   deed_reacts : (number : ℕ) (action : Action) (before between after : R) (happenings : List Happening) (results : List (Result Reaction StepFault))
       → Does steps awaits tells number before action between → Reacts steps between happenings results after
       → Reacts steps before (event_of number action ++ happenings) (answer_of action ++ results) after

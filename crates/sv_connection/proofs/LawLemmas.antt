@@ -1,4 +1,4 @@
--- What holds of all that may be done of a connection.
+-- Properties of every course of a connection.
 use Rattle.std.proofs.Common.{◌≡◌, ◌≢◌, ℕ, true, false, List, [], ◌∷◌, ◌++◌, refl, sym, ap, ◌∙◌, subst, inl, append_assoc, append-nil, flat_map}
 use Rattle.sv_connection.specs.Course.{Along}
 use Rattle.sv_connection.specs.LoopLaws.{calls_of, handed_of, sends_of}
@@ -78,7 +78,7 @@ module _ {S : Type 0} (ways : Ways S) where
       ∙ ap (λ text. text ++ at.unsent) (sym (taken_join (calls_of action) (flat_map calls_of actions)))
   course_sent before (action ∷ actions) at (Over, leads, later) = let no : Open at ≡ Over = (over_stays actions (Open at) later).1 in absurd (cc)
 
-  -- the last action of one that is over
+  -- The last action of a connection that has ended.
   final_step : (before : Slot S) (action : Action) → Leads ways before action Over
       → (at : ConnectionState S) × (cause : CloseReason) × (reaction : Reaction) × (stream : S) × (before ≡ Open at) × (action ≡ Ends cause reaction) × Causes ways at cause stream
   final_step (Open at) (Ends cause reaction) (stream, causes) = (at, cause, reaction, stream, refl, refl, causes)

@@ -1,11 +1,11 @@
--- Where no empty line ends, by the line feeds.
+-- Places without the end of an empty line, by the line feeds.
 use Rattle.std.proofs.Common.{◌≡◌, ℕ, ◌+◌, ◌-◌, ◌<◌, ◌≤◌, ◌&&◌, ◌||◌, ◌==◌, false, List, length, drop, slice_index, ap, ◌∙◌, sym, ◌⊎◌, inl, inr, ⊎_elim, arith}
 use Rattle.std.proofs.lemmas.Bool.{cases_Bool, cases_lt}
 use Rattle.std.proofs.lemmas.List.{get_or-drop}
 use Rattle.memchr.specs.Find.{NoneBefore, Nowhere, Passes, is_byte}
 use Rattle.sv_connection.specs.Pieces.{begins_line, ends_empty_line, is_lone_return}
 
--- none ends where no line feed stands
+-- No empty line ends without a line feed.
 no_end_at : (bytes : List ℕ) (place : ℕ) → ¬ Passes (is_byte 10) bytes place → ends_empty_line bytes place ≡ false
 no_end_at bytes place other =
     ⊎_elim (λ feed. absurd (other feed)) (λ fails. ap (λ b. b && (begins_line bytes place || is_lone_return bytes (place - 1))) fails)
@@ -13,7 +13,7 @@ no_end_at bytes place other =
 
 module _ (bytes rest : List ℕ) (at : ℕ) (behind : rest ≡ drop at bytes)
     (before : (place : ℕ) → place < at → ends_empty_line bytes place ≡ false) where
-  -- none ends before a place where one does not, up to another, and no line feed stands in so many bytes behind it
+  -- No empty line ends within `at + n` bytes if none ends within `at` and no line feed is among the next `n`.
   pub no_end_until : (n : ℕ) → Nowhere (Passes (is_byte 10) rest) 0 n
       → (place : ℕ) → place < at + n → ends_empty_line bytes place ≡ false
   no_end_until n nowhere place within = by (cases_lt place at)
@@ -28,7 +28,7 @@ module _ (bytes rest : List ℕ) (at : ℕ) (behind : rest ≡ drop at bytes)
       by (inl front) = before place front
       by (inr after) = at_place (place - at) (omega (arith, within, after)) (omega (arith, after))
 
-  -- nor up to the first line feed behind, where none ends there
+  -- The same holds up to the first line feed after `at`, if no empty line ends there.
   pub no_end_to_feed : (n : ℕ) → NoneBefore (Passes (is_byte 10) rest) 0 (length rest) n → false ≡ ends_empty_line bytes (at + n)
       → (place : ℕ) → place < at + n + 1 → ends_empty_line bytes place ≡ false
   no_end_to_feed n first fails place within = by (cases_lt place (at + n))

@@ -1,4 +1,4 @@
--- One round more.
+-- One more round.
 use Rattle.std.proofs.Common.{◌≡◌, ℕ, ◌<◌, Bool, true, false, cond, ltb, List, [], ◌∷◌, flat_map, ◌++◌, Ok, refl, sym, ap, ◌∙◌, subst, arith}
 use Rattle.std.proofs.lemmas.Bool.{ltb-true}
 use Rattle.sv_connection.specs.Course.{Along}
@@ -41,7 +41,7 @@ module _ {R C S : Type 0} (ways : Ways S) (steps : Reacting R) (awaits : R → �
   round_more before between after clock clock_between clock_after places places_between places_after (first ∷ rounds) notes (r, c, p, goes, rest, later) goes_on rests =
       (r, c, p, goes, rest, round_more r between after c clock_between clock_after p places_between places_after rounds notes later goes_on rests)
 
-  -- the rounds so far
+  -- The rounds so far.
   abbrev pub SoFar : R → C → R → C → Known S → Type 0
   SoFar before clock now clock_now known =
       (rounds : List (List Note)) × Rounds ways steps awaits tells before clock (λ number. Unused) rounds now clock_now (place_in known) × AreAtRest (place_in known)

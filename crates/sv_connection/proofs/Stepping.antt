@@ -1,4 +1,4 @@
--- One thing more that is done of a connection.
+-- One more action of a connection.
 use Rattle.std.proofs.Common.{◌≡◌, ℕ, ◌+◌, ◌≤◌, List, [], ◌∷◌, ◌++◌, None, Some, Ok, Err, inl, inr, refl, sym, ap, ◌∙◌, subst, append-nil, flat_map, length, length-append, arith}
 use Rattle.sv_connection.specs.LoopLaws.{calls_of}
 use Rattle.sv_connection.specs.Notes.{Talks}
@@ -19,7 +19,7 @@ use Rattle.sv_connection.proofs.AloneLemmas.{flat_one_more}
 use Rattle.sv_connection.proofs.Joining.{talks_join}
 use Rattle.sv_wire.specs.declared.inbox.Awaited.{Awaited}
 
--- what is left of a turn behind actions
+-- The allowance that is left in a turn after these actions.
 abbrev pub Leaves : List Action → Allowance → Type 0
 Leaves actions left =
     (length (flat_map calls_of actions) + left.calls ≤ CALLS_AT_ONCE) × (length (taken (flat_map calls_of actions)) + left.bytes ≤ BYTES_AT_ONCE)
@@ -40,7 +40,7 @@ leaves_more actions action before after leaves spends =
 is_turn : (actions : List Action) (left : Allowance) → Leaves actions left → IsTurn actions
 is_turn actions left leaves = (omega arith, omega arith)
 
--- what is no call is of the same turn
+-- An action without a call is of the same turn.
 is_turn_more : (actions : List Action) (action : Action) (left : Allowance) → Leaves actions left → calls_of action ≡ [] → IsTurn (actions ++ action ∷ [])
 is_turn_more actions action left leaves none =
     let same = flat_one_more calls_of actions action ∙ ap (λ back. flat_map calls_of actions ++ back) none ∙ append-nil (flat_map calls_of actions) in
@@ -82,7 +82,7 @@ module _ {R C S : Type 0} (steps : Reacting R) (awaits : R → ℕ → Awaited) 
     (omega (arith, calls), omega (arith, bytes_left)),
   )
 
-  -- what was done since it began to be driven, and what may still be
+  -- The actions since the connection began to be driven, and the allowance that is left.
   abbrev pub Driven : R → C → ConnectionState S → R → C → ConnectionState S → Allowance → Type 0
   Driven first clock_first at_first before clock at left =
       (actions : List Action) × Talks steps awaits tells ways number first clock_first (Open at_first) actions before clock (Open at) × Leaves actions left
@@ -141,7 +141,7 @@ module _ {R C S : Type 0} (steps : Reacting R) (awaits : R → ℕ → Awaited) 
     over_then step is once =
         let P : Step → Type 0 = λ s. StepsOnce ways steps awaits tells number before clock at left (Ok s) after clock_after at_after left_after in over_now (subst P is once)
 
-  -- it was driven beyond all counting
+  -- The connection was driven up to the bound of the loop.
   pub driven_out : (first : R) (clock_first : C) (at_first : ConnectionState S) (before : R) (clock : C) (at : ConnectionState S) (left : Allowance)
       → Driven first clock_first at_first before clock at left
       → Drives ways steps awaits tells number first clock_first at_first (Ok (Some GivenUp)) before clock at

@@ -1,4 +1,4 @@
--- What was taken, called and told behind what was before.
+-- Joining events, calls and times with later ones.
 use Rattle.std.proofs.Common.{ℕ, List, [], ◌∷◌, ◌++◌, Result, subst}
 use Rattle.sv_connection.specs.Connection.{AreTold, Talks}
 use Rattle.sv_run.specs.Events.{Happening}

@@ -1,4 +1,4 @@
--- What comes of a piece.
+-- The effect of a piece.
 use Rattle.std.proofs.Common.{ℕ, ◌<◌, List, Option, None, Some, Ok, Err, Result, refl, subst, inl, inr, length}
 use Rattle.sv_connection.specs.Turns.{AtClose, AtFailedWrite, AtRefusal}
 use Rattle.sv_connection.specs.TurnSteps.{Sends, TakesTurn}
@@ -12,7 +12,7 @@ use Rattle.sv_streams.specs.Calls.{AreMade, Call, Gave, Making}
 module _ {R S C : Type 0} (steps : Reacting R) (connection : ℕ) (makes : Making S) (tells : C → ℕ → C → Type 0) (before : R) (stream : S) (clock : C) where
   module _ (bytes : List ℕ) (moment : ℕ) (taken_by : R) (stream_read : S) (clock_after : C) (some : 0 < length bytes)
       (read : makes stream (Gave bytes) stream_read) (told : tells clock moment clock_after) where
-    -- the piece was refused
+    -- The piece was refused.
     pub piece_refused : (fault : StepFault) → steps before (Piece connection bytes moment) (Err fault) taken_by
         → TakesTurn steps connection makes tells before stream clock (Some (Err fault)) taken_by stream_read clock_after
     piece_refused fault step = (
@@ -24,7 +24,7 @@ module _ {R S C : Type 0} (steps : Reacting R) (connection : ℕ) (makes : Makin
       (fault, refl, refl),
     )
 
-    -- what it brought was written, or was to be
+    -- The piece was taken, and the bytes of its reaction were written or a write failed.
     pub piece_taken : (reaction : Reaction) (after : R) (stream_after : S) (result : Option (Result Over StepFault))
         → steps before (Piece connection bytes moment) (Ok reaction) taken_by
         → Sends steps connection makes taken_by stream_read reaction result after stream_after

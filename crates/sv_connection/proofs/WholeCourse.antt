@@ -22,7 +22,7 @@ use Rattle.sv_run.proofs.Reactions.{run_of}
 use Rattle.sv_streams.specs.Calls.{AreMade, Call, Making, WriteFailed, failures, given, meets_end, reads, taken}
 use Rattle.sv_connection.proofs.Bytes.{closed_has_a_cause, given_of_calls, lost_has_a_cause, taken_of_calls}
 
--- ---- what only pieces do
+-- ---- Only pieces send
 
 pub only_pieces_send : {Context Words : Type 0} (theory : Theory Context Words) → OnlyPiecesSend theory
 only_pieces_send {Context} theory before after (events.Opened number) effect accepts =
@@ -37,7 +37,7 @@ only_pieces_send {Context} theory before after (events.Tick moment) effect accep
 only_pieces_send {Context} theory before after (events.Edited path edit) effect accepts =
     inr (ap (λ (e : Effect Context). e.sends) accepts.is_joined ∙ ap (λ (e : Effect Context). e.sends) accepts.happens.brings)
 
--- ---- turns, as reads and reactions
+-- ---- Turns as reads and reactions
 
 abbrev read_of : Turn → Read
 read_of turn = record { bytes = turn.bytes; moment = turn.moment }
@@ -120,7 +120,7 @@ same_sends (turn ∷ turns) ending =
     append_assoc turn.reaction.sends (flat_map laws.sends_of turns) (laws.last_sends ending)
     ∙ ap (λ more. turn.reaction.sends ++ more) (same_sends turns ending)
 
--- ---- the end
+-- ---- The end
 
 left_so : (turns : List Turn) (ending : Ending) (rest : List ℕ) → laws.IsLeft ending rest → IsLeft (all_calls turns ending) (over_of ending) rest
 left_so turns AtEnd rest is = inl is
@@ -131,7 +131,7 @@ left_so turns (AtFailedWrite turn) rest is =
 left_so turns AtLimit rest is = inl is
 left_so turns (AtRefusal bytes moment) rest is = inl is
 
--- the last reaction closes
+-- The last reaction closes the connection.
 abbrev ReactionCloses : List Reaction → Type 0
 ReactionCloses reactions = (earlier : List Reaction) × (last : Reaction) × (earlier ++ last ∷ [] ≡ reactions) × (last.closes ≡ true)
 
@@ -162,13 +162,13 @@ same_tail x y xs ys same = cc
 same_head : {X : Type 0} (x y : X) (xs ys : List X) → x ∷ xs ≡ y ∷ ys → x ≡ y
 same_head x y xs ys same = cc
 
--- what an answer sends is seen of it
+-- The bytes that the result of an event sends.
 abbrev sent_of : Result Reaction StepFault → List ℕ
 sent_of (Ok reaction) = reaction.sends
 sent_of (Err fault) = []
 
 module _ {Context : Type 0} where
-  -- ---- answers, and what is seen of them
+  -- ---- Results, as the run shows them
 
   accepted_so : (reaction : Reaction) (effect : Effect Context) → ◌≡◌ {A = Result Reaction StepFault} (Ok reaction) (Ok (shown effect)) → reaction ≡ shown effect
   accepted_so reaction effect same = cc
@@ -235,7 +235,7 @@ module _ {Context : Type 0} where
 
 module _ {R S C Context Words : Type 0} (steps : Reacting R) (makes : Making S) (tells : C → ℕ → C → Type 0) (theory : Theory Context Words)
     (state_of : R → State Context Words) (like : StepsLike steps theory state_of) where
-  -- an event that is not a piece is seen to send nothing
+  -- An event that is not a piece sends nothing.
   silent : (before after : R) (happening : Happening) (last : Result Reaction StepFault) → ¬ (IsPiece happening) → steps before happening last after
       → sent_of last ≡ []
   silent before after happening (Err fault) other step = refl
@@ -263,7 +263,7 @@ module _ {R S C Context Words : Type 0} (steps : Reacting R) (makes : Making S) 
     not_lost : ¬ (IsPiece (events.Lost connection))
     not_lost is = let never = is.3 in absurd (cc)
 
-    -- the event that tells the end sends nothing, and neither does a refused one
+    -- The event of the end sends nothing, and neither does a refused event.
     last_silent : (turns : List Turn) (ending : Ending) (last : Result Reaction StepFault) (result : Result Over StepFault) (before after : R)
         → IsResult ending last result
         → Reacts steps before (map (turns_so.piece_of connection) turns ++ last_events connection ending) (map brought turns ++ last_answers ending last) after
@@ -277,7 +277,7 @@ module _ {R S C Context Words : Type 0} (steps : Reacting R) (makes : Making S) 
     last_silent (turn ∷ turns) ending last result before after is reacts = last_silent turns ending last result reacts.0 after is reacts.2
 
     module _ (before : R) (stream : S) (clock : C) (result : Result Over StepFault) (after : R) (stream_after : S) (clock_after : C) where
-      -- events and answers of the form of a connection are a run
+      -- Events and results in the form of a connection are a run.
       of_form : (its_pieces : List Read) (its_over : Option Over) (reactions : List Reaction) (its_last : Result Reaction StepFault) (its_calls : List Call) (its_rest : List ℕ)
           → Reacts steps before (events_of connection its_pieces its_over) (map Ok reactions ++ its_last ∷ []) after
           → MatchOption its_over ((fault : StepFault) × (its_last ≡ Err fault) × (result ≡ Err fault)) (λ told. result ≡ told_as told its_last)

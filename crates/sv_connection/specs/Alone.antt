@@ -1,4 +1,4 @@
--- A connection that is served beside others, as the turns of one that is served by itself.
+-- Connections served alongside others, as turns of a connection that is served by itself.
 use Rattle.std.specs.Prelude.{◌≡◌, ℕ, ◌<◌, false, List, [], ◌∷◌, ◌++◌, flat_map, length, map, Ok}
 use Rattle.std.specs.List.{AllByRecursion, concat}
 use Rattle.sv_connection.specs.Turns.{AtClose, AtEnd, AtFailedRead, AtFailedWrite, Ending, GoesOn, IsEnding, Turn, brought, calls_of, last_answers, last_calls, last_events, piece_of}
@@ -13,7 +13,8 @@ use Rattle.sv_run.specs.Events.{Opened}
 use Rattle.sv_run.specs.declared.reaction.Reaction.{Reaction}
 use Rattle.sv_streams.specs.Calls.{Call, Gave, Took}
 
--- the calls, as if each piece had been read by itself as it was handed on: a read cut into pieces
+-- The stream calls of an action, with each read cut into its pieces: a piece that is passed to the handler counts as a
+-- read of its own.
 abbrev pub cut_calls : Action → List Call
 cut_calls (Hands bytes moment reaction awaited) = Gave bytes ∷ []
 cut_calls (Writes bytes) = Took bytes ∷ []
@@ -21,21 +22,22 @@ cut_calls (Ends cause reaction) = end_calls cause
 cut_calls other = []
 
 module _ {S : Type 0} where
-  -- no turn is under way, and nothing waits to be written; or one is, of which that waits
+  -- No turn is under way, and no bytes wait to be written; or one turn is, and the bytes that wait are the rest of its
+  -- reaction.
   abbrev pub IsUnderWay : List Turn → ConnectionState S → Type 0
   IsUnderWay [] at = (at.unsent ≡ []) × (is_closing at.phase ≡ false)
   IsUnderWay (turn ∷ []) at =
       (0 < length turn.bytes) × (concat turn.parts ++ at.unsent ≡ turn.reaction.sends) × (turn.reaction.closes ≡ is_closing at.phase)
   IsUnderWay (turn ∷ other ∷ turns) at = ⊥
 
--- these turns of a connection by itself are what was done
+-- These turns of a connection by itself have the events, results, times and calls of the actions.
 pub record AreTurns (number : ℕ) (actions : List Action) (opening : Reaction) (turns : List Turn) : Type 0 where
   pub happened : flat_map (event_of number) actions ≡ Opened number ∷ map (piece_of number) turns
   pub answered : flat_map answer_of actions ≡ Ok opening ∷ map brought turns
   pub told : flat_map moment_of actions ≡ map turn.moment_of turns
   pub called : flat_map cut_calls actions ≡ flat_map calls_of turns
 
--- an open connection went through turns that go on, and is in one more at most
+-- An open connection has completed turns that go on, and is in at most one more.
 pub record IsAlone {S : Type 0} (number : ℕ) (actions : List Action) (at : ConnectionState S) : Type 0 where
   pub opening : Reaction
   pub turns : List Turn

@@ -1,4 +1,4 @@
--- What comes of a question to what takes events.
+-- The effect of a query on an event handler.
 use Rattle.std.specs.Prelude.{◌≡◌, ◌⊎◌, ℕ, List, Option, Result, Ok, Err}
 use Rattle.sv_policy.specs.declared.edit.Edit.{Edit}
 use Rattle.sv_run.specs.Events.{Edited}
@@ -6,15 +6,15 @@ use Rattle.sv_run.specs.Reacting.{Reacting}
 use Rattle.sv_run.specs.declared.reaction.Reaction.{Reaction}
 use Rattle.sv_run.specs.declared.step_fault.StepFault.{StepFault}
 
--- what is said of a request by its method, its target and its user, or without a caller; nothing where that is not known
+-- The text that explains a request, by its method, target, and user or without a caller; none if this is not known.
 abbrev pub Explaining : Type 0 → Type 0
 Explaining R = R → List ℕ → List ℕ → Option (List ℕ) → Option (List ℕ)
 
--- what it says of itself, where it says anything
+-- The text about a handler's state, if any.
 abbrev pub Saying : Type 0 → Type 0
 Saying R = R → Option (List ℕ)
 
--- no event was taken, or one, which edits the constraints of a context; or that one was refused
+-- No event was taken, or one, which edits the constraints of a context; or this edit was refused.
 abbrev pub EditsOnce : {R A : Type 0} → Reacting R → R → Result A StepFault → R → Type 0
 EditsOnce steps before (Ok done) after =
     (after ≡ before) ⊎ ((path : List ℕ) × (edit : Edit) × (reaction : Reaction) × steps before (Edited path edit) (Ok reaction) after)

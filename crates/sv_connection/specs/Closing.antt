@@ -1,4 +1,4 @@
--- How a connection that is over is closed (RFC 9112, section 9.6).
+-- How a connection that has ended is closed (RFC 9112, section 9.6).
 use Rattle.std.specs.Prelude.{◌||◌, cond, length, nat_eq, not}
 use Rattle.sv_connection.specs.Phases.{is_refused}
 use Rattle.sv_connection.specs.Slots.{ConnectionState}
@@ -8,11 +8,13 @@ use Rattle.sv_connection.specs.declared.closing.Closing.{Closing}
 use Rattle.sv_connection.specs.declared.closing.Closing.TheVariants.{AtOnce, Answered, InStages}
 
 module _ {S : Type 0} where
-  -- behind an answer that closes: a peer whose message was refused may still send it, and one of which more came sends on
+  -- After the last response: in stages if the message was refused, since the peer may still send it, or if more bytes
+  -- were received, since the peer sends on.
   abbrev pub behind_answer : ConnectionState S → Closing
   behind_answer at = cond (is_refused at.phase || not (nat_eq (length at.ahead) 0)) InStages Answered
 
-  -- at once where its peer has ended or is gone; where it is given up in stages, since its peer may still send
+  -- At once if the peer has ended or is gone. A connection that is given up closes in stages, since its peer may still
+  -- send.
   abbrev pub closing_of : ConnectionState S → CloseReason → Closing
   closing_of at PeerEnded = AtOnce
   closing_of at AnswerCloses = behind_answer at

@@ -1,4 +1,4 @@
--- One connection: it is opened, its pieces are taken in turn, and it is closed or lost.
+-- One connection: it is opened, its pieces are taken in order, and it is closed or lost.
 use Rattle.std.specs.Prelude.{◌≡◌, ◌⊎◌, ℕ, ◌≤◌, List, [], ◌∷◌, ◌++◌, map, MatchOption, Result, Ok, Err}
 use Rattle.std.specs.List.{AllByRecursion}
 use Rattle.sv_connection.specs.Turns.{Ending, GoesOn, IsEnding, Turn, all_calls, brought, last_answers, last_events, last_moments, moment_of, over_of, piece_of}
@@ -10,23 +10,23 @@ use Rattle.sv_run.specs.declared.reaction.Reaction.{Reaction}
 use Rattle.sv_run.specs.declared.step_fault.StepFault.{StepFault}
 use Rattle.sv_streams.specs.Calls.{AreMade, Call, Making, reads}
 
--- the moments that a clock told, one after another
+-- A clock gives these times, one after another.
 abbrev pub AreTold : {C : Type 0} → (C → ℕ → C → Type 0) → C → List ℕ → C → Type 0
 AreTold tells before [] after = after ≡ before
 AreTold {C} tells before (moment ∷ moments) after = (between : C) × tells before moment between × AreTold tells between moments after
 
--- what is answered of a connection that is over so, by the answer to the event that tells it
+-- The result of a connection that ended in this way, given the result of its last event.
 abbrev pub told_as : Over → Result Reaction StepFault → Result Over StepFault
 told_as over (Ok reaction) = Ok over
 told_as over (Err fault) = Err fault
 
--- a refused event is the answer
+-- The result is how the connection ended, or the fault of a refused event.
 abbrev pub IsResult : Ending → Result Reaction StepFault → Result Over StepFault → Type 0
 IsResult ending last result =
     MatchOption (over_of ending) ((fault : StepFault) × (last ≡ Err fault) × (result ≡ Err fault)) (λ over. result ≡ told_as over last)
 
 module _ {R S C : Type 0} (steps : Reacting R) (makes : Making S) (tells : C → ℕ → C → Type 0) where
-  -- events were taken, calls made and moments told
+  -- Events are taken, calls made and times given.
   pub record Talks (before : R) (stream : S) (clock : C) (events : List Happening) (answers : List (Result Reaction StepFault)) (calls : List Call)
       (moments : List ℕ) (after : R) (stream_after : S) (clock_after : C) : Type 0 where
     pub reacts : Reacts steps before events answers after
@@ -34,13 +34,13 @@ module _ {R S C : Type 0} (steps : Reacting R) (makes : Making S) (tells : C →
     pub are_told : AreTold tells clock moments clock_after
 
   module _ (connection : ℕ) (before : R) (stream : S) (clock : C) (result : Result Over StepFault) (after : R) (stream_after : S) (clock_after : C) where
-    -- the opening is refused
+    -- The opening is refused.
     pub record IsRefused : Type 0 where
       pub fault : StepFault
       pub talks : Talks before stream clock (Opened connection ∷ []) (Err fault ∷ []) [] [] after stream_after clock_after
       pub is_result : result ≡ Err fault
 
-    -- the connection is opened; some turns go on, and then it comes to its end
+    -- The connection is opened, some turns go on, and then it ends.
     pub record IsServed : Type 0 where
       pub opening : Reaction
       pub turns : List Turn

@@ -1,4 +1,4 @@
--- What was done of a connection, one after another.
+-- The course of a connection: its actions, one after another.
 use Rattle.std.specs.Prelude.{◌≡◌, List, [], ◌∷◌}
 use Rattle.sv_connection.specs.Slots.{Action, Leads, Slot}
 use Rattle.sv_connection.specs.Ways.{Ways}

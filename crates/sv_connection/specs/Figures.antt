@@ -1,4 +1,4 @@
--- How things stand with the connections that are known.
+-- The figures of the connections.
 use Rattle.std.specs.Prelude.{ℕ, List, filter, length, map}
 use Rattle.sv_connection.specs.Finishing.{is_writing}
 use Rattle.sv_connection.specs.Holding.{held}
@@ -7,15 +7,16 @@ use Rattle.sv_connection.specs.Slots.{ConnectionState}
 use Rattle.sv_connection.specs.declared.figures.Figures.{Figures}
 
 module _ {S : Type 0} where
-  -- where those that are known stand
+  -- The states of the open connections.
   abbrev pub standings : Known S → List (ConnectionState S)
   standings known = map (λ entry. entry.1) known.entries
 
-  -- to how many of them something waits to be written
+  -- The number of open connections that have bytes to write.
   abbrev pub writing : Known S → ℕ
   writing known = length (filter is_writing (standings known))
 
-  -- how many are known, to how many of them something waits to be written, how many bytes all hold together, and how many were opened
+  -- How many connections are open, how many of them have bytes to write, how many bytes all hold, and how many were
+  -- opened.
   abbrev pub figures_of : Known S → Figures
   figures_of known = record {
     connections = length known.entries;

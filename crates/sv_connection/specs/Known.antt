@@ -1,4 +1,4 @@
--- The connections that are known, by their numbers.
+-- The open connections, by their numbers.
 use Rattle.std.specs.Prelude.{◌≡◌, ◌≢◌, ◌⊎◌, ℕ, ◌+◌, ◌&&◌, Bool, is_some, List, true, cond, ltb, nat_eq, Option, None, Some, Result, Ok, Err}
 use Rattle.std.specs.Map.{lookup}
 use Rattle.sv_connection.specs.Turns.{over_event}
@@ -14,7 +14,7 @@ use Rattle.sv_run.specs.declared.step_fault.StepFault.{StepFault}
 use Rattle.sv_run.specs.declared.step_fault.StepFault.TheVariants.{NoMemory}
 use Rattle.sv_wire.specs.declared.inbox.Awaited.{Awaited}
 
--- the number that the next connection gets, and where those that are known stand
+-- The number of the next connection, and the states of those that are open.
 pub record Known (S : Type 0) : Type 0 where
   pub next : ℕ
   pub entries : List (ℕ × ConnectionState S)
@@ -27,25 +27,25 @@ module _ {S : Type 0} where
   held_or_over None = Over
   held_or_over (Some at) = Open at
 
-  -- where a number stands
+  -- The slot of a number.
   abbrev pub place_in : Known S → ℕ → Slot S
   place_in known number = cond (ltb number known.next) (held_or_over (found known number)) Unused
 
-  -- whether a connection has that number
+  -- Whether an open connection has this number.
   abbrev pub knows : Known S → ℕ → Bool
   knows known number = ltb number known.next && is_some (found known number)
 
-  -- only that number may stand elsewhere
+  -- Only the slot of this number may change.
   pub record OthersStay (number : ℕ) (before after : Known S) : Type 0 where
     pub next : after.next ≡ before.next
     pub others : (other : ℕ) → other ≢ number → found after other ≡ found before other
 
-  -- every open connection rests: the call that it needs would have to wait, or it is armed
+  -- Every open connection rests: its next call would block, or it is armed.
   abbrev pub AreAtRest : (ℕ → Slot S) → Type 0
   AreAtRest places = (number : ℕ) (at : ConnectionState S) → places number ≡ Open at → at.rests ≡ true
 
 module _ {S R C : Type 0} (ways : Ways S) (steps : Reacting R) (awaits : R → ℕ → Awaited) (tells : C → ℕ → C → Type 0) (number : ℕ) where
-  -- the connection of a number was driven, and the others stay
+  -- The connection of a number is driven, and the others stay.
   abbrev pub DrivesOne : R → C → Known S → Result (Option CloseReason) StepFault → R → C → Known S → Type 0
   DrivesOne before clock known (Ok None) after clock_after known_after =
       (actions : List Action) × Talks steps awaits tells ways number before clock (place_in known number) actions after clock_after (place_in known_after number)
@@ -62,19 +62,20 @@ abbrev pub tick_result : Result Reaction StepFault → Result (Unit {0}) StepFau
 tick_result (Ok reaction) = Ok tt
 tick_result (Err fault) = Err fault
 
--- a tick at that moment was told
+-- The handler takes or refuses a tick with this time.
 abbrev pub Ticked : {R : Type 0} → Reacting R → ℕ → R → Result (Unit {0}) StepFault → R → Type 0
 Ticked steps moment before result after = (last : Result Reaction StepFault) × steps before (Tick moment) last after × (result ≡ tick_result last)
 
 module _ {S R : Type 0} (steps : Reacting R) where
-  -- the connection of a number is known no more, and was told to be over by that cause
+  -- The connection of a number is no longer open, and the handler takes or refuses the event of its end for this
+  -- reason.
   abbrev pub EndsOne : ℕ → CloseReason → R → Known S → Result (Unit {0}) StepFault → R → Known S → Type 0
   EndsOne number cause before known (Ok done) after known_after =
       (reaction : Reaction) × steps before (over_event number (over_by cause)) (Ok reaction) after
       × (found known_after number ≡ None) × OthersStay number known known_after
   EndsOne number cause before known (Err fault) after known_after = (happening : Happening) × steps before happening (Err fault) after
 
-  -- the next connection was opened
+  -- The next connection is opened.
   abbrev pub OpensNext : S → R → Known S → Result (Unit {0}) StepFault → R → Known S → Type 0
   OpensNext stream before known (Ok done) after known_after =
       (reaction : Reaction) × steps before (Opened known.next) (Ok reaction) after

@@ -1,4 +1,4 @@
--- The laws of connections.
+-- The laws of one connection.
 use Rattle.std.specs.Prelude.{◌≡◌, ◌⊎◌, ℕ, ◌<◌, true, List, [], ◌++◌, flat_map, length, Some}
 use Rattle.std.specs.List.{AllByRecursion}
 use Rattle.sv_connection.specs.Turns.{AtClose, AtEnd, AtFailedRead, AtFailedWrite, AtLimit, AtRefusal, Ending, GoesOn, IsEnding, Turn, all_calls, over_of}
@@ -12,7 +12,7 @@ bytes_of turn = turn.bytes
 abbrev pub sends_of : Turn → List ℕ
 sends_of turn = turn.reaction.sends
 
--- the bytes that came last
+-- The bytes read last.
 abbrev pub last_bytes : Ending → List ℕ
 last_bytes AtEnd = []
 last_bytes (AtClose turn) = turn.bytes
@@ -21,7 +21,7 @@ last_bytes (AtFailedWrite turn) = turn.bytes
 last_bytes AtLimit = []
 last_bytes (AtRefusal bytes moment) = bytes
 
--- the bytes that were to be sent last
+-- The bytes to send last.
 abbrev pub last_sends : Ending → List ℕ
 last_sends AtEnd = []
 last_sends (AtClose turn) = turn.reaction.sends
@@ -30,7 +30,7 @@ last_sends (AtFailedWrite turn) = turn.reaction.sends
 last_sends AtLimit = []
 last_sends (AtRefusal bytes moment) = []
 
--- a failed write leaves something unwritten, and nothing else does
+-- A failed write leaves bytes unwritten, and no other ending does.
 abbrev pub IsLeft : Ending → List ℕ → Type 0
 IsLeft AtEnd rest = rest ≡ []
 IsLeft (AtClose turn) rest = rest ≡ []
@@ -39,23 +39,23 @@ IsLeft (AtFailedWrite turn) rest = 0 < length rest
 IsLeft AtLimit rest = rest ≡ []
 IsLeft (AtRefusal bytes moment) rest = rest ≡ []
 
--- what was read is the bytes of the pieces, one after another
+-- The bytes read are those of the pieces, in order.
 abbrev pub PiecesAreWhatIsRead : Type 0
 PiecesAreWhatIsRead = (turns : List Turn) (ending : Ending) → given (all_calls turns ending) ≡ flat_map bytes_of turns ++ last_bytes ending
 
--- what was written is what the pieces brought, one after another, up to a write that failed
+-- The bytes written are those of the reactions, in order, up to a write that failed.
 abbrev pub WhatIsSentIsWritten : Type 0
 WhatIsSentIsWritten =
     (turns : List Turn) (ending : Ending) → AllByRecursion GoesOn turns → IsEnding turns ending
     → (rest : List ℕ) × (taken (all_calls turns ending) ++ rest ≡ flat_map sends_of turns ++ last_sends ending) × IsLeft ending rest
 
--- a connection is lost only where a call failed or as many reads were made as may be
+-- A connection is lost only if a call failed or the limit of reads was met.
 abbrev pub LostHasACause : Type 0
 LostHasACause =
     (turns : List Turn) (ending : Ending) → IsEnding turns ending → over_of ending ≡ Some Lost
     → (failures (all_calls turns ending) ≡ 1) ⊎ (reads (all_calls turns ending) ≡ MAX_READS)
 
--- a connection is closed only where no call failed and the end was met, or what a piece brought closes it
+-- A connection is closed only if no call failed, and the stream ended or a reaction closes it.
 abbrev pub ClosedHasACause : Type 0
 ClosedHasACause =
     (turns : List Turn) (ending : Ending) → IsEnding turns ending → over_of ending ≡ Some Closed

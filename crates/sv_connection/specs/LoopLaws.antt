@@ -8,7 +8,7 @@ use Rattle.sv_connection.specs.declared.close_reason.CloseReason.TheVariants.{An
 use Rattle.sv_run.specs.declared.reaction.Reaction.{Reaction}
 use Rattle.sv_streams.specs.Calls.{Call, Gave, ReadFailed, Took, WriteFailed, given, taken}
 
--- the calls of a action that gave, took or failed
+-- The call that ended a connection for this reason, if any.
 abbrev pub end_calls : CloseReason → List Call
 end_calls PeerEnded = Gave [] ∷ []
 end_calls ReadFails = ReadFailed ∷ []
@@ -22,35 +22,36 @@ calls_of (Writes bytes) = Took bytes ∷ []
 calls_of (Ends cause reaction) = end_calls cause
 calls_of other = []
 
--- the bytes that it handed on
+-- The bytes that an action passes to the handler.
 abbrev pub handed_of : Action → List ℕ
 handed_of (Hands bytes moment reaction awaited) = bytes
 handed_of other = []
 
--- the bytes that were to be sent for them
+-- The bytes to send for them.
 abbrev pub sends_of : Action → List ℕ
 sends_of (Hands bytes moment reaction awaited) = reaction.sends
 sends_of other = []
 
 module _ {S : Type 0} (ways : Ways S) where
-  -- of an open connection: what was read is what was handed on and what waits to be; what was to be sent is what was written and what waits to be
+  -- The bytes read from an open connection are those passed to the handler and those that wait to be passed. The bytes
+  -- to send are those written and those that wait to be written.
   abbrev pub BytesAreKept : Type 0
   BytesAreKept =
       (actions : List Action) (at : ConnectionState S) → Along ways Unused actions (Open at)
       → (given (flat_map calls_of actions) ≡ flat_map handed_of actions ++ at.ahead)
       × (flat_map sends_of actions ≡ taken (flat_map calls_of actions) ++ at.unsent)
 
-  -- one that is over was open, and then ended for a cause
+  -- A connection that has ended was open, and then ended for a cause.
   abbrev pub EndsHaveACause : Type 0
   EndsHaveACause =
       (actions : List Action) → Along ways Unused actions Over
       → (front : List Action) × (at : ConnectionState S) × (cause : CloseReason) × (reaction : Reaction) × (stream : S)
       × (actions ≡ front ++ Ends cause reaction ∷ []) × Along ways Unused front (Open at) × Causes ways at cause stream
 
-  -- and its number has no action any more
+  -- After this end, its number has no action.
   abbrev pub NumbersAreNotUsedAgain : Type 0
   NumbersAreNotUsedAgain = (actions : List Action) (place : Slot S) → Along ways Over actions place → (actions ≡ []) × (place ≡ Over)
 
-  -- one that rests needs to be read, or to be written to
+  -- A connection that rests needs to be read or written.
   abbrev pub RestIsForSomething : Type 0
   RestIsForSomething = (actions : List Action) (at : ConnectionState S) → Along ways Unused actions (Open at) → at.rests ≡ true → Needs at

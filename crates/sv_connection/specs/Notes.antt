@@ -1,4 +1,4 @@
--- What was done of all connections, one after another.
+-- The actions of all connections, ticks and edits, one after another.
 use Rattle.std.specs.Prelude.{◌≡◌, ℕ, ◌++◌, List, [], ◌∷◌, cond, map, nat_eq, Result, Ok}
 use Rattle.sv_connection.specs.Connection.{AreTold}
 use Rattle.sv_connection.specs.Turns.{over_event}
@@ -16,13 +16,13 @@ use Rattle.sv_run.specs.declared.reaction.Reaction.{Reaction}
 use Rattle.sv_run.specs.declared.step_fault.StepFault.{StepFault}
 use Rattle.sv_wire.specs.declared.inbox.Awaited.{Awaited}
 
--- a action of the connection of that number, a tick at that moment, or an edit of the context of that path
+-- An action of the connection of this number, a tick with this time, or an edit of the context of this path.
 pub data Note : Type 0 where
   Of : ℕ → Action → Note
   Ticks : ℕ → Reaction → Note
   Edits : List ℕ → Edit → Reaction → Note
 
--- how a connection is over by its cause
+-- How a connection ends for this reason.
 abbrev pub over_by : CloseReason → Over
 over_by PeerEnded = Closed
 over_by AnswerCloses = Closed
@@ -30,7 +30,7 @@ over_by ReadFails = Lost
 over_by WriteFails = Lost
 over_by GivenUp = Lost
 
--- the event that was taken, its answer, and the moment that was told for it
+-- The event of an action, its result, and its time, if any.
 abbrev pub event_of : ℕ → Action → List Happening
 event_of number (Opens reaction) = Opened number ∷ []
 event_of number (Hands bytes moment reaction awaited) = Piece number bytes moment ∷ []
@@ -65,7 +65,7 @@ moments (Of number action ∷ notes) = moment_of action ++ moments notes
 moments (Ticks moment reaction ∷ notes) = moment ∷ moments notes
 moments (Edits path edit reaction ∷ notes) = moments notes
 
--- what was done of one number
+-- The actions of one number.
 abbrev pub actions_of : ℕ → List Note → List Action
 actions_of number [] = []
 actions_of number (Of other action ∷ notes) = cond (nat_eq number other) (action ∷ actions_of number notes) (actions_of number notes)
@@ -73,7 +73,7 @@ actions_of number (Ticks moment reaction ∷ notes) = actions_of number notes
 actions_of number (Edits path edit reaction ∷ notes) = actions_of number notes
 
 module _ {R C : Type 0} (steps : Reacting R) (awaits : R → ℕ → Awaited) (tells : C → ℕ → C → Type 0) where
-  -- the event of a action of the connection of a number was taken, if it has one; after a piece, that is awaited of the connection
+  -- The handler takes the event of an action, if it has one. After a piece, it awaits `awaited` of the connection.
   abbrev pub Does : ℕ → R → Action → R → Type 0
   Does number before (Opens reaction) after = steps before (Opened number) (Ok reaction) after
   Does number before (Hands bytes moment reaction awaited) after =
@@ -86,29 +86,29 @@ module _ {R C : Type 0} (steps : Reacting R) (awaits : R → ℕ → Awaited) (t
   TakesOne before (Ticks moment reaction) after = steps before (Tick moment) (Ok reaction) after
   TakesOne before (Edits path edit reaction) after = steps before (Edited path edit) (Ok reaction) after
 
-  -- the events were taken one after another
+  -- The events are taken one after another.
   abbrev pub TakesAll : R → List Note → R → Type 0
   TakesAll before [] after = after ≡ before
   TakesAll before (note ∷ notes) after = (between : R) × TakesOne before note between × TakesAll between notes after
 
-  -- so they were, at the moments that the clock gave
+  -- The events are taken, with the times that the clock gives.
   pub record Went (before : R) (clock : C) (notes : List Note) (after : R) (clock_after : C) : Type 0 where
     pub takes : TakesAll before notes after
     pub told : AreTold tells clock (moments notes) clock_after
 
   module _ {S : Type 0} (ways : Ways S) where
-    -- it was done of one connection alone
+    -- Actions of only one connection are taken, and lead its number from one slot to another.
     pub record Talks (number : ℕ) (before : R) (clock : C) (place : Slot S) (actions : List Action) (after : R) (clock_after : C) (place_after : Slot S) : Type 0 where
       pub went : Went before clock (map (Of number) actions) after clock_after
       pub along : Along ways place actions place_after
 
-    -- it was done, and led each number from its place to its next
+    -- Notes are taken, and lead each number from its slot before to its slot after.
     pub record Goes (before : R) (clock : C) (places : ℕ → Slot S) (notes : List Note) (after : R) (clock_after : C) (places_after : ℕ → Slot S) : Type 0 where
       pub went : Went before clock notes after clock_after
       pub courses : (number : ℕ) → Along ways (places number) (actions_of number notes) (places_after number)
 
 module _ {R C : Type 0} (steps : Reacting R) (awaits : R → ℕ → Awaited) (tells : C → ℕ → C → Type 0) where
-  -- what was done is events that were taken one after another, each with its answer
+  -- The events of notes are taken one after another, each with its result.
   abbrev pub NotesAreReactions : Type 0
   NotesAreReactions =
       (before after : R) (clock clock_after : C) (notes : List Note) → Went steps awaits tells before clock notes after clock_after

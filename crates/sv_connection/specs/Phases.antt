@@ -1,4 +1,4 @@
--- The phase of a connection, and what it holds of a message (RFC 9112, sections 9.3 and 9.6).
+-- The phase of a connection, and the part of a message that it holds (RFC 9112, sections 9.3 and 9.6).
 use Rattle.std.specs.Prelude.{ℕ, ◌+◌, ◌&&◌, Bool, true, false, not, cond, List, length, min, nat_eq}
 use Rattle.std.specs.List.{list_any}
 use Rattle.sv_connection.specs.declared.limits.TheConstants.{MAX_UNDER_WAY}
@@ -12,7 +12,7 @@ use Rattle.sv_run.specs.declared.reaction.Reaction.{Reaction}
 use Rattle.sv_wire.specs.declared.inbox.Awaited.{Awaited}
 use Rattle.sv_wire.specs.declared.inbox.Awaited.TheVariants.{Body, Head, Message, Nothing}
 
--- whether a message was refused as its bytes were read, so that some of them may still come
+-- Whether a message was refused as its bytes were read, so that some of them may still be received.
 abbrev pub is_of_bytes : RefusalCause → Bool
 is_of_bytes (cause.Wire fault) = true
 is_of_bytes other = false
@@ -21,26 +21,26 @@ abbrev pub is_refusal : Entry → Bool
 is_refusal (entry.Refused why) = is_of_bytes why
 is_refusal other = false
 
--- the phase after a piece that closes the connection or not and brought these entries, where that is awaited then
+-- The phase after a piece, by its reaction and by what the container then awaits.
 abbrev pub phase_by : Bool → List Entry → Awaited → Phase
 phase_by closes entries awaited = cond closes (cond (list_any is_refusal entries) Refused Closing) (Open awaited)
 
 abbrev pub phase_after : Reaction → Awaited → Phase
 phase_after reaction awaited = phase_by reaction.closes reaction.journal.entries awaited
 
--- whether nothing more is handed on
+-- Whether no more bytes are passed to the handler.
 abbrev pub is_closing : Phase → Bool
 is_closing (Open awaited) = false
 is_closing Closing = true
 is_closing Refused = true
 
--- whether the message that closes the connection was refused as it was read
+-- Whether the message that closes the connection was refused as it was read.
 abbrev pub is_refused : Phase → Bool
 is_refused (Open awaited) = false
 is_refused Closing = false
 is_refused Refused = true
 
--- whether a part of a message is held
+-- Whether a part of a message is held.
 abbrev pub is_under_way : Phase → Bool
 is_under_way (Open Message) = false
 is_under_way (Open Head) = true
@@ -57,11 +57,13 @@ awaits_body (Open Nothing) = false
 awaits_body Closing = false
 awaits_body Refused = false
 
--- whether a piece ended a message whose body was awaited: what is awaited then is no body, or that of the next message, since something was sent
+-- Whether a piece ended a message whose body was awaited. Afterwards no body is awaited, or the awaited body is that of
+-- the next message, since something was sent.
 abbrev pub ends_body : Phase → List ℕ → Phase → Bool
 ends_body before sends after = awaits_body before && not (awaits_body after && nat_eq (length sends) 0)
 
--- how many bytes of the message under way were handed on after a piece of so many bytes, counted up to the most that is kept of one message
+-- The number of bytes of the message under way that were passed to the handler, after a piece of `count` bytes. It is
+-- at most the number of bytes that are kept of one message.
 abbrev pub under_way_after : Phase → ℕ → ℕ → List ℕ → Phase → ℕ
 under_way_after before under_way count sends after =
     cond (is_under_way after) (min (cond (ends_body before sends after) count (under_way + count)) MAX_UNDER_WAY) 0

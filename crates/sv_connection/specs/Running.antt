@@ -1,5 +1,5 @@
--- One connection of a container that runs (RFC 9112, section 9): what is read of it are the pieces of a run, and what is written of it is what that
--- run sends.
+-- One connection of a container that runs (RFC 9112, section 9): the bytes read are the pieces of a run, and the bytes
+-- written are those that the run sends.
 use Rattle.std.specs.Prelude.{◌≡◌, ◌⊎◌, ℕ, true, List, [], ◌∷◌, ◌++◌, flat_map, map, MatchOption, Option, Some, Result, Ok, Err}
 use Rattle.std.specs.Option.{option_to_list}
 use Rattle.sv_connection.specs.Connection.{AreTold, Connects, told_as}
@@ -16,7 +16,7 @@ use Rattle.sv_run.specs.State.{State}
 use Rattle.sv_run.specs.declared.step_fault.StepFault.{StepFault}
 use Rattle.sv_streams.specs.Calls.{AreMade, Call, Making, WriteFailed, failures, given, meets_end, reads, taken}
 
--- the bytes that a read gave, and the moment then
+-- The bytes of a read, and its time.
 pub record Read : Type 0 where
   pub bytes : List ℕ
   pub moment : ℕ
@@ -30,34 +30,34 @@ moment_of read = read.moment
 abbrev pub piece_of : ℕ → Read → Happening
 piece_of connection read = Piece connection read.bytes read.moment
 
--- the events of a connection: it is opened, what was read comes in pieces, and then it is told how it is over, unless an event was refused before
+-- The events of a connection: its opening, the pieces that were read, and its end, unless an event was refused before.
 abbrev pub events_of : ℕ → List Read → Option Over → List Happening
 events_of connection reads over =
     Opened connection ∷ (map (piece_of connection) reads ++ map (over_event connection) (option_to_list over))
 
 module _ {Context : Type 0} where
-  -- the bytes that an answer sends: one that refuses an event sends none
+  -- The bytes that the result of an event sends. A refused event sends none.
   abbrev pub sent_by : Answer Context → List ℕ
   sent_by (Ok effect) = effect.sends
   sent_by (Err fault) = []
 
-  -- all but the last event were accepted; the last one refuses, or tells how the connection is over
+  -- All events but the last were accepted. The last one is refused, or is the event of the connection's end.
   abbrev pub IsOverBy : Option Over → Answer Context → Result Over StepFault → Type 0
   IsOverBy over last result =
       MatchOption over ((fault : StepFault) × (last ≡ Err fault) × (result ≡ Err fault)) (λ told. result ≡ told_as told (answer_shown last))
 
-  -- what the last piece brought closes the connection
+  -- The reaction to the last piece closes the connection.
   abbrev pub ClosesAtLast : List (Effect Context) → Type 0
   ClosesAtLast effects = (earlier : List (Effect Context)) × (last : Effect Context) × (effects ≡ earlier ++ last ∷ []) × (last.closes ≡ true)
 
--- nothing is left unwritten, unless the last call is a write that failed: the connection is lost then
+-- All bytes were written, unless the last call is a write that failed: then the connection is lost.
 abbrev pub IsLeft : List Call → Option Over → List ℕ → Type 0
 IsLeft calls over rest = (rest ≡ []) ⊎ ((over ≡ Some Lost) × ((earlier : List Call) × (calls ≡ earlier ++ WriteFailed ∷ [])))
 
 abbrev pub IsPiece : Happening → Type 0
 IsPiece happening = (number : ℕ) × (bytes : List ℕ) × (moment : ℕ) × (happening ≡ Piece number bytes moment)
 
--- an event that is not a piece sends nothing: neither an opening nor an end, whether in order or by loss
+-- An event that is not a piece sends nothing: neither an opening nor an end, whether in order or by loss.
 abbrev pub OnlyPiecesSend : {Context Words : Type 0} → Theory Context Words → Type 0
 OnlyPiecesSend {Context} {Words} theory =
     (before after : State Context Words) (happening : Happening) (effect : Effect Context) → Accepts theory before happening effect after
@@ -65,8 +65,8 @@ OnlyPiecesSend {Context} {Words} theory =
 
 module _ {R S C Context Words : Type 0} (steps : Reacting R) (makes : Making S) (tells : C → ℕ → C → Type 0) (theory : Theory Context Words)
     (state_of : R → State Context Words) where
-  -- the events of the connection are a run of the container. What was read is the bytes of its pieces, one after another; and what was written is all
-  -- that the run sends, one answer after another, or a part of that, from the first byte on, where a write failed
+  -- The events of the connection are a run of the container. The bytes read are those of its pieces, in order. The
+  -- bytes written are all that the run sends, in order, or a prefix if a write failed.
   pub record IsARun (connection : ℕ) (before : R) (stream : S) (clock : C) (result : Result Over StepFault) (after : R) (stream_after : S)
       (clock_after : C) : Type 0 where
     pub pieces : List Read

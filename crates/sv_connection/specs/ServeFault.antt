@@ -1,4 +1,4 @@
--- Why connections are served no more.
+-- The reason why serving stopped.
 use Rattle.std.specs.Prelude.{ℕ, List, codes}
 use Rattle.sv_run.specs.declared.step_fault.StepFault.{StepFault}
 use Rattle.sv_run.specs.declared.step_fault.StepFault.TheVariants as refusal
@@ -10,7 +10,7 @@ fault_text Connection = codes "connection"
 fault_text NoMemory = codes "no memory"
 fault_text Output = codes "output"
 
--- the fault of a refused event
+-- The fault for a refused event.
 abbrev pub fault_of : StepFault → ServeFault
 fault_of refusal.Stopped = Connection
 fault_of refusal.BadConnection = Connection

@@ -12,7 +12,7 @@ use Rattle.sv_connection.specs.declared.serve_fault.ServeFault.TheVariants.{Conn
 
 module _ {R A P C : Type 0} (steps : Reacting R) (accepts : A → Result P AcceptFailed → A → Type 0) (parts : A → P → A → Type 0) (makes : Making P)
     (tells : C → ℕ → C → Type 0) where
-  -- a connection was accepted, its course by its number had this answer, and its stream was given to a parting
+  -- A connection was accepted, served under its number with this result, and its stream closed.
   pub record Courses (number : ℕ) (before : R) (acceptor : A) (clock : C) (answer : Result Over StepFault) (after : R) (acceptor_after : A) (clock_after : C) : Type 0 where
     pub peer : P
     pub acceptor_between : A
@@ -21,7 +21,7 @@ module _ {R A P C : Type 0} (steps : Reacting R) (accepts : A → Result P Accep
     pub parted : parts acceptor_between peer_after acceptor_after
     pub connects : Connects steps makes tells number before peer clock answer after peer_after clock_after
 
-  -- none was accepted
+  -- No connection was accepted.
   pub record IsNotAccepted (before : R) (acceptor : A) (clock : C) (fault : ServeFault) (after : R) (acceptor_after : A) (clock_after : C) : Type 0 where
     pub failed : AcceptFailed
     pub is_failed : accepts acceptor (Err failed) acceptor_after
@@ -29,7 +29,7 @@ module _ {R A P C : Type 0} (steps : Reacting R) (accepts : A → Result P Accep
     pub same : after ≡ before
     pub same_clock : clock_after ≡ clock
 
-  -- the connection of that number is accepted and comes to be over, or it is not accepted, or an event of it is refused
+  -- The connection of this number is accepted and ends, or it is not accepted, or one of its events is refused.
   abbrev pub ServesNext : ℕ → R → A → C → Result (Unit {0}) ServeFault → R → A → C → Type 0
   ServesNext number before acceptor clock (Ok done) after acceptor_after clock_after =
       (over : Over) × Courses number before acceptor clock (Ok over) after acceptor_after clock_after
@@ -38,14 +38,14 @@ module _ {R A P C : Type 0} (steps : Reacting R) (accepts : A → Result P Accep
       ⊎ ((refusal : StepFault) × (fault ≡ fault_of refusal) × Courses number before acceptor clock (Err refusal) after acceptor_after clock_after)
 
   module _ (before : R) (acceptor : A) (clock : C) where
-    -- so many connections were served one after another, numbered from 1
+    -- This many connections were served one after another, numbered from 1.
     abbrev pub AreServed : ℕ → R → A → C → Type 0
     AreServed zero after acceptor_after clock_after = (after ≡ before) × (acceptor_after ≡ acceptor) × (clock_after ≡ clock)
     AreServed (suc served) after acceptor_after clock_after =
         (between : R) × (acceptor_between : A) × (clock_between : C) × AreServed served between acceptor_between clock_between
         × ServesNext (served + 1) between acceptor_between clock_between (Ok tt) after acceptor_after clock_after
 
-    -- all are served, or some, and the next ends it
+    -- All connections are served, or some are and the next one fails.
     abbrev pub ServesUpTo : ℕ → Result (Unit {0}) ServeFault → R → A → C → Type 0
     ServesUpTo count (Ok done) after acceptor_after clock_after = AreServed count after acceptor_after clock_after
     ServesUpTo count (Err fault) after acceptor_after clock_after =

@@ -1,4 +1,4 @@
--- Where a connection stands, and what may come next.
+-- The state of a connection, and its possible actions.
 use Rattle.std.specs.Prelude.{◌≡◌, ◌⊎◌, ℕ, ◌<◌, Bool, false, true, List, [], ◌++◌, length}
 use Rattle.sv_connection.specs.Phases.{is_closing, phase_after, under_way_after}
 use Rattle.sv_connection.specs.Pieces.{IsPiece}
@@ -12,8 +12,9 @@ use Rattle.sv_streams.specs.Calls.{Gave, ReadFailed, Took, WriteFailed}
 use Rattle.sv_wire.specs.declared.inbox.Awaited.{Awaited}
 use Rattle.sv_wire.specs.declared.inbox.Awaited.TheVariants.{Message}
 
--- the stream of a connection, what was read of it and not handed on, what waits to be written to it, its phase, whether nothing was done since a
--- call would have had to wait or the peer was armed, and how many bytes of the message under way were handed on
+-- The state of an open connection. It has bytes that wait to be passed to the handler (`ahead`) or to be written
+-- (`unsent`). It rests if its next call would block or it was armed, and nothing was done since. `under_way` counts the
+-- bytes of the message under way that were passed to the handler.
 pub record ConnectionState (S : Type 0) : Type 0 where
   pub stream : S
   pub ahead : List ℕ
@@ -22,52 +23,52 @@ pub record ConnectionState (S : Type 0) : Type 0 where
   pub rests : Bool
   pub under_way : ℕ
 
--- of a number: no connection had it, one has it, or the one that had it is over
+-- The state of a number: no connection had it, one has it, or its connection has ended.
 pub data Slot (S : Type 0) : Type 0 where
   Unused : Slot S
   Open : ConnectionState S → Slot S
   Over : Slot S
 
--- what was done of a connection
+-- One thing done of a connection.
 pub data Action : Type 0 where
-  -- it was opened
+  -- It is opened.
   Opens : Reaction → Action
-  -- a read gave these bytes
+  -- A read gives these bytes.
   Reads : List ℕ → Action
-  -- a piece was handed on at that moment, and brought that; this is awaited then
+  -- A piece is passed to the handler at this time, with its reaction and what the container then awaits.
   Hands : List ℕ → ℕ → Reaction → Awaited → Action
-  -- a write took these bytes
+  -- A write takes these bytes.
   Writes : List ℕ → Action
-  -- the call that it needs would have to wait
+  -- The next call would block.
   Blocks : Action
-  -- it is to be told anew of what is ready
+  -- The stream is armed.
   Arms : Action
-  -- it was told to be over
+  -- It ends for this reason, and the handler takes the event.
   Ends : CloseReason → Reaction → Action
 
--- before the first byte
+-- The phase before the first byte.
 abbrev pub first_phase : Phase
 first_phase = phase.Open Message
 
 module _ {S : Type 0} where
-  -- a connection that was opened
+  -- The state of a connection that was just opened.
   abbrev pub fresh : S → ConnectionState S
   fresh stream = record { stream = stream; ahead = []; unsent = []; phase = first_phase; rests = true; under_way = 0 }
 
-  -- nothing waits to be handed on or to be written
+  -- No bytes wait to be passed to the handler or to be written, and the connection is not closing.
   abbrev pub IsIdle : ConnectionState S → Type 0
   IsIdle at = (at.ahead ≡ []) × (at.unsent ≡ []) × (is_closing at.phase ≡ false)
 
-  -- a piece can be handed on: nothing waits to be written
+  -- A piece can be passed to the handler: no bytes wait to be written, and the connection is not closing.
   abbrev pub HasPiece : ConnectionState S → Type 0
   HasPiece at = (0 < length at.ahead) × (at.unsent ≡ []) × (is_closing at.phase ≡ false)
 
-  -- it needs to be read or to be written to
+  -- The connection needs to be read or written.
   abbrev pub Needs : ConnectionState S → Type 0
   Needs at = IsIdle at ⊎ (0 < length at.unsent)
 
   module _ (ways : Ways S) where
-    -- why it is over, and its stream then
+    -- Why a connection ends, and its stream then.
     abbrev pub Causes : ConnectionState S → CloseReason → S → Type 0
     Causes at PeerEnded stream = IsIdle at × ways.makes at.stream (Gave []) stream
     Causes at ReadFails stream = IsIdle at × ways.makes at.stream ReadFailed stream
@@ -75,7 +76,7 @@ module _ {S : Type 0} where
     Causes at AnswerCloses stream = (at.unsent ≡ []) × (is_closing at.phase ≡ true) × (stream ≡ at.stream)
     Causes at GivenUp stream = Unit {0}
 
-    -- what leads from one place of a number to its next: nothing leads on from the end
+    -- An action leads from one slot of a number to the next. None leads on from the end.
     abbrev pub Leads : Slot S → Action → Slot S → Type 0
     Leads Unused (Opens reaction) (Open after) =
         after ≡ fresh after.stream

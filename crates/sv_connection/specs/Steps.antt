@@ -1,4 +1,4 @@
--- One connection, as far as it gets without waiting.
+-- One connection, as far as it gets without blocking.
 use Rattle.std.specs.Prelude.{◌≡◌, ◌⊎◌, ℕ, ◌+◌, ◌≤◌, true, List, [], ◌∷◌, Option, None, Some, Result, Ok, Err, flat_map, length}
 use Rattle.sv_connection.specs.LoopLaws.{calls_of}
 use Rattle.sv_connection.specs.Notes.{Talks}
@@ -19,32 +19,32 @@ use Rattle.sv_streams.specs.Calls.{taken}
 use Rattle.sv_text.specs.declared.no_memory.NoMemory.{NoMemory as OutOfMemory}
 use Rattle.sv_wire.specs.declared.inbox.Awaited.{Awaited}
 
--- an event was refused, or memory had run out before one
+-- An event was refused, or memory ran out before one.
 abbrev pub Fails : {R : Type 0} → Reacting R → StepFault → R → R → Type 0
 Fails steps fault before after =
     ((fault ≡ NoMemory) × (after ≡ before)) ⊎ ((happening : Happening) × steps before happening (Err fault) after)
 
--- of what may be done at once, a action takes its calls and the bytes that it writes
+-- An action takes its calls and the bytes that it writes from the allowance.
 abbrev pub Spends : Allowance → Action → Allowance → Type 0
 Spends before action after =
     (length (calls_of action) + after.calls ≤ before.calls) × (length (taken (calls_of action)) + after.bytes ≤ before.bytes)
 
--- what is done of a connection before others have their turn: as many calls that give or take, and as many bytes written, at most
+-- The actions of one turn: at most `CALLS_AT_ONCE` calls that do not block, and at most `BYTES_AT_ONCE` bytes written.
 abbrev pub IsTurn : List Action → Type 0
 IsTurn actions = (length (flat_map calls_of actions) ≤ CALLS_AT_ONCE) × (length (taken (flat_map calls_of actions)) ≤ BYTES_AT_ONCE)
 
 module _ {S : Type 0} (ways : Ways S) where
-  -- it is armed, or given up
+  -- The stream is armed, or the connection is given up.
   abbrev pub IsArmed : ConnectionState S → Step → ConnectionState S → Type 0
   IsArmed before GoesOn after = ⊥
   IsArmed before Rests after = Leads ways (Open before) Arms (Open after)
   IsArmed before (IsOver cause) after = cause ≡ GivenUp
 
-  -- the call that it needs would have to wait, or it is armed
+  -- The next call would block, or the stream is armed.
   abbrev pub ComesToRest : ConnectionState S → ConnectionState S → Type 0
   ComesToRest before after = Leads ways (Open before) Blocks (Open after) ⊎ Leads ways (Open before) Arms (Open after)
 
-  -- a read was tried, or others have their turn
+  -- A read is tried, or others are served.
   abbrev pub TakesIn : ConnectionState S → Allowance → Result Step OutOfMemory → ConnectionState S → Allowance → Type 0
   TakesIn before left (Ok GoesOn) after left_after =
       (bytes : List ℕ) × Leads ways (Open before) (Reads bytes) (Open after) × Spends left (Reads bytes) left_after
@@ -52,7 +52,7 @@ module _ {S : Type 0} (ways : Ways S) where
   TakesIn before left (Ok (IsOver cause)) after left_after = Causes ways before cause after.stream
   TakesIn before left (Err refused) after left_after = Unit {0}
 
-  -- a write was tried, or others have their turn
+  -- A write is tried, or others are served.
   abbrev pub SendsOn : ConnectionState S → Allowance → Step → ConnectionState S → Allowance → Type 0
   SendsOn before left GoesOn after left_after =
       (bytes : List ℕ) × Leads ways (Open before) (Writes bytes) (Open after) × Spends left (Writes bytes) left_after
@@ -60,14 +60,14 @@ module _ {S : Type 0} (ways : Ways S) where
   SendsOn before left (IsOver cause) after left_after = Causes ways before cause after.stream
 
   module _ {R C : Type 0} (steps : Reacting R) (awaits : R → ℕ → Awaited) (tells : C → ℕ → C → Type 0) (number : ℕ) (before : R) (clock : C) (at : ConnectionState S) where
-    -- a piece was handed on
+    -- A piece is passed to the handler.
     abbrev pub HandsOn : Result (Unit {0}) StepFault → R → C → ConnectionState S → Type 0
     HandsOn (Ok done) after clock_after at_after =
         (bytes : List ℕ) × (moment : ℕ) × (reaction : Reaction) × (awaited : Awaited) × tells clock moment clock_after
         × steps before (Piece number bytes moment) (Ok reaction) after × (awaits after number ≡ awaited) × Leads ways (Open at) (Hands bytes moment reaction awaited) (Open at_after)
     HandsOn (Err fault) after clock_after at_after = (happening : Happening) × steps before happening (Err fault) after
 
-    -- one thing was done, of what may still be done
+    -- One step is taken, within the allowance.
     abbrev pub StepsOnce : Allowance → Result Step StepFault → R → C → ConnectionState S → Allowance → Type 0
     StepsOnce left (Ok GoesOn) after clock_after at_after left_after =
         (action : Action) × Talks steps awaits tells ways number before clock (Open at) (action ∷ []) after clock_after (Open at_after) × Spends left action left_after
@@ -78,7 +78,7 @@ module _ {S : Type 0} (ways : Ways S) where
         (after ≡ before) × (clock_after ≡ clock) × Causes ways at cause at_after.stream
     StepsOnce left (Err fault) after clock_after at_after left_after = Fails steps fault before after
 
-    -- it was driven until it rests, others have their turn, or it is over
+    -- The connection is driven until it rests, others are served, or it ends.
     abbrev pub Drives : Result (Option CloseReason) StepFault → R → C → ConnectionState S → Type 0
     Drives (Ok None) after clock_after at_after =
         (actions : List Action) × Talks steps awaits tells ways number before clock (Open at) actions after clock_after (Open at_after)

@@ -11,13 +11,13 @@ use Rattle.sv_streams.specs.Calls.{Making, WritesAll}
 use Rattle.sv_streams.specs.declared.stream.WriteFailed.{WriteFailed}
 
 module _ {R : Type 0} (steps : Reacting R) (connection : ℕ) where
-  -- what takes the events is told how the connection is over
+  -- The handler takes or refuses the event of a connection's end.
   abbrev pub TellsOver : R → Over → Result Over StepFault → R → Type 0
   TellsOver before over result after =
       (last : Result Reaction StepFault) × steps before (over_event connection over) last after × (result ≡ told_as over last)
 
   module _ {S : Type 0} (makes : Making S) where
-    -- what a piece brought is written, and the connection goes on, or is over
+    -- The bytes of a reaction are written, and the connection goes on or ends.
     abbrev pub Sends : R → S → Reaction → Option (Result Over StepFault) → R → S → Type 0
     Sends before stream reaction None after stream_after =
         WritesAll makes reaction.sends stream (Ok tt) stream_after × (reaction.closes ≡ false) × (after ≡ before)
@@ -26,7 +26,7 @@ module _ {R : Type 0} (steps : Reacting R) (connection : ℕ) where
         ⊎ ((failed : WriteFailed) × WritesAll makes reaction.sends stream (Err failed) stream_after × TellsOver before Lost result after)
 
     module _ {C : Type 0} (tells : C → ℕ → C → Type 0) (before : R) (stream : S) (clock : C) where
-      -- a read, and what it brings: a turn that goes on, or the end of the connection
+      -- A read and its effect: a turn that goes on, or the end of the connection.
       abbrev pub TakesTurn : Option (Result Over StepFault) → R → S → C → Type 0
       TakesTurn None after stream_after clock_after =
           (turn : Turn) × GoesOn turn

@@ -1,4 +1,4 @@
--- What a connection reads, what that brings, and what is written of it.
+-- The turns of a connection: the bytes of a read, their reaction, and the bytes written.
 use Rattle.std.specs.Prelude.{◌≡◌, ℕ, ◌<◌, false, true, List, [], ◌∷◌, ◌++◌, flat_map, length, map, Option, None, Some, Result, Ok}
 use Rattle.std.specs.List.{concat}
 use Rattle.sv_streams.specs.declared.line_reader.TheConstants.{MAX_READS}
@@ -10,7 +10,7 @@ use Rattle.sv_run.specs.declared.reaction.Reaction.{Reaction}
 use Rattle.sv_run.specs.declared.step_fault.StepFault.{StepFault}
 use Rattle.sv_streams.specs.Calls.{Call, Gave, ReadFailed, Took, WriteFailed}
 
--- the bytes that a read gave, the moment then, what they brought, and the parts in which the bytes of that were written
+-- The bytes of a read, their time, their reaction, and the parts in which the bytes of this reaction were written.
 pub record Turn : Type 0 where
   pub bytes : List ℕ
   pub moment : ℕ
@@ -29,36 +29,36 @@ moment_of turn = turn.moment
 abbrev pub calls_of : Turn → List Call
 calls_of turn = Gave turn.bytes ∷ map Took turn.parts
 
--- all that a piece brought was written
+-- All bytes of the reaction were written.
 pub record IsWhole (turn : Turn) : Type 0 where
   pub some : 0 < length turn.bytes
   pub is_written : concat turn.parts ≡ turn.reaction.sends
 
--- and the connection goes on
+-- The connection goes on after a whole turn.
 pub record GoesOn (turn : Turn) : Type 0 where
   pub whole : IsWhole turn
   pub stays_open : turn.reaction.closes ≡ false
 
--- a write failed before that rest of what a piece brought
+-- A write failed before this rest of the bytes of a reaction.
 pub record IsCutShort (turn : Turn) (rest : List ℕ) : Type 0 where
   pub some : 0 < length turn.bytes
   pub is_written : concat turn.parts ++ rest ≡ turn.reaction.sends
   pub left : 0 < length rest
 
--- how a connection came to its end behind the turns that went on
+-- How a connection ended after the turns that went on.
 pub data Ending : Type 0 where
-  -- a read met the end
+  -- A read met the end.
   AtEnd : Ending
-  -- what a piece brought closed the connection
+  -- A reaction closed the connection.
   AtClose : Turn → Ending
   AtFailedRead : Ending
   AtFailedWrite : Turn → Ending
-  -- as many reads were made as may be
+  -- The limit of reads was met.
   AtLimit : Ending
-  -- a piece of these bytes was refused, at that moment
+  -- A piece with these bytes was refused, at this time.
   AtRefusal : List ℕ → ℕ → Ending
 
--- whether it may come so behind those turns
+-- Whether these turns may end in this way.
 abbrev pub IsEnding : List Turn → Ending → Type 0
 IsEnding turns AtEnd = Unit {0}
 IsEnding turns (AtClose turn) = IsWhole turn × (turn.reaction.closes ≡ true)
@@ -75,7 +75,7 @@ last_calls (AtFailedWrite turn) = calls_of turn ++ WriteFailed ∷ []
 last_calls AtLimit = []
 last_calls (AtRefusal bytes moment) = Gave bytes ∷ []
 
--- the calls of all
+-- The calls of all turns and of the ending.
 abbrev pub all_calls : List Turn → Ending → List Call
 all_calls turns ending = flat_map calls_of turns ++ last_calls ending
 
@@ -87,7 +87,7 @@ last_moments (AtFailedWrite turn) = turn.moment ∷ []
 last_moments AtLimit = []
 last_moments (AtRefusal bytes moment) = moment ∷ []
 
--- how it is over, where no piece was refused
+-- How the connection ended, if no piece was refused.
 abbrev pub over_of : Ending → Option Over
 over_of AtEnd = Some Closed
 over_of (AtClose turn) = Some Closed
@@ -96,7 +96,7 @@ over_of (AtFailedWrite turn) = Some Lost
 over_of AtLimit = Some Lost
 over_of (AtRefusal bytes moment) = None
 
--- the event that tells it
+-- The event of this end.
 abbrev pub over_event : ℕ → Over → Happening
 over_event connection Closed = events.Ended connection
 over_event connection Lost = events.Lost connection
@@ -109,7 +109,7 @@ last_events connection (AtFailedWrite turn) = piece_of connection turn ∷ over_
 last_events connection AtLimit = over_event connection Lost ∷ []
 last_events connection (AtRefusal bytes moment) = Piece connection bytes moment ∷ []
 
--- and their answers, by that of the last one
+-- The results of the last events, by that of the final one.
 abbrev pub last_answers : Ending → Result Reaction StepFault → List (Result Reaction StepFault)
 last_answers AtEnd last = last ∷ []
 last_answers (AtClose turn) last = brought turn ∷ last ∷ []

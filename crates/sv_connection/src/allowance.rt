@@ -1,22 +1,23 @@
-//! What may be done of a connection before others have their turn.
+//! The work that is allowed for a connection in one turn.
 
 ghost use Rattle.std.specs.Prelude.{◌≡◌};
 
 use crate::limits::{BYTES_A_PIECE, BYTES_AT_ONCE, CALLS_AT_ONCE};
 
-/// What may still be done of a connection before others have their turn.
+/// The work that is still allowed for a connection before others are served.
 #[derive(Clone, Copy, Debug, PartialEq, Eq)]
 pub(crate) struct Allowance {
-    /// As many reads and writes.
+    /// The number of reads and writes.
     pub calls: u32,
-    /// As many bytes of writes, all of them together; a piece that is handed on takes [`BYTES_A_PIECE`] of them.
+    /// The number of bytes that all writes take together. A piece that is passed to the handler costs [`BYTES_A_PIECE`]
+    /// of them.
     pub bytes: usize,
 }
 
 impl Allowance {
     ghost use Rattle.std.specs.Prelude.{◌≡◌, ◌-◌, ◌<◌, false};
 
-    /// What may be done of a connection whose turn begins.
+    /// Returns the allowance with which a turn begins.
     pub fn whole() -> Allowance
         ensures { result ≡ record { calls = CALLS_AT_ONCE; bytes = BYTES_AT_ONCE } }
     {
@@ -26,7 +27,7 @@ impl Allowance {
         }
     }
 
-    /// Whether others have their turn now.
+    /// Returns whether the allowance is spent, so that others are served.
     pub fn is_spent(self) -> bool
         ensures calls { result ≡ false → 0 < self.calls }
         ensures bytes { result ≡ false → 0 < self.bytes }
@@ -34,7 +35,7 @@ impl Allowance {
         self.calls == 0 || self.bytes == 0
     }
 
-    /// Takes what a piece costs.
+    /// Deducts the cost of a piece.
     pub fn take_piece(&mut self)
         ensures calls { self.new.calls ≡ self.old.calls }
         ensures bytes { self.new.bytes ≡ self.old.bytes - BYTES_A_PIECE }

@@ -1,16 +1,17 @@
-//! Why a connection is over.
+//! The reason why a connection ended.
 
-/// Why a connection is over.
+/// The reason why a connection ended.
 #[derive(Clone, Copy, Debug, PartialEq, Eq)]
 pub enum CloseReason {
-    /// The peer ended its stream. All that was to be sent was written.
+    /// The peer ended its stream. All bytes to send were written.
     PeerEnded,
-    /// What a piece brought closes the connection, and all of it was written.
+    /// A reaction closes the connection, and all its bytes were written.
     AnswerCloses,
     /// A read failed.
     ReadFails,
-    /// A write failed. A part of what was to be sent was written.
+    /// A write failed. Part of the bytes to send was written.
     WriteFails,
-    /// The connection was given up: it took too long, it made room for another, or it could not be armed.
+    /// The connection was given up: it took too long, its place or its bytes were needed, it could not be armed, or the
+    /// loop stops.
     GivenUp,
 }

@@ -1,4 +1,4 @@
-//! The course of one connection.
+//! Serving one connection.
 
 ghost use Rattle.std.specs.Prelude.{◌<◌, length};
 ghost use Rattle.sv_connection.specs.Connection.{Connects};
@@ -8,14 +8,15 @@ use crate::turn::take_turn;
 use sv_run::{EventHandler, Happening, StepFault};
 use sv_streams::{Clock, MAX_READS, Sink, Source};
 
-/// Serves one connection, by its number, from its opening to its end: what is read comes in pieces, at the moments that the clock tells behind
-/// the reads, and what each piece brings is written before the next read. A read is made into the buffer, which is not empty.
+/// Serves one connection, under this number, from its opening to its end. Each read gives one piece, which is passed to
+/// the handler with the time that the clock gives after the read. The bytes of its reaction are written before the next
+/// read. Reads use the buffer, which must not be empty.
 ///
-/// The connection is over where the stream ends, where what a piece brought closes it, where a read or a write fails, and where
-/// [`MAX_READS`] reads were made; what takes the events is told so.
+/// The connection ends when the stream ends, a reaction closes it, a read or a write fails, or [`MAX_READS`] reads were
+/// made. The handler then takes the event of this end.
 ///
 /// # Errors
-/// Why the opening, a piece or the event that told the end was refused. Nothing follows a refused event.
+/// The fault of the event that the handler refused: the opening, a piece, or the end. No event follows a refused one.
 pub fn run_connection<R: EventHandler, S: Source + Sink, C: Clock>(
     handler: &mut R,
     connection: u64,

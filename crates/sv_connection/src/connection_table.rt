@@ -1,4 +1,4 @@
-//! The connections that are known.
+//! The table of open connections.
 
 ghost use Rattle.std.specs.Prelude.{◌≡◌};
 ghost use Rattle.sv_connection.specs.Fronts.{Moves};
@@ -23,8 +23,8 @@ use std::marker::Model;
 use sv_run::{EventHandler, Happening, MAX_CONNECTIONS, StepFault};
 use sv_streams::Clock;
 
-/// The connections that are known, by their numbers, within limits, the number of the next, and how often one was opened or driven, which tells apart
-/// what was done within a second. No number is given twice.
+/// The open connections by number, their limits, the next number, and how often a connection was opened or driven. This
+/// count orders the turns within a second. No number is used twice.
 #[derive(Drop)]
 pub(crate) struct ConnectionTable<P> {
     alloc: Global,
@@ -46,7 +46,7 @@ impl<P: Peer + Drop> ConnectionTable<P> {
     ghost use Rattle.sv_connection.specs.Known as spec;
     ghost use Rattle.std.specs.Prelude.{[], ◌<◌, ◌≤◌, ◌-◌, ◌^◌, IfOk, IsTrue, OnOk, false};
 
-    /// None is known.
+    /// Creates an empty table.
     pub fn new(alloc: Global, limits: Limits) -> ConnectionTable<P>
         ensures { result ≡ record { next = 0; entries = [] } }
     {
@@ -59,7 +59,7 @@ impl<P: Peer + Drop> ConnectionTable<P> {
         }
     }
 
-    /// Whether one more may be opened.
+    /// Returns whether one more connection may be opened.
     pub fn has_room(&self) -> bool
         ensures { IsTrue result → self.now.next < 2 ^ 64 - 1 }
     {
@@ -67,12 +67,12 @@ impl<P: Peer + Drop> ConnectionTable<P> {
         self.connections.len() < most && self.next < u64::MAX
     }
 
-    /// Whether none is known.
+    /// Returns whether no connection is open.
     pub fn is_empty(&self) -> bool {
         self.connections.is_empty()
     }
 
-    /// How things stand.
+    /// Returns the figures of the connections.
     pub fn figures(&self) -> Figures
         ensures { result ≡ figures_of self.now }
     {
@@ -84,7 +84,7 @@ impl<P: Peer + Drop> ConnectionTable<P> {
         }
     }
 
-    // To how many connections something waits to be written.
+    // Returns the number of connections that have bytes to write.
     fn writing(&self) -> usize
         ensures { result ≡ writing self.now }
     {
@@ -94,18 +94,19 @@ impl<P: Peer + Drop> ConnectionTable<P> {
             .count()
     }
 
-    /// The number of the next.
+    /// Returns the number of the next connection.
     pub fn next(&self) -> u64
         ensures { result ≡ self.now.next }
     {
         self.next
     }
 
-    /// Drives the connection of a number, where it is known, and ends it where it is over. Where it then holds more than before, and all connections
-    /// together more than their limit, those are given up whose time would be over first, until they hold no more.
+    /// Drives the connection of a number, if it is open, and ends it if it is over. If it then holds more bytes than
+    /// before, and all connections together more than their limit, connections are given up until they are within it,
+    /// in the order of their timeouts.
     ///
     /// # Errors
-    /// Why an event was refused, or want of memory.
+    /// The fault of a refused event, or out of memory.
     pub fn serve<R: EventHandler, C: Clock, N: Poller<Peer = P>>(
         &mut self,
         number: u64,
@@ -119,7 +120,7 @@ impl<P: Peer + Drop> ConnectionTable<P> {
         self.serve_within(most, number, handler, clock, poller)
     }
 
-    // Serves the connection of a number. All may hold so many bytes together.
+    // Serves the connection of a number. All connections together may hold `most` bytes.
     fn serve_within<R: EventHandler, C: Clock, N: Poller<Peer = P>>(
         &mut self,
         most: u64,
@@ -139,7 +140,7 @@ impl<P: Peer + Drop> ConnectionTable<P> {
         self.ease(most, handler, clock, poller)
     }
 
-    // Gives connections up until all together hold so many bytes at most.
+    // Gives up connections until all together hold at most `most` bytes.
     fn ease<R: EventHandler, C: Clock, N: Poller<Peer = P>>(
         &mut self,
         most: u64,
@@ -165,7 +166,7 @@ impl<P: Peer + Drop> ConnectionTable<P> {
         Err(StepFault::NoMemory)
     }
 
-    // How many bytes all connections hold together.
+    // Returns the number of bytes that all connections hold together.
     fn held(&self) -> u64
         ensures { result ≡ held self.now }
     {
@@ -174,7 +175,7 @@ impl<P: Peer + Drop> ConnectionTable<P> {
             .fold(0, |sum: u64, it| sum.saturating_add(it.weight()))
     }
 
-    // Of those that hold some bytes the connection whose time is over first.
+    // Returns the connection whose timeout expires first, among those that hold bytes.
     fn slowest(&self) -> Option<u64> {
         let mut found = None;
         let mut least = u64::MAX;
@@ -187,7 +188,8 @@ impl<P: Peer + Drop> ConnectionTable<P> {
         found
     }
 
-    // Drives the connection of a number, where it is known, and ends it where it is over. Says whether it then holds more than before.
+    // Drives the connection of a number, if it is open, and ends it if it is over. Returns whether it then holds more
+    // bytes than before.
     fn serve_one<R: EventHandler, C: Clock, N: Poller<Peer = P>>(
         &mut self,
         number: u64,
@@ -209,7 +211,7 @@ impl<P: Peer + Drop> ConnectionTable<P> {
         }
     }
 
-    // Drives the connection of a number, where it is known, and notes whether it then holds more than before.
+    // Drives the connection of a number, if it is open. Sets `grows` to whether it then holds more bytes than before.
     fn drive<R: EventHandler, C: Clock>(
         &mut self,
         number: u64,
@@ -239,7 +241,7 @@ impl<P: Peer + Drop> ConnectionTable<P> {
         Ok(None)
     }
 
-    /// Forgets the connection of a number, where it is known, which is over for that cause, and gives its stream back.
+    /// Removes the connection of a number, if it is open, and closes its stream as this reason requires.
     pub fn forget<N: Poller<Peer = P>>(&mut self, number: u64, cause: CloseReason, poller: &mut N)
         ensures { ForgetsOne number self.old self.new }
     {
@@ -249,7 +251,7 @@ impl<P: Peer + Drop> ConnectionTable<P> {
         }
     }
 
-    // Forgets the connection of a number, and tells that it is over.
+    // Removes the connection of a number, and passes the event of its end to the handler.
     fn end<R: EventHandler, N: Poller<Peer = P>>(
         &mut self,
         number: u64,
@@ -266,17 +268,17 @@ impl<P: Peer + Drop> ConnectionTable<P> {
         }
     }
 
-    // Whether a connection has that number.
+    // Returns whether an open connection has this number.
     fn knows(&self, number: u64) -> bool
         ensures { result ≡ spec.knows self.now number }
     {
         number < self.next && self.connections.contains_key(&number)
     }
 
-    /// Gives up the connection of a number, where it is known.
+    /// Gives up the connection of a number, if it is open.
     ///
     /// # Errors
-    /// Why the event was refused.
+    /// The fault of the refused event.
     pub fn give_up<R: EventHandler, C: Clock, N: Poller<Peer = P>>(
         &mut self,
         number: u64,
@@ -292,10 +294,10 @@ impl<P: Peer + Drop> ConnectionTable<P> {
         self.end(number, CloseReason::GivenUp, handler, poller)
     }
 
-    /// Opens the next connection, whose stream is armed, where there is room; else its stream is let go.
+    /// Opens the next connection, whose stream is armed, if there is room. Otherwise its stream is dropped.
     ///
     /// # Errors
-    /// Why the event was refused, or want of memory.
+    /// The fault of a refused event, or out of memory.
     pub fn open<R: EventHandler, C: Clock>(
         &mut self,
         stream: P,
@@ -340,8 +342,8 @@ impl<P: Peer + Drop> ConnectionTable<P> {
         Ok(())
     }
 
-    /// Writes what waits to be written to the connection of a number, where it is known, as far as that goes without waiting. Where nothing waits any
-    /// more, or a write fails, it is let go.
+    /// Writes the bytes that wait to the connection of a number, if it is open, as far as this is possible without
+    /// blocking. The connection is dropped when no bytes wait or a write fails.
     pub fn send_out<N: Poller<Peer = P>>(&mut self, number: u64, poller: &mut N)
         ensures { OnlyWrites P.ways self.old self.new }
     {
@@ -352,7 +354,7 @@ impl<P: Peer + Drop> ConnectionTable<P> {
         }
     }
 
-    // Writes what waits to be written to the connection of a number, where it is known.
+    // Writes the bytes that wait to the connection of a number, if it is open.
     fn write_out(&mut self, number: u64) -> Option<Sent>
         ensures { WritesOutOne P.ways number self.old result self.new }
     {
@@ -363,7 +365,7 @@ impl<P: Peer + Drop> ConnectionTable<P> {
         None
     }
 
-    /// A connection to which nothing waits to be written.
+    /// Returns a connection that has nothing to write.
     pub fn written(&self) -> Option<u64> {
         for (number, connection) in self.connections.iter() {
             if !connection.is_writing() {
@@ -373,7 +375,7 @@ impl<P: Peer + Drop> ConnectionTable<P> {
         None
     }
 
-    /// A connection whose time is over.
+    /// Returns a connection whose timeout has expired.
     pub fn due(&self, now: u64) -> Option<u64> {
         for (number, connection) in self.connections.iter() {
             if connection.until() <= now {
@@ -383,7 +385,7 @@ impl<P: Peer + Drop> ConnectionTable<P> {
         None
     }
 
-    /// The connection that has stood between requests longest.
+    /// Returns the longest idle connection.
     pub fn longest_idle(&self) -> Option<u64> {
         let mut found = None;
         let mut least = u64::MAX;
@@ -397,7 +399,7 @@ impl<P: Peer + Drop> ConnectionTable<P> {
     }
 }
 
-// The event that tells that a connection is over.
+// Returns the event of a connection's end.
 fn over_event(connection: u64, cause: CloseReason) -> Happening<'static>
     ensures { happening_of result ≡ over_event connection (over_by cause) }
 {

@@ -1,14 +1,15 @@
-//! How things stand.
+//! Figures of the connections.
 
-/// How things stand with the connections.
+/// Figures of the connections, for status queries.
 #[derive(Clone, Copy, Debug, PartialEq, Eq)]
 pub struct Figures {
-    /// How many are known.
+    /// The number of open connections.
     pub connections: usize,
-    /// To how many of these something waits to be written.
+    /// The number of open connections that have bytes to write.
     pub writing: usize,
-    /// How many bytes all of them hold: what was read of messages that are not answered, and what waits to be written.
+    /// The number of bytes that all of them hold: bytes of messages without a response, and bytes that wait to be
+    /// written.
     pub held: u64,
-    /// How many have been opened since the start, those that are over too.
+    /// The number of connections opened since the start, including those that have ended.
     pub opened: u64,
 }

@@ -1,4 +1,4 @@
-//! The end: what waits to be written is written, and nothing else is done.
+//! The end of the event loop: the bytes that wait are written, and nothing else is done.
 
 ghost use Rattle.std.specs.Prelude.{◌≡◌};
 ghost use Rattle.sv_connection.specs.Finishing.{OnlyWrites};
@@ -10,8 +10,9 @@ use crate::limits::FINISH_SECONDS;
 use crate::poller::{PollEvent, Poller};
 use sv_run::MAX_CONNECTIONS;
 
-/// Writes what waits to be written to connections, as they are told to be ready, until nothing waits, [`FINISH_SECONDS`] have passed, or it is told to
-/// stop. A connection is let go where nothing waits to be written to it, or a write fails. None is read or opened, and no event is told.
+/// Writes the bytes that wait, to each connection as it becomes ready. Stops when none wait, [`FINISH_SECONDS`] have
+/// passed, or the poller reports a stop. A connection is dropped when it has nothing to write or a write fails. None is
+/// read or opened, and the handler takes no event.
 pub(crate) fn finish<N: Poller>(table: &mut ConnectionTable<N::Peer>, poller: &mut N)
     ensures { OnlyWrites N.Peer.ways table.old table.new }
 {
@@ -29,7 +30,7 @@ pub(crate) fn finish<N: Poller>(table: &mut ConnectionTable<N::Peer>, poller: &m
     }
 }
 
-// Does what the poller tells, as far as it is to write or to tell how things stand.
+// Handles a poll event, but only writes and answers status queries.
 fn take<N: Poller>(table: &mut ConnectionTable<N::Peer>, told: PollEvent, poller: &mut N)
     ensures writes { OnlyWrites N.Peer.ways table.old table.new }
     ensures asked { told ≡ Asked → table.new ≡ table.old }
@@ -41,7 +42,7 @@ fn take<N: Poller>(table: &mut ConnectionTable<N::Peer>, told: PollEvent, poller
     }
 }
 
-// Lets go of the connections to which nothing waits to be written.
+// Drops the connections that have nothing to write.
 fn let_go<N: Poller>(table: &mut ConnectionTable<N::Peer>, poller: &mut N)
     ensures { OnlyWrites N.Peer.ways table.old table.new }
 {

@@ -1,5 +1,5 @@
-//! One connection over anything that takes the events of a container: its reads and writes, and the events that they are; and connections that are
-//! accepted and served one after another.
+//! Connections over any event handler. `run_connection` serves one connection, `serve_connections` accepts and serves
+//! one after another, and `run_event_loop` serves many at once.
 #![tactic(auto)]
 
 mod acceptor;

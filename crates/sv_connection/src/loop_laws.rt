@@ -1,4 +1,4 @@
-//! The laws of connections that are served at once, each the contract of a function that does nothing.
+//! Theorems about connections that are served at once, each the contract of a function with an empty body.
 
 ghost use Rattle.std.specs.Prelude.{◌≡◌};
 ghost use Rattle.sv_connection.specs.Alone.{ServedAsIfAlone};
@@ -31,39 +31,42 @@ pub fn limits_are_as_stated()
     ensures finish { FINISH_SECONDS ≡ 5 }
 {}
 
-/// Of an open connection, what was read of it is what was handed on and what waits to be, and what was to be sent is what was written and what
-/// waits to be: nothing is lost, doubled or put elsewhere.
+/// No byte of an open connection is lost, duplicated or moved. The bytes read are those passed to the handler and those
+/// that wait to be passed. The bytes to send are those written and those that wait to be written.
 pub fn bytes_are_kept<P: Peer>()
     ensures { BytesAreKept P.ways }
 {}
 
-/// What is done in rounds is done one after another: the events of all connections are taken one behind the other, and of each number one course.
+/// Rounds form one sequence: the events of all connections are taken one after another, and each number has one course.
 pub fn rounds_are_one<P: Peer, R: EventHandler, C: Clock>()
     ensures { RoundsAreOne P.ways R.steps R.awaited C.tells }
 {}
 
-/// What is done of all connections is events that are taken one after another, each with its answer.
+/// The notes of all connections are events that the handler takes one after another, each with its reaction.
 pub fn what_is_done_is_events<R: EventHandler, C: Clock>()
     ensures { NotesAreReactions R.steps R.awaited C.tells }
 {}
 
-/// The events of a connection, their answers, their moments and, with each read cut into its pieces, the calls of its stream are those of turns of
-/// a connection that is served by itself: all but the last of them written whole, and of that one a part, from the first byte on.
+/// Each connection is served as if it were the only one. Its events, their results and times, and the calls of its
+/// stream with each read cut into its pieces, are those of turns of a connection that is served by itself. All turns
+/// but the last are written completely, and the last one up to some byte.
 pub fn each_is_served_as_if_alone<P: Peer>()
     ensures { ServedAsIfAlone P.ways }
 {}
 
-/// A connection is over only for a cause that its stream or its answer shows, or as it was given up; all was written where its answer closes it.
+/// A connection ends only for a cause that its stream or its reaction shows, or because it was given up. If a reaction
+/// closes it, all bytes were written.
 pub fn ends_have_a_cause<P: Peer>()
     ensures { EndsHaveACause P.ways }
 {}
 
-/// Nothing is done of a number whose connection is over.
+/// After a connection has ended, its number has no further action.
 pub fn numbers_are_not_used_again<P: Peer>()
     ensures { NumbersAreNotUsedAgain P.ways }
 {}
 
-/// An open connection that rests needs to be read, and nothing of it waits, or something waits to be written to it: none waits for nothing.
+/// An open connection that rests needs a read and holds no bytes that wait, or it has bytes to write: none waits for
+/// nothing.
 pub fn rest_is_for_something<P: Peer>()
     ensures { RestIsForSomething P.ways }
 {}

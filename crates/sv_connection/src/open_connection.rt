@@ -1,4 +1,4 @@
-//! One connection, as far as it gets without waiting.
+//! One open connection, as far as it gets without blocking.
 
 ghost use Rattle.std.specs.Prelude.{◌≡◌, ◌<◌, length};
 ghost use Rattle.sv_connection.specs.Finishing.{SendsOut};
@@ -25,23 +25,23 @@ use sv_streams::Clock;
 use sv_text::NoMemory;
 use sv_wire::Awaited;
 
-/// A connection that is served beside others.
+/// A connection that is served alongside others.
 #[derive(Drop)]
 pub(crate) struct Connection<P> {
     stream: P,
-    // What was read and not handed on, and what waits to be written.
+    // Bytes read that wait to be passed to the handler, and bytes that wait to be written.
     ahead: Pending,
     unsent: Pending,
     phase: Phase,
-    // How many bytes of the message under way were handed on.
+    // The number of bytes of the message under way that were passed to the handler.
     under_way: u64,
-    // Whether the next call would have to wait, or the peer was armed, and nothing was done since.
+    // Whether the next call would block, or the stream was armed, and nothing was done since.
     rests: bool,
     next_read: NextRead,
     timeouts: Timeouts,
 }
 
-/// How many bytes the next read takes at most.
+/// The maximum number of bytes in the next read.
 #[derive(Clone, Copy, Debug, PartialEq, Eq)]
 enum NextRead {
     /// [`FIRST_READ_BYTES`], which most requests do not fill.
@@ -66,7 +66,8 @@ impl<P: Peer> Connection<P> {
     ghost use Rattle.sv_connection.specs.Phases.{phase_after, under_way_after};
     ghost use Rattle.sv_connection.specs.Slots.{first_phase};
 
-    /// A connection that was opened at that time in seconds and in that turn, whose stream is armed. It may be idle for so many seconds.
+    /// Creates a connection that is opened in second `now` and turn `turn`, whose stream is armed. It may be idle for
+    /// `idle_seconds`.
     pub fn new(alloc: Global, stream: P, now: u64, idle_seconds: u64, turn: u64) -> Connection<P>
         ensures { result ≡ record { stream = stream; ahead = []; unsent = []; phase = first_phase; rests = true; under_way = 0 } }
     {
@@ -82,15 +83,15 @@ impl<P: Peer> Connection<P> {
         }
     }
 
-    /// Gives its stream up.
+    /// Returns its stream.
     pub fn into_stream(self) -> P
         ensures { result ≡ self.stream }
     {
         self.stream
     }
 
-    /// How it is closed where it is over for that cause (RFC 9112, section 9.6): at once where its peer has ended or is gone, and in stages where it may
-    /// still send.
+    /// Returns how the connection is closed if it ends for this reason (RFC 9112, section 9.6): at once if the peer has
+    /// ended or is gone, and in stages if the peer may still send.
     pub fn closing(&self, cause: CloseReason) -> Closing
         ensures { result ≡ closing_of self.now cause }
     {
@@ -102,7 +103,7 @@ impl<P: Peer> Connection<P> {
         }
     }
 
-    // How it is closed behind an answer.
+    // Returns how the connection is closed after its last response.
     fn closing_behind_answer(&self) -> Closing
         ensures { result ≡ behind_answer self.now }
     {
@@ -112,22 +113,23 @@ impl<P: Peer> Connection<P> {
         Closing::Answered
     }
 
-    /// When it is given up, in seconds.
+    /// Returns the time in seconds when the connection is given up.
     pub fn until(&self) -> u64 {
         self.timeouts.until()
     }
 
-    /// Whether it is between two requests: nothing of a message is held, and nothing waits.
+    /// Returns whether the connection is idle: no part of a message is held, and no bytes wait.
     pub fn is_between_requests(&self) -> bool {
         self.phase.is_idle() && self.is_idle()
     }
 
-    /// The turn in which it came to be between two requests, if it is.
+    /// Returns the turn when the connection became idle, if it is.
     pub fn rested(&self) -> u64 {
         self.timeouts.idle_since()
     }
 
-    /// How many bytes it holds: those that wait to be handed on or to be written, and those of a message that is not over.
+    /// Returns the number of bytes that the connection holds: those that wait to be passed to the handler or to be
+    /// written, and those of an unfinished message.
     pub fn weight(&self) -> u64
         ensures { result ≡ weight self.now }
     {
@@ -136,14 +138,14 @@ impl<P: Peer> Connection<P> {
             .saturating_add(self.under_way)
     }
 
-    /// Whether something waits to be written.
+    /// Returns whether bytes wait to be written.
     pub fn is_writing(&self) -> bool
         ensures { result ≡ is_writing self.now }
     {
         !self.unsent.is_empty()
     }
 
-    /// Writes what waits to be written, as far as that goes without waiting and before others have their turn, and does nothing else.
+    /// Writes the bytes that wait, as far as this is possible without blocking and in one turn, and does nothing else.
     pub fn send_out(&mut self) -> Sent
         ensures { SendsOut P.ways self.old result self.new }
     {
@@ -161,10 +163,11 @@ impl<P: Peer> Connection<P> {
         Sent::Fails
     }
 
-    /// Does what can be done without waiting, at that time in seconds and in that turn, until the connection rests, or is over for that cause.
+    /// Does all that is possible without blocking, in second `now` and turn `turn`, until the connection rests or ends.
+    /// Returns the reason if it ends.
     ///
     /// # Errors
-    /// Why an event was refused, or want of memory.
+    /// The fault of a refused event, or out of memory.
     pub fn drive_at<R: EventHandler, C: Clock>(
         &mut self,
         now: u64,
@@ -180,7 +183,7 @@ impl<P: Peer> Connection<P> {
         driven
     }
 
-    // Sets when it is given up, by what was moved and whether it is between two requests.
+    // Sets the timeouts, by the number of bytes moved and by whether the connection is idle.
     #[inline(always)]
     fn set_timeouts(&mut self, now: u64, turn: u64)
         ensures { self.new ≡ self.old }
@@ -192,7 +195,7 @@ impl<P: Peer> Connection<P> {
         }
     }
 
-    // Does what can be done without waiting, until the connection rests, or is over for that cause.
+    // Does all that is possible without blocking, until the connection rests or ends. Returns the reason if it ends.
     fn drive<R: EventHandler, C: Clock>(
         &mut self,
         number: u64,
@@ -213,7 +216,7 @@ impl<P: Peer> Connection<P> {
         Ok(Some(CloseReason::GivenUp))
     }
 
-    // Does one thing, of what may still be done.
+    // Takes one step, within the allowance.
     fn step<R: EventHandler, C: Clock>(
         &mut self,
         number: u64,
@@ -244,14 +247,14 @@ impl<P: Peer> Connection<P> {
         }
     }
 
-    // Whether the connection needs to be read, and nothing else.
+    // Returns whether the connection needs a read, and nothing else.
     fn is_idle(&self) -> bool
         ensures { IsTrue result ↔ IsIdle self.now }
     {
         !self.phase.is_closing() && self.unsent.is_empty() && self.ahead.is_empty()
     }
 
-    // How many bytes the next read takes at most.
+    // Returns the maximum number of bytes in the next read.
     fn read_len(&self) -> usize
         ensures { 0 < result }
     {
@@ -261,7 +264,8 @@ impl<P: Peer> Connection<P> {
         }
     }
 
-    // Reads once, unless others have their turn: after many pieces the next read is a short one, so that they have it soon again.
+    // Reads once, unless the allowance is spent. After many pieces the next read is short, so that others are soon
+    // served again.
     #[inline(always)]
     fn take_in(&mut self, left: &mut Allowance) -> Result<Step, NoMemory>
         requires { IsIdle self.old }
@@ -296,7 +300,7 @@ impl<P: Peer> Connection<P> {
         }
     }
 
-    // Writes once, unless others have their turn.
+    // Writes once, unless the allowance is spent.
     #[inline(always)]
     fn send_on(&mut self, left: &mut Allowance) -> Step
         requires { 0 < length self.old.unsent }
@@ -322,7 +326,7 @@ impl<P: Peer> Connection<P> {
         }
     }
 
-    // Hands one piece on.
+    // Passes one piece to the handler.
     fn hand_on<R: EventHandler, C: Clock>(
         &mut self,
         number: u64,
@@ -351,7 +355,8 @@ impl<P: Peer> Connection<P> {
         }
     }
 
-    // What a piece of so many bytes brought waits to be written, and the container awaits that. Gives what it needs no more.
+    // Keeps the bytes of the reaction to a piece of `count` bytes, and enters the phase for `awaited`. Returns the
+    // memory that is needed no more.
     #[inline(always)]
     fn keep(&mut self, count: usize, reaction: Reaction, awaited: Awaited) -> (Vec<u8>, Journal)
         ensures { self.new ≡ record self.old {
@@ -380,7 +385,7 @@ impl<P: Peer> Connection<P> {
         (written.into_vec(), journal)
     }
 
-    // Asks to be told anew of what is ready; where that cannot be had, the connection is given up.
+    // Arms the stream. If this fails, the connection is given up.
     fn arm(&mut self) -> Step
         requires { Needs self.old }
         ensures { IsArmed P.ways self.old result self.new }

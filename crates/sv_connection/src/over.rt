@@ -1,20 +1,20 @@
-//! How a connection is over.
+//! The end of a connection.
 
 ghost use Rattle.std.specs.Prelude.{◌≡◌};
 ghost use Rattle.sv_connection.specs.TurnSteps.{TellsOver};
 
 use sv_run::{EventHandler, Happening, StepFault};
 
-/// How a connection is over.
+/// How a connection ended.
 #[derive(Clone, Copy, Debug, PartialEq, Eq)]
 pub enum Over {
-    /// The peer ended its stream, or what a piece brought closed the connection. All that was to be sent was written.
+    /// The peer ended its stream, or a reaction closed the connection. All bytes to send were written.
     Closed,
-    /// A read or a write failed, or as many reads were made as may be. A part of what was to be sent may have been written.
+    /// A read or a write failed, or the limit of reads was met. Part of the bytes to send may have been written.
     Lost,
 }
 
-/// Tells what takes the events how a connection is over.
+/// Passes the event of a connection's end to the handler.
 pub(crate) fn tell_over<R: EventHandler>(
     handler: &mut R,
     connection: u64,

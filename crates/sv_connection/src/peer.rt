@@ -1,39 +1,39 @@
-//! What is read and written without waiting.
+//! Nonblocking streams.
 
 ghost use Rattle.std.specs.Prelude.{◌<◌, length, IsTrue};
 ghost use Rattle.sv_connection.specs.Ways.{TellsWait, TriesRead, TriesWrite, Ways};
 
-/// What came of a call that does not wait.
+/// The result of a nonblocking call.
 #[derive(Clone, Copy, Debug, PartialEq, Eq)]
 pub enum Tried {
-    /// So many bytes came or were taken; none come only at the end.
+    /// The number of bytes that were read or written. A read gives no bytes only at the end of the stream.
     Done(usize),
-    /// The call would have to wait: nothing came and nothing was taken.
+    /// The call would block. No bytes were read or written.
     WouldBlock,
-    /// The call failed: nothing came and nothing was taken.
+    /// The call failed. No bytes were read or written.
     Failed,
 }
 
-/// The stream of a connection, whose calls do not wait.
+/// The stream of a connection, whose calls do not block.
 pub trait Peer {
-    /// What its calls are.
+    /// The model of its calls.
     ghost ways: { Ways Self };
 
-    /// Reads into a buffer that is not empty. The bytes that came stand at its front.
+    /// Reads into a buffer that is not empty. The bytes read are at its front.
     fn read(&mut self, buffer: &mut [u8]) -> Tried
         requires { 0 < length buffer.old }
         ensures { TriesRead ways self.old result buffer.new self.new };
 
-    /// Whether a read is known to have to wait, without trying it. What was known is known no more then.
+    /// Returns whether a read is known to block, without trying it. The call forgets this knowledge.
     fn would_block(&mut self) -> bool
         ensures { TellsWait ways self.old result self.new };
 
-    /// Writes bytes, at least one. Those that were taken are the first of them.
+    /// Writes bytes, at least one. The first of them are taken.
     fn write(&mut self, bytes: &[u8]) -> Tried
         requires { 0 < length bytes.now }
         ensures { TriesWrite ways self.old result bytes.now self.new };
 
-    /// Asks to be told of what is ready, also of what was ready before. Answers whether that could be had.
+    /// Asks for readiness to be reported again, also if the stream was ready before. Returns whether this succeeded.
     fn arm(&mut self) -> bool
         ensures { IsTrue result → ways.arms self.old self.new };
 }

@@ -1,4 +1,4 @@
-//! Bytes that wait.
+//! Buffers of bytes that wait.
 
 ghost use Rattle.std.specs.Prelude.{◌≡◌, ◌<◌, ◌≤◌, [], drop, length, vec_items};
 ghost use Rattle.sv_connection.specs.Ways.{TriesRead};
@@ -9,8 +9,9 @@ use std::alloc::Global;
 use std::marker::Model;
 use sv_text::{Bytes, NoMemory};
 
-/// Bytes that wait to be handed on or to be written. Contracts see their list. No more is kept than twice as many bytes as wait, or the room of a first
-/// read. Behind them stands what is left of the room of a read, which is made once.
+/// A buffer of bytes that wait to be passed to the handler or to be written. Contracts see their list. It keeps at most
+/// twice as many bytes as wait, or the size of a first read. After these bytes follows the rest of the read buffer,
+/// which is initialized once.
 #[derive(Drop)]
 pub(crate) struct Pending {
     bytes: Vec<u8>,
@@ -32,7 +33,7 @@ impl Pending {
     ghost use Rattle.std.specs.Prelude.{◌≡◌, ◌≤◌, ◌==◌, ◌<◌, [], length, drop, take};
     ghost use Rattle.sv_connection.specs.Ways.{Refills};
 
-    /// No bytes.
+    /// Creates an empty buffer.
     pub fn new(alloc: Global) -> Pending
         ensures { result ≡ [] }
     {
@@ -43,7 +44,7 @@ impl Pending {
         }
     }
 
-    /// All bytes of a text.
+    /// Creates a buffer of all bytes of a text.
     pub fn of(bytes: Bytes) -> Pending
         ensures { result ≡ bytes }
     {
@@ -52,12 +53,12 @@ impl Pending {
         Pending { bytes, at: 0, end }
     }
 
-    /// Its memory.
+    /// Returns its memory.
     pub fn into_vec(self) -> Vec<u8> {
         self.bytes
     }
 
-    /// Whether no bytes wait.
+    /// Returns whether no bytes wait.
     #[inline(always)]
     pub fn is_empty(&self) -> bool
         ensures { result ≡ (length self.now == 0) }
@@ -65,14 +66,14 @@ impl Pending {
         self.as_slice().is_empty()
     }
 
-    /// How many bytes wait.
+    /// Returns the number of bytes that wait.
     pub fn len(&self) -> usize
         ensures { result ≡ length self.now }
     {
         self.as_slice().len()
     }
 
-    /// The bytes.
+    /// Returns the bytes that wait.
     #[inline(always)]
     pub fn as_slice(&self) -> &[u8]
         ensures { result.now ≡ self.now }
@@ -81,7 +82,7 @@ impl Pending {
         bytes.split_at(self.at).1
     }
 
-    /// The first of the bytes, so many at most.
+    /// Returns the first of the bytes, at most `most` of them.
     pub fn front(&self, most: usize) -> &[u8]
         requires { 0 < most }
         ensures first { result.now ≡ take most self.now }
@@ -94,7 +95,8 @@ impl Pending {
         bytes.split_at(most).0
     }
 
-    /// Passes over so many bytes. Where that is more than half of all, their memory is given back, but for the room of a first read.
+    /// Skips `count` bytes. When more than half of the buffer is skipped, its memory is freed, except the size of a
+    /// first read.
     #[inline(always)]
     pub fn skip(&mut self, count: usize)
         requires { count ≤ length self.old }
@@ -114,7 +116,8 @@ impl Pending {
         }
     }
 
-    /// Reads once, so many bytes at most, where no bytes wait. Where the read is known to have to wait, no memory is taken for it.
+    /// Reads once into an empty buffer, at most `most` bytes. If the read is known to block, no memory is allocated for
+    /// it.
     ///
     /// # Errors
     /// Memory ran out, and nothing was read.
@@ -141,7 +144,7 @@ impl Pending {
     }
 }
 
-// Lets go of so many bytes at the front, and of their memory where that is more than a first read takes.
+// Drops the first `at` bytes, and frees their memory if the buffer is larger than a first read.
 fn keep_rest(bytes: &mut Vec<u8>, at: usize)
     requires { at ≤ length (vec_items bytes.old) }
     ensures { vec_items bytes.new ≡ drop at (vec_items bytes.old) }
@@ -154,7 +157,7 @@ fn keep_rest(bytes: &mut Vec<u8>, at: usize)
     }
 }
 
-// Reads once into all of a room, at whose front what came then stands. Where nothing comes, the room is given back.
+// Reads once into the whole vector. The bytes read are at its front. If the read blocks or fails, the memory is freed.
 #[inline(always)]
 fn read_into<P: Peer>(peer: &mut P, room: &mut Vec<u8>) -> Tried
     requires { 0 < length (vec_items room.old) }

@@ -1,4 +1,4 @@
-//! The phase of a connection.
+//! The protocol phase of a connection.
 
 ghost use Rattle.std.specs.List.{list_any};
 ghost use Rattle.std.specs.Prelude.{◌≡◌};
@@ -8,28 +8,31 @@ use crate::limits::MAX_UNDER_WAY;
 use sv_journal::{Entry, RefusalCause};
 use sv_wire::Awaited;
 
-/// The phase of a connection (RFC 9112, sections 9.3 and 9.6).
+/// The protocol phase of a connection (RFC 9112, sections 9.3 and 9.6).
 ///
-/// The container says what it awaits of the connection. A response that closes the connection is the last one, whatever came after its
-/// request.
+/// The container says what it awaits of the connection. A response that closes the connection is the last one, whatever
+/// followed its request.
 ///
-/// | Phase | Held of a message | Timeout | What follows |
+/// | Phase | Held of a message | Timeout | Next |
 /// |---|---|---|---|
-/// | `Open(Message)` | nothing | idle, since the last response | a request; the connection that is idle longest makes room for a new one |
+/// | `Open(Message)` | nothing | idle, since the last response | a request |
 /// | `Open(Head)` | the front of a head; a lone CR is one | window | the rest of the head |
 /// | `Open(Body)` | a head, and the front of its body | window | the rest of the body |
-/// | `Closing` | nothing more is read | window | the response is written, and the connection closed: in stages if more came |
-/// | `Refused` | nothing more is read | window | the same, always in stages, since the peer may still send the message |
+/// | `Closing` | nothing more is read | window | the response is written, and the connection closes |
+/// | `Refused` | nothing more is read | window | the same, in stages: the peer may still send |
 ///
-/// `Open(Nothing)` is of a container that reads no more and did not say that it closes, which ours never is: the connection ends with its
-/// window.
+/// If there is no room for a new connection, the longest idle one is closed. A connection that is `Closing` closes in
+/// stages if more bytes were received after the message.
+///
+/// `Open(Nothing)` is for a container that reads no more but did not close the connection, which ours never does. Such
+/// a connection ends with its window.
 #[derive(Clone, Copy, Debug, PartialEq, Eq)]
 pub(crate) enum Phase {
     /// Messages are read.
     Open(Awaited),
-    /// The last response was made: nothing more is handed on.
+    /// The last response was made: no more bytes are passed to the handler.
     Closing,
-    /// The same, where the message was refused as its bytes were read.
+    /// The same, after a message that was refused as its bytes were read.
     Refused,
 }
 
@@ -37,7 +40,8 @@ impl Phase {
     ghost use Rattle.std.specs.Prelude.{◌≡◌, ◌&&◌};
     ghost use Rattle.sv_connection.specs.Phases as spec;
 
-    /// The phase after a piece whose reaction closes the connection or not and has these entries, where the container awaits that.
+    /// Returns the phase after a piece. Its reaction gives `closes` and `entries`, and the container then gives
+    /// `awaited`.
     #[inline(always)]
     pub fn after(closes: bool, entries: &[Entry], awaited: Awaited) -> Phase
         ensures { result ≡ spec.phase_by closes entries.now awaited }
@@ -51,7 +55,7 @@ impl Phase {
         Phase::Closing
     }
 
-    /// Whether nothing more is handed on.
+    /// Returns whether no more bytes are passed to the handler.
     #[inline(always)]
     pub fn is_closing(self) -> bool
         ensures { result ≡ spec.is_closing self }
@@ -63,21 +67,22 @@ impl Phase {
         }
     }
 
-    /// Whether the message that closes the connection was refused as it was read.
+    /// Returns whether the message that closes the connection was refused as it was read.
     pub fn is_refused(self) -> bool
         ensures { result ≡ spec.is_refused self }
     {
         matches!(self, Phase::Refused)
     }
 
-    /// Whether the container holds nothing of a message and will read the next.
+    /// Returns whether the container holds nothing of a message and will read the next.
     #[inline(always)]
     pub fn is_idle(self) -> bool {
         matches!(self, Phase::Open(Awaited::Message))
     }
 
-    /// How many bytes of the message under way were handed on after a piece of so many bytes, for which something is sent or nothing, and after
-    /// which this is the phase. At most [`MAX_UNDER_WAY`].
+    /// Returns how many bytes of the message under way were passed to the handler, including a piece of `count` bytes.
+    /// `before` is the phase before this piece, `self` the phase after it, and `sends` the bytes of its reaction. The
+    /// result is at most [`MAX_UNDER_WAY`].
     #[inline(always)]
     pub fn under_way(self, before: Phase, under_way: u64, count: u64, sends: &[u8]) -> u64
         ensures { result ≡ spec.under_way_after before under_way count sends.now self }
@@ -91,7 +96,7 @@ impl Phase {
         under_way.saturating_add(count).min(MAX_UNDER_WAY)
     }
 
-    // Whether a part of a message is held.
+    // Returns whether a part of a message is held.
     #[inline(always)]
     fn is_under_way(self) -> bool
         ensures { result ≡ spec.is_under_way self }
@@ -121,7 +126,7 @@ impl Phase {
     }
 }
 
-// Whether some entry says that a message was refused as its bytes were read.
+// Returns whether an entry says that a message was refused as its bytes were read.
 fn has_refusal(entries: &[Entry]) -> bool
     ensures { result ≡ list_any spec.is_refusal entries.now }
 {

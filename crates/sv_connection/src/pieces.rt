@@ -1,11 +1,11 @@
-//! Where what was read is cut.
+//! Cutting the bytes read into pieces.
 
 ghost use Rattle.std.specs.Prelude.{◌≡◌, ◌+◌, ◌<◌, ◌≤◌, ℕ, false, length};
 ghost use Rattle.sv_connection.specs.Pieces as spec;
 
 use memchr::memchr;
 
-/// How many bytes the first piece has: those up to the end of the first empty line, or all.
+/// Returns the length of the first piece: up to the end of the first empty line, or all bytes.
 pub(crate) fn piece_len(bytes: &[u8]) -> usize
     requires { 0 < length bytes.now }
     ensures some { 0 < result }
@@ -26,7 +26,7 @@ pub(crate) fn piece_len(bytes: &[u8]) -> usize
     bytes.len()
 }
 
-// Whether an empty line ends there.
+// Returns whether an empty line ends at this place.
 fn ends_empty_line(bytes: &[u8], place: usize) -> bool
     requires { place < length bytes.now }
     ensures { result ≡ spec.ends_empty_line bytes.now place }

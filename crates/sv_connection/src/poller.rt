@@ -1,4 +1,4 @@
-//! What reports readiness and accepts connections.
+//! Readiness, new connections and time.
 
 ghost use Rattle.sv_connection.specs.Asking.{EditsOnce};
 
@@ -8,42 +8,45 @@ use crate::peer::Peer;
 use crate::queries::Queries;
 use sv_run::{EventHandler, StepFault};
 
-/// What a poller tells.
+/// An event that a poller reports.
 #[derive(Clone, Copy, Debug, PartialEq, Eq)]
 pub enum PollEvent {
     /// The connection of this number may be ready.
     Ready(u64),
-    /// A connection may have come. Where one was accepted since, another may have, too: that is told then.
+    /// A connection may wait to be accepted. If one was accepted since the last report, this is reported again, since
+    /// another may wait.
     Incoming,
-    /// Someone may have come for whom the system has no room: the connection that stands longest between requests is to make some.
+    /// A connection may wait for which the system has no capacity. The longest idle connection should be closed to free
+    /// some.
     Crowded,
-    /// A second has passed, or more.
+    /// One second or more has passed.
     Second,
-    /// Something is asked: how things stand, what the handler answers, or that it takes an edit.
+    /// A query was received: for the figures, for a text of the handler, or for an edit.
     Asked,
-    /// No more is to be served. What waits to be written is written first; where this is told once more, not even that.
+    /// Serving must stop. The bytes that wait are written first; if this is reported again, they are dropped.
     Stop,
 }
 
-/// What reports readiness, accepts connections and tells time. Nothing is required of what it tells.
+/// Reports readiness, accepts connections and gives the time. Nothing is assumed of its reports.
 pub trait Poller {
     /// The stream of a connection.
     type Peer: Peer + Drop;
 
-    /// Waits until something is to be told.
+    /// Waits for the next event.
     fn wait(&mut self) -> PollEvent;
 
-    /// Accepts a connection under this number, if one has come. It is armed: what is ready of it is told, also what was ready before.
+    /// Accepts a connection under this number, if one waits. Its stream is armed: readiness is reported, also if it was
+    /// ready before.
     fn accept(&mut self, number: u64) -> Option<Self::Peer>;
 
-    /// Takes back the stream of a connection that is over, and closes it so.
+    /// Takes the stream of a connection that has ended, and closes it in this way.
     fn close(&mut self, number: u64, peer: Self::Peer, closing: Closing);
 
-    /// Answers what is asked, where it told so, by how things stand and by the handler. Where an edit of the constraints of a context is asked for,
-    /// the handler takes it, once. It takes no other event.
+    /// Answers the query that was reported, by the figures and by the handler. For an edit of the constraints of a
+    /// context, the handler takes one event. It takes no other.
     ///
     /// # Errors
-    /// Why the edit was refused.
+    /// The fault of the refused edit.
     fn answer_query<R: EventHandler + Queries>(
         &mut self,
         figures: Figures,
@@ -51,9 +54,9 @@ pub trait Poller {
     ) -> Result<(), StepFault>
         ensures { EditsOnce R.steps handler.old result handler.new };
 
-    /// Answers what is asked, where it told so and no event is taken any more, by how things stand alone.
+    /// Answers the query that was reported, by the figures only, once the handler takes no more events.
     fn answer_status(&mut self, figures: Figures);
 
-    /// The time in seconds, since any moment. It is meant never to go back.
+    /// Returns the time in seconds since any fixed point. It should never go back.
     fn seconds(&mut self) -> u64;
 }

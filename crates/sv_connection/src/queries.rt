@@ -1,4 +1,4 @@
-//! What can be asked of what takes events.
+//! The control interface of an event handler.
 
 ghost use Rattle.std.specs.Option.{option_copied};
 ghost use Rattle.sv_text.specs.Gives.{GivesAnswer};
@@ -6,21 +6,21 @@ ghost use Rattle.sv_text.specs.Gives.{GivesAnswer};
 use std::alloc::Global;
 use sv_text::{Bytes, NoMemory};
 
-/// What can be asked of what takes events, without any event.
+/// The control interface of an event handler. A query is no event.
 pub trait Queries {
     ghost use Rattle.sv_connection.specs.Asking.{Explaining, Saying};
 
-    /// What is said of a request, where anything is.
+    /// The text that explains a request, if any.
     ghost explains: { Explaining Self };
 
-    /// What is said of the methods that are left uncovered, where anything is.
+    /// The text about uncovered methods, if any.
     ghost uncovers: { Saying Self };
 
-    /// What is said of how it stands, where anything is.
+    /// The text about the handler's status, if any.
     ghost stands: { Saying Self };
 
-    /// What would become of a request with this method and this target, from the named user or without a caller, as a line with its end; or nothing,
-    /// where that is not known here. Nothing changes.
+    /// Explains what would become of a request with this method and target, from the named user or without a caller.
+    /// The text is a line with its end. Returns none if this handler does not know. Nothing changes.
     ///
     /// # Errors
     /// Memory ran out.
@@ -33,15 +33,16 @@ pub trait Queries {
     ) -> Result<Option<Bytes>, NoMemory>
         ensures { GivesAnswer result (explains self.now method.now target.now (option_copied user.entry)) };
 
-    /// Which methods the constraints leave uncovered, as lines with their ends, and none where there are no such methods; or nothing, where that is not
-    /// known here. Nothing changes.
+    /// Lists the methods that the constraints leave uncovered, as lines with their ends. The text is empty if there are
+    /// no such methods. Returns none if this handler does not know. Nothing changes.
     ///
     /// # Errors
     /// Memory ran out.
     fn uncovered(&self, alloc: Global) -> Result<Option<Bytes>, NoMemory>
         ensures { GivesAnswer result (uncovers self.now) };
 
-    /// How it stands, as words that a line goes on with, a blank before each; or nothing, where that is not known here. Nothing changes.
+    /// Describes the handler's status, as words that continue a line, each after a space. Returns none if this handler
+    /// does not know. Nothing changes.
     ///
     /// # Errors
     /// Memory ran out.

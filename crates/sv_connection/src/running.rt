@@ -1,4 +1,4 @@
-//! One loop over all connections.
+//! The event loop over all connections.
 
 ghost use Rattle.std.specs.Prelude.{◌≡◌};
 ghost use Rattle.sv_connection.specs.Asking.{EditsOnce};
@@ -16,13 +16,15 @@ use std::alloc::Global;
 use sv_run::{EventHandler, Happening, MAX_CONNECTIONS, StepFault};
 use sv_streams::Clock;
 
-/// Serves all connections of a poller at once, within these limits, until it tells to stop: what is ready is read, handed on in pieces and answered, as
-/// far as that goes without waiting. No connection waits for another. Where something is asked, the poller answers it, by how things stand and by the
-/// handler, which may take an edit for it, and nothing is done of any connection. Behind the last event what waits to be written is written, for
-/// [`FINISH_SECONDS`](crate::FINISH_SECONDS) at most.
+/// Serves all connections of a poller at once, within these limits, until the poller reports a stop. Connections that
+/// are ready are read, their pieces passed to the handler, and the responses written, as far as this is possible
+/// without blocking. No connection waits for another.
+///
+/// The poller answers queries by the figures and by the handler, which may take an edit. A query acts on no connection.
+/// After the last event, the bytes that wait are written, for at most [`FINISH_SECONDS`](crate::FINISH_SECONDS).
 ///
 /// # Errors
-/// Why an event was refused, or want of memory. No event follows it.
+/// The fault of a refused event, or out of memory. No event follows it.
 pub fn run_event_loop<R: EventHandler + Queries, N: Poller, C: Clock>(
     alloc: Global,
     limits: Limits,
@@ -50,7 +52,7 @@ pub fn run_event_loop<R: EventHandler + Queries, N: Poller, C: Clock>(
     Ok(())
 }
 
-// Does what the poller tells. To be asked is an edit at most, which no moment is told for, and nothing is done of any connection.
+// Handles a poll event. A query brings at most an edit, which takes no time from the clock and acts on no connection.
 fn take<R: EventHandler + Queries, N: Poller, C: Clock>(
     table: &mut ConnectionTable<N::Peer>,
     told: PollEvent,
@@ -71,7 +73,7 @@ fn take<R: EventHandler + Queries, N: Poller, C: Clock>(
     }
 }
 
-// A second has passed.
+// Handles a second that has passed.
 fn pass_second<R: EventHandler, N: Poller, C: Clock>(
     table: &mut ConnectionTable<N::Peer>,
     handler: &mut R,
@@ -91,7 +93,7 @@ fn pass_second<R: EventHandler, N: Poller, C: Clock>(
     accept_some(table, handler, clock, poller)
 }
 
-// Tells that time went on.
+// Passes a tick to the handler.
 fn tick<P: Peer, R: EventHandler, C: Clock>(
     table: &mut ConnectionTable<P>,
     handler: &mut R,
@@ -112,7 +114,7 @@ fn tell_tick<R: EventHandler>(handler: &mut R, moment: u64) -> Result<(), StepFa
     }
 }
 
-// Gives up the connections whose time is over.
+// Gives up the connections whose timeout has expired.
 fn expire<R: EventHandler, N: Poller, C: Clock>(
     table: &mut ConnectionTable<N::Peer>,
     handler: &mut R,
@@ -134,8 +136,8 @@ fn expire<R: EventHandler, N: Poller, C: Clock>(
     Ok(())
 }
 
-// Gives up a connection whose time is over, unless what can be read and written of it now puts that off: a peer that takes an answer slowly makes
-// room for more of it before the system tells so.
+// Gives up a connection whose timeout has expired, unless the reads and writes that are possible at once extend it. A
+// peer that takes a response slowly makes room for more of it before the system reports this.
 fn give_up_due<R: EventHandler, N: Poller, C: Clock>(
     table: &mut ConnectionTable<N::Peer>,
     number: u64,
@@ -156,7 +158,7 @@ fn give_up_due<R: EventHandler, N: Poller, C: Clock>(
     table.give_up(number, handler, clock, poller)
 }
 
-// Accepts connections that have come, so many at once.
+// Accepts connections that wait, up to [`ACCEPTED_AT_ONCE`] of them.
 fn accept_some<R: EventHandler, N: Poller, C: Clock>(
     table: &mut ConnectionTable<N::Peer>,
     handler: &mut R,
@@ -175,7 +177,7 @@ fn accept_some<R: EventHandler, N: Poller, C: Clock>(
     Ok(())
 }
 
-// Accepts a connection, if one has come and there is room, or one that stands between requests can make it. Says whether another may have come.
+// Accepts a connection, if one waits and there is room, or an idle one can make room. Returns whether another may wait.
 fn accept_one<R: EventHandler, N: Poller, C: Clock>(
     table: &mut ConnectionTable<N::Peer>,
     handler: &mut R,
@@ -197,7 +199,8 @@ fn accept_one<R: EventHandler, N: Poller, C: Clock>(
     open(table, peer, handler, clock, poller)
 }
 
-// Opens the next connection, and serves it: what it sends has often come by then. Says whether there was room.
+// Opens the next connection and serves it, since its first bytes have often been received. Returns whether there was
+// room.
 fn open<R: EventHandler, N: Poller, C: Clock>(
     table: &mut ConnectionTable<N::Peer>,
     peer: N::Peer,
@@ -219,7 +222,7 @@ fn open<R: EventHandler, N: Poller, C: Clock>(
     }
 }
 
-// Where there is no room, gives up the connection that has stood between requests longest.
+// Gives up the longest idle connection while there is no room.
 fn make_room<R: EventHandler, N: Poller, C: Clock>(
     table: &mut ConnectionTable<N::Peer>,
     handler: &mut R,
@@ -243,7 +246,7 @@ fn make_room<R: EventHandler, N: Poller, C: Clock>(
     Ok(())
 }
 
-// Gives up the connection that has stood between requests longest, if any does: the system has no room for another beside it.
+// Gives up the longest idle connection, if any: the system has no capacity for one more.
 fn make_way<R: EventHandler, N: Poller, C: Clock>(
     table: &mut ConnectionTable<N::Peer>,
     handler: &mut R,
@@ -258,7 +261,7 @@ fn make_way<R: EventHandler, N: Poller, C: Clock>(
     }
 }
 
-// Gives up a connection that stands between requests, unless something has come of it that was not read yet: then it is served.
+// Gives up an idle connection, unless it has bytes that were not read yet: then it is served.
 fn give_up_idle<R: EventHandler, N: Poller, C: Clock>(
     table: &mut ConnectionTable<N::Peer>,
     number: u64,

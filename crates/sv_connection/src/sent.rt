@@ -1,11 +1,11 @@
-//! What writing on came to.
+//! The result of writing the bytes that wait.
 
-/// What writing on to a connection came to.
+/// The result of writing the bytes that wait for a connection.
 #[derive(Clone, Copy, Debug, PartialEq, Eq)]
 pub(crate) enum Sent {
-    /// Nothing waits to be written any more.
+    /// All bytes were written.
     All,
-    /// The next write would have to wait.
+    /// Bytes still wait: the next write would block, or the stream was armed.
     Waits,
     /// A write failed, or the stream could not be armed.
     Fails,

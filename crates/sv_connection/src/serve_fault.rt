@@ -1,4 +1,4 @@
-//! Why connections are served no more.
+//! The reason why serving stopped.
 
 ghost use Rattle.std.specs.Prelude.{◌≡◌, Some};
 ghost use Rattle.sv_connection.specs.ServeFault as spec;
@@ -8,14 +8,14 @@ use std::fmt;
 use sv_run::StepFault;
 use sv_text::NoMemory as OutOfMemory;
 
-/// Why connections are served no more.
+/// The reason why serving stopped.
 #[derive(Clone, Copy, Debug, PartialEq, Eq)]
 pub enum ServeFault {
-    /// No connection could be accepted, or an event of one was refused otherwise than for memory.
+    /// No connection could be accepted, or the handler refused an event for another reason than memory.
     Connection,
-    /// An event was refused for memory, or there was none for a line of the output.
+    /// The handler refused an event because memory ran out, or there was no memory for a line of the output.
     NoMemory,
-    /// A line of the output could not be written; a part of it may have been.
+    /// A line of the output could not be written; part of it may have been.
     Output,
 }
 
@@ -43,7 +43,7 @@ impl From<OutOfMemory> for ServeFault {
     }
 }
 
-/// The fault of a refused event.
+/// Returns the fault for a refused event.
 pub(crate) fn fault_of(refusal: StepFault) -> ServeFault
     ensures { result ≡ spec.fault_of refusal }
 {

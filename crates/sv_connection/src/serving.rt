@@ -9,11 +9,12 @@ use crate::serve_fault::{ServeFault, fault_of};
 use sv_run::EventHandler;
 use sv_streams::Clock;
 
-/// Accepts so many connections one after another, numbered from 1, and serves each until it is over and its stream is closed, before the next is
-/// accepted. A connection that is lost ends by itself alone. Reads are made into the buffer, which is not empty.
+/// Accepts `count` connections one after another, numbered from 1. Each is served until it ends and its stream is
+/// closed, before the next is accepted. A lost connection ends only itself. Reads use the buffer, which must not be
+/// empty.
 ///
 /// # Errors
-/// As [`ServeFault`] says. Nothing is accepted behind it.
+/// See [`ServeFault`]. No connection is accepted after a fault.
 pub fn serve_connections<R: EventHandler, A: Acceptor, C: Clock>(
     handler: &mut R,
     acceptor: &mut A,
@@ -33,7 +34,7 @@ pub fn serve_connections<R: EventHandler, A: Acceptor, C: Clock>(
     Ok(())
 }
 
-// Accepts a connection, serves it by its number until it is over, and closes its stream.
+// Accepts a connection, serves it under this number until it ends, and closes its stream.
 fn serve_next<R: EventHandler, A: Acceptor, C: Clock>(
     handler: &mut R,
     acceptor: &mut A,

@@ -1,14 +1,14 @@
-//! What one step of a connection came to.
+//! The result of one step of a connection.
 
 use crate::close_reason::CloseReason;
 
-/// What one step of a connection came to.
+/// The result of one step of a connection.
 #[derive(Clone, Copy, Debug, PartialEq, Eq)]
 pub(crate) enum Step {
-    /// Another may follow.
+    /// Another step may follow.
     GoesOn,
-    /// The call that the connection needs would have to wait.
+    /// The next call would block, or the stream was armed.
     Rests,
-    /// The connection is over.
+    /// The connection ends for this reason.
     IsOver(CloseReason),
 }

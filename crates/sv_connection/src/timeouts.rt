@@ -1,15 +1,16 @@
-//! When a connection is given up.
+//! The timeouts of a connection.
 
 use crate::limits::{BYTES_A_WINDOW, WINDOW_SECONDS};
 
-/// When a connection is given up, in seconds.
+/// The timeouts of a connection, in seconds.
 ///
-/// | The connection | Is given up |
+/// | Connection | Given up |
 /// |---|---|
-/// | is idle | so many seconds after its last response was written, or after it was opened |
-/// | receives a message, or sends a response | after [`WINDOW_SECONDS`], and each time that [`BYTES_A_WINDOW`] bytes came or went, again after so many |
+/// | idle | `idle_seconds` after its last response was written, or after it was opened |
+/// | receiving a message, or sending a response | [`WINDOW_SECONDS`] after its window began |
 ///
-/// Empty lines that a peer sends between two requests do not make it wait longer.
+/// Once [`BYTES_A_WINDOW`] bytes have moved in a window, another begins. Empty lines that a peer sends between two
+/// requests do not extend the idle timeout.
 #[derive(Drop)]
 pub(crate) struct Timeouts {
     idle_seconds: u64,
@@ -19,7 +20,7 @@ pub(crate) struct Timeouts {
     window: Option<Window>,
 }
 
-/// A time in which a message is to be received and answered, or enough bytes of it are to come or go.
+/// A window: until it ends, a message must be received and answered, or enough bytes of it must move.
 #[derive(Clone, Copy, Drop)]
 struct Window {
     until: u64,
@@ -27,7 +28,8 @@ struct Window {
 }
 
 impl Timeouts {
-    /// The pace of a connection that was opened at that time in seconds and in that turn, and may be idle for so many seconds.
+    /// Creates the timeouts of a connection that is opened in second `now` and turn `turn`, and may be idle for
+    /// `idle_seconds`.
     pub fn new(now: u64, idle_seconds: u64, turn: u64) -> Timeouts {
         Timeouts {
             idle_seconds,
@@ -38,7 +40,7 @@ impl Timeouts {
         }
     }
 
-    /// When the connection is given up.
+    /// Returns the time in seconds when the connection is given up.
     pub fn until(&self) -> u64 {
         match &self.window {
             Some(window) => window.until,
@@ -46,12 +48,12 @@ impl Timeouts {
         }
     }
 
-    /// The turn in which it became idle, if it is idle.
+    /// Returns the turn when the connection became idle. It has a meaning only while the connection is idle.
     pub fn idle_since(&self) -> u64 {
         self.idle_since
     }
 
-    /// Notes that so many bytes were read.
+    /// Records that `count` bytes were read.
     #[inline(always)]
     pub fn note_read(&mut self, count: usize) {
         if let Some(window) = &mut self.window {
@@ -59,14 +61,15 @@ impl Timeouts {
         }
     }
 
-    /// Notes that so many bytes were written.
+    /// Records that `count` bytes were written.
     #[inline(always)]
     pub fn note_written(&mut self, count: usize) {
         self.has_written = true;
         self.note_read(count);
     }
 
-    /// The connection is idle at that time and in that turn.
+    /// Records that the connection is idle in second `now` and turn `turn`. The idle timeout begins anew only after a
+    /// write.
     #[inline(always)]
     pub fn rest(&mut self, now: u64, turn: u64) {
         self.window = None;
@@ -77,7 +80,7 @@ impl Timeouts {
         }
     }
 
-    /// The connection receives a message or sends a response at that time.
+    /// Records that the connection receives a message or sends a response in second `now`.
     #[inline(always)]
     pub fn go_on(&mut self, now: u64) {
         match &self.window {
@@ -92,7 +95,7 @@ impl Timeouts {
     }
 }
 
-// The first second in which as many have gone by whole: a time is a second that has begun.
+// Returns the first second when `seconds` whole seconds have passed, since `now` has already begun.
 fn after(now: u64, seconds: u64) -> u64 {
     now.saturating_add(seconds).saturating_add(1)
 }

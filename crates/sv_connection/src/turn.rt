@@ -1,4 +1,4 @@
-//! One read of a connection, and what it brings.
+//! One read of a connection, and its reaction.
 
 ghost use Rattle.std.specs.Prelude.{◌<◌, length};
 ghost use Rattle.sv_connection.specs.TurnSteps.{Sends, TakesTurn};
@@ -7,8 +7,8 @@ use crate::over::{Over, tell_over};
 use sv_run::{EventHandler, Happening, Reaction, StepFault};
 use sv_streams::{Clock, Sink, Source, write_all};
 
-/// Reads once, and lets the piece that came be taken at the moment that the clock tells then. What it brought is written. The answer is none
-/// where the connection goes on.
+/// Reads once, passes the piece to the handler with the time that the clock then gives, and writes the bytes of the
+/// reaction. Returns none if the connection continues.
 pub(crate) fn take_turn<R: EventHandler, S: Source + Sink, C: Clock>(
     handler: &mut R,
     connection: u64,
@@ -38,7 +38,7 @@ pub(crate) fn take_turn<R: EventHandler, S: Source + Sink, C: Clock>(
     }
 }
 
-// Writes what a piece brought.
+// Writes the bytes of a reaction. The connection ends if the write fails or the reaction closes it.
 fn send<R: EventHandler, S: Sink>(
     handler: &mut R,
     connection: u64,

@@ -1,4 +1,4 @@
-//! What takes events, and is asked nothing.
+//! An event handler without a control interface.
 
 use crate::queries::Queries;
 use std::alloc::Global;
@@ -7,7 +7,7 @@ use sv_run::{EventHandler, Happening, Reaction, StepFault};
 use sv_text::{Bytes, NoMemory};
 use sv_wire::Awaited;
 
-/// What takes events as the one within does, and says nothing of requests, of what is left uncovered or of how it stands.
+/// An event handler without a control interface. It takes events as the inner handler does, and answers no query.
 #[derive(Drop)]
 pub struct WithoutQueries<R> {
     within: R,
@@ -16,14 +16,14 @@ pub struct WithoutQueries<R> {
 impl<R> WithoutQueries<R> {
     ghost use Rattle.std.specs.Prelude.{◌≡◌};
 
-    /// What takes them as that one does.
+    /// Wraps a handler.
     pub fn new(within: R) -> WithoutQueries<R>
         ensures { result.within ≡ within }
     {
         WithoutQueries { within }
     }
 
-    /// Gives the one within back.
+    /// Returns the inner handler.
     pub fn into_within(self) -> R
         ensures { result ≡ self.within }
     {

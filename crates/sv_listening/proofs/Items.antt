@@ -1,4 +1,4 @@
--- How many messages and calls to continue a text completes.
+-- The number of messages and calls to continue that a text completes.
 use Rattle.std.proofs.Common.{◌≡◌, ℕ, suc, ◌+◌, ◌-◌, ◌≤◌, Bool, true, false, ◌⊎◌, List, [], ◌∷◌, ◌++◌, length, take, drop, Option, None, Some, Result, Ok, Err, refl, sym, ap, ◌∙◌, subst, inl, inr, cond, arith, length-append, append-nil}
 use Rattle.std.specs.Bool.{MatchBool}
 use Rattle.std.specs.List.{count_by}
@@ -35,7 +35,7 @@ use Rattle.sv_listening.proofs.OwnTexts.{body_ends, body_owns}
 use Rattle.sv_listening.specs.Bound.{AreFew, PartsCompleteLittle, is_call_to_continue, is_message}
 use Rattle.sv_listening.specs.Parts.{is_line_end}
 
--- at most so many messages and so many calls to continue, and a refusal as the last alone
+-- At most `messages` messages and `calls` calls to continue, and a refusal only as the last item.
 abbrev pub AreAtMost : ℕ → ℕ → List Item → Type 0
 AreAtMost messages calls [] = Unit {0}
 AreAtMost messages calls (Message message ∷ items) = (n : ℕ) × (messages ≡ suc n) × AreAtMost n calls items
@@ -57,7 +57,7 @@ more_at_most messages calls more_messages more_calls (Continue ∷ items) first 
 )
 more_at_most messages calls more_messages more_calls (Refuse fault ∷ items) first second none = none
 
--- ---- line ends
+-- ---- Line ends
 
 front_ends : (front behind : List ℕ) → AreLineEnds (front ++ behind) → AreLineEnds front
 front_ends front behind ends k d below =
@@ -67,7 +67,7 @@ byte_ends : (front : List ℕ) (byte : ℕ) (behind : List ℕ) → AreLineEnds 
 byte_ends front byte behind ends =
     subst IsLineEnd (get_or-append_seam front byte behind 0) (ends (length front) 0 (omega (arith, length-append front (byte ∷ behind))))
 
--- they hold no head, for it holds a space
+-- Line ends hold no head, since a head holds a space.
 no_head : (text : List ℕ) (head : RequestHead) → AreLineEnds text → ReadsRequest text head [] → ⊥
 unfolding print_request
 no_head text head ends (valid, is) =
@@ -78,18 +78,18 @@ no_head text head ends (valid, is) =
     let space_ends : is_line_end 32 ≡ true = byte_ends (print_blank head.blank ++ head.method ++ 32 ∷ head.target) 32 (print_version head.minor) in_line in
     absurd (cc)
 
--- ---- what stands behind a head
+-- ---- The text after a head
 
--- what follows from both, follows
+-- A consequence of both cases holds.
 pub by_match : {P Q C : Type 0} (t : Bool) → (P → C) → (Q → C) → MatchBool t P Q → C
 by_match true first second holds = first holds
 by_match false first second holds = second holds
 
--- a text begins with a refusal
+-- A text begins with a refusal.
 abbrev BeginsWithRefusal : List ℕ → Start → Type 0
 BeginsWithRefusal text start = (fault : WireFault) × (start ≡ gives (Refuse fault) None text)
 
--- two texts that stand behind one head: either it is refused, or its body is asked for, or it is read
+-- Two texts after the same head: it is refused, its body is asked for, or its body is read.
 abbrev BothBehind : List ℕ → Start → List ℕ → Start → Type 0
 BothBehind text start other other_start =
     (BeginsWithRefusal text start × BeginsWithRefusal other other_start)
@@ -121,7 +121,7 @@ module _ (n : ℕ) (text : List ℕ) (start : Start) (starts : StartsAt (Whole n
       by_head (inr (none, is)) =
           inl ((BadHead, subst (λ j. StartsBehind j (drop n text) start) is starts.2), (BadHead, subst (λ j. StartsBehind j other other_start) is later))
 
-  -- the text of a head of line ends alone is refused
+  -- A head of only line ends is refused.
   ends_are_refused : AreLineEnds (take n text) → BeginsWithRefusal (drop n text) start
   ends_are_refused ends =
       by_match (has_too_many_lines (take n text)) (λ refused. (HeadTooLarge, subst (λ j. StartsBehind j (drop n text) start) refused starts.2)) by_head starts.1
@@ -130,7 +130,7 @@ module _ (n : ℕ) (text : List ℕ) (start : Start) (starts : StartsAt (Whole n
       by_head (inl (head, reads, is)) = absurd (no_head (take n text) head ends reads)
       by_head (inr (none, is)) = (BadHead, subst (λ j. StartsBehind j (drop n text) start) is starts.2)
 
--- what is left of a text behind its empty lines is the last of it
+-- The text after its leading empty lines is the last part of it.
 behind_empty_lines : (text : List ℕ) → (k : ℕ) × (drop_empty_lines text ≡ drop k text)
 behind_empty_lines [] = (0, refl)
 behind_empty_lines (b ∷ text) = by_test (behind_empty_lines text) (is_of_empty_line b text)
@@ -146,9 +146,9 @@ line_ends_left text ends = let (k, is) = behind_empty_lines text in subst AreLin
 ends_so_left : (text : List ℕ) → EndsInLineEnds text → EndsInLineEnds (drop_empty_lines text)
 ends_so_left text ends = let (k, is) = behind_empty_lines text in subst EndsInLineEnds (sym is) (ends_so_behind k text ends)
 
--- ---- what stands behind an item
+-- ---- The text after an item
 
--- what a reading goes on with behind an item
+-- How a reading goes on after an item.
 abbrev GoesOn : Item → List Item → Option OwedHead → List ℕ → Option OwedHead → List ℕ → Type 0
 GoesOn item items next behind left rest = MatchBool (is_last item) ((items ≡ []) × (left ≡ None) × (rest ≡ [])) (Reads next behind items left rest)
 
@@ -172,7 +172,7 @@ module _ (messages calls : ℕ) (item : Item) (items : List Item) (next : Option
   few_behind_call is few on =
       subst (λ i. AreAtMost messages (suc calls) (i ∷ items)) (sym is) (calls, refl, few (subst (λ i. GoesOn i items next behind left rest) is on))
 
-  -- behind a body, where what stands behind it completes so few
+  -- After a body, if the text that follows it completes this few items.
   few_behind_body : (owed : OwedHead) (text : List ℕ) → StartsBody owed text (gives item next behind)
       → ((whole after : List ℕ) → ReadsBody owed.framing text (complete whole after) → Reads None after items left rest → AreAtMost messages calls items)
       → GoesOn item items next behind left rest → AreAtMost (suc messages) calls (item ∷ items)
@@ -190,9 +190,9 @@ module _ (messages calls : ℕ) (item : Item) (items : List Item) (next : Option
           let same_item : item ≡ Refuse (fault_of fault) = cc in
           more_at_most messages calls (suc messages) calls (item ∷ items) (omega arith) (omega arith) (few_behind_refusal (fault_of fault) same_item on)
 
--- ---- readings
+-- ---- Readings
 
--- the text of a head that is cut ends one
+-- The text of a head that was cut has the end of a head.
 whole_ends : (text : List ℕ) (n : ℕ) → cut_head text ≡ Whole n → ends_head (take n text) ≡ true
 whole_ends text n cut =
     let found = cut-whole ends_head MAX_HEAD_LEN text n cut in
@@ -204,7 +204,7 @@ line_ends_after framing text whole after ends reads =
     subst AreLineEnds (drop_behind own after (length own) 0 (omega arith))
     (All-drop IsLineEnd (length own) (own ++ after) (subst AreLineEnds is ends))
 
--- line ends complete nothing where no body is owed, unless they are refused
+-- If no body is owed, line ends complete nothing, unless they are refused.
 none_of_line_ends : (text : List ℕ) (items : List Item) (left : Option OwedHead) (rest : List ℕ) → AreLineEnds text → Reads None text items left rest
     → AreAtMost 0 0 items
 none_of_line_ends text [] left rest ends reads = tt
@@ -221,7 +221,7 @@ none_of_line_ends text (item ∷ items) left rest ends (next, behind, starts, on
     by_cut Endless is = let same_item : item ≡ Refuse HeadTooLarge = cc in refused HeadTooLarge same_item
     by_cut Unended is = absurd (cc)
 
--- where a body is owed, they are one message at most
+-- If a body is owed, line ends complete at most one message.
 one_of_line_ends : (owed : OwedHead) (text : List ℕ) (items : List Item) (left : Option OwedHead) (rest : List ℕ) → AreLineEnds text
     → Reads (Some owed) text items left rest → AreAtMost 1 0 items
 one_of_line_ends owed text [] left rest ends reads = tt
@@ -229,7 +229,7 @@ one_of_line_ends owed text (item ∷ items) left rest ends (next, behind, starts
     few_behind_body 0 0 item items next behind left rest owed text starts
     (λ whole after read later. none_of_line_ends after items left rest (line_ends_after owed.framing text whole after ends read) later) on
 
--- a text in which behind the end of a head nothing but line ends stands: one message, and one call to continue
+-- A text with only line ends after the end of a head completes at most one message and one call to continue.
 one_of_such : (text : List ℕ) (items : List Item) (left : Option OwedHead) (rest : List ℕ) → EndsInLineEnds text → Reads None text items left rest
     → AreAtMost 1 1 items
 one_of_such text [] left rest ends reads = tt
@@ -261,7 +261,7 @@ one_of_such text (item ∷ items) left rest ends (next, behind, starts, on) = by
     by_cut Endless cut is = let same_item : item ≡ Refuse HeadTooLarge = cc in refused HeadTooLarge same_item
     by_cut Unended cut is = absurd (cc)
 
--- a body that was not whole, and then such a text: two messages
+-- An unfinished body, followed by such a text, completes at most two messages and one call to continue.
 two_with_body : (owed : OwedHead) (held part : List ℕ) (item : Item) (items : List Item) (next : Option OwedHead) (behind : List ℕ)
     (left : Option OwedHead) (rest : List ℕ) → EndsInLineEnds part → StartsBody owed held awaits → StartsBody owed (held ++ part) (gives item next behind)
     → GoesOn item items next behind left rest → AreAtMost 2 1 (item ∷ items)
@@ -276,7 +276,7 @@ two_with_body owed held part item items next behind left rest ends (body, reads,
         let (k, last) = body_ends owed.framing held part whole after read reads in
         one_of_such after items left rest (subst EndsInLineEnds (sym last) (ends_so_behind k part ends)) later) on
 
--- ---- what was held
+-- ---- Bytes held
 
 abbrev pub IsHeld : Option OwedHead → List ℕ → Type 0
 IsHeld owed rest = (text_of owed rest ≡ rest) × Starts owed rest awaits
@@ -331,7 +331,7 @@ part_completes None held part (item ∷ items) left rest (whole, awaiting) is re
     by_cut Endless cut start = absurd (cc)
     by_cut (Whole n) cut start = by_settled n cut start (settled held part)
 
--- ---- the counts
+-- ---- The counts
 
 few_messages : (messages calls : ℕ) (items : List Item) → AreAtMost messages calls items → count_by is_message items ≤ messages
 few_messages messages calls [] few = omega arith
@@ -351,7 +351,7 @@ few_calls messages calls (Continue ∷ items) (n, is, few) =
     omega (arith, is, one_more, few_calls messages n items few)
 few_calls messages calls (Refuse fault ∷ items) none = subst (λ is. count_by is_call_to_continue is ≤ calls) (sym none) (omega arith)
 
--- but for the calls, they are no more than the messages and a refusal
+-- Apart from the calls to continue, there are no more items than the messages and a refusal.
 pub few_in_all : (messages calls : ℕ) (items : List Item) → AreAtMost messages calls items
     → length items ≤ count_by is_call_to_continue items + messages + 1
 few_in_all messages calls [] few = omega arith

@@ -1,4 +1,4 @@
--- Texts in which behind the end of a head nothing but line ends stands.
+-- Texts with only line ends after the end of a head.
 use Rattle.std.proofs.Common.{◌≡◌, ℕ, zero, suc, ◌+◌, ◌-◌, ◌≤◌, ◌<◌, true, false, ◌||◌, ◌⊎◌, List, [], ◌∷◌, ◌++◌, length, take, drop, get_or, refl, sym, ap, ◌∙◌, subst, inl, inr, eqb, nat_eq, bytes_eq, arith, length-append}
 use Rattle.std.specs.Prelude.{All}
 use Rattle.std.specs.List.{ends_with}
@@ -15,15 +15,15 @@ use Rattle.sv_wire.specs.Head.{ends_head}
 abbrev pub IsLineEnd : ℕ → Type 0
 IsLineEnd byte = is_line_end byte ≡ true
 
--- nothing but line ends
+-- Only line ends.
 abbrev pub AreLineEnds : List ℕ → Type 0
 AreLineEnds text = All IsLineEnd text
 
--- behind the end of a head, nothing but line ends
+-- Only line ends follow the end of a head.
 abbrev pub EndsInLineEnds : List ℕ → Type 0
 EndsInLineEnds text = (n : ℕ) → ends_head (take n text) ≡ true → AreLineEnds (drop n text)
 
--- ---- ends
+-- ---- Ends
 
 ends_with_is : (text needle : List ℕ) → ends_with nat_eq text needle ≡ true → needle ≡ drop (length text - length needle) text
 ends_with_is text needle ends = same_text needle (drop (length text - length needle) text) (sym ends)
@@ -32,7 +32,7 @@ ends_with_fits : (text needle : List ℕ) → ends_with nat_eq text needle ≡ t
 ends_with_fits text needle ends =
     omega (arith, ap length (ends_with_is text needle ends), length-drop (length text - length needle) text)
 
--- what ends the text ends it also behind more bytes
+-- A text that ends in some bytes also does so after more bytes.
 ends_with_behind : (front text needle : List ℕ) → ends_with nat_eq text needle ≡ true → ends_with nat_eq (front ++ text) needle ≡ true
 ends_with_behind front text needle ends =
     ap (λ t. bytes_eq needle t)
@@ -47,16 +47,16 @@ ends_head_behind front text ends = by_end (or_cases (ends_with nat_eq text (10 �
     by_end (inl plain) = or_left (ends_with nat_eq (front ++ text) (10 ∷ 10 ∷ [])) _ (ends_with_behind front text (10 ∷ 10 ∷ []) plain)
     by_end (inr both) = or_right (ends_with nat_eq (front ++ text) (10 ∷ 10 ∷ [])) _ (ends_with_behind front text (10 ∷ 13 ∷ 10 ∷ []) both)
 
--- it is so of all that stands behind some bytes of the text
+-- The same holds for the rest of the text after its first bytes.
 pub ends_so_behind : (k : ℕ) (text : List ℕ) → EndsInLineEnds text → EndsInLineEnds (drop k text)
 ends_so_behind k text ends n here =
     subst AreLineEnds (sym (drop-drop n k text))
     (ends (k + n) (ap ends_head (sym (take-append-drop k (take (k + n) text)))
     ∙ ends_head_behind (take k (take (k + n) text)) (drop k (take (k + n) text)) (ap ends_head (drop-take k n text) ∙ here)))
 
--- ---- the places of an end
+-- ---- The places of an end
 
--- the last bytes of the text are those of an empty line behind a line's LF; `last` is the place of the last one
+-- The last bytes of the text are those of an empty line after the LF of a line; `last` is the place of the last one.
 abbrev EndsThere : List ℕ → ℕ → Type 0
 EndsThere text last =
     (get_or text last 0 ≡ 10)
@@ -87,7 +87,7 @@ ends_there text last long ends = by_end (or_cases (ends_with nat_eq text (10 ∷
           ),
         )
 
--- the end of a head is that of an empty line, also where its first bytes stand before the part
+-- The end of a head is that of an empty line, also if its first bytes precede the part.
 module _ (front part : List ℕ) where
   here : (place at : ℕ) → at ≡ length front + place → get_or part place 0 ≡ get_or (front ++ part) at 0
   here place at same = sym (ap (λ i. get_or (front ++ part) i 0) same ∙ get_or-append-add front part place 0)
@@ -120,14 +120,14 @@ module _ (front part : List ℕ) where
       by_place (inr none) = or_left (begins_line part place) _ (or_left (eqb place 0) _ (eq-eqb place 0 (omega (arith, none))))
       by_place (inl some) = by_line some before
 
--- ---- parts
+-- ---- Parts
 
--- behind an empty line of the bytes, nothing but line ends
+-- Only line ends follow an empty line of the bytes.
 abbrev pub HasLineEndsBehind : List ℕ → Type 0
 HasLineEndsBehind bytes =
     (place later : ℕ) → ends_empty_line bytes place ≡ true → place < later → later < length bytes → is_line_end (get_or bytes later 0) ≡ true
 
--- whether an empty line ends at a place of the front of some bytes
+-- An empty line ends at a place of a front if it does so in all bytes, and only then.
 front_ends : (bytes : List ℕ) (count place : ℕ) → place < count → ends_empty_line (take count bytes) place ≡ ends_empty_line bytes place
 front_ends bytes count place within =
     let here : get_or (take count bytes) place 0 ≡ get_or bytes place 0 = get_or-take count bytes place 0 within in
@@ -135,7 +135,7 @@ front_ends bytes count place within =
     let further : get_or (take count bytes) (place - 1 - 1) 0 ≡ get_or bytes (place - 1 - 1) 0 = get_or-take count bytes (place - 1 - 1) 0 (omega arith) in
     rw (here, before, further) refl
 
--- behind some bytes, none of whose fronts ends a head, a part makes such a text
+-- Bytes without the end of a head in any front, followed by a part, make such a text.
 pub parts_end_so : (front part : List ℕ) → HasLineEndsBehind part → ((k : ℕ) → k ≤ length front → ends_head (take k front) ≡ false)
     → EndsInLineEnds (front ++ part)
 parts_end_so front part is none n ends = by_order (cases_lt (length front) n)
@@ -171,7 +171,7 @@ part_ends_so part is = parts_end_so [] part is none
     none zero within = refl
     none (suc k) within = absurd (omega arith)
 
--- it is so of the front of such bytes
+-- The same holds for a front of these bytes.
 pub front_has_so : (front behind : List ℕ) → HasLineEndsBehind (front ++ behind) → HasLineEndsBehind front
 front_has_so front behind has place later is before below =
     let cut : take (length front) (front ++ behind) ≡ front =
@@ -181,7 +181,7 @@ front_has_so front behind has place later is before below =
     ap is_line_end (sym (get_or_append_left front behind 0 later below))
     ∙ has place later whole before (omega (arith, below, length-append front behind))
 
--- bytes within which no empty line ends but with their last are a part
+-- Bytes without the end of an empty line before the last byte are a part.
 pub pieces_are_parts : PiecesAreParts
 pieces_are_parts bytes (some, none) =
     (some, λ place later is before below. absurd (false≢true (sym (none place (omega (arith, before, below))) ∙ is)))

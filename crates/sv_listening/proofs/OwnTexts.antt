@@ -1,4 +1,4 @@
--- A body that is whole is all of the text before what follows it: so it ends with the last byte that it awaited.
+-- A whole body is all of the text before the bytes that follow it. So it ends with the last byte that it awaited.
 use Rattle.std.proofs.Common.{◌≡◌, ℕ, ◌+◌, ◌-◌, ◌≤◌, ◌<◌, Bool, true, false, ◌||◌, ◌⊎◌, List, [], ◌∷◌, ◌++◌, length, take, drop, Option, None, Some, refl, sym, ap, ◌∙◌, subst, inl, inr, cond, ltb, eqb, arith, append_assoc, append-nil, length-append, nat_eq, bytes_eq}
 use Rattle.std.specs.List.{ends_with}
 use Rattle.std.proofs.lemmas.Bool.{cases_lt, cond-false, cond-true, ltb-false}
@@ -18,11 +18,11 @@ use Rattle.sv_text.specs.declared.front.Cut.{Cut}
 use Rattle.sv_text.specs.declared.front.Cut.TheVariants.{Endless, Unended, Whole}
 use Rattle.sv_text.specs.Front.{cut, cut_at, shortest_front}
 
--- some front of the text is read so with `rest` behind it, and with anything else behind it
+-- A front of the text is read in this way with `rest` after it, and with any other bytes after it.
 abbrev pub Owns : (List ℕ → List ℕ → Type 0) → List ℕ → List ℕ → Type 0
 Owns Reads text rest = (own : List ℕ) × (text ≡ own ++ rest) × ((more : List ℕ) → Reads (own ++ more) more)
 
--- one text behind another
+-- One text after another.
 owns_both : (First Second Both : List ℕ → List ℕ → Type 0) (text between rest : List ℕ)
     → ((whole middle end : List ℕ) → First whole middle → Second middle end → Both whole end)
     → Owns First text between → Owns Second between rest → Owns Both text rest
@@ -34,13 +34,13 @@ owns_both First Second Both text between rest both (front, is, reads) (back, lat
       (both (front ++ (back ++ more)) (back ++ more) more (reads (back ++ more)) (later more)),
 )
 
--- ---- a cut
+-- ---- A cut
 
 module _ (ends : List ℕ → Bool) (limit : ℕ) (text : List ℕ) (n : ℕ) (is : cut ends limit text ≡ Whole n) where
   whole_fits : n ≤ length text
   whole_fits = omega (arith, (cut-whole ends limit text n is).fits, length-take limit text)
 
-  -- what is cut is cut from itself
+  -- The text that was cut is cut in the same way by itself.
   cut_itself : cut ends limit (take n text) ≡ Whole n
   cut_itself =
       let found = cut-whole ends limit text n is in
@@ -62,7 +62,7 @@ module _ (ends : List ℕ → Bool) (limit : ℕ) (text : List ℕ) (n : ℕ) (i
       by_cut (inl none) = absurd (cc)
       by_cut (inr same) = same
 
--- the front of so many bytes, whatever follows it
+-- The first `n` bytes, whatever follows them.
 module _ (text : List ℕ) (n : ℕ) (fits : n ≤ length text) where
   front_text : text ≡ take n text ++ drop n text
   front_text = sym (take-append-drop n text)
@@ -74,9 +74,9 @@ module _ (text : List ℕ) (n : ℕ) (fits : n ≤ length text) where
   front_drop : (more : List ℕ) → drop n (take n text ++ more) ≡ more
   front_drop more = drop_behind (take n text) more n 0 (omega (arith, length-take-le n text fits))
 
--- ---- the parts of a chunked body
+-- ---- The parts of a chunked body
 
--- a line that says a size
+-- A line with a size.
 abbrev BeginsWithSize : ℕ → List ℕ → List ℕ → Type 0
 BeginsWithSize size text rest =
     (n : ℕ) × (cut (λ line. ends_with nat_eq line (line_feed ∷ [])) MAX_SIZE_LINE_LEN text ≡ Whole n) × ReadsSize (take n text) (Some size)
@@ -95,7 +95,7 @@ size_owns size text rest (n, is, reads, behind) =
       ),
     )
 
--- the bytes of a chunk and CRLF
+-- The bytes of a chunk and CRLF.
 module _ (size : ℕ) (text : List ℕ) (long : size + 2 ≤ length text) (ends : bytes_eq (take 2 (drop size text)) crlf_bytes ≡ true) (more : List ℕ) where
   abbrev own_data : List ℕ
   own_data = take (size + 2) text
@@ -139,7 +139,7 @@ data_owns size bytes text rest = by_test (ltb (length text) (size + 2)) refl
     by_test true short same = absurd (cc)
     by_test false long same = by_end (bytes_eq (take 2 (drop size text)) crlf_bytes) refl (ltb-false (length text) (size + 2) long) same
 
--- the trailer section
+-- The trailer section.
 abbrev ends_trailer : List ℕ → Bool
 ends_trailer text = bytes_eq text crlf_bytes || ends_with nat_eq text (crlf_bytes ++ crlf_bytes)
 
@@ -162,9 +162,9 @@ trailer_owns bytes text whole rest = by_cut (cut ends_trailer MAX_TRAILER_LEN te
               ∙ (λ i. complete (same_bytes i) (front_drop text n fits more i)),
         )
 
--- ---- a chunk, and what stands behind the last one
+-- ---- A chunk, and the text after the last one
 
--- what stands behind a size line begins so
+-- The text after a size line begins in this way.
 abbrev IsAfterLine : List ℕ → ℕ → Part → List ℕ → Type 0
 IsAfterLine bytes size part text = part ≡ after_line bytes (Some size) text
 
@@ -226,13 +226,13 @@ end_after bytes size whole text rest = by_test (ltb MAX_BODY_LEN (length bytes +
     by_test true large same = absurd (cc)
     by_test false fits same = by_zero (eqb size 0) fits refl same
 
--- the text begins with a size line, behind which it begins so
+-- The text begins with a size line, and the text after it begins in this way.
 from_size : (bytes : List ℕ) (size : ℕ) (part : Part) (text between : List ℕ) → BeginsWithSize size text between → IsAfterLine bytes size part between
     → Begins bytes text part
 from_size bytes size part text between (n, is, reads, behind) after =
     subst (λ c. BeginsAt c bytes text part) (sym is) (Some size, reads, after ∙ ap (after_line bytes (Some size)) behind)
 
--- a part of a body that has one behind it is one of those two
+-- A size line, and the part of a body that follows it.
 abbrev AfterASize : List ℕ → List ℕ → Part → Type 0
 AfterASize bytes text part = (size : ℕ) × (between : List ℕ) × BeginsWithSize size text between × IsAfterLine bytes size part between
 
@@ -264,7 +264,7 @@ end_size_of bytes text whole rest = by_cut _ refl
     by_cut Endless is same = absurd (cc)
     by_cut Unended is same = absurd (cc)
 
--- ---- bodies
+-- ---- Bodies
 
 abbrev ReadsWhole : List ℕ → List (List ℕ) → List ℕ → List ℕ → List ℕ → Type 0
 ReadsWhole bytes chunks whole text rest = ReadsChunks bytes text chunks (complete whole rest)
@@ -304,14 +304,14 @@ length_owns count text whole rest = by_test (ltb (length text) count) refl
               ∙ (λ i. complete ((front_take text count fits more ∙ same_whole) i) (front_drop text count fits more i))),
         )
 
--- the text of a whole body
+-- The text of a whole body.
 pub body_owns : (framing : Framing) (text whole rest : List ℕ) → ReadsBody framing text (complete whole rest)
     → Owns (λ t r. ReadsBody framing t (complete whole r)) text rest
 body_owns (Length count) text whole rest reads = length_owns count text whole rest reads
 body_owns Chunked text whole rest (chunks, reads) =
     let (own, is, again) = chunks_own [] text chunks whole rest reads in (own, is, λ more. (chunks, again more))
 
--- what stands behind a body that was not whole before more bytes stands among these
+-- If more bytes complete an unfinished body, the bytes that follow it are among these.
 pub body_ends : (framing : Framing) (text more whole rest : List ℕ) → ReadsBody framing text unfinished
     → ReadsBody framing (text ++ more) (complete whole rest) → (k : ℕ) × (rest ≡ drop k more)
 body_ends framing text more whole rest unended reads = by_order (cases_lt (length text) (length own.0))

@@ -1,4 +1,4 @@
--- Parts.
+-- Properties of parts.
 use Rattle.std.proofs.Common.{◌≡◌, ◌<◌, ◌≤◌, ℕ, ◌+◌, ◌-◌, Bool, true, false, List, [], ◌∷◌, ◌++◌, refl, sym, ap, ◌∙◌, subst, inl, inr, append_assoc, append-nil, length, take, get_or, arith, ltb}
 use Rattle.std.proofs.lemmas.List.{get_or-take, length-append, length-take-le}
 use Rattle.std.proofs.lemmas.Bool.{ltb-true, ltb-false}
@@ -8,7 +8,7 @@ use Rattle.sv_streams.specs.Calls.{AreMade, Call, Gave, Making, ReadFailed, Took
 use Rattle.sv_listening.specs.SocketLaws.{GivesPart}
 use Rattle.sv_listening.specs.Parts.{InParts, IsPart, MakesParts, is_line_end}
 
--- behind the first empty line stand line ends up to the cut
+-- Only line ends follow the first empty line, up to the cut.
 pub cut_behind : (bytes : List ℕ) (first end : ℕ) → ((place : ℕ) → place + 1 < first → ends_empty_line bytes place ≡ false)
     → ((later : ℕ) → first ≤ later → later < end → is_line_end (get_or bytes later 0) ≡ true)
     → (place later : ℕ) → ends_empty_line bytes place ≡ true → place < later → later < end → is_line_end (get_or bytes later 0) ≡ true
@@ -21,7 +21,7 @@ cut_behind bytes first end none ends place later is before within = by (ltb late
         absurd (cc (is, not))
     by false outside = let past : first ≤ later = ltb-false later first outside in ends later past within
 
--- one line end more
+-- One more line end.
 pub ends_more : (bytes : List ℕ) (first end : ℕ) → ((later : ℕ) → first ≤ later → later < end → is_line_end (get_or bytes later 0) ≡ true)
     → is_line_end (get_or bytes end 0) ≡ true → (later : ℕ) → first ≤ later → later < end + 1 → is_line_end (get_or bytes later 0) ≡ true
 ends_more bytes first end ends is later past within = by (ltb later end) refl
@@ -34,7 +34,7 @@ ends_more bytes first end ends is later past within = by (ltb later end) refl
         let P : ℕ → Type 0 = λ n. is_line_end (get_or bytes n 0) ≡ true in
         subst P (sym same) is
 
--- whether an empty line ends at a place of the front of some bytes
+-- An empty line ends at a place of a front if it does so in all bytes, and only then.
 front_ends : (bytes : List ℕ) (count place : ℕ) → place < count → ends_empty_line (take count bytes) place ≡ ends_empty_line bytes place
 front_ends bytes count place within =
     let here : get_or (take count bytes) place 0 ≡ get_or bytes place 0 = get_or-take count bytes place 0 within in
@@ -42,7 +42,7 @@ front_ends bytes count place within =
     let further : get_or (take count bytes) (place - 1 - 1) 0 ≡ get_or bytes (place - 1 - 1) 0 = get_or-take count bytes (place - 1 - 1) 0 (omega arith) in
     rw (here, before, further) refl
 
--- the front of some bytes, up to the cut or less
+-- A front of the bytes, up to the cut or shorter, is a part.
 pub is_part : (bytes : List ℕ) (end count : ℕ) → 0 < count → count ≤ end → end ≤ length bytes
     → ((place later : ℕ) → ends_empty_line bytes place ≡ true → place < later → later < end → is_line_end (get_or bytes later 0) ≡ true)
     → IsPart (take count bytes)
@@ -57,7 +57,7 @@ is_part bytes end count some within inside cut =
     )
 
 module _ {S : Type 0} (makes : Making S) where
-  -- calls of the stream below that come to calls of one that is read in parts
+  -- Calls of the stream below, for the calls of one that is read in parts.
   pub record Below (before after : InParts S) (calls : List Call) : Type 0 where
     pub parts : AllByRecursion GivesPart calls
     pub below : List Call

@@ -1,4 +1,4 @@
--- What the pieces of a run complete and send.
+-- The items that the pieces of a run complete, and the bytes that they send.
 use Rattle.std.proofs.Common.{◌≡◌, ℕ, ◌+◌, Bool, true, false, ◌⊎◌, List, [], ◌∷◌, ◌++◌, length, Option, None, Some, Ok, Err, refl, sym, ap, ◌∙◌, subst, inl, inr, cond, eqb, arith, length-append}
 use Rattle.std.specs.Bool.{MatchBool}
 use Rattle.std.specs.List.{count_by}
@@ -27,13 +27,13 @@ use Rattle.sv_wire.specs.declared.item.Item.{Item}
 use Rattle.sv_wire.specs.declared.item.Item.TheVariants.{Continue, Message, Refuse}
 use Rattle.sv_message.specs.declared.message.Message.{Message as MessageRecord}
 
--- ---- what is held
+-- ---- Bytes held
 
--- nothing more is read, or what is held awaits more
+-- No more is read, or the bytes held await more.
 abbrev Awaits : Held → Type 0
 Awaits held = (held.spent ≡ true) ⊎ IsHeld held.owed held.rest
 
--- so it is of every connection
+-- The same holds for every connection.
 abbrev AllAwait : Connections → Type 0
 AllAwait connections = (number : ℕ) (held : Held) → connections.held number ≡ Some held → Awaits held
 
@@ -54,7 +54,7 @@ fed_awaits closes before after piece items awaits fed = subst Awaits (sym fed.is
     by_closes true = inl refl
     by_closes false = feeds_awaits before fed.left fed.part items awaits fed.feeds
 
--- one connection that awaits beside all others
+-- One connection that awaits more, alongside all others.
 one_more_awaits : (held : ℕ → Option Held) (number : ℕ) (new : Option Held) → ((at : ℕ) (h : Held) → held at ≡ Some h → Awaits h)
     → ((h : Held) → new ≡ Some h → Awaits h) → (at : ℕ) (h : Held) → update eqb held number new at ≡ Some h → Awaits h
 one_more_awaits held number new others one at h = by_number (eqb number at)
@@ -72,10 +72,10 @@ none_awaits held is = absurd (cc)
 nothing_awaits : Awaits nothing_held
 nothing_awaits = inr (is_held None [] [] None [] (refl, refl, refl))
 
--- ---- runs
+-- ---- Runs
 
 module _ {Context Words : Type 0} (theory : Theory Context Words) where
-  -- the container has stopped, or every connection awaits more
+  -- The container has stopped, or every connection awaits more.
   abbrev IsSound : State Context Words → Type 0
   IsSound state = (state.stopped ≡ true) ⊎ AllAwait state.connections
 
@@ -117,9 +117,9 @@ module _ {Context Words : Type 0} (theory : Theory Context Words) where
   run_sound before after [] (answer ∷ answers) sound run = absurd run
   run_sound before after (happening ∷ happenings) [] sound run = absurd run
 
-  -- ---- what items bring
+  -- ---- Effects of items
 
-  -- of at most so many items, each is answered, and is one deed but for a call to continue
+  -- There are at most this many items. Each is answered, and each but a call to continue is one deed.
   abbrev Answers : ℕ → ℕ → ℕ → Effect Context → Type 0
   Answers moment messages calls effect =
       (items : List Item) × AreAtMost messages calls items × AreAnswered moment items effect.sends
@@ -131,7 +131,7 @@ module _ {Context Words : Type 0} (theory : Theory Context Words) where
     deeds_of (Message message) = 1
     deeds_of (Refuse fault) = 1
 
-    -- one item is answered
+    -- One item is answered.
     abbrev IsAnswered : Item → ℕ → Effect Context → Type 0
     IsAnswered item deeds effect = IsTextFor moment item effect.sends × (length effect.deeds ≡ deeds)
 
@@ -171,7 +171,7 @@ module _ {Context Words : Type 0} (theory : Theory Context Words) where
         → count_by is_call_to_continue (item ∷ items) ≡ count_by is_call_to_continue (item ∷ []) + count_by is_call_to_continue items
     one_more item items = sum_by-append (λ i. cond (is_call_to_continue i) 1 0) (item ∷ []) items
 
-    -- items one behind another, up to one that closes the connection
+    -- Items one after another, up to one that closes the connection.
     answered : (messages calls : ℕ) (items : List Item) (before after : World Context Words) (effect : Effect Context) → AreAtMost messages calls items
         → Takes theory moment items before effect after → Answers moment messages calls effect
     answered messages calls [] before after effect few taken = none_answered messages calls before after effect taken
@@ -202,9 +202,9 @@ module _ {Context Words : Type 0} (theory : Theory Context Words) where
         (ap (λ (e : Effect Context). length e.deeds + 0) brings) in
         (Refuse fault ∷ [], refl, both.0, both.1)
 
-  -- ---- the event of a part
+  -- ---- The event of a part
 
-  -- what a connection holds and a part complete
+  -- The items that the bytes held and a part complete.
   fed_few : (before after : Held) (part : List ℕ) (items : List Item) → Awaits before → HasLineEndsBehind part → Feeds before part items after
       → AreAtMost 2 1 items
   fed_few before after part items awaits has = by_spent before.spent refl

@@ -1,4 +1,4 @@
--- What is written of an event with entries is some text.
+-- The text that is written for an event with entries is not empty.
 use Rattle.std.proofs.Common.{◌≡◌, ℕ, ◌<◌, ◌+◌, List, [], ◌∷◌, ◌++◌, Option, length, codes, refl, arith}
 use Rattle.std.proofs.lemmas.List.{length-append}
 use Rattle.sv_journal.specs.declared.entry.Entry.{Entry}

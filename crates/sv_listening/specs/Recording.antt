@@ -1,4 +1,4 @@
--- What is written of an event.
+-- Writing the entries of an event to the journal.
 use Rattle.std.specs.Prelude.{◌≡◌, ◌⊎◌, ℕ, ◌+◌, ◌-◌, ◌^◌, ◌==◌, min, List, length, Option, Result, Ok, Err, if◌then◌else◌}
 use Rattle.std.specs.Bool.{MatchBool}
 use Rattle.sv_journal.specs.declared.entry.Entry.{Entry}
@@ -9,42 +9,42 @@ use Rattle.sv_run.specs.declared.step_fault.StepFault.{StepFault}
 use Rattle.sv_streams.specs.Calls.{Making, write_call}
 use Rattle.sv_streams.specs.declared.stream.WriteFailed.{WriteFailed}
 
--- what is written to, of how many events the entries were lost since a write was whole, and the moment
+-- The output, the number of events with lost entries since a complete write, and the time.
 pub record Recorded (O : Type 0) : Type 0 where
   pub output : O
   pub lost : ℕ
   pub moment : ℕ
 
--- the moment after an event is reached
+-- The time moves to the one after an event.
 abbrev pub at_moment : {O : Type 0} → Happening → Recorded O → Recorded O
 at_moment happening recorded = record recorded { moment = moment_after recorded.moment happening }
 
--- one more, as far as it is counted
+-- One more lost event, as far as these are counted.
 abbrev pub one_more : ℕ → ℕ
 one_more lost = min (lost + 1) (2 ^ 64 - 1)
 
--- a write that took all leaves nothing lost; any other loses the event
+-- A complete write leaves no event lost. Any other write loses its event.
 abbrev pub lost_by : ℕ → List ℕ → Result ℕ WriteFailed → ℕ
 lost_by lost text (Ok count) = if count == length text then 0 else one_more lost
 lost_by lost text (Err failed) = one_more lost
 
 module _ {O : Type 0} (makes : Making O) where
-  -- the text is written by one call
+  -- The text is written by one call.
   abbrev pub WritesOnce : List ℕ → Recorded O → Recorded O → Type 0
   WritesOnce text before after =
       (answer : Result ℕ WriteFailed) × makes before.output (write_call answer text) after.output
       × (after ≡ record before { output = after.output; lost = lost_by before.lost text answer })
 
-  -- entries are written by one call, or lost for want of memory, with no call
+  -- Entries are written by one call. If memory runs out, they are lost without a call.
   abbrev pub WritesEntries : Option ℕ → List Entry → Recorded O → Recorded O → Type 0
   WritesEntries connection entries before after =
       WritesOnce (recorded_text before.lost before.moment connection entries) before after ⊎ (after ≡ record before { lost = one_more before.lost })
 
-  -- where there are no entries, there is no call
+  -- There is no call without entries.
   abbrev pub Writes : Option ℕ → List Entry → Recorded O → Recorded O → Type 0
   Writes connection entries before after = MatchBool (length entries == 0) (after ≡ before) (WritesEntries connection entries before after)
 
-  -- what an event brought is written, at the moment after it
+  -- The entries of an event are written, with the time after it.
   abbrev pub Records : Happening → Result Reaction StepFault → Recorded O → Recorded O → Type 0
   Records happening (Ok reaction) before after = Writes (connection_of happening) reaction.journal.entries (at_moment happening before) after
   Records happening (Err fault) before after = after ≡ at_moment happening before

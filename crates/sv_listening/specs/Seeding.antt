@@ -6,13 +6,14 @@ use Rattle.sv_listening.specs.declared.seeding.Seeding.{Seeding}
 use Rattle.sv_listening.specs.declared.seeding.Seeding.TheVariants.{Configured, Fresh}
 use Rattle.sv_listening.specs.declared.seeding.TheConstants.{RANDOM_SOURCE}
 
--- the system's random source failed, or memory ran out
+-- The system's random source failed, or memory ran out.
 abbrev pub IsRandomFault : CommandFault → Type 0
 IsRandomFault (File name) = name ≡ RANDOM_SOURCE.now
 IsRandomFault NoMemory = Unit {0}
 IsRandomFault other = ⊥
 
--- the seed is any of 32 bytes, or the system's random source failed; or it is the server file's
+-- A fresh seed is any 32 bytes, unless the system's random source failed or memory ran out. A configured one is that of
+-- the server file.
 abbrev pub GivesSeed : Seeding → List ℕ → Result (List ℕ) CommandFault → Type 0
 GivesSeed Fresh configured (Ok seed) = length seed ≡ 32
 GivesSeed Fresh configured (Err fault) = IsRandomFault fault

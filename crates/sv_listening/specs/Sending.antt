@@ -1,4 +1,4 @@
--- How little the event of a part sends (RFC 9110, section 15.2.1; RFC 9112, sections 2.1, 2.2 and 9.3).
+-- A bound on the texts that the event of a part sends (RFC 9110, section 15.2.1; RFC 9112, sections 2.1, 2.2 and 9.3).
 use Rattle.std.specs.Prelude.{◌≡◌, ℕ, ◌+◌, ◌≤◌, false, List, [], ◌∷◌, ◌++◌, length, count_by}
 use Rattle.sv_listening.specs.Bound.{AreFew, is_call_to_continue}
 use Rattle.sv_run.specs.Connections.{no_connections}
@@ -15,19 +15,20 @@ use Rattle.sv_wire.specs.declared.item.Item.{Item}
 use Rattle.sv_wire.specs.declared.item.Item.TheVariants.{Continue, Message, Refuse}
 use Rattle.sv_message.specs.declared.response.Response.{Response}
 
--- the text that an item is answered with: `100 Continue`, the response to a message, or that of a refusal
+-- The text for an item: `100 Continue`, the response to a message, or the response to a refusal.
 abbrev pub IsTextFor : ℕ → Item → List ℕ → Type 0
 IsTextFor moment Continue text = text ≡ continue_text
 IsTextFor moment (Message message) text = (response : Response) × IsAnswerTo message moment response text
 IsTextFor moment (Refuse fault) text = IsTextAt moment (plain_response (fault_status fault)) false false text
 
--- what is sent is one text for each item, in their order
+-- The bytes sent are one text for each item, in their order.
 abbrev pub AreAnswered : ℕ → List Item → List ℕ → Type 0
 AreAnswered moment [] sent = sent ≡ []
 AreAnswered moment (item ∷ items) sent =
     (text : List ℕ) × (later : List ℕ) × IsTextFor moment item text × AreAnswered moment items later × (sent ≡ text ++ later)
 
--- at most two messages are answered, one call to continue and one refusal: four texts. Each but the call is one deed, so there are three at most
+-- At most two messages, one call to continue and one refusal bring a text, so there are at most four. Each item but the
+-- call is one deed, so there are at most three deeds.
 pub record IsLittle {Context : Type 0} (moment : ℕ) (effect : Effect Context) : Type 0 where
   pub items : List Item
   pub few : AreFew items
@@ -37,7 +38,7 @@ pub record IsLittle {Context : Type 0} (moment : ℕ) (effect : Effect Context) 
   pub deeds : length effect.deeds ≤ 3
 
 module _ {Context Words : Type 0} (theory : Theory Context Words) where
-  -- behind any run that began without connections, an accepted piece that is a part brings as little
+  -- After any run that began without connections, an accepted piece that is a part sends this little.
   abbrev pub AnEventSendsLittle : Type 0
   AnEventSendsLittle =
       (start before after : State Context Words) (happenings : List Happening) (answers : List (Answer Context))

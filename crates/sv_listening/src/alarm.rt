@@ -1,7 +1,7 @@
-//! Who is told that entries are lost.
+//! The alarm for lost journal entries.
 
-/// Who is told that entries are lost.
+/// An alarm for lost journal entries.
 pub trait Alarm {
-    /// An event's entries are lost, and those of the event before were not.
+    /// Reports that the entries of an event are lost, for the first time since a complete write.
     fn is_losing(&mut self);
 }

@@ -1,4 +1,4 @@
-//! What was read and not given.
+//! Bytes that were read and not yet returned.
 
 ghost use Rattle.std.specs.Prelude.{◌≡◌, ◌≤◌, length, take};
 
@@ -7,7 +7,7 @@ use std::marker::Model;
 use sv_connection::READ_BYTES;
 use sv_streams::{ReadFailed, Source};
 
-/// Bytes that were read and not given. Contracts see their list.
+/// Bytes that were read and not yet returned. Contracts see their list.
 #[derive(Drop)]
 pub(crate) struct Kept {
     bytes: [u8; READ_BYTES],
@@ -31,7 +31,7 @@ impl Kept {
     ghost use Rattle.sv_streams.specs.Calls.{read_result};
     ghost use Rattle.sv_listening.specs.Parts.{IsPart};
 
-    /// No bytes.
+    /// Creates an empty buffer.
     pub fn new() -> Kept
         ensures { result ≡ [] }
     {
@@ -42,7 +42,7 @@ impl Kept {
         }
     }
 
-    /// Whether there are none.
+    /// Returns whether the buffer is empty.
     pub fn is_empty(&self) -> bool
         ensures { result ≡ (length self.now == 0) }
     {
@@ -55,10 +55,10 @@ impl Kept {
         &self.bytes[self.start..self.end]
     }
 
-    /// Reads once, where there are none.
+    /// Reads once into an empty buffer.
     ///
     /// # Errors
-    /// The read failed, and there are none still.
+    /// The read failed, and the buffer is still empty.
     pub fn refill<S: Source>(&mut self, source: &mut S) -> Result<(), ReadFailed>
         requires { self.old ≡ [] }
         ensures made { S.makes source.old (read_result result self.new) source.new }
@@ -75,7 +75,8 @@ impl Kept {
         }
     }
 
-    /// Moves the first part of the bytes to the front of the buffer, as far as it fits there: how many bytes these are.
+    /// Moves the first part of the bytes to the front of `buffer`, as far as it fits. Returns the number of bytes
+    /// moved.
     pub fn give(&mut self, buffer: &mut [u8]) -> usize
         requires { 0 < length buffer.old }
         ensures within { result ≤ length buffer.new }
@@ -92,7 +93,7 @@ impl Kept {
         count
     }
 
-    // Passes over so many bytes.
+    // Skips `count` bytes.
     fn skip(&mut self, count: usize)
         requires { count ≤ length self.old }
         ensures { self.new ≡ drop count self.old }
@@ -101,7 +102,7 @@ impl Kept {
     }
 }
 
-// Copies so many bytes to the front of a buffer.
+// Copies the first `count` bytes to the front of a buffer.
 fn copy_front(buffer: &mut [u8], bytes: &[u8], count: usize)
     requires room { count ≤ length buffer.old }
     requires enough { count ≤ length bytes.now }

@@ -1,4 +1,4 @@
-//! The laws of this crate, each the contract of a function that does nothing.
+//! The laws of this crate, each the contract of a function with an empty body.
 
 ghost use Rattle.std.specs.Prelude.{◌≡◌};
 ghost use Rattle.sv_listening.specs.SocketLaws.{PartsAreWhatIsRead};
@@ -16,8 +16,9 @@ pub fn limits_are_as_stated()
     ensures answer { MAX_ANSWER_BYTES ≡ 8388608 }
 {}
 
-/// What a stream that is read in parts gives, one after another, and behind that what it still keeps, is what it kept before and what the stream
-/// below gave; what it takes, the stream below takes; and behind an empty line no part has anything but line ends.
+/// A stream that is read in parts neither loses nor changes bytes. The bytes that it returns and then keeps are those
+/// that it kept before and that the stream below gave. Its writes are those of the stream below. In each part, only
+/// line ends follow an empty line.
 pub fn parts_are_what_is_read<S: Stream>()
     ensures { PartsAreWhatIsRead S.makes }
 {}

@@ -1,5 +1,5 @@
-//! What programs do with what takes events: the seed of its random words, and its connections over a port, one after another or all at once, with the
-//! entries of its events written as they come.
+//! Listeners and sockets for an event handler. They serve the connections of a port, one after another or all at once,
+//! and record the entries of events in a journal. The crate also makes the seed of a container's random words.
 #![tactic(auto)]
 
 mod alarm;

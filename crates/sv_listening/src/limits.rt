@@ -1,13 +1,14 @@
 //! Limits of connections over TCP.
 
-/// `serve` closes a connection that is idle for so many seconds.
+/// Idle timeout of a connection of `serve`, in seconds.
 pub const SERVE_IDLE_SECONDS: u64 = 5;
 
-/// The self-test waits for so many seconds at most at each of its calls.
+/// Timeout of each call of the self-test, in seconds.
 pub const SELF_TEST_SECONDS: u64 = 5;
 
-/// As many times the self-test looks for its own connection at most, each time behind a hundredth of a second or a stranger's connection.
+/// Maximum number of accepts that the self-test makes to find its own connection. It sleeps for 10 ms if none waits,
+/// and closes a stranger's connection.
 pub const MAX_SELF_TEST_ACCEPTS: u32 = 1_000;
 
-/// How many bytes of its own answer the self-test reads at most.
+/// Maximum number of bytes that the self-test reads of its own response.
 pub const MAX_ANSWER_BYTES: u64 = 8_388_608;

@@ -1,4 +1,4 @@
-//! The lines of an event.
+//! The journal lines of an event.
 
 ghost use Rattle.std.specs.Prelude.{◌≡◌, ◌++◌, OnOk};
 ghost use Rattle.sv_text.specs.Gives.{GivesAnswer};
@@ -9,8 +9,8 @@ use sv_journal::Entry;
 use sv_script::escaped;
 use sv_text::{Bytes, NoMemory};
 
-/// The lines of an event that was taken at a moment: for each entry the moment, the number of the connection, `-` where the event has none, and the entry,
-/// in which a byte that is not printed is escaped.
+/// Returns the lines of an event. Each entry is a line: the time of the event, the number of its connection or `-` if
+/// it has none, and the entry with unprintable bytes escaped.
 ///
 /// # Errors
 /// Memory ran out.
@@ -56,7 +56,7 @@ fn push_line(
     Ok(())
 }
 
-// When an event was taken, and on which connection.
+// Appends the time of an event and its connection.
 fn push_place(text: &mut Vec<u8>, moment: u64, connection: Option<u64>) -> Result<(), NoMemory>
     ensures { OnOk result (text.new.items ≡ text.old.items ++ spec.place_text moment connection) }
 {
@@ -78,8 +78,8 @@ fn push_entry(text: &mut Vec<u8>, entry: &Entry) -> Result<(), NoMemory>
     Ok(())
 }
 
-/// Appends the line that tells of as many events that their entries were lost, where any were. An empty line stands before it, as the last line may have
-/// been cut.
+/// Appends the line that counts the events with lost entries, if there are any. A line feed precedes it, since the last
+/// line may have been cut.
 pub(crate) fn push_lost(text: &mut Vec<u8>, moment: u64, lost: u64) -> Result<(), NoMemory>
     ensures { OnOk result (text.new.items ≡ text.old.items ++ spec.lost_lines moment lost) }
 {

@@ -1,4 +1,4 @@
-//! The connections of a port, one after another.
+//! Serving the connections of a port one after another.
 
 use crate::serve_on;
 use crate::sockets::{fault_of, listen};
@@ -10,11 +10,11 @@ use sv_program::CommandFault;
 use sv_run::EventHandler;
 use sv_streams::{SystemClock, WriteSink};
 
-/// Listens at the port on this machine, 0 for any that is free, writes the line `listening PORT`, serves so many connections one after another,
-/// and writes the line `served COUNT`.
+/// Listens at the port on this machine and writes the line `listening PORT`. Port 0 selects any free port. Then serves
+/// `count` connections one after another, and writes the line `served COUNT`.
 ///
 /// # Errors
-/// [`CommandFault::Socket`], [`CommandFault::Output`] or [`CommandFault::NoMemory`] as the run meets them.
+/// [`CommandFault::Socket`], [`CommandFault::Output`] or [`CommandFault::NoMemory`], as the run meets them.
 pub fn listen_and_serve<H: Net + Clock, W: Write, R: EventHandler>(
     alloc: Global,
     host: &H,

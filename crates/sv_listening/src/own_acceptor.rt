@@ -1,4 +1,4 @@
-//! A client's own connection among those of a listener.
+//! Accepting the connection of one client.
 
 ghost use Rattle.std.specs.Prelude.{◌≡◌};
 
@@ -11,7 +11,8 @@ use std::net::{OpenListener, OpenStream, SocketAddr};
 use std::time::{Clock, Duration};
 use sv_connection::{AcceptFailed, Acceptor};
 
-/// What accepts the connection of one client, by its address, and no other: a stranger's is closed. It looks for it [`MAX_SELF_TEST_ACCEPTS`] times.
+/// Accepts the connection of one client, by its address, and closes those of strangers. It accepts at most
+/// [`MAX_SELF_TEST_ACCEPTS`] times.
 #[derive(Clone, Copy)]
 pub struct OwnAcceptor<'a, N, H> {
     listener: &'a N,
@@ -20,7 +21,7 @@ pub struct OwnAcceptor<'a, N, H> {
 }
 
 impl<'a, N: OpenListener, H: Clock> OwnAcceptor<'a, N, H> {
-    /// What accepts the connection of the client that has this address, by the time of a clock. The listener is not to wait for connections
+    /// Creates an acceptor for the client with this address, by the time of a clock. The listener must be nonblocking
     /// (`set_nonblocking`).
     pub fn new(listener: &'a N, clock: &'a H, client: SocketAddr) -> OwnAcceptor<'a, N, H>
         ensures listener { result.listener ≡ listener.entry }
@@ -34,7 +35,7 @@ impl<'a, N: OpenListener, H: Clock> OwnAcceptor<'a, N, H> {
         }
     }
 
-    // Accepts once: the client's connection, or none yet.
+    // Accepts once. Returns the client's connection, or none yet.
     fn accept_once(&self) -> Result<Option<N::Stream>, AcceptFailed> {
         match self.listener.accept() {
             Ok((stream, address)) => Ok(self.own(stream, address)),
@@ -47,7 +48,7 @@ impl<'a, N: OpenListener, H: Clock> OwnAcceptor<'a, N, H> {
         }
     }
 
-    // The connection, where it is the client's.
+    // Returns the connection if it is the client's, and closes a stranger's.
     fn own(&self, stream: N::Stream, address: SocketAddr) -> Option<N::Stream> {
         if address == self.client {
             return Some(stream);
@@ -74,7 +75,7 @@ where
         Err(AcceptFailed)
     }
 
-    // The client waits for the end, and sends nothing more.
+    // There is nothing to read on: the client waits for the end, and sends nothing more.
     fn part(&mut self, peer: PartStream<SocketStream<'a, N::Stream, H>>) {
         drop(peer);
     }

@@ -1,4 +1,4 @@
-//! For how long the calls of a connection may wait.
+//! The timeouts of a connection's calls.
 
 ghost use Rattle.std.specs.Prelude.{◌≡◌, ◌-◌};
 ghost use Rattle.sv_listening.specs.Pacing as spec;
@@ -6,18 +6,18 @@ ghost use Rattle.sv_listening.specs.Pacing as spec;
 use crate::limits::SERVE_IDLE_SECONDS;
 use sv_connection::{BYTES_A_WINDOW, WINDOW_SECONDS};
 
-/// What a connection does.
+/// The activity of a connection.
 #[derive(Clone, Copy, Debug, PartialEq, Eq)]
 pub(crate) enum Doing {
-    /// Nothing has come behind what was sent.
+    /// Nothing was received or sent yet.
     Rests,
-    /// Something comes.
+    /// Bytes are received.
     Reads,
-    /// Something is sent.
+    /// Bytes are sent.
     Writes,
 }
 
-/// What a connection does, how many bytes of that have moved in its window, and when that is over, in milliseconds.
+/// The activity of a connection, the number of bytes moved in its window, and the end of this window in milliseconds.
 #[derive(Clone, Copy, Debug)]
 pub(crate) struct Pace {
     doing: Doing,
@@ -26,7 +26,7 @@ pub(crate) struct Pace {
 }
 
 impl Pace {
-    /// Of a connection that has come.
+    /// Creates the pace of a new connection.
     pub fn new() -> Pace
         ensures { result ≡ spec.resting }
     {
@@ -37,7 +37,7 @@ impl Pace {
         }
     }
 
-    /// For how many milliseconds a read may wait at that time, none where its time is over.
+    /// Returns how many milliseconds a read may wait at time `now`; 0 if its window has ended.
     pub fn wait_to_read(&self, now: u64) -> u64
         ensures { result ≡ spec.wait_to_read self.now now }
     {
@@ -47,7 +47,8 @@ impl Pace {
         }
     }
 
-    /// For how many milliseconds a write may wait at that time, none where its time is over. The first write begins a window.
+    /// Returns how many milliseconds a write may wait at time `now`; 0 if its window has ended. The first write begins
+    /// a window.
     pub fn wait_to_write(&mut self, now: u64) -> u64
         ensures pace { self.new ≡ spec.writing self.old now }
         ensures wait { result ≡ self.new.until - now }
@@ -58,7 +59,7 @@ impl Pace {
         self.until.saturating_sub(now)
     }
 
-    /// So many bytes came, at that time.
+    /// Records that `count` bytes were read at time `now`.
     pub fn has_read(&mut self, now: u64, count: usize)
         ensures { self.new ≡ spec.has_read self.old now count }
     {
@@ -69,7 +70,7 @@ impl Pace {
         }
     }
 
-    /// So many bytes went, at that time.
+    /// Records that `count` bytes were written at time `now`.
     pub fn has_written(&mut self, now: u64, count: usize)
         ensures { self.new ≡ spec.moved_on self.old now count }
     {
@@ -77,7 +78,7 @@ impl Pace {
     }
 }
 
-// A window begins.
+// Begins a window.
 fn begun(doing: Doing, now: u64) -> Pace
     ensures { result ≡ spec.begun doing now }
 {
@@ -88,7 +89,7 @@ fn begun(doing: Doing, now: u64) -> Pace
     }
 }
 
-// So many bytes moved: where they are enough, another window begins.
+// Records that `count` bytes moved. If they are enough, another window begins.
 fn moved_on(pace: Pace, now: u64, count: usize) -> Pace
     ensures { result ≡ spec.moved_on pace now count }
 {

@@ -1,10 +1,11 @@
-//! Where what was read is cut.
+//! Cutting the bytes read into parts.
 
 ghost use Rattle.std.specs.Prelude.{◌≡◌, ◌+◌, ◌<◌, ◌≤◌, ℕ, false, true, length, slice_index, take};
 ghost use Rattle.sv_connection.specs.Pieces as pieces;
 ghost use Rattle.sv_listening.specs.Parts as spec;
 
-// How many bytes the first part has: those up to the end of the first empty line, with the line ends that follow it, or all.
+// Returns the length of the first part: up to the end of the first empty line and of the line ends that follow it, or
+// all bytes.
 fn part_len(bytes: &[u8]) -> usize
     requires { 0 < length bytes.now }
     ensures some { 0 < result }
@@ -20,7 +21,7 @@ fn part_len(bytes: &[u8]) -> usize
     bytes.len()
 }
 
-// How many bytes stand up to the end of the first empty line, or all.
+// Returns the number of bytes up to the end of the first empty line, or of all.
 fn first_end(bytes: &[u8]) -> usize
     requires { 0 < length bytes.now }
     ensures some { 0 < result }
@@ -35,7 +36,7 @@ fn first_end(bytes: &[u8]) -> usize
     bytes.len()
 }
 
-// Whether an empty line ends there.
+// Returns whether an empty line ends at this place.
 fn ends_empty_line(bytes: &[u8], place: usize) -> bool
     requires { place < length bytes.now }
     ensures { result ≡ pieces.ends_empty_line bytes.now place }
@@ -56,7 +57,7 @@ fn begins_line(bytes: &[u8], place: usize) -> bool
     place == 0 || bytes[place - 1] == b'\n'
 }
 
-/// How many bytes the first part has that has room for so many.
+/// Returns the length of the first part, but at most `room`.
 #[tactic(auto, using(crate::proofs::PartLemmas::is_part))]
 pub(crate) fn fitting_len(bytes: &[u8], room: usize) -> usize
     requires some { 0 < length bytes.now }

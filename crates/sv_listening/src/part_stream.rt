@@ -7,9 +7,11 @@ use crate::kept::Kept;
 use std::marker::Model;
 use sv_streams::{ReadFailed, Sink, Source, Stream, WriteFailed};
 
-/// A stream that is read in parts: what one read of the stream below gave is kept, and each read gives of it what stands before and with the first
-/// empty line and the line ends behind that. So no read gives the ends of many requests, however many a peer sends at once: what each brings can be
-/// written before the next is given.
+/// A stream that is read in parts. It keeps the bytes of one read of the stream below. Each read returns those up to
+/// the end of the first empty line, and the line ends that follow it.
+///
+/// So no read returns the ends of many requests, however many a peer sends at once. The responses to one part can be
+/// written before the next part is read.
 #[derive(Drop)]
 pub struct PartStream<S> {
     stream: S,
@@ -27,7 +29,7 @@ impl<S> Model for PartStream<S> {
 impl<S> PartStream<S> {
     ghost use Rattle.std.specs.Prelude.{◌≡◌, []};
 
-    /// The stream that reads this one in parts.
+    /// Wraps a stream, to read it in parts.
     pub fn new(stream: S) -> PartStream<S>
         ensures { result ≡ record { stream = stream; kept = [] } }
     {
@@ -37,7 +39,7 @@ impl<S> PartStream<S> {
         }
     }
 
-    /// Gives the stream below up, and what was read of it and not given.
+    /// Returns the stream below, and drops the bytes that are kept.
     pub fn into_stream(self) -> S
         ensures { result ≡ self.stream }
     {
@@ -50,7 +52,7 @@ impl<S> PartStream<S> {
 impl<S: Source> PartStream<S> {
     ghost use Rattle.sv_listening.specs.Parts.{HasCome};
 
-    // Reads once where nothing is kept.
+    // Reads once if no bytes are kept.
     fn come(&mut self) -> Result<(), ReadFailed>
         ensures { HasCome S.makes self.old result self.new }
     {

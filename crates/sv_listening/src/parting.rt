@@ -1,4 +1,4 @@
-//! The close of a connection's stream.
+//! Closing the stream of a connection.
 
 ghost use Rattle.std.specs.Prelude.{◌≡◌, ◌<◌, ◌≤◌, length, IfOk};
 ghost use Rattle.std.specs.Io.KnownBytes.{ReadConsumes};
@@ -12,17 +12,17 @@ use std::net::{OpenStream, Shutdown};
 use std::time::Clock;
 use sv_readiness::{DROPPED_READ_BYTES, LINGER_SECONDS, MAX_DROPPED_BYTES};
 
-/// Ends the writing of a stream, reads on and drops what its peer still sends, and closes it. A close with bytes unread would reset the connection, and
-/// its peer could lose what was written last (RFC 9112, section 9.6).
+/// Ends the writing of a stream, reads and drops the bytes that its peer still sends, and closes it. A close with
+/// unread bytes would reset the connection, and the peer could lose the last bytes written (RFC 9112, section 9.6).
 pub(crate) fn part_from<T: Read + OpenStream + Drop, H: Clock>(clock: &H, stream: T) {
     let mut stream = stream;
-    // A peer that is gone is sent no end.
+    // If the shutdown fails, the peer is gone.
     if stream.shutdown(Shutdown::Write).is_ok() {
         drop_rest(clock, &mut stream);
     }
 }
 
-// Reads and drops what comes, until the stream ends or fails, or enough of it was dropped, or its time is over.
+// Reads and drops bytes, until the stream ends or fails, enough of them were dropped, or the time is up.
 fn drop_rest<T: Read + OpenStream, H: Clock>(clock: &H, stream: &mut T)
     ensures { DropsAtMost (T.remaining stream.old) MAX_DROPPED_BYTES (T.remaining stream.new) }
 {
@@ -39,7 +39,7 @@ fn drop_rest<T: Read + OpenStream, H: Clock>(clock: &H, stream: &mut T)
     }
 }
 
-// Reads once, and says whether more may come.
+// Reads once, and returns whether more bytes may follow.
 fn drop_once<T: Read + OpenStream, H: Clock>(
     clock: &H,
     stream: &mut T,
@@ -65,7 +65,7 @@ fn drop_once<T: Read + OpenStream, H: Clock>(
     }
 }
 
-// Reads once, if there is time until then.
+// Reads once, if there is time left until `until`.
 fn read_until<T: Read + OpenStream, H: Clock>(
     clock: &H,
     stream: &mut T,

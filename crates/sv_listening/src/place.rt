@@ -1,4 +1,4 @@
-//! When an event is taken, and on which connection.
+//! The time and the connection of an event.
 
 ghost use Rattle.std.specs.Prelude.{◌≡◌};
 ghost use Rattle.sv_run.specs.Events as events;
@@ -6,7 +6,7 @@ ghost use Rattle.sv_run.specs.Seen.{happening_of};
 
 use sv_run::{Happening, LAST_MOMENT};
 
-/// The connection of an event.
+/// Returns the connection of an event, if it has one.
 pub(crate) fn connection_of(happening: &Happening<'_>) -> Option<u64>
     ensures { result ≡ events.connection_of (happening_of happening.now) }
 {
@@ -19,7 +19,7 @@ pub(crate) fn connection_of(happening: &Happening<'_>) -> Option<u64>
     }
 }
 
-/// The moment after an event.
+/// Returns the time after an event.
 pub(crate) fn moment_after(before: u64, happening: &Happening<'_>) -> u64
     ensures { result ≡ events.moment_after before (happening_of happening.now) }
 {
@@ -32,7 +32,7 @@ pub(crate) fn moment_after(before: u64, happening: &Happening<'_>) -> u64
     }
 }
 
-// The greater moment, at most the last.
+// Returns the later time, at most `LAST_MOMENT`.
 fn raised(before: u64, moment: u64) -> u64
     ensures { result ≡ events.raised before moment }
 {

@@ -1,4 +1,4 @@
-//! What the entries of events are written to.
+//! The journal of events.
 
 ghost use Rattle.sv_text.specs.Gives.{GivesAnswer};
 ghost use Rattle.sv_listening.specs.Lines as lines;
@@ -13,8 +13,9 @@ use sv_run::Happening;
 use sv_streams::Sink;
 use sv_text::{Bytes, NoMemory};
 
-/// What the entries of events are written to, each event's by one write. A write that fails, or takes a part, loses the entries of its event, and of that
-/// alone: they are counted, and a line tells the count ahead of the next that are written.
+/// A journal of entries. Each event's entries take one write. If this write fails or is partial, or memory runs out,
+/// only the entries of this event are lost. Lost events are counted, and a line with the count precedes the next
+/// entries that are written.
 #[derive(Drop)]
 pub struct Record<O, A> {
     alloc: Global,
@@ -37,7 +38,7 @@ impl<O: Sink, A: Alarm> Record<O, A> {
     ghost use Rattle.sv_listening.specs.Recording.{Writes, WritesEntries, WritesOnce, at_moment, one_more};
     ghost use Rattle.sv_run.specs.Seen.{happening_of};
 
-    /// Nothing was written.
+    /// Creates a journal without entries.
     pub fn new(alloc: Global, output: O, alarm: A) -> Record<O, A>
         ensures { result ≡ record { output = output; lost = 0; moment = 0 } }
     {
@@ -50,14 +51,14 @@ impl<O: Sink, A: Alarm> Record<O, A> {
         }
     }
 
-    /// Takes the moment of an event, which is the one after it.
+    /// Moves the time to the one after this event.
     pub(crate) fn reach(&mut self, happening: &Happening<'_>)
         ensures { self.new ≡ at_moment (happening_of happening.now) self.old }
     {
         self.moment = moment_after(self.moment, happening);
     }
 
-    /// Writes the entries that an event of the connection brought.
+    /// Writes the entries of an event of this connection.
     pub(crate) fn write(&mut self, connection: Option<u64>, entries: &[Entry])
         ensures { Writes O.makes connection entries.now self.old self.new }
     {
@@ -98,7 +99,7 @@ impl<O: Sink, A: Alarm> Record<O, A> {
     }
 }
 
-// What is written of an event.
+// Returns the text that is written for an event.
 fn recorded_text(
     alloc: Global,
     lost: u64,

@@ -1,4 +1,4 @@
-//! All connections of an address at once, with a socket file and a journal.
+//! Serving all connections of an address at once, with a socket file and a journal.
 
 use crate::alarm::Alarm;
 use crate::record::Record;
@@ -17,10 +17,10 @@ use sv_program::CommandFault;
 use sv_run::EventHandler;
 use sv_streams::WriteSink;
 
-/// Serves as [`run_controlled`] does, appends what the events bring to the file of that name, and gives the handler back.
+/// Serves as [`run_controlled`] does, appends the entries of events to the file of this name, and returns the handler.
 ///
 /// # Errors
-/// [`CommandFault::File`] where that file cannot be opened; then those of [`run_controlled`].
+/// [`CommandFault::File`] if this file cannot be opened; then those of [`run_controlled`].
 pub fn run_recorded<H: Net + Clock + Files + Eprint, W: Write, R: EventHandler + Queries>(
     alloc: Global,
     host: &H,
@@ -40,7 +40,7 @@ pub fn run_recorded<H: Net + Clock + Files + Eprint, W: Write, R: EventHandler +
     (served, recorder.into_within())
 }
 
-/// Serves as [`run_controlled`] does, and gives the handler back.
+/// Serves as [`run_controlled`] does, and returns the handler.
 ///
 /// # Errors
 /// Those of [`run_controlled`].
@@ -58,7 +58,7 @@ pub fn run_plainly<H: Net + Clock + Files, W: Write, R: EventHandler + Queries>(
     (served, handler)
 }
 
-// Opens a file to append to it, which is made where it is missing.
+// Opens a file to append to it, and creates it if it is missing.
 fn open_to_append<H: Files>(host: &H, name: &str) -> io::Result<H::File> {
     OpenOptions::new()
         .append(true)
@@ -66,7 +66,7 @@ fn open_to_append<H: Files>(host: &H, name: &str) -> io::Result<H::File> {
         .open(host, name)
 }
 
-// Tells on standard error that entries are lost.
+// Reports lost entries on standard error.
 #[derive(Drop)]
 struct StandardError<'a, H> {
     host: &'a H,
@@ -74,7 +74,7 @@ struct StandardError<'a, H> {
 
 impl<H: Eprint> Alarm for StandardError<'_, H> {
     fn is_losing(&mut self) {
-        // Where standard error cannot be written, the journal tells it once it can be.
+        // If standard error cannot be written, the journal reports the loss once it can be written.
         let _ = eprintln!(self.host; "sv: journal");
     }
 }

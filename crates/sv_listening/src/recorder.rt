@@ -1,4 +1,4 @@
-//! What takes events as another does, and records them.
+//! An event handler that records its events.
 
 use crate::alarm::Alarm;
 use crate::place::connection_of;
@@ -11,7 +11,7 @@ use sv_streams::Sink;
 use sv_text::{Bytes, NoMemory};
 use sv_wire::Awaited;
 
-/// What takes events as the one within does, and records what they bring.
+/// An event handler that passes its events to an inner handler, and records their entries.
 #[derive(Drop)]
 pub struct Recorder<R, O, A> {
     within: R,
@@ -21,7 +21,7 @@ pub struct Recorder<R, O, A> {
 impl<R: EventHandler, O: Sink, A: Alarm> Recorder<R, O, A> {
     ghost use Rattle.std.specs.Prelude.{◌≡◌};
 
-    /// Records what that one takes.
+    /// Wraps a handler, to record its events.
     pub fn new(within: R, notes: Record<O, A>) -> Recorder<R, O, A>
         ensures within { result.within ≡ within }
         ensures notes { result.notes ≡ notes }
@@ -33,7 +33,7 @@ impl<R: EventHandler, O: Sink, A: Alarm> Recorder<R, O, A> {
 impl<R, O: Drop, A: Drop> Recorder<R, O, A> {
     ghost use Rattle.std.specs.Prelude.{◌≡◌};
 
-    /// Gives the one within back.
+    /// Returns the inner handler.
     pub fn into_within(self) -> R
         ensures { result ≡ self.within }
     {

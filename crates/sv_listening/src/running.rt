@@ -1,4 +1,4 @@
-//! All connections of an address at once.
+//! Serving all connections of an address at once.
 
 use crate::sockets::{file_fault, front_fault_of};
 use std::alloc::Global;
@@ -12,11 +12,12 @@ use sv_program::{CommandFault, print_line};
 use sv_readiness::{Listening, RoundClock, Sockets};
 use sv_run::EventHandler;
 
-/// Listens at the address, where port 0 stands for any that is free, writes the line `listening ADDRESS:PORT`, and serves all connections that come,
-/// none waiting for another and within the limits of a site that sets none, until the process is ended from outside. The handler is given back.
+/// Listens at the address and writes the line `listening ADDRESS:PORT`. Port 0 selects any free port. Then serves all
+/// connections until the process is ended from outside, within the limits of a site that sets none. No connection waits
+/// for another. Returns the handler.
 ///
 /// # Errors
-/// [`CommandFault::Socket`], [`CommandFault::Output`] or [`CommandFault::NoMemory`] as the run meets them.
+/// [`CommandFault::Socket`], [`CommandFault::Output`] or [`CommandFault::NoMemory`], as the run meets them.
 pub fn listen_and_run<H: Net + Clock, W: Write, R: EventHandler>(
     alloc: Global,
     host: &H,
@@ -35,12 +36,13 @@ pub fn listen_and_run<H: Net + Clock, W: Write, R: EventHandler>(
     (served, without_queries.into_within())
 }
 
-/// Serves as [`listen_and_run`] does, within these limits, and where a socket file is named, answers what is asked there, has the handler take the
-/// edits that are sent, and serves until the line `stop` is sent there, too: then what waits to be written is written, for 5 seconds at most, and for 2
-/// more what peers still send is read on and dropped.
+/// Serves as [`listen_and_run`] does, within these limits. If a socket file is named, it also answers queries there,
+/// passes the edits sent there to the handler, and ends when the line `stop` is sent there. Then the bytes that wait
+/// are written for at most 5 seconds, and the bytes that peers still send are read and dropped for 2 more seconds.
 ///
 /// # Errors
-/// [`CommandFault::Socket`]; then [`CommandFault::File`] for a socket file that cannot be had; then those of [`listen_and_run`].
+/// [`CommandFault::Socket`]; then [`CommandFault::File`] for a socket file that cannot be used; then those of
+/// [`listen_and_run`].
 pub(crate) fn run_controlled<H: Net + Clock + Files, W: Write, R: EventHandler + Queries>(
     alloc: Global,
     host: &H,
@@ -59,7 +61,7 @@ pub(crate) fn run_controlled<H: Net + Clock + Files, W: Write, R: EventHandler +
     }
 }
 
-// Tells where it listens, and serves.
+// Writes the address of the listener, and serves.
 fn tell_and_run<H: Net + Clock, W: Write, R: EventHandler + Queries>(
     alloc: Global,
     host: &H,
@@ -74,7 +76,7 @@ fn tell_and_run<H: Net + Clock, W: Write, R: EventHandler + Queries>(
     }
 }
 
-// Takes lines at the socket file, where one is named.
+// Takes lines at the socket file, if one is named.
 fn take_lines<H: Net + Files>(
     alloc: Global,
     host: &H,
@@ -90,7 +92,7 @@ fn take_lines<H: Net + Files>(
     }
 }
 
-// Writes where it listens.
+// Writes the address of the listener.
 fn tell_address<W: Write>(
     alloc: Global,
     writer: &mut W,

@@ -8,23 +8,24 @@ use std::random::RandomSource;
 use sv_program::CommandFault;
 use sv_text::{NoMemory, Text};
 
-/// The name by which a fault tells of the system's random source.
+/// The name of the system's random source in a fault.
 pub const RANDOM_SOURCE: &str = "random";
 
-/// What the random words of a container come of.
+/// The source of a container's random words.
 #[derive(Clone, Copy)]
 pub enum Seeding {
-    /// The seed of the server file with 32 bytes of the system's random source, so that each start has words of its own.
+    /// The seed of the server file and 32 bytes of the system's random source. Each start has words of its own.
     Fresh,
-    /// The seed of the server file alone, so that each start has the same words.
+    /// Only the seed of the server file. Each start has the same words.
     Configured,
 }
 
-/// The seed of a start of a server with this seed. Which bytes the system's random source gives is known to no contract.
+/// Returns the seed of a start of a server with this seed. No contract says which bytes the system's random source
+/// gives.
 ///
 /// # Errors
-/// [`CommandFault::File`] with the name [`RANDOM_SOURCE`], where the system's random source fails, or [`CommandFault::NoMemory`]; neither for a seed
-/// that is the server file's alone.
+/// [`CommandFault::File`] with the name [`RANDOM_SOURCE`] if the system's random source fails, or
+/// [`CommandFault::NoMemory`]. A seed that is only the server file's has neither.
 pub fn seed_for<H: RandomSource>(
     alloc: Global,
     host: &H,
@@ -41,7 +42,7 @@ pub fn seed_for<H: RandomSource>(
     }
 }
 
-// The seed with bytes of the system's random source.
+// Returns the seed combined with bytes of the system's random source.
 fn fresh_seed<H: RandomSource>(
     alloc: Global,
     host: &H,
@@ -58,7 +59,7 @@ fn fresh_seed<H: RandomSource>(
     }
 }
 
-// The seed as a key.
+// Returns the seed as a key.
 fn key_of(configured: &[u8]) -> [u8; 32]
     requires { length configured.now ≡ 32 }
     ensures { result ≡ configured.now }
@@ -68,7 +69,7 @@ fn key_of(configured: &[u8]) -> [u8; 32]
     key
 }
 
-// Each byte of the key with that of the other, by exclusive or.
+// Returns the exclusive or of the key and these bytes.
 fn mixed(key: [u8; 32], bytes: &[u8]) -> [u8; 32]
     ensures { length result ≡ 32 }
 {
@@ -79,7 +80,7 @@ fn mixed(key: [u8; 32], bytes: &[u8]) -> [u8; 32]
     mixed
 }
 
-// The fault of a random source that fails.
+// Returns the fault of a random source that fails.
 fn random_fault(alloc: Global) -> CommandFault
     ensures { IsRandomFault result }
 {

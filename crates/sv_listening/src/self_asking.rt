@@ -12,8 +12,8 @@ use sv_program::CommandFault;
 use sv_run::EventHandler;
 use sv_streams::SystemClock;
 
-/// Listens at the port on this machine, 0 for any that is free, connects to it, asks for the root path by `HEAD`, serves that connection and no other, and
-/// gives the first line of the answer. No call waits for ever.
+/// Listens at the port on this machine, connects to it, sends a `HEAD` request for the root path, serves only this
+/// connection, and returns the first line of the response. Port 0 selects any free port. No call waits forever.
 ///
 /// # Errors
 /// [`CommandFault::Socket`] or [`CommandFault::NoMemory`].
@@ -38,7 +38,7 @@ pub fn own_answer<H: Net + Clock, R: EventHandler>(
     }
 }
 
-// A connection to the listener, which then waits for no other, and the address that it has.
+// Returns a connection to the listener and its address. The listener is then nonblocking.
 fn connected<H: Net>(host: &H, listener: &H::Listener) -> io::Result<(H::Stream, SocketAddr)> {
     let client = ask(host, listener.local_addr()?)?;
     let address = client.local_addr()?;

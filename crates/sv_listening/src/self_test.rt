@@ -1,4 +1,4 @@
-//! What the self-test asks, and what it reads of its answer.
+//! The request of the self-test, and the first line of its response.
 
 use crate::limits::{MAX_ANSWER_BYTES, SELF_TEST_SECONDS};
 use std::alloc::Global;
@@ -11,10 +11,11 @@ use std::time::Duration;
 pub const SELF_TEST_REQUEST: &str =
     "HEAD / HTTP/1.1\r\nHost: localhost\r\nConnection: close\r\n\r\n";
 
-/// A connection to this address, on which the request of the self-test was written. No call of it waits longer than [`SELF_TEST_SECONDS`].
+/// Connects to this address and writes the request of the self-test. No call of the connection waits longer than
+/// [`SELF_TEST_SECONDS`].
 ///
 /// # Errors
-/// The system's.
+/// The system's error.
 pub fn ask<H: Net>(host: &H, address: SocketAddr) -> io::Result<H::Stream> {
     let most = Duration::from_secs(SELF_TEST_SECONDS);
     let mut client = TcpStream::connect_timeout(host, &address, most)?;
@@ -25,11 +26,11 @@ pub fn ask<H: Net>(host: &H, address: SocketAddr) -> io::Result<H::Stream> {
     Ok(client)
 }
 
-/// The first line of what a stream gives until it ends, without the line feed and what is left of its CRLF; at most [`MAX_ANSWER_BYTES`] bytes
-/// are read.
+/// Reads a stream until it ends, at most [`MAX_ANSWER_BYTES`] bytes, and returns its first line without its line end. A
+/// line without a line end counts as empty.
 ///
 /// # Errors
-/// The stream's, or want of memory.
+/// The stream's error, or out of memory.
 pub fn first_line<R: Read + Drop>(alloc: Global, stream: R) -> io::Result<Vec<u8>> {
     let mut answer = Vec::new(alloc);
     stream.take(MAX_ANSWER_BYTES).read_to_end(&mut answer)?;

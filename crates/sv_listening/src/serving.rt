@@ -1,4 +1,4 @@
-//! A container over the connections of a listener.
+//! Serving the connections of a listener.
 
 use crate::socket_acceptor::SocketAcceptor;
 use std::alloc::Global;
@@ -9,12 +9,13 @@ use sv_run::EventHandler;
 use sv_streams::{Clock, Sink, write_all};
 use sv_text::{NoMemory, Text};
 
-/// Writes the line `listening PORT`, accepts so many connections of the listener one after another and serves each until it is over, and writes
-/// the line `served COUNT`. How long a connection may take is told by the host's clock that never goes back, the moments of its pieces by the other.
+/// Writes the line `listening PORT`, accepts `count` connections of the listener one after another, serves each until
+/// it ends, and writes the line `served COUNT`. The timeouts of a connection use the host's monotonic clock, and the
+/// times of its pieces use `clock`.
 ///
 /// # Errors
-/// [`ServeFault::Output`], [`ServeFault::NoMemory`], or [`ServeFault::Connection`] where no connection could be accepted or an event of one was refused
-/// otherwise than for memory.
+/// [`ServeFault::Output`], [`ServeFault::NoMemory`], or [`ServeFault::Connection`] if the listener has no address, no
+/// connection could be accepted, or an event was refused for another reason than memory.
 pub fn serve_on<N: OpenListener, H: std::time::Clock, R: EventHandler, C: Clock, O: Sink>(
     alloc: Global,
     listener: &N,

@@ -1,4 +1,4 @@
-//! A listener's connections.
+//! Accepting the connections of a listener.
 
 ghost use Rattle.std.specs.Prelude.{◌≡◌};
 
@@ -10,8 +10,8 @@ use std::net::{OpenListener, OpenStream};
 use std::time::Clock;
 use sv_connection::{AcceptFailed, Acceptor};
 
-/// What accepts the connections of a listener. An accept that was interrupted, or whose peer is gone already, is made again. Connections are read in
-/// parts, and behind its end each is read on for a while.
+/// Accepts the connections of a listener. An accept that was interrupted, or whose peer is already gone, is repeated.
+/// Connections are read in parts, and each is read on for a while after its end.
 #[derive(Clone, Copy)]
 pub struct SocketAcceptor<'a, N, H> {
     listener: &'a N,
@@ -19,7 +19,7 @@ pub struct SocketAcceptor<'a, N, H> {
 }
 
 impl<'a, N: OpenListener, H: Clock> SocketAcceptor<'a, N, H> {
-    /// What accepts the connections of this listener, by the time of a clock.
+    /// Creates an acceptor for this listener, by the time of a clock.
     pub fn new(listener: &'a N, clock: &'a H) -> SocketAcceptor<'a, N, H>
         ensures listener { result.listener ≡ listener.entry }
         ensures clock { result.clock ≡ clock.entry }
@@ -50,17 +50,17 @@ where
     }
 }
 
-/// Whether a further accept may give a connection.
+/// Returns whether another accept may give a connection.
 pub(crate) fn is_passing(kind: ErrorKind) -> bool {
     matches!(kind, ErrorKind::Interrupted | ErrorKind::ConnectionAborted)
 }
 
-/// The connection of a socket.
+/// Returns the connection of a socket.
 pub(crate) fn connection<T: Read + Write + OpenStream + Drop, H: Clock>(
     stream: T,
     clock: &H,
 ) -> PartStream<SocketStream<'_, T, H>> {
-    // An answer is written in one piece; where the system holds it back nevertheless, it is later and the same.
+    // A response is written in one piece. If the system still delays it, it arrives later and unchanged.
     let _ = stream.set_nodelay(true);
     PartStream::new(SocketStream::new(stream, clock))
 }

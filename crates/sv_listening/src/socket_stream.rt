@@ -1,4 +1,4 @@
-//! The stream of a socket, whose calls end in time.
+//! The stream of a socket, whose calls have timeouts.
 
 ghost use Rattle.std.specs.Prelude.{◌≡◌, ◌<◌, ◌≤◌, length, IfOk};
 ghost use Rattle.std.specs.Io.KnownBytes.{ReadConsumes, WriteAppends};
@@ -12,9 +12,11 @@ use std::net::OpenStream;
 use std::time::Clock;
 use sv_streams::{ReadFailed, Sink, Source, Stream, WriteFailed};
 
-/// The stream of a socket. A call fails where its connection has rested for [`SERVE_IDLE_SECONDS`](crate::SERVE_IDLE_SECONDS), and where of what comes or is
-/// sent less than [`BYTES_A_WINDOW`](sv_connection::BYTES_A_WINDOW) bytes moved within [`WINDOW_SECONDS`](sv_connection::WINDOW_SECONDS): of what comes from its first
-/// bytes on, and of what is sent from its first write on. A call that was interrupted is made again, and a write that takes nothing has failed.
+/// The stream of a socket. A call fails if its connection was idle for
+/// [`SERVE_IDLE_SECONDS`](crate::SERVE_IDLE_SECONDS), or if fewer than
+/// [`BYTES_A_WINDOW`](sv_connection::BYTES_A_WINDOW) bytes move within
+/// [`WINDOW_SECONDS`](sv_connection::WINDOW_SECONDS). The window of reads begins with the first bytes received, and
+/// that of writes with the first write. An interrupted call is repeated, and a write that takes nothing fails.
 #[derive(Drop)]
 pub struct SocketStream<'a, T, H> {
     stream: T,
@@ -23,7 +25,7 @@ pub struct SocketStream<'a, T, H> {
 }
 
 impl<'a, T: Read + Write + OpenStream, H: Clock> SocketStream<'a, T, H> {
-    /// The stream of this socket, by the time of a clock.
+    /// Creates the stream of this socket, by the time of a clock.
     pub fn new(stream: T, clock: &'a H) -> SocketStream<'a, T, H>
         ensures { result.stream ≡ stream }
     {
@@ -34,14 +36,14 @@ impl<'a, T: Read + Write + OpenStream, H: Clock> SocketStream<'a, T, H> {
         }
     }
 
-    /// Gives the socket up.
+    /// Returns the socket.
     pub fn into_stream(self) -> T
         ensures { result ≡ self.entry.stream }
     {
         self.stream
     }
 
-    // Reads once, if there is time.
+    // Reads once, if there is time left.
     fn try_read(&mut self, buffer: &mut [u8]) -> io::Result<usize>
         ensures within { IfOk result (λ count. count ≤ length buffer.new) }
         ensures room { length buffer.new ≡ length buffer.old }
@@ -56,7 +58,7 @@ impl<'a, T: Read + Write + OpenStream, H: Clock> SocketStream<'a, T, H> {
         Ok(count)
     }
 
-    // Writes once, if there is time.
+    // Writes once, if there is time left.
     fn try_write(&mut self, bytes: &[u8]) -> io::Result<usize>
         ensures within { IfOk result (λ count. count ≤ length bytes.now) }
         ensures bytes { WriteAppends (T.contents self.old.stream) (T.contents self.new.stream) result bytes.now }

@@ -1,4 +1,4 @@
-//! A port of this machine, and the faults of what listens there or is opened for it.
+//! A port of this machine, and the faults of commands that listen or open files.
 
 use std::alloc::Global;
 use std::io;
@@ -8,12 +8,12 @@ use sv_program::CommandFault;
 use sv_run::StepFault;
 use sv_text::{NoMemory, Text};
 
-/// Listens at the port for connections of this machine alone.
+/// Listens at the port, only for connections of this machine.
 pub(crate) fn listen<H: Net>(host: &H, port: u16) -> io::Result<H::Listener> {
     TcpListener::bind(host, (Ipv4Addr::LOCALHOST, port))
 }
 
-/// The fault of a command by that of its connections.
+/// Returns the fault of a command for a fault of its connections.
 pub(crate) fn fault_of(fault: ServeFault) -> CommandFault {
     match fault {
         ServeFault::Connection => CommandFault::Socket,
@@ -22,7 +22,7 @@ pub(crate) fn fault_of(fault: ServeFault) -> CommandFault {
     }
 }
 
-/// The fault of a file that cannot be had.
+/// Returns the fault for a file that cannot be used.
 pub(crate) fn file_fault(alloc: Global, name: &str) -> CommandFault {
     match Text::copy_of(alloc, name) {
         Ok(name) => CommandFault::File(name),
@@ -30,7 +30,7 @@ pub(crate) fn file_fault(alloc: Global, name: &str) -> CommandFault {
     }
 }
 
-/// The fault of a command by that of an event.
+/// Returns the fault of a command for a refused event.
 pub(crate) fn front_fault_of(fault: StepFault) -> CommandFault {
     match fault {
         StepFault::Stopped | StepFault::BadConnection | StepFault::TooManyConnections => {

@@ -1,23 +1,23 @@
-//! Time that never goes back.
+//! Monotonic time.
 
 use std::io;
 use std::io::ErrorKind;
 use std::time::{Clock, Duration};
 
-/// How many milliseconds are over since some beginning.
+/// Returns the number of milliseconds since some fixed point.
 ///
 /// # Errors
-/// The clock's.
+/// The clock's error.
 pub(crate) fn milliseconds<H: Clock>(clock: &H) -> io::Result<u64> {
     let time = clock.monotonic()?;
     let rest = u64::from(time.subsec_millis());
     Ok(time.as_secs().saturating_mul(1000).saturating_add(rest))
 }
 
-/// So many milliseconds.
+/// Returns this many milliseconds as a duration.
 ///
 /// # Errors
-/// There are none.
+/// `TimedOut` if there are none.
 pub(crate) fn time_left(milliseconds: u64) -> io::Result<Duration> {
     if milliseconds == 0 {
         return Err(io::Error::from(ErrorKind::TimedOut));
