@@ -22,7 +22,7 @@ use sv_script::{
 use sv_streams::{Clock, MemoryStream, Sink, Source, Stream};
 
 /// In every run of a started container, until memory runs out, a session holds a caller only by a login to it as that
-/// caller, which no later message has undone. So every caller has logged in (Jakarta Servlet 6.0, section 13.6.3).
+/// caller. No later message has undone that login. So every caller has logged in (Jakarta Servlet 6.0, section 13.6.3).
 pub fn callers_of_a_started_container_have_logged_in<S: Servlet, F: Filter, L: Listener, W: Words>()
     ensures { CallersOfAStartedContainerHaveLoggedIn (steps_of S.servlet_step F.filter_step L.listener_step) W.draws }
 {
