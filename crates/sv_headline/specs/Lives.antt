@@ -15,8 +15,8 @@ AltersInTurn {Context} moved_so (suc events) before after =
     (between : List Context) × AltersAll moved_so before between × AltersInTurn moved_so events between after
 
 module _ {S F L : Type 0} (moving : ComponentSteps S F L) where
-  -- only calls move the components of a context; a servlet that was gone before is not called; one that is gone after
-  -- them is destroyed, once and last; no other servlet is destroyed, and no filter is; their numbers stay the same
+  -- only calls move the components of a context; a servlet that was gone before is not called; one that becomes gone is
+  -- destroyed, once and last; no other servlet is destroyed, and no filter is; their numbers stay the same
   pub record Lives (before after : ContextState S F L) : Type 0 where
     pub made : List Record
     pub runs : IsRun moving (world_of before unnoted) made (world_of after unnoted)
@@ -31,7 +31,7 @@ module _ {S F L : Type 0} (moving : ComponentSteps S F L) where
   AllLive (context ∷ contexts) after =
       (last : ContextState S F L) × (others : List (ContextState S F L)) × Lives context last × AllLive contexts others × (after ≡ last ∷ others)
 
-  -- over any number of events, the components of each context live so
+  -- over any number of events, each context satisfies `Lives`
   abbrev pub ComponentsAreDestroyedOnce : Type 0
   ComponentsAreDestroyedOnce =
       (events : ℕ) (before after : List (ContextState S F L)) → AltersInTurn (conduct moving) events before after

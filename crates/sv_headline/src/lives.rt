@@ -6,10 +6,10 @@ ghost use Rattle.sv_headline.specs.Lives.{ComponentsAreDestroyedOnce};
 
 use sv_component::{Filter, Listener, Servlet};
 
-/// Over any number of events, accepted or refused, that each alter the contexts as a step of the container may, the
-/// components of each context are moved only by calls. A servlet that was gone before is not called. A servlet that is
-/// gone after the events is destroyed, once and last. No other servlet is destroyed, and no filter is (Jakarta Servlet
-/// 6.0, sections 2.3.3.2 and 2.3.4).
+/// Over any number of events, the components of each context are moved only by calls. An event may be accepted or
+/// refused, and alters the contexts as a step of the container may. A servlet that was gone before is not called. A
+/// servlet that becomes gone is destroyed, once and last. No other servlet is destroyed, and no filter is (Jakarta
+/// Servlet 6.0, sections 2.3.3.2 and 2.3.4).
 pub fn components_are_destroyed_once<S: Servlet, F: Filter, L: Listener>()
     ensures { ComponentsAreDestroyedOnce (steps_of S.servlet_step F.filter_step L.listener_step) }
 {}

@@ -23,8 +23,8 @@ pub fn requests_enter_exactly_where_allowed<S: Servlet, F: Filter, L: Listener, 
     sv_run::requests_enter_exactly_where_allowed::<Context<S, F, L>, W>();
 }
 
-/// Callers log in: over every list of events, until memory runs out, a session that holds a caller held it before, or got
-/// it by a login to it as that caller. No later message has undone that login (Jakarta Servlet 6.0, section 13.6.3).
+/// Over every list of events, until memory runs out, a session holds a new caller only by a login to it as that caller.
+/// No later message has undone that login (Jakarta Servlet 6.0, section 13.6.3).
 pub fn callers_logged_in<S: Servlet, F: Filter, L: Listener, W: Words>()
     ensures { CallersLoggedIn (theory (steps_of S.servlet_step F.filter_step L.listener_step) W.draws) }
 {

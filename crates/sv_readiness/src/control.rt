@@ -193,7 +193,7 @@ impl<'a> Control<'a> {
         }
     }
 
-    // Replies that the server stops. The client learns that it has stopped when the connection closes.
+    // Replies that the server stops. The client learns that the server has stopped when the connection closes.
     fn stop(&mut self, now: u64) {
         if let Some(stream) = self.asker.take() {
             let mut stream = stream;
