@@ -13,8 +13,8 @@ use sv_run::{Words, want_of_memory_stops};
 /// Every run over a list of events is lawful, until memory runs out:
 ///
 /// - A message goes to the context whose path serves its target.
-/// - There it enters exactly if its path is not hidden, it is no login post, and the constraints allow it. These are the
-///   current combined constraints, applied to its method, its path and the caller of its session (Jakarta Servlet
+/// - There it enters exactly if its path is not hidden, it is no login post, and the constraints allow it. These are
+///   the current combined constraints, applied to its method, its path and the caller of its session (Jakarta Servlet
 ///   6.0, section 13.8). The journal notes that it enters, and a dispatch of the request gives its response.
 /// - Every other message has a named cause. Its response is a redirect, an error, an error page or a page of form
 ///   login.
