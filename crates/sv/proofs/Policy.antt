@@ -1,4 +1,4 @@
--- What the command `policy` tells where there is no explanation.
+-- The fault of the command `policy` if there is no explanation.
 use Rattle.std.specs.Prelude.{MatchOption}
 use Rattle.std.proofs.Common.{◌≡◌, ℕ, List, Option, Err, refl, subst, sym}
 use Rattle.sv_explain.specs.Explanation as explained

@@ -1,4 +1,4 @@
--- What becomes of the commands of the program.
+-- The effects of the commands of the program.
 use Rattle.std.specs.Prelude.{◌≡◌, ℕ, List, Option, Result, Ok, Err}
 use Rattle.sv_application.specs.declared.program_filter.ProgramFilter.{ProgramFilter}
 use Rattle.sv_application.specs.declared.program_listener.ProgramListener.{ProgramListener}
@@ -18,7 +18,7 @@ use Rattle.sv_options.specs.declared.command.Command.{Command}
 use Rattle.sv_options.specs.declared.command.Command.TheVariants.{First, Policy, Uncovered, Replay, Serve, Run, SelfTest, Help, Version}
 use Rattle.sv.specs.declared.texts.TheConstants.{HELP, VERSION}
 
--- a fault of a server's files and folders, by what its store gives, is the command's
+-- a fault in reading a server's files and folders is the command's fault
 abbrev pub EndsByFiles : Result Configuration CommandFault → Result (Unit {0}) CommandFault → Type 0
 EndsByFiles (Ok configuration) result = Unit {0}
 EndsByFiles (Err fault) result = result ≡ Err fault
@@ -27,7 +27,7 @@ abbrev pub ReadsFiles : {S : Type 0} → Giving S → FolderGiving S → List �
 ReadsFiles gives_text gives_files config result before after =
     (found : Result Configuration CommandFault) × FindsConfiguration gives_text gives_files config found before after × EndsByFiles found result
 
--- the command sends no container an event
+-- the command sends no event to a container
 abbrev pub ServesNothing : Command → Type 0
 ServesNothing (Replay config) = ⊥
 ServesNothing (Serve service) = ⊥
@@ -36,8 +36,8 @@ ServesNothing (SelfTest config) = ⊥
 ServesNothing other = Unit {0}
 
 module _ (moving : ComponentSteps ProgramServlet ProgramFilter ProgramListener) where
-  -- what a run of the command answers, by what its store gives and its reader's known bytes, and adds to its writer's; what a container's events
-  -- write is told by the contracts of `replay`, `serve`, `run` and `self_test`
+  -- the result of a command and the bytes that it adds to its writer, by the store and the known bytes of its reader;
+  -- the contracts of `replay`, `serve`, `run` and `self_test` say what the events of a container write
   abbrev pub RunsCommand : {S : Type 0} → Giving S → FolderGiving S → Command → Result (Unit {0}) CommandFault → S → S → Option (List ℕ) → Option (List ℕ) → Option (List ℕ) → Type 0
   RunsCommand gives files (First deny_uncovered) result before after stream old new = (after ≡ before) × RunsFirst deny_uncovered result stream old new
   RunsCommand gives files (Policy question) result before after stream old new = RunsPolicy moving gives files question result before after old new

@@ -1,4 +1,4 @@
--- How the program ends by the fault of a command.
+-- The end of the program by the fault of a command.
 use Rattle.std.specs.Prelude.{◌≡◌, ℕ, List, Option, Some, None}
 use denote.Ref.{Bor}
 use Rattle.sv_fault_detail.specs.Detail.{IsDetail}
@@ -20,7 +20,7 @@ config_of (Run running) = Some running.config
 config_of (SelfTest config) = Some config
 config_of other = None
 
--- by the fault of the command, with the line for it; or by want of memory for that line
+-- the fault of the command with its detail line, or out of memory for that line
 abbrev pub TellsFault : Option (Bor (List ℕ)) → CommandFault → Ended → ProgramFault → Type 0
 TellsFault None fault ended program_fault.Usage = ⊥
 TellsFault None fault ended (program_fault.Command told) = (told ≡ fault) × (ended.detail ≡ None)

@@ -1,4 +1,4 @@
--- The command `policy`: what the container of a server says of a request.
+-- The command `policy`: explains what a server would do with a request.
 use Rattle.std.specs.Prelude.{◌≡◌, ℕ, List, [], ◌∷◌, ◌++◌, Option, Result, Ok, Err}
 use Rattle.std.specs.Option.{option_copied}
 use Rattle.sv_application.specs.declared.program_filter.ProgramFilter.{ProgramFilter}
@@ -25,7 +25,7 @@ use Rattle.sv_container.specs.SeededStart.{StartsWith}
 use Rattle.sv_run.specs.declared.seeded_words.SeededWords.{SeededWords}
 use Rattle.sv.specs.Printed.{Shows}
 
--- the command's fault where there is no explanation
+-- the command's fault if there is no explanation
 abbrev pub fault_of : ExplainFault → CommandFault
 fault_of explain.BadMethod = fault.Method
 fault_of explain.NoSuchUser = fault.User
@@ -36,23 +36,23 @@ abbrev pub line_of : explained.Answer → Step (List ℕ)
 line_of (Ok explanation) = Ok (explanation_text explanation ++ 10 ∷ [])
 line_of (Err found) = Err (fault_of found)
 
--- the line for contexts that are deployed so
+-- the line for these deployments
 abbrev pub policy_line : List ProgramDeployment → Question → Step (List ℕ)
 policy_line deployments question =
     line_of (explained.explanation (policies_of deployments) question.method.now question.target.now (option_copied question.user))
 
--- the line is written, or its fault told
+-- the line is written, or its fault is the result
 abbrev pub Ends : Step (List ℕ) → Result (Unit {0}) CommandFault → Option (List ℕ) → Option (List ℕ) → Type 0
 Ends (Ok line) result old new = Shows line result old new
 Ends (Err found) result old new = result ≡ Err found
 
--- the container that was started says the line, unless memory ran out, or why it did not start is told
+-- the started container gives the line, unless memory ran out; a start that failed gives its fault
 abbrev pub EndsBy : {A : Type 0} → Result A CommandFault → Step (List ℕ) → Result (Unit {0}) CommandFault → Option (List ℕ) → Option (List ℕ) → Type 0
 EndsBy (Ok container) line result old new = UnlessNoMemory result (Ends line result old new)
 EndsBy (Err found) line result old new = result ≡ Err found
 
 module _ (moving : ComponentSteps ProgramServlet ProgramFilter ProgramListener) where
-  -- a fault of the files is told; without one, what they configure is started and asked
+  -- a fault of the files is the result; without one, the configured container is started and asked
   abbrev pub GoesOn : Result Configuration CommandFault → Question → Result (Unit {0}) CommandFault → Option (List ℕ) → Option (List ℕ) → Type 0
   GoesOn (Ok configuration) question result old new =
       (begun : Result (Container ProgramServlet ProgramFilter ProgramListener SeededWords) CommandFault)
@@ -60,7 +60,7 @@ module _ (moving : ComponentSteps ProgramServlet ProgramFilter ProgramListener) 
       × EndsBy begun (policy_line configuration.deployments.items question) result old new
   GoesOn (Err found) question result old new = result ≡ Err found
 
-  -- the command's run, by what the store gives
+  -- a run of the command over its store
   abbrev pub RunsPolicy : {S : Type 0} → Giving S → FolderGiving S → Question → Result (Unit {0}) CommandFault → S → S → Option (List ℕ) → Option (List ℕ) → Type 0
   RunsPolicy gives_text gives_files question result before after old new =
       (found : Result Configuration CommandFault) × FindsConfiguration gives_text gives_files question.config.now found before after

@@ -1,4 +1,4 @@
--- What a command prints.
+-- The output of a command.
 use Rattle.std.specs.Prelude.{◌≡◌, ℕ, List, Option, Result, Ok, Err}
 use Rattle.std.specs.Io.KnownBytes.{Appends}
 use Rattle.sv_program.specs.declared.command_fault.CommandFault.{CommandFault}

@@ -15,7 +15,8 @@ abbrev pub program_status : ProgramFault → ℕ
 program_status Usage = 2
 program_status (Command fault) = status_of fault
 
--- the fault of arguments that could not be read, by the kind of the error: an argument that is not UTF-8 names no command
+-- the fault of arguments that could not be read, by the kind of the error: an argument that is not UTF-8 names no
+-- command
 abbrev pub arguments_fault : ErrorKind → ProgramFault
 arguments_fault OutOfMemory = Command NoMemory
 arguments_fault kind = Usage

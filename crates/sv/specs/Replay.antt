@@ -1,4 +1,4 @@
--- The command `replay`: a script over the container of a server.
+-- The command `replay`: runs a script over a server's container.
 use Rattle.std.specs.Prelude.{◌≡◌, ℕ, List, Result, Ok, Err}
 use Rattle.sv_application.specs.declared.program_filter.ProgramFilter.{ProgramFilter}
 use Rattle.sv_application.specs.declared.program_listener.ProgramListener.{ProgramListener}
@@ -16,7 +16,7 @@ use Rattle.sv_container.specs.declared.run_fault.RunFault.{RunFault}
 use Rattle.sv_container.specs.declared.run_fault.RunFault.TheVariants as run
 use Rattle.sv_streams.specs.Calls.{Making}
 
--- the command's fault by that of the run
+-- the command's fault for a fault of the run
 abbrev pub fault_of : RunFault → CommandFault
 fault_of (run.Script line) = fault.Script line
 fault_of (run.Start code context) = fault.Start (code_number code) context
@@ -29,7 +29,8 @@ ended (Ok done) = Ok done
 ended (Err found) = Err (fault_of found)
 
 module _ {I O : Type 0} (moving : ComponentSteps ProgramServlet ProgramFilter ProgramListener) (gives : Making I) (takes : Making O) where
-  -- a fault of the files is told, and nothing is read or written; without one, what they configure runs the script
+  -- a fault of the files is the result, and nothing is read or written; without one, the configured container runs the
+  -- script
   abbrev pub GoesOn : Result Configuration CommandFault → I → O → Result (Unit {0}) CommandFault → I → O → Type 0
   GoesOn (Ok configuration) script output result script_after output_after =
       (ending : Result (Unit {0}) RunFault)
@@ -37,7 +38,7 @@ module _ {I O : Type 0} (moving : ComponentSteps ProgramServlet ProgramFilter Pr
       × (result ≡ ended ending)
   GoesOn (Err found) script output result script_after output_after = (result ≡ Err found) × (script_after ≡ script) × (output_after ≡ output)
 
-  -- the script is run by what the store gives
+  -- a run of the command over its store
   abbrev pub RunsReplay : {S : Type 0} → Giving S → FolderGiving S → List ℕ → S → I → O → Result (Unit {0}) CommandFault → S → I → O → Type 0
   RunsReplay gives_text gives_files config before script output result after script_after output_after =
       (found : Result Configuration CommandFault) × FindsConfiguration gives_text gives_files config found before after

@@ -1,4 +1,4 @@
--- How the commands that listen begin.
+-- The beginning of the commands that listen.
 use Rattle.std.specs.Prelude.{◌≡◌, ℕ, List, Result, Ok, Err}
 use Rattle.sv_component.specs.Steps.{ComponentSteps}
 use Rattle.sv_application.specs.declared.program_filter.ProgramFilter.{ProgramFilter}
@@ -11,13 +11,13 @@ use Rattle.sv_listening.specs.declared.seeding.Seeding.{Seeding}
 use Rattle.sv.specs.ServerStart.{StartsServer}
 use Rattle.sv.specs.declared.server_start.StartedServer.{StartedServer}
 
--- where the server did not start, its fault is the command's, and nothing was written
+-- if the server did not start, its fault is the command's, and nothing was written
 abbrev pub UnlessStarted : {W : Type 0} → Result StartedServer CommandFault → Result (Unit {0}) CommandFault → W → W → Type 0
 UnlessStarted (Ok started) result writer writer_after = Unit {0}
 UnlessStarted (Err fault) result writer writer_after = (result ≡ Err fault) × (writer_after ≡ writer)
 
 module _ (moving : ComponentSteps ProgramServlet ProgramFilter ProgramListener) where
-  -- a command begins with the start of the server, with the random words of that seeding
+  -- a command begins with the start of the server, with the random words of this seeding
   abbrev pub BeginsWith : {S W : Type 0} → Giving S → FolderGiving S → Seeding → List ℕ → S → W → Result (Unit {0}) CommandFault → S → W → Type 0
   BeginsWith gives_text gives_files seeding config before writer result after writer_after =
       (begun : Result StartedServer CommandFault) × StartsServer moving gives_text gives_files seeding config before begun after

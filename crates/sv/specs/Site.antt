@@ -1,4 +1,4 @@
--- How a server runs by what the command `run` is asked.
+-- The settings of a server, from the options of the command `run`.
 use Rattle.std.specs.Prelude.{ℕ, ◌*◌, Bool, true, false, Option, None, Some}
 use Rattle.std.specs.Option.{unwrap_or}
 use Rattle.sv_connection.specs.declared.loop_limits.Limits.{Limits}
@@ -10,7 +10,7 @@ abbrev pub bytes_or : Option ℕ → ℕ → ℕ
 bytes_or (Some mebibytes) usual = mebibytes * 1048576
 bytes_or None usual = usual
 
--- the limits that are asked for; where nothing is said, 1,024 connections, 60 idle seconds and 64 mebibytes
+-- the limits of the options; the defaults are 1,024 connections, 60 idle seconds and 64 mebibytes
 abbrev pub limits_of : RunOptions → Limits
 limits_of options = record {
   connections = unwrap_or options.connections 1024;
@@ -18,7 +18,7 @@ limits_of options = record {
   held_bytes = bytes_or options.held_mebibytes 67108864;
 }
 
--- what its random words come of
+-- the seeding of the random words
 abbrev pub seeding_by : Bool → Seeding
 seeding_by true = Configured
 seeding_by false = Fresh

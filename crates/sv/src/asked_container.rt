@@ -1,4 +1,4 @@
-//! A container that is asked.
+//! A container that answers queries of the control socket.
 
 ghost use Rattle.std.specs.Option.{option_copied};
 ghost use Rattle.std.specs.Prelude.{◌++◌, codes};
@@ -22,18 +22,18 @@ use sv_run::{EventHandler, Happening, Reaction, StepFault, Words};
 use sv_text::{Bytes, NoMemory};
 use sv_wire::Awaited;
 
-/// A container that takes events, which are counted, and is asked what would become of requests by its constraints as they stand, what these leave
-/// uncovered, and how it stands.
+/// A container that counts its events and answers queries: what would happen to a request under its current
+/// constraints, which methods these leave uncovered, and what its status is.
 pub(crate) struct AskedContainer<S, F, L, W> {
     container: Container<S, F, L, W>,
-    // How many events were taken, also those that were refused: the greatest number stands for it and all above.
+    // The number of events taken, including refused ones. The count saturates.
     events: u64,
 }
 
 impl<S, F, L, W> AskedContainer<S, F, L, W> {
     ghost use Rattle.std.specs.Prelude.{◌≡◌};
 
-    /// Asks that one, which has taken no event yet.
+    /// Wraps a container that has taken no event yet.
     pub fn new(container: Container<S, F, L, W>) -> AskedContainer<S, F, L, W>
         ensures container { result.container ≡ container }
         ensures events { result.events ≡ 0 }
@@ -44,7 +44,7 @@ impl<S, F, L, W> AskedContainer<S, F, L, W> {
         }
     }
 
-    /// Gives the container back.
+    /// Returns the container.
     pub fn into_container(self) -> Container<S, F, L, W>
         ensures { result ≡ self.container }
     {
@@ -118,7 +118,7 @@ impl<S, F, L, W> Queries for AskedContainer<S, F, L, W> {
     }
 }
 
-// What the container says of a request.
+// Returns the line of the container's explanation of a request.
 fn answer_line<S, F, L, W>(
     alloc: Global,
     container: &Container<S, F, L, W>,

@@ -1,4 +1,4 @@
-//! What becomes of a command.
+//! Runs a command.
 
 ghost use Rattle.sv_component.specs.Steps.{steps_of};
 ghost use Rattle.std.specs.Prelude.{◌≡◌, ◌≢◌, IfErr};
@@ -24,8 +24,9 @@ use sv_options::{Command, RunOptions};
 use sv_program::{CommandFault, FileStore, first, print_text, uncovered};
 use sv_streams::{ReadSource, WriteSink};
 
-/// Runs the command over a store of files and folders, a poller with a clock, a source of random bytes, files to write and standard error, a reader and a writer: those of the
-/// system, or others in their place. Each command says what it reads and writes and what a fault leaves.
+/// Runs the command. Its parameters are a store of files and folders, a host with a network, a clock, random bytes,
+/// files and standard error, a reader and a writer. They are those of the system or substitutes. Each command
+/// documents what it reads and writes and what a fault leaves.
 pub fn carry_out<
     S: FileStore + FolderStore,
     H: Net + Clock + RandomSource + Files + Eprint,
@@ -59,7 +60,7 @@ pub fn carry_out<
     }
 }
 
-/// Replays what a reader gives, and writes to a writer.
+/// Replays the script from a reader, and writes the output to a writer.
 fn replay_streams<S: FileStore + FolderStore, R: Read + Drop, W: Write>(
     alloc: Global,
     store: &mut S,
@@ -74,7 +75,7 @@ fn replay_streams<S: FileStore + FolderStore, R: Read + Drop, W: Write>(
     replay(alloc, store, &mut script, &mut output, config)
 }
 
-/// Runs a server as it is asked.
+/// Runs a server with these options.
 fn run_asked<S: FileStore + FolderStore, H: Net + Clock + RandomSource + Files + Eprint, W: Write>(
     alloc: Global,
     store: &mut S,

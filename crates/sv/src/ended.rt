@@ -1,4 +1,4 @@
-//! How the program ended early: its fault, and the line behind it.
+//! The early end of the program: its fault and a detail line.
 
 ghost use Rattle.std.specs.Prelude.{◌≡◌, None};
 ghost use Rattle.sv.specs.Ended as spec;
@@ -10,17 +10,18 @@ use sv_options::Command;
 use sv_program::{CommandFault, FileStore};
 use sv_text::Text;
 
-/// How the program ended early.
+/// The early end of the program.
 #[derive(Drop)]
 pub struct Ended {
-    /// The fault. Where there was no memory for the line behind it, it is that.
+    /// The fault. If memory for the detail line ran out, it is [`CommandFault::NoMemory`].
     pub fault: ProgramFault,
-    /// The line behind that of a fault of a configuration file, without its end.
+    /// A second line that details a fault of a configuration file, without its line end.
     pub detail: Option<Text>,
 }
 
 impl Ended {
-    /// The end by a fault of the command. For a fault of a configuration file it asks the store for that file again.
+    /// Returns the end by a fault of the command. For a fault of a configuration file, reads that file again from the
+    /// store.
     pub fn of<S: FileStore>(
         alloc: Global,
         store: &mut S,
@@ -42,7 +43,7 @@ impl Ended {
     }
 }
 
-/// The name of the server file that the command names.
+/// Returns the name of the server file that the command names.
 fn config_of<'a>(command: &Command<'a>) -> Option<&'a str>
     ensures { result ≡ spec.config_of command.now }
 {

@@ -1,4 +1,4 @@
-//! The program `sv`: its arguments and the commands that they name, its standard streams and its exit status.
+//! The program `sv`: its arguments and commands, its standard streams and its exit status.
 #![tactic(auto)]
 
 mod asked_container;
@@ -31,7 +31,7 @@ fn main(rt: HostRuntime) -> ExitCode {
     match run(&rt) {
         Ok(()) => ExitCode::SUCCESS,
         Err(ended) => {
-            // Where standard error cannot be written, the exit status still tells the fault.
+            // If standard error cannot be written, the exit status still reports the fault.
             let _ = eprintln!(rt; "{}", ended.fault);
             if let Some(detail) = &ended.detail {
                 let _ = eprintln!(rt; "{detail}");
@@ -41,7 +41,8 @@ fn main(rt: HostRuntime) -> ExitCode {
     }
 }
 
-/// Runs the command that the arguments name. Arguments that cannot be read name none, and where there is no memory for them that is the fault.
+/// Runs the command that the arguments name. Arguments that cannot be read name no command; if memory ran out for them,
+/// that is the fault.
 fn run<
     R: Env
         + Files

@@ -1,4 +1,4 @@
-//! The command `policy`: what the container of a server says of a request.
+//! The command `policy`: explains what a server would do with a request.
 
 ghost use Rattle.sv_component.specs.Steps.{steps_of};
 ghost use Rattle.std.specs.Prelude.{◌≡◌, ◌≢◌, [], ◌∷◌, ◌++◌, IfErr};
@@ -21,13 +21,13 @@ use sv_deployments::{Configuration, FolderStore, read_deployments};
 use sv_options::Question;
 use sv_program::{CommandFault, FileStore, print_line};
 
-/// Reads the server file of the question and all that it names, starts a container with it, asks it what would become of the request, shuts it
-/// down, and writes the line of its answer.
+/// Reads the server file of the question and all files that it names, and starts a container with them. Asks the
+/// container what would happen to the request, shuts it down, and writes the line of the explanation.
 ///
 /// # Errors
-/// The first fault: those of [`read_deployments`]; then [`CommandFault::Start`]; then [`CommandFault::Method`]; then, for a target that has a
-/// context, [`CommandFault::User`]; or [`CommandFault::NoMemory`]. After [`CommandFault::Output`] a part of the line may have been written, after any
-/// other fault none.
+/// The first fault: those of [`read_deployments`]; then [`CommandFault::Start`]; then [`CommandFault::Method`]; then,
+/// for a target that has a context, [`CommandFault::User`]; or [`CommandFault::NoMemory`]. After
+/// [`CommandFault::Output`] a part of the line may have been written; after any other fault, nothing.
 pub fn policy<S: FileStore + FolderStore, W: Write>(
     alloc: Global,
     store: &mut S,
@@ -53,7 +53,7 @@ pub fn policy<S: FileStore + FolderStore, W: Write>(
     }
 }
 
-// Writes what the container says of the question, and shuts it down.
+// Writes the container's explanation, and shuts the container down.
 fn answer<S: Servlet, F: Filter, L: Listener, D: Drop, W: Write>(
     alloc: Global,
     container: Container<S, F, L, D>,

@@ -1,4 +1,4 @@
-//! Why the program ended early: its line on standard error and its exit status.
+//! The reasons why the program ends early, each with its line on standard error and its exit status.
 
 ghost use Rattle.std.specs.Prelude.{◌≡◌, Some};
 ghost use Rattle.std.specs.IoError.{error_kind};
@@ -18,7 +18,8 @@ pub enum ProgramFault {
 }
 
 impl ProgramFault {
-    /// The fault of arguments that could not be read: want of memory where that was the error, else that they name no command.
+    /// Returns the fault of arguments that could not be read: out of memory if that was the error, and otherwise
+    /// [`ProgramFault::Usage`].
     pub fn of_arguments(error: io::Error) -> ProgramFault
         ensures { result ≡ arguments_fault (error_kind error) }
     {
@@ -28,7 +29,7 @@ impl ProgramFault {
         }
     }
 
-    /// The exit status of the program that ends with this fault.
+    /// Returns the exit status of the program that ends with this fault.
     pub fn status(&self) -> u8
         ensures { result ≡ program_status self.now }
     {

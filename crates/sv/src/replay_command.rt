@@ -1,4 +1,4 @@
-//! The command `replay`: a script over a server's container.
+//! The command `replay`: runs a script over a server's container.
 
 ghost use Rattle.sv_component.specs.Steps.{steps_of};
 ghost use Rattle.std.specs.Prelude.{◌≡◌};
@@ -12,12 +12,13 @@ use sv_deployments::{FolderStore, read_deployments};
 use sv_program::{CommandFault, FileStore};
 use sv_streams::{Sink, Source};
 
-/// Reads the server file of this name and all that it names, starts a container with it, replays the script over it, and stops it. What is written
-/// is what `run_script` writes; where the files have a fault nothing is read of the script, and nothing is written.
+/// Reads the server file of this name and all files that it names, and starts a container with them. Replays the
+/// script over it and stops it. The output is that of [`run_script`]. If the files have a fault, the script is not
+/// read and nothing is written.
 ///
 /// # Errors
-/// The first fault: those of [`read_deployments`]; then [`CommandFault::Start`]; then [`CommandFault::Script`], [`CommandFault::Output`] or
-/// [`CommandFault::NoMemory`] as the run meets them.
+/// The first fault: those of [`read_deployments`]; then [`CommandFault::Start`]; then [`CommandFault::Script`],
+/// [`CommandFault::Output`] or [`CommandFault::NoMemory`] as the run meets them.
 pub fn replay<S: FileStore + FolderStore, I: Source, O: Sink>(
     alloc: Global,
     store: &mut S,
@@ -38,7 +39,7 @@ pub fn replay<S: FileStore + FolderStore, I: Source, O: Sink>(
     }
 }
 
-// The command's fault by that of the run.
+// Returns the command's fault for a fault of the run.
 fn fault_of(fault: RunFault) -> CommandFault
     ensures { result ≡ spec.fault_of fault }
 {

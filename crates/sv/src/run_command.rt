@@ -1,4 +1,4 @@
-//! The command `run`: a server's container over many connections at once.
+//! The command `run`: serves a server's container over many connections at once.
 
 ghost use Rattle.sv_component.specs.Steps.{steps_of};
 ghost use Rattle.sv.specs.Serving.{BeginsWith};
@@ -18,14 +18,16 @@ use sv_deployments::FolderStore;
 use sv_listening::{Seeding, run_plainly, run_recorded};
 use sv_program::{CommandFault, FileStore};
 
-/// Starts the container of the server file with the random words of that seeding, listens at the address, or at the server file's port on this
-/// machine where none is given, writes the line `listening ADDRESS:PORT`, serves all connections that come within these limits, none waiting for
-/// another, until the process is ended from outside, or is told to stop at the socket file, where one is named, and shuts the container down, also where
-/// something failed before. Where a journal is named, what the events bring is appended to that file.
+/// Starts the container of the server file with the random words of this seeding, and listens at the address. The
+/// default address is 127.0.0.1 with the server file's port. Writes the line `listening ADDRESS:PORT`, and serves all
+/// connections within these limits, none waiting for another. This ends when the control socket, if one is named,
+/// receives `stop`, or when the process is ended from outside. Shuts the container down, even after a fault. If a
+/// journal is named, appends the effects of the events to that file.
 ///
 /// # Errors
-/// The first fault: those of [`start_server`], when nothing was written; then [`CommandFault::File`] for a journal or a socket file that cannot be had; then
-/// [`CommandFault::Socket`], [`CommandFault::Output`] or [`CommandFault::NoMemory`] as the run meets them.
+/// The first fault: those of [`start_server`], with nothing written; then [`CommandFault::File`] if a journal or a
+/// control socket cannot be opened; then [`CommandFault::Socket`], [`CommandFault::Output`] or
+/// [`CommandFault::NoMemory`] as the run meets them.
 pub fn run<S: FileStore + FolderStore, H: Net + Clock + RandomSource + Files + Eprint, W: Write>(
     alloc: Global,
     store: &mut S,
@@ -57,7 +59,7 @@ pub fn run<S: FileStore + FolderStore, H: Net + Clock + RandomSource + Files + E
     served
 }
 
-// The address, or the port on this machine.
+// Returns the address, or 127.0.0.1 with this port if none is given.
 fn address_or(address: Option<SocketAddr>, port: u16) -> SocketAddr {
     address.unwrap_or(SocketAddr::new(IpAddr::V4(Ipv4Addr::LOCALHOST), port))
 }

@@ -1,4 +1,4 @@
-//! The command `selftest`: a server's container asked by the program itself.
+//! The command `selftest`: the program sends a request to its own server.
 
 ghost use Rattle.sv_component.specs.Steps.{steps_of};
 ghost use Rattle.sv.specs.Serving.{BeginsWith};
@@ -17,13 +17,13 @@ use sv_deployments::FolderStore;
 use sv_listening::{Seeding, own_answer};
 use sv_program::{CommandFault, FileStore};
 
-/// Starts the container of the server file, listens at its port on this machine, connects to it, asks for the root path by `HEAD`, serves that
-/// connection and no other, shuts the container down, and writes the line `selftest ` with the first line of the answer behind it. No call waits for
-/// ever.
+/// Starts the container of the server file, listens at its port on 127.0.0.1 and connects to it. Requests the root
+/// path by `HEAD`, and serves only that connection. Shuts the container down, and writes the line `selftest ` followed
+/// by the first line of the response. No call blocks forever.
 ///
 /// # Errors
-/// The first fault: those of [`start_server`]; then [`CommandFault::Socket`] or [`CommandFault::NoMemory`], when nothing was written; then
-/// [`CommandFault::Output`].
+/// The first fault: those of [`start_server`]; then [`CommandFault::Socket`] or [`CommandFault::NoMemory`], with
+/// nothing written; then [`CommandFault::Output`].
 pub fn self_test<S: FileStore + FolderStore, H: Net + Clock + RandomSource, W: Write>(
     alloc: Global,
     store: &mut S,

@@ -1,4 +1,4 @@
-//! The command `serve`: a server's container over connections that come one after another.
+//! The command `serve`: serves a server's container over connections, one after another.
 
 ghost use Rattle.sv_component.specs.Steps.{steps_of};
 ghost use Rattle.sv.specs.Serving.{BeginsWith};
@@ -16,12 +16,13 @@ use sv_deployments::FolderStore;
 use sv_listening::{Seeding, listen_and_serve};
 use sv_program::{CommandFault, FileStore};
 
-/// Starts the container of the server file, listens at its port on this machine, writes the line `listening PORT`, serves so many connections one
-/// after another, writes the line `served COUNT`, and shuts the container down, also where something failed before.
+/// Starts the container of the server file, listens at its port on 127.0.0.1, and writes the line `listening PORT`.
+/// Serves `count` connections one after another, and writes the line `served COUNT`. Shuts the container down, even
+/// after a fault.
 ///
 /// # Errors
-/// The first fault: those of [`start_server`], when nothing was written; then [`CommandFault::Socket`], [`CommandFault::Output`] or
-/// [`CommandFault::NoMemory`] as the run meets them.
+/// The first fault: those of [`start_server`], with nothing written; then [`CommandFault::Socket`],
+/// [`CommandFault::Output`] or [`CommandFault::NoMemory`] as the run meets them.
 pub fn serve<S: FileStore + FolderStore, H: Net + Clock + RandomSource, W: Write>(
     alloc: Global,
     store: &mut S,

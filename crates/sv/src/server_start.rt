@@ -1,4 +1,4 @@
-//! The start of a server's container, by the files of its configuration.
+//! Starts a server's container from its configuration files.
 
 ghost use Rattle.sv_component.specs.Steps.{steps_of};
 ghost use Rattle.sv.specs.ServerStart as spec;
@@ -13,7 +13,7 @@ use sv_listening::{Seeding, seed_for};
 use sv_program::{CommandFault, FileStore};
 use sv_run::SeededWords;
 
-/// A container whose components are of the program's own classes, and whose random words are those of a seed.
+/// A container whose components are of the program's own classes, and whose random words come from a seed.
 pub(crate) type ProgramContainer = Container<
     ProgramServlet,
     ProgramFilter,
@@ -21,19 +21,20 @@ pub(crate) type ProgramContainer = Container<
     SeededWords,
 >;
 
-/// A server's container, which has started. Who has one stops it.
+/// A started container of a server. The owner must stop it.
 pub(crate) struct StartedServer {
-    /// The port, 0 for any that is free.
+    /// The port. 0 selects any free port.
     pub port: u16,
     /// The container.
     pub container: ProgramContainer,
 }
 
-/// Reads the server file of this name and all that it names, and starts a container with it and the random words of that seeding.
+/// Reads the server file of this name and all files that it names, and starts a container with them and the random
+/// words of this seeding.
 ///
 /// # Errors
-/// The first fault: those of [`read_deployments`]; then those of [`seed_for`]; then [`CommandFault::Start`], where the contexts that had started are
-/// stopped; or [`CommandFault::NoMemory`].
+/// The first fault: those of [`read_deployments`]; then those of [`seed_for`]; then [`CommandFault::Start`], with the
+/// contexts that had started stopped again; or [`CommandFault::NoMemory`].
 pub(crate) fn start_server<S: FileStore + FolderStore, H: RandomSource>(
     alloc: Global,
     store: &mut S,

@@ -1,4 +1,4 @@
-//! How a server runs by what the command `run` is asked.
+//! The settings of a server, from the options of the command `run`.
 
 ghost use Rattle.std.specs.Prelude.{◌≡◌};
 ghost use Rattle.std.specs.Option.{unwrap_or};
@@ -8,10 +8,10 @@ use sv_connection::Limits;
 use sv_listening::Seeding;
 use sv_options::RunOptions;
 
-/// How many bytes a mebibyte is.
+/// The number of bytes in a mebibyte.
 const MEBIBYTE: u64 = 1_048_576;
 
-/// The limits of a site: those that it is asked to keep, and the usual ones in place of those that it is not asked of.
+/// Returns the limits of the options, with the standard limits as defaults.
 pub fn limits_of(options: &RunOptions<'_>) -> Limits
     ensures { result ≡ spec.limits_of options.now }
 {
@@ -23,7 +23,7 @@ pub fn limits_of(options: &RunOptions<'_>) -> Limits
     }
 }
 
-/// What random words come of.
+/// Returns the seeding of the random words.
 pub fn seeding_by(same_seed: bool) -> Seeding
     ensures { result ≡ spec.seeding_by same_seed }
 {

@@ -1,4 +1,4 @@
-//! What contexts leave uncovered, and how they stand.
+//! The uncovered methods of contexts, and their status.
 
 ghost use Rattle.std.specs.Prelude.{◌≡◌, ◌++◌, codes, flat_map, IfOk, OnOk};
 ghost use Rattle.std.specs.Fmt.{decimal};
@@ -15,7 +15,8 @@ use sv_program::gap_lines;
 use sv_text::{Bytes, NoMemory, Text};
 use sv_uri::shown_context;
 
-/// A line for each pattern of a context at which its constraints leave methods uncovered, as they stand, the contexts in their order.
+/// Returns a line for each pattern of a context at which its current constraints leave methods uncovered. The contexts
+/// are in their order.
 ///
 /// # Errors
 /// Memory ran out.
@@ -33,7 +34,7 @@ pub(crate) fn uncovered_of<S, F, L>(
     Ok(Bytes::from_vec(lines.into_bytes()))
 }
 
-// The lines of a context.
+// Returns the lines of one context.
 fn context_gaps<S, F, L>(alloc: Global, context: &Context<S, F, L>) -> Result<Text, NoMemory>
     ensures { GivesAnswer result (spec.context_gaps_text context.now) }
 {
@@ -41,7 +42,8 @@ fn context_gaps<S, F, L>(alloc: Global, context: &Context<S, F, L>) -> Result<Te
     gap_lines(alloc, context.context_path(), gaps.as_slice())
 }
 
-/// How many events were taken, and how many sessions of each context live, the contexts in their order.
+/// Returns the number of events taken and the number of live sessions of each context. The contexts are in their
+/// order.
 ///
 /// # Errors
 /// Memory ran out.
@@ -57,14 +59,14 @@ pub(crate) fn standing_of<S, F, L>(
     Ok(Bytes::from_vec(text.into_bytes()))
 }
 
-// The words before those of the contexts.
+// Returns the words before those of the contexts.
 fn events_text(alloc: Global, events: u64) -> Result<String, AllocError>
     ensures { IfOk result (λ text. string_bytes text ≡ codes " events " ++ decimal events ++ codes " sessions") }
 {
     format!(in alloc; " events {events} sessions")
 }
 
-// How many sessions of each context live.
+// Appends the number of live sessions of each context.
 fn push_sessions<S, F, L>(
     alloc: Global,
     text: &mut String,
@@ -79,7 +81,7 @@ fn push_sessions<S, F, L>(
     Ok(())
 }
 
-// A context's count behind its path.
+// Appends a context's path and count.
 fn push_count(text: &mut String, path: &str, count: &str) -> Result<(), NoMemory>
     ensures { OnOk result (string_bytes text.new ≡ string_bytes text.old ++ codes " " ++ shown_context path.now ++ count.now) }
 {
@@ -89,7 +91,7 @@ fn push_count(text: &mut String, path: &str, count: &str) -> Result<(), NoMemory
     Ok(())
 }
 
-// A count behind its sign.
+// Returns a count with the sign before it.
 fn count_text(alloc: Global, count: usize) -> Result<String, AllocError>
     ensures { IfOk result (λ text. string_bytes text ≡ codes "=" ++ decimal count) }
 {

@@ -1,6 +1,6 @@
-//! What the program says of itself.
+//! The help and version texts of the program.
 
-/// The usage of each command, and below it what the command does: what `help` prints.
+/// The output of `help`: the usage of each command, followed by a description.
 pub const HELP: &str = "\
 sv first [deny]
     decides by an example policy on the first request on standard input
@@ -29,7 +29,8 @@ sv version
     tells the version, and what proved it
 ";
 
-/// The program's name and version, and the toolchain that proves it, as `rt version` names it: what `version` prints.
+/// The output of `version`: the program's name and version, and the toolchain that proves it. The toolchain is named
+/// as `rt version` prints it.
 pub const VERSION: &str = "\
 sv 0.1.0
 proved by rattle-kit-13f logic dac8208d650f15bf

@@ -1,4 +1,4 @@
--- What becomes of the sessions before a message is answered are calls on them, of which a login's alone enters a caller.
+-- Until a message is answered, only calls change the sessions, and only the calls of a login enter a caller.
 use Rattle.std.proofs.Common.{◌≡◌, ◌⊎◌, ℕ, ◌+◌, Bool, true, false, cond, not, List, [], ◌∷◌, ◌++◌, length, eqb, arith, refl, sym, ap, ◌∙◌, subst, inl, inr, Option, None, Some}
 use Rattle.std.specs.List.{AllByRecursion}
 use Rattle.std.specs.Option.{option_map, option_map_or}
@@ -37,18 +37,18 @@ none_from_length : (faults : List SessionFault) → not (eqb (length faults) 0) 
 none_from_length [] h = refl
 none_from_length (fault ∷ faults) h = let none = eqb-true (length (fault ∷ faults)) 0 (not-false _ h) in absurd (omega (arith, none))
 
--- only such callers are entered
+-- a call enters only callers that `May` allows
 abbrev pub EntersOnly : (ℕ → ℕ → Type 0) → Call → Type 0
 EntersOnly May (EnterCaller number (Some caller)) = May number caller
 EntersOnly May call = Unit {0}
 
--- the one store is what such calls leave of the other
+-- one store results from the other by such calls
 pub record IsLeft (May : ℕ → ℕ → Type 0) (before after : Store) : Type 0 where
   pub calls : List Call
   pub enter : AllByRecursion (EntersOnly May) calls
   pub is : after ≡ left_after calls before
 
--- whoever holds a caller then held it before, or it was entered
+-- a caller that is held afterwards was held before, or was entered
 pub left_holds : (May : ℕ → ℕ → Type 0) → CallersAreEntered → (number caller : ℕ) (calls : List Call) (store : Store) → AllByRecursion (EntersOnly May) calls
     → HoldsCaller number caller (left_after calls store) → HoldsCaller number caller store ⊎ May number caller
 left_holds May law number caller [] store enter holds = inl holds
@@ -57,7 +57,7 @@ left_holds May law number caller (call ∷ calls) store enter holds = elim (left
   | inr may ↦ inr may
 ]
 
--- order stays
+-- calls keep the order
 pub left_orderly : CallsLeaveOrder → (calls : List Call) (store : Store) → IsOrderly store → IsOrderly (left_after calls store)
 left_orderly law [] store orderly = orderly
 left_orderly law (call ∷ calls) store orderly = left_orderly law calls (left_by call store) (law call store orderly)
@@ -92,7 +92,7 @@ module _ (May : ℕ → ℕ → Type 0) where
   left_by_opening words moment store none =
       left_once (Open words moment) store (opened words moment store) tt (no_fault (opening_faults store) (opened words moment store) store none)
 
-  -- a session for a login
+  -- a new or renamed session for a login
   left_with_session : (words : ℕ × ℕ) (moment : ℕ) (store : Store) (found : Option ℕ)
       → option_map_or (λ at. renaming_faults at store) found (opening_faults store) ≡ []
       → IsLeft May store (option_map_or (λ at. renamed at words store) found (opened words moment store))
@@ -146,7 +146,7 @@ module _ (May : ℕ → ℕ → Type 0) where
     left_by_settling context_path session (outcomes.NoLogin why) store = left_same store store refl
     left_by_settling context_path session (outcomes.Denied why) store = left_same store store refl
 
-  -- the first row of a login step whose test holds, or else the last
+  -- the first row of a login step whose test holds, or the last if none does
   first_left : (Left : LoginOutcome × Store → Type 0) (one two three : Bool) (first second third last : LoginOutcome × Store)
       → Left first → Left second → Left third → (three ≡ false → Left last) → Left (cond one first (cond two second (cond three third last)))
   first_left Left true two three first second third last its_first its_second its_third its_last = its_first
@@ -154,7 +154,7 @@ module _ (May : ℕ → ℕ → Type 0) where
   first_left Left false false true first second third last its_first its_second its_third its_last = its_third
   first_left Left false false false first second third last its_first its_second its_third its_last = its_last refl
 
-  -- a login step enters the user who was sent where it passes, in the session that it names
+  -- a login step enters only the user who was sent, in the session that it names, and only if it passes
   abbrev Steps : Option ℕ → Store → LoginOutcome × Store → Type 0
   Steps sent store step =
       ((number caller : ℕ) (target : Option (List ℕ)) → step.0 ≡ Passed number target → sent ≡ Some caller → May number caller) → IsLeft May store step.1
@@ -169,7 +169,7 @@ module _ (May : ℕ → ℕ → Type 0) where
       (λ has may. left_logged_in sent held words moment store (none_from_length (session_faults held store) has)
       (λ caller is. may (session_number held store) caller (saved_target held words moment store) refl is))
 
--- the message is a login on the session of that number, as the user whose name and password it sends
+-- the message is a login to the session with this number, as the user whose name and password it sends
 abbrev pub IsLoginAs : Outcome → Option ℕ → ℕ → ℕ → Type 0
 IsLoginAs found sent number caller = (target : Option (List ℕ)) × (found ≡ outcomes.LoggedIn number target) × (sent ≡ Some caller)
 

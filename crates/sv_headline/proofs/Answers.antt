@@ -1,4 +1,4 @@
--- The answer to a message moves the sessions as components may.
+-- The response to a message moves the sessions as components may.
 use Rattle.std.proofs.Common.{ℕ, List, inl, inr, Option, None, Some}
 use Rattle.std.specs.Prelude.{codes}
 use Rattle.sv_admission.specs.declared.answer.Answer.{Answer}

@@ -1,4 +1,5 @@
--- What a start leaves of its components: each place was initialised at most once, a servlet is gone exactly where it was not, and each filter was.
+-- The components after a start: each place was initialized at most once, a servlet is gone exactly if it was not
+-- initialized, and every filter was initialized.
 use Rattle.std.proofs.Common.{◌≡◌, ℕ, zero, suc, ◌+◌, ◌<◌, ◌≤◌, Bool, true, false, eqb, List, [], ◌∷◌, ◌++◌, length, map, refl, sym, ◌∙◌, ap, ap₂, subst, append-nil, arith}
 use Rattle.std.specs.Prelude.{◌||◌, not, if◌then◌else◌}
 use Rattle.std.specs.List.{AllByRecursion, IsDistinct, filter, list_any, range_with_len}
@@ -27,7 +28,7 @@ use Rattle.sv_live.specs.declared.place.Place.TheVariants.{Filter, Servlet}
 use Rattle.sv_headline.specs.Ends.{is_at}
 use Rattle.sv_headline.proofs.Ending.{IsOnce, flips, left_false, none_more, once_more, right_false}
 
--- ---- the order of the inits names no place twice, and each place that there is
+-- ---- the order of initialization contains each existing place once
 range_apart : (at from count : ℕ) → at < from → AllByRecursion (λ other. eqb at other ≡ false) (range_with_len from count)
 range_apart at from zero less = tt
 range_apart at from (suc count) less = (grind (arith, nat_tests, less), range_apart at (from + 1) count (omega (arith, less)))
@@ -84,7 +85,7 @@ module _ (test : Place → Bool) (its : ℕ → Place) (is : (other : ℕ) → t
     once_before others places once.1,
   )
 
--- ---- what was initialised, of what was begun
+-- ---- the initialized places among those that were begun
 begun_more : (ready : Bool) (answered : Answered) (begun : List Answered)
     → places_of (if ready then answered ∷ begun else begun) ≡ (if ready then answered.place ∷ places_of begun else places_of begun)
 begun_more true answered begun = refl
@@ -122,7 +123,7 @@ once_initialised test (answered ∷ begun) once =
 abbrev GoesOn : Answered → Type 0
 GoesOn answered = lets_go_on answered.place answered.answer ≡ true
 
--- a filter that was begun was initialised
+-- a filter that was begun was initialized
 ready_more : (filter : ℕ) (place : Place) (answer : Init) (ready begun : Bool) → lets_go_on place answer ≡ true → ready ≡ begun
     → (if is_ready answer then is_at (Filter filter) place || ready else ready) ≡ (is_at (Filter filter) place || begun)
 ready_more filter place Ready ready begun goes same = ap (λ behind. is_at (Filter filter) place || behind) same
@@ -139,7 +140,7 @@ filters_ready filter (answered ∷ begun) goes =
     ∙ ready_more filter answered.place answered.answer (list_any (is_at (Filter filter)) (initialised begun)) (list_any (is_at (Filter filter)) (places_of begun))
     goes.0 (filters_ready filter begun goes.1)
 
--- a servlet that was begun was initialised or is out, and not both
+-- a servlet that was begun was either initialized or is out of service; one that was not begun is neither
 abbrev IsEither : Bool → Bool → Bool → Type 0
 IsEither begun ready out = (begun ≡ false → (ready ≡ false) × (out ≡ false)) × (begun ≡ true → out ≡ not ready)
 
@@ -176,14 +177,14 @@ either_of servlet (answered ∷ begun) goes once =
     (list_any (is_at (Servlet servlet)) (initialised begun)) (list_any (λ other. is_out servlet other.place other.answer) begun)
     goes.0 once.0 (either_of servlet begun goes.1 once.1))
 
--- ---- right behind a start
--- so many servlets and filters, of which these were initialised, and how the servlets stand
+-- ---- just after a start
+-- these many servlets and filters, the places that were initialized, and the standings of the servlets
 pub record AreStarted (initialised : List Place) (standings : List Standing) (servlet_count filter_count : ℕ) : Type 0 where
   pub once : (place : Place) → IsOnce (is_at place) initialised
   pub servlets : (place : ℕ) → place < servlet_count → gone_at place standings ≡ not (list_any (is_at (Servlet place)) initialised)
   pub filters : (place : ℕ) → place < filter_count → list_any (is_at (Filter place)) initialised ≡ true
 
--- whether a servlet is gone whose init said so
+-- a servlet is gone exactly if it was not initialized
 gone_if : (out ready : Bool) → out ≡ not ready → is_gone (if out then Gone else Serving) ≡ not ready
 gone_if true ready is = is
 gone_if false ready is = is

@@ -1,4 +1,4 @@
--- What a script prints whose run memory cut, of our contexts.
+-- The output of a script whose run ends out of memory, for our contexts.
 use Rattle.std.proofs.Common.{◌≡◌, ◌⊎◌, ℕ, List, Result, Ok, Err, refl, inl, inr, subst}
 use Rattle.sv_component.specs.Steps.{ComponentSteps}
 use Rattle.sv_headline.specs.Until.{EveryRunIsLawfulUntilRefused}
@@ -27,7 +27,7 @@ use Rattle.sv_streams.specs.Calls.{Making}
 use Rattle.sv_run.specs.declared.counted_words.CountedWords.{CountedWords}
 use Rattle.sv_headline.proofs.Printing.{like}
 
--- want of memory ends a run where it ended the replay
+-- a run ends out of memory only if its replay does
 wants_memory : (ended : Result (Unit {0}) ReplayFault) → Err NoMemory ≡ ended_by ended → ended ≡ Err replays.NoMemory
 wants_memory (Ok done) same = absurd (cc)
 wants_memory (Err (replays.Script line)) same = absurd (cc)
@@ -35,7 +35,7 @@ wants_memory (Err replays.Output) same = absurd (cc)
 wants_memory (Err replays.NoMemory) same = refl
 
 module _ {O : Type 0} (takes : Making O) (context : List ℕ) (started : JournalState) (output output_after : O) where
-  -- where the start was refused for another cause, memory was refused to its text
+  -- if the start was refused for another cause, memory ran out when its text was printed, and the output is unchanged
   unprinted : (its_code : NewCode) (printed : Result (Unit {0}) ReplayFault) → PrintsOf takes start_text started output printed output_after
       → Err NoMemory ≡ refused_by its_code context printed → output_after ≡ output
   unprinted its_code (Ok done) prints same = absurd (cc)

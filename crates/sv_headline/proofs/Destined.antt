@@ -1,4 +1,4 @@
--- Each message goes where its target says, by the paths of the contexts, which nothing changes.
+-- Each message goes to the destination of its target, by the context paths, which nothing changes.
 use Rattle.std.proofs.Common.{◌≡◌, ℕ, ◌+◌, zero, suc, Bool, cond, false, inl, inr, List, [], ◌∷◌, ◌++◌, map, Option, None, Some, Result, Ok, Err, refl, sym, ap, ◌∙◌, subst, slice_get, slice_set}
 use Rattle.std.specs.List.{AllByRecursion, position, position_from}
 use Rattle.std.proofs.lemmas.Iterator.Adapters.{position_from-zero}
@@ -33,7 +33,7 @@ from_map test f place (x ∷ xs) = ap (cond (test (f x)) (Some place)) (from_map
 by_map : {X Y : Type 0} (test : Y → Bool) (f : X → Y) (xs : List X) → position test (map f xs) ≡ position (λ x. test (f x)) xs
 by_map test f xs = position_from-zero test (map f xs) ∙ from_map test f 0 xs ∙ sym (position_from-zero (λ x. test (f x)) xs)
 
--- a list of which one item has changed, but not what is seen of it
+-- if one item of a list changes but its image does not, the images of the list stay the same
 seen_same : {X Y : Type 0} (f : X → Y) (xs : List X) (place : ℕ) (old new : X) → slice_get xs place ≡ Some old → f new ≡ f old
     → map f (slice_set xs place new) ≡ map f xs
 seen_same f [] place old new there same = absurd (cc)
@@ -54,7 +54,7 @@ module _ {Context Words : Type 0} (theory : Theory Context Words) (alone : Edits
           ∙ ap (λ paths. position (is_chosen paths path) paths) same
           ∙ by_map (is_chosen (map theory.path_of one) path) theory.path_of one
 
-  -- what became of messages is as their targets say, and the paths stay
+  -- each message went to the destination of its target, and the paths stay the same
   record Goes (before : List Context) (deeds : List (Deed Context)) (after : List Context) : Type 0 where
     pub destined : AllByRecursion (IsDestinedBy (destination theory before)) deeds
     pub paths : map theory.path_of after ≡ map theory.path_of before
@@ -177,7 +177,7 @@ module _ {Context Words : Type 0} (theory : Theory Context Words) (alone : Edits
   run_goes before after (happening ∷ happenings) (Err NoMemory ∷ answers) run runs =
       absurd (runs_on (stopped_stays theory run.0 after happenings answers run.2 run.1.stops) runs)
 
-  -- until memory is refused
+  -- for a run, until memory runs out
   pub all_destined : (before after : State Context Words) (happenings : List Happening) (answers : List (Answer Context))
       → Run theory before happenings answers after → after.stopped ≡ false
       → AllByRecursion (IsDestinedBy (destination theory before.world.contexts)) (deeds_of answers)

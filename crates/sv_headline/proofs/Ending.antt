@@ -1,4 +1,4 @@
--- Components that are destroyed once, by the calls of events and then by those of a stop.
+-- Components are destroyed once, by the calls of events and then by those of a stop.
 use Rattle.std.proofs.Common.{◌≡◌, ℕ, Bool, true, false, eqb, List, [], ◌∷◌, ◌++◌, map, reverse, refl, sym, ◌∙◌, ap, ap₂, subst, append-nil, arith}
 use Rattle.std.specs.Prelude.{◌||◌, ◌&&◌, not, if◌then◌else◌}
 use Rattle.std.specs.List.{filter, flat_map, list_any}
@@ -42,7 +42,7 @@ calls_append (Filter place) (OfFilter other call ∷ front) back =
     ∙ more_calls (eqb other place) call (component_calls (Filter place) front) (component_calls (Filter place) back)
 calls_append (Filter place) (OfListener other event ∷ front) back = calls_append (Filter place) front back
 
--- what is told calls no servlet and no filter
+-- notifications call no servlet and no filter
 none_told : (place : Place) (event : Event) (places : List ℕ) → component_calls place (map (λ other. OfListener other event) places) ≡ []
 none_told (Servlet place) event [] = refl
 none_told (Filter place) event [] = refl
@@ -87,7 +87,7 @@ ends_append place (other ∷ front) back =
     ap (λ calls. if is_at place other then Destroyed ∷ calls else calls) (ends_append place front back)
     ∙ more_calls (is_at place other) Destroyed (ends_at place front) (ends_at place back)
 
--- a place that passes the test stands once at most
+-- at most one place in the list passes the test
 abbrev pub IsOnce : (Place → Bool) → List Place → Type 0
 IsOnce test [] = Unit {0}
 IsOnce test (place ∷ places) = (test place ≡ true → list_any test places ≡ false) × IsOnce test places
@@ -108,7 +108,7 @@ ends_reversed place (other ∷ places) once =
     ap (ends_at place) (reverse-append (other ∷ []) places) ∙ ends_append place (reverse places) (other ∷ [])
     ∙ end_more (is_at place other) (list_any (is_at place) places) (ends_at place (reverse places)) (ends_reversed place places once.1) once.0
 
--- ---- what is in service
+-- ---- places in service
 kept_more : (test : Place → Bool) (place : Place) (places : List Place) (here kept flag any : Bool) → test place ≡ here → (here ≡ true → kept ≡ flag)
     → list_any test places ≡ (any && flag) → list_any test (if kept then place ∷ places else places) ≡ ((here || any) && flag)
 kept_more test place places true true flag any is same so_far = ap (λ here. here || list_any test places) is ∙ same refl
@@ -116,7 +116,7 @@ kept_more test place places true false flag any is same so_far = so_far ∙ ap (
 kept_more test place places false true flag any is same so_far = ap (λ here. here || list_any test places) is ∙ so_far
 kept_more test place places false false flag any is same so_far = so_far
 
--- of the places that pass one test, another keeps all or none
+-- a second test keeps all or none of the places that pass the first one
 any_kept : (test keeps : Place → Bool) (flag : Bool) → ((place : Place) → test place ≡ true → keeps place ≡ flag) → (places : List Place)
     → list_any test (filter keeps places) ≡ (list_any test places && flag)
 any_kept test keeps flag same [] = refl
@@ -152,8 +152,8 @@ once_kept test keeps [] once = tt
 once_kept test keeps (place ∷ places) once =
     once_more test place (filter keeps places) (keeps place) (λ is. none_kept test keeps places (once.0 is)) (once_kept test keeps places once.1)
 
--- ---- what a stop calls of a component
--- whether what was initialised at the place is in service
+-- ---- the calls of a component by a stop
+-- whether a component that was initialized at the place is in service
 abbrev serves_at : List Standing → Place → Bool
 serves_at standings (Servlet place) = not (gone_at place standings)
 serves_at standings (Filter place) = true
@@ -177,7 +177,7 @@ calls_of_stop place initialised standings count sessions once =
     ∙ ends_reversed place serving (once_kept (is_at place) (is_in_service standings) initialised once)
     ∙ ap ends_if (any_kept (is_at place) (is_in_service standings) (serves_at standings place) (serves_same standings place) initialised)
 
--- ---- what events call of a component
+-- ---- the calls of a component by events
 pub flips : (one other : ℕ) → eqb one other ≡ eqb other one
 flips one other = grind (arith, nat_tests)
 
@@ -206,7 +206,7 @@ no_filter_ends place (OfFilter other call ∷ made) none =
     (no_filter_ends place made (right_false (is_destroy call) (list_any is_destroy_of_filter made) none))
 no_filter_ends place (OfListener other event ∷ made) none = no_filter_ends place made none
 
--- ---- both
+-- ---- the calls by events and by the stop
 both_end : (was gone : Bool) (calls stop : List Call) → EndsSo (not was) calls gone → stop ≡ ends_if (was && not gone) → EndsOnce was (calls ++ stop)
 both_end false gone calls stop ends is = ap₂ (λ front back. front ++ back) ends.0 is
 both_end true true calls stop ends is = record {

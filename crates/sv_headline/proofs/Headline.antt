@@ -52,7 +52,7 @@ entered_or_not (outcomes.SentToLogin why) = inr (λ same. absurd (cc))
 entered_or_not (outcomes.NoLogin why) = inr (λ same. absurd (cc))
 entered_or_not (outcomes.Denied why) = inr (λ same. absurd (cc))
 
--- one outcome alone is answered by a dispatch of the request
+-- only the outcome `Entered` is answered by a dispatch of the request
 other_reply : (content : Content) (cause : Outcome) → cause ≢ outcomes.Entered → answer_to content cause ≢ replies.Entered
 other_reply content outcomes.Protected other same = absurd (cc)
 other_reply content (outcomes.LoggedIn number target) other same = absurd (cc)
@@ -136,7 +136,7 @@ module _ {S F L : Type 0} (moving : ComponentSteps S F L) (law : RunsAreJournall
       first : {X : Type 0} {one other : X} → ◌≡◌ {A = List X} (one ∷ []) (other ∷ []) → one ≡ other
       first same = cc
 
-  -- what a journal that stayed whole has gained
+  -- a journal that is still whole has gained the entries of the calls
   gained : (context after : ContextState S F L) (noted noted' : JournalState) (made : List Record)
       → IsRun moving (world_of context noted) made (world_of after noted')
       → noted'.whole ≡ true → noted'.entries ≡ noted.entries ++ map (record_entry (world_of context unnoted)) made
@@ -200,7 +200,7 @@ module _ {S F L : Type 0} (moving : ComponentSteps S F L) (law : RunsAreJournall
     edits_trip before after edit answer edits = ap (λ (context : ContextState S F L). world_of context unnoted) edits.stays
 
     module _ (one_case : JustOneCaseHolds) (moves : RunsMoveComponents moving) where
-      -- what is done of a message, by dispatches that are those of its answer
+      -- a handled message is done by the dispatches of its answer
       done_by : (handling : Handling (ContextState S F L)) → Handles handling → (entry : Entry) (dispatches : Site → Does (Unit {0}))
           → (admitted handling.context (asked_of handling.context handling.request)).entry ≡ entry
           → ((site : Site) (x : State) (r : List Record) (y : State) (result : Option (Unit {0}))

@@ -1,4 +1,4 @@
--- Calls behind calls, context by context.
+-- Calls that follow other calls, context by context.
 use Rattle.std.proofs.Common.{◌≡◌, ℕ, zero, suc, inl, inr, List, [], ◌∷◌, ◌++◌, Result, length, refl, sym, ap, ◌∙◌, subst}
 use Rattle.sv_component.specs.Runs.{IsRun}
 use Rattle.sv_component.proofs.Running.{runs_join}
@@ -13,7 +13,7 @@ use Rattle.sv_policy.specs.declared.edit_fault.EditFault.{EditFault}
 use Rattle.sv_run.specs.Events.{Alters, AltersAll}
 
 module _ {S F L : Type 0} (moving : ComponentSteps S F L) where
-  -- nothing was called
+  -- no call was made
   lives_same : (before after : ContextState S F L) → world_of after unnoted ≡ world_of before unnoted → after.standings ≡ before.standings
       → after.initialised ≡ before.initialised → length after.servlets ≡ length before.servlets → length after.filters ≡ length before.filters
       → length after.listeners ≡ length before.listeners → Lives moving before after
@@ -50,7 +50,7 @@ module _ {S F L : Type 0} (moving : ComponentSteps S F L) where
     listeners = moved.stays.listeners;
   }
 
-  -- an edit calls nobody
+  -- an edit makes no call
   edited_lives : (before after : ContextState S F L) (edit : Edit) (answer : Result ℕ EditFault) → Edits before edit answer after → Lives moving before after
   edited_lives before after edit answer edits =
       lives_same before after

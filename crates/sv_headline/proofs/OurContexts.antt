@@ -1,4 +1,4 @@
--- What runs want of contexts, of ours.
+-- Our contexts meet the requirements of runs.
 use Rattle.std.proofs.Common.{◌≡◌, ℕ, ◌*◌, List, [], ◌∷◌, Some, Result, Ok, Err, refl, sym, ap, ◌∙◌, subst, inl, inr}
 use Rattle.std.specs.List.{filter}
 use Rattle.sv_admission.specs.Admission.{outcome_in}
@@ -38,13 +38,13 @@ use Rattle.sv_headline.proofs.Outcomes.{growth_is_silent, run_is_silent}
 use Rattle.sv_headline.specs.Order.{SessionsStayInOrder}
 use Rattle.sv_context.specs.Theory.{theory}
 
--- that dispatches and the steps around them move the sessions as components may
+-- dispatches and the steps around them move the sessions as components may
 pub record Moves : Type 0 where
   pub dispatches : (site : Site) → AnswersMoveSessions site
   pub steps : StepsMoveSessions
   pub join : MovesJoin
 
--- who holds a caller when others have expired held it before
+-- a caller that is held after an expiry was held before it
 held_through : CallersAreEntered → (number caller moment : ℕ) (ended : List EndedSession) (before after : Store) → Expires moment before ended after
     → HoldsCaller number caller after → HoldsCaller number caller before
 held_through law number caller moment [] before after expires holds = subst (HoldsCaller number caller) expires.1 holds
@@ -54,7 +54,7 @@ held_through law number caller moment (session ∷ ended) before after expires h
       | inr enters ↦ absurd (cc)
     ]
 
--- order stays where sessions expire
+-- an expiry keeps the order of the sessions
 ordered_through : CallsLeaveOrder → (moment : ℕ) (ended : List EndedSession) (before after : Store) → Expires moment before ended after
     → IsOrderly before → IsOrderly after
 ordered_through law moment [] before after expires orderly = subst IsOrderly (sym expires.1) orderly
@@ -62,7 +62,7 @@ ordered_through law moment (session ∷ ended) before after expires orderly =
     ordered_through law moment ended (left_by_expiry moment before) after expires.1 (law (Expire moment) before orderly)
 
 module _ {S F L : Type 0} (moving : ComponentSteps S F L) where
-  -- behind its admission the answer to a message moves the sessions as components may
+  -- after its admission, the response to a message moves the sessions as components may
   handled_moves : Moves → (asked : Asked) (context after : ContextState S F L) (response : Response) (noted_after : JournalState)
       (handled : GivesResponse moving asked context new_journal response after noted_after) → IsMoved (exchange_begun context asked) handled.exchange
   handled_moves moves asked context after response noted_after handled =

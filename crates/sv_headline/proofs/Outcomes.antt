@@ -1,4 +1,4 @@
--- The entry of a message's outcome, and those behind it.
+-- The entry of a message's outcome, and the entries after it.
 use Rattle.std.proofs.Common.{◌≡◌, ℕ, true, false, List, [], ◌∷◌, ◌++◌, map, refl, ap, ◌∙◌, subst, append-nil}
 use Rattle.std.specs.List.{filter}
 use Rattle.sv_component.specs.Call.{Call, Destroyed, Entered, Heard, Inited, Left, Serviced}
@@ -28,7 +28,7 @@ filter_silent context name (Heard event) = refl
 filter_silent context name Destroyed = refl
 
 module _ {S F L : Type 0} (world : World S F L) where
-  -- what is called and what is heard is no outcome
+  -- calls and notifications are not outcomes
   pub record_silent : (made : Record) → is_outcome (record_entry world made) ≡ false
   record_silent (OfServlet place call) = servlet_silent world.context (name_at world.servlets place) call
   record_silent (OfFilter place call) = filter_silent world.context (name_at world.filters place) call
@@ -38,7 +38,7 @@ module _ {S F L : Type 0} (world : World S F L) where
   none_told [] = refl
   none_told (first ∷ others) = rw (record_silent first) (none_told others)
 
--- a journal that is whole behind a run has gained the entries of the run, and so no outcome
+-- a journal that is whole after a run has gained only the entries of the run, and so no outcome
 pub record GainsSilently (before after : JournalState) : Type 0 where
   pub behind : List Entry
   pub are : after.entries ≡ before.entries ++ behind

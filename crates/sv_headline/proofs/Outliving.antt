@@ -32,7 +32,7 @@ use Rattle.sv_run.specs.State.{State}
 use Rattle.sv_session.specs.Store.{Session}
 use Rattle.sv_site.specs.Site.{Content}
 
--- what a context has right behind its start
+-- the state of a context just after its start
 abbrev IsStarted : {S F L : Type 0} → ContextState S F L → Type 0
 IsStarted context = AreStarted context.initialised context.standings (length context.servlets) (length context.filters)
 
@@ -41,7 +41,7 @@ IsStartedIn (Ok context) = IsStarted context
 IsStartedIn (Err fault) = Unit {0}
 
 module _ {S F L : Type 0} (moving : ComponentSteps S F L) where
-  -- ---- each context of a container that was started
+  -- ---- each context of a started container
   deployed_started : (deployment : Deployment S F L) (started : Result (LiveState S F L) (StartFault S F L)) (outcome : Outcome) (after : JournalState)
       → IsResultOf deployment.path deployment.descriptor deployment.parts outcome started after → IsStartedIn (deployed deployment started)
   deployed_started deployment (Ok live) (Started inits) after is = are_started deployment.path deployment.descriptor inits live after is.1
@@ -60,7 +60,7 @@ module _ {S F L : Type 0} (moving : ComponentSteps S F L) where
       )
 
   -- ---- each context stops
-  -- its components are moved by the calls of the stop, whatever was noted of them
+  -- the calls of the stop move its components, whatever the journal notes
   abbrev Stops : ContextState S F L → Parts S F L → Type 0
   Stops context parts =
       (sessions : List Session)
@@ -101,7 +101,7 @@ module _ {S F L : Type 0} (moving : ComponentSteps S F L) where
     ap (map (λ deployment. deployment.parts)) undeploys.5,
   )
 
-  -- ---- so each lives to its stop
+  -- ---- each context lives to its stop
   one_ends : (first last : ContextState S F L) (sessions : List Session) → IsStarted first → (lives : Lives moving first last) → (place : Place)
       → HasComponent first place → EndsOnce (was_initialised first place) (component_calls place (lives.made ++ calls_of_stop last sessions))
   one_ends first last sessions started lives (Servlet place) there =

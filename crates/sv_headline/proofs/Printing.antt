@@ -1,4 +1,4 @@
--- What a script prints, of our contexts.
+-- The output of a script, for our contexts.
 use Rattle.std.proofs.Common.{ℕ, List, Result, Ok, Err, refl, ap, subst}
 use Rattle.sv_component.specs.Steps.{ComponentSteps}
 use Rattle.sv_headline.specs.Until.{EveryRunIsLawfulUntilRefused}
@@ -27,7 +27,7 @@ use Rattle.sv_container.specs.declared.run_fault.RunFault.{RunFault}
 use Rattle.sv_streams.specs.Calls.{Making}
 use Rattle.sv_run.specs.declared.counted_words.CountedWords.{CountedWords}
 
--- the replay was written where the run was
+-- if the run was written in full, so was its replay
 replay_written : (ended : Result (Unit {0}) ReplayFault) → IsWritten (ended_by ended) → runs.IsWritten ended
 replay_written (Ok done) written = tt
 replay_written (Err (replays.Script line)) written = tt
@@ -35,7 +35,7 @@ replay_written (Err replays.Output) written = written
 replay_written (Err replays.NoMemory) written = written
 
 module _ {O : Type 0} (takes : Making O) (context : List ℕ) (started : JournalState) (output output_after : O) where
-  -- where the start was refused, the run was not written to its end
+  -- a run whose start was refused was not written in full
   printed_unwritten : (its_code : NewCode) (printed : Result (Unit {0}) ReplayFault) → PrintsOf takes start_text started output printed output_after
       → IsWritten (refused_by its_code context printed) → ⊥
   printed_unwritten its_code (Ok done) prints written = written
@@ -57,7 +57,7 @@ module _ {O : Type 0} (takes : Making O) (context : List ℕ) (started : Journal
 
 module _ {S F L I O : Type 0} (moving : ComponentSteps S F L) (gives : Making I)
     (takes : Making O) where
-  -- a container takes its events as the run of its contexts says
+  -- the container takes its events as the run of its contexts does
   pub like : StepsLike (StepsOf moving draws) (theory moving draws) run_of
   like before after happening (Ok reaction) steps = (Ok steps.0, steps.1, ap Ok steps.2)
   like before after happening (Err fault) steps = (Err fault, steps, refl)

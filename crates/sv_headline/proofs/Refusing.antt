@@ -1,4 +1,4 @@
--- A run in which memory is refused is one up to the event that wanted it.
+-- A run that runs out of memory is a run up to the event that failed.
 use Rattle.std.proofs.Common.{◌≡◌, ℕ, Bool, true, false, List, [], ◌∷◌, ◌++◌, Ok, Err, refl, sym, ap, ◌∙◌, subst}
 use Rattle.std.specs.Bool.{MatchBool}
 use Rattle.std.specs.List.{AllByRecursion}
@@ -17,7 +17,7 @@ use Rattle.sv_run.specs.State.{State}
 use Rattle.sv_run.specs.declared.step_fault.StepFault.TheVariants.{Stopped, BadConnection, TooManyConnections, NoMemory}
 
 module _ {Context Words : Type 0} (theory : Theory Context Words) where
-  -- an event wanted memory, and none before it
+  -- an event ran out of memory, and none before it did
   record IsRefusedAt (before : State Context Words) (happenings : List Happening) (answers : List (Answer Context)) (after : State Context Words) : Type 0 where
     pub front : List Happening
     pub wanting : Happening
@@ -32,7 +32,7 @@ module _ {Context Words : Type 0} (theory : Theory Context Words) where
     pub breaks : Breaks theory between wanting after
     pub refuses : AllByRecursion (λ answer. answer ≡ Err Stopped) refused
 
-  -- one event more in front
+  -- one more event in front
   one_more : (before between after : State Context Words) (happening : Happening) (answer : Answer Context) (happenings : List Happening)
       (answers : List (Answer Context)) → IsRefusedAt between happenings answers after
       → ((at : IsRefusedAt between happenings answers after) → Run theory before (happening ∷ at.front) (answer ∷ at.answered) at.between)

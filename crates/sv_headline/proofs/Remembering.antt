@@ -1,4 +1,4 @@
--- What a script in memory prints: from the calls of its streams to their bytes.
+-- The output of a script in memory: from the calls of its streams to their bytes.
 use Rattle.std.proofs.Common.{◌≡◌, ℕ, true, List, [], ◌∷◌, ◌++◌, map, Result, Ok, Err, refl, sym, ap, ◌∙◌, subst, append_assoc, append-nil}
 use Rattle.std.specs.List.{concat}
 use Rattle.sv_component.specs.Steps.{ComponentSteps}
@@ -19,7 +19,7 @@ use Rattle.sv_streams.specs.Memory.{IsMade, MemoryState}
 
 -- ---- the bytes of streams in memory
 
--- what reads gave stood unread before them, in front of what is unread behind them
+-- the bytes unread before some reads are the bytes read, followed by the bytes still unread
 unread_before : (before after : MemoryState) (calls : List Call) → AreMade IsMade before calls after → before.unread ≡ given calls ++ after.unread
 unread_before before after [] made = sym (ap (λ (stream : MemoryState). stream.unread) made)
 unread_before before after (Gave bytes ∷ calls) made =
@@ -35,7 +35,7 @@ back_is_empty : (front back : List ℕ) → front ++ back ≡ [] → back ≡ []
 back_is_empty [] back none = none
 back_is_empty (b ∷ front) back none = absurd (cc)
 
--- where a read met the end, nothing is unread
+-- if a read met the end, nothing is unread
 all_given : (before after : MemoryState) (calls : List Call) → AreMade IsMade before calls after → meets_end calls ≡ true → after.unread ≡ []
 all_given before after [] made ends = absurd (cc)
 all_given before after (Gave [] ∷ calls) made ends =
@@ -45,7 +45,7 @@ all_given before after (ReadFailed ∷ calls) made ends = all_given made.0 after
 all_given before after (Took bytes ∷ calls) made ends = all_given made.0 after calls made.2 ends
 all_given before after (WriteFailed ∷ calls) made ends = all_given made.0 after calls made.2 ends
 
--- what writes took stands behind what was written before
+-- the bytes of the writes follow those written before
 written_behind : (before after : MemoryState) (pieces : List (List ℕ)) → AreMade IsMade before (map Took pieces) after
     → after.written ≡ before.written ++ concat pieces
 written_behind before after [] made = ap (λ (stream : MemoryState). stream.written) made ∙ sym (append-nil before.written)

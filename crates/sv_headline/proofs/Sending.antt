@@ -1,4 +1,4 @@
--- What a connection is sent, of our contexts.
+-- The output of a connection, for our contexts.
 use Rattle.std.proofs.Common.{ℕ, [], ◌∷◌, ◌++◌, map, Ok, Err, refl, ap}
 use Rattle.sv_component.specs.Steps.{ComponentSteps}
 use Rattle.sv_headline.specs.Until.{EveryRunIsLawfulUntilRefused}
@@ -15,7 +15,7 @@ use Rattle.sv_streams.specs.Calls.{Making}
 
 module _ {S F L W T C : Type 0} (moving : ComponentSteps S F L)
     (draws : W → ℕ × ℕ → W → Type 0) (makes : Making T) (tells : C → ℕ → C → Type 0) where
-  -- a container takes its events as the run of its contexts says
+  -- the container takes its events as the run of its contexts does
   like : StepsLike (TakesSo moving draws makes tells) (theory moving draws) state_of
   like before after happening (Ok reaction) steps = (Ok steps.0, steps.1, ap Ok steps.2)
   like before after happening (Err fault) steps = (Err fault, steps, refl)

@@ -1,4 +1,4 @@
--- Who is logged in since the start of a run.
+-- The callers who have logged in since the start of a run.
 use Rattle.std.proofs.Common.{◌≡◌, ℕ, zero, suc, true, List, [], ◌∷◌, Option, Some, subst}
 use Rattle.std.specs.List.{list_any, slice_get}
 use Rattle.sv_headline.specs.Start.{CallersLoggedInSinceTheStart, HaveNoSessions}
@@ -12,7 +12,7 @@ none_holds number caller [] none holds = absurd (cc)
 none_holds number caller (session ∷ sessions) none holds = absurd (cc)
 
 module _ {Context Words : Type 0} (theory : Theory Context Words) where
-  -- there is none in the context at a place
+  -- the context at a place has no session
   none_there : (contexts : List Context) (place : ℕ) (context : Context) → HaveNoSessions theory contexts → slice_get contexts place ≡ Some context
       → (theory.conduct.sessions_of context).sessions ≡ []
   none_there [] place context none there = absurd (cc)

@@ -1,4 +1,4 @@
--- Runs of a container that was started: they begin without sessions, and are lawful where all events are accepted.
+-- Runs of a started container: they begin without sessions, and are lawful if all events are accepted.
 use Rattle.std.proofs.Common.{◌≡◌, ℕ, Bool, true, false, List, [], ◌∷◌, ◌++◌, map, Ok, Err, refl, sym, ap, ◌∙◌, subst}
 use Rattle.std.specs.Bool.{MatchBool}
 use Rattle.std.specs.List.{AllByRecursion}
@@ -31,7 +31,7 @@ use Rattle.sv_container.specs.Script as scripts
 use Rattle.sv_container.specs.declared.running.Running.{Running}
 use Rattle.sv_run.specs.declared.counted_words.CountedWords.{CountedWords}
 
--- where each event was accepted, none wanted memory
+-- if each event was accepted, none ran out of memory
 none_wanted : {Context : Type 0} (answered refused : List (Answer Context)) (reactions : List Reaction)
     → map Ok reactions ≡ map answer_shown (answered ++ Err NoMemory ∷ refused) → ⊥
 none_wanted [] refused [] same = absurd (cc)
@@ -56,7 +56,7 @@ module _ {S F L W : Type 0} (moving : ComponentSteps S F L) (draws : W → ℕ �
       (none_at_first order deployments noted noted_after starts.0 starts.1))
       run runs holds
 
-  -- a run of a container that runs, in which each event was accepted
+  -- a run of a running container is lawful if each event was accepted
   all_accepted : EveryRunIsLawfulUntilRefused moving draws → (before after : State (ContextState S F L) W) (happenings : List Happening)
       (answers : List (Answer (ContextState S F L))) (reactions : List Reaction) → before.stopped ≡ false
       → Run (theory moving draws) before happenings answers after → map Ok reactions ≡ map answer_shown answers

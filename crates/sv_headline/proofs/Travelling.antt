@@ -1,4 +1,4 @@
--- How the components of contexts are moved in a run, by the calls that the journal notes.
+-- In a run, the components of contexts are moved by the calls that the journal notes.
 use Rattle.std.proofs.Common.{◌≡◌, ◌≢◌, ◌⊎◌, ℕ, zero, suc, Bool, true, false, cond, inl, inr, List, [], ◌∷◌, ◌++◌, map, filter, Option, None, Some, Result, Ok, Err, refl, sym, ap, ◌∙◌, subst, slice_get, slice_set, append-nil}
 use Rattle.std.specs.List.{AllByRecursion, flat_map}
 use Rattle.std.specs.Option.{option_map}
@@ -101,9 +101,9 @@ shifted_later place (made ∷ calls) =
     ap (λ rest. cond (suc made.0 == suc place) (made.1 ∷ rest) rest) (shifted_later place calls)
     ∙ ap (λ test. cond test (made.1 ∷ calls_of place calls) (calls_of place calls)) (suc_test made.0 place)
 
--- ---- what the container answers itself
+-- ---- messages that the container answers itself
 
--- it is refused or hidden, by a named cause
+-- the entry says refused or hidden, with a named cause
 abbrev pub IsNamed : Entry → Type 0
 IsNamed entry = (cause : RefusalCause) × ((entry ≡ entries.Refused cause) ⊎ (entry ≡ entries.Hidden cause))
 
@@ -127,14 +127,14 @@ named_outcome : (entry : Entry) → IsNamed entry → (is_outcome entry ≡ true
 named_outcome entry (cause, inl same) = subst (λ its. (is_outcome its ≡ true) × (filter is_call (its ∷ []) ≡ [])) (sym same) (refl, refl)
 named_outcome entry (cause, inr same) = subst (λ its. (is_outcome its ≡ true) × (filter is_call (its ∷ []) ≡ [])) (sym same) (refl, refl)
 
--- worlds that records move one after another, each with its entry, which no record changes
+-- worlds that records move one after another; each record has an entry, which no record changes
 module _ {World Record : Type 0} (Runs : World → List Record → World → Type 0) (entry_of : World → Record → Entry)
     (run_of_none : (world : World) → Runs world [] world)
     (runs_join : (from middle to : World) (front back : List Record) → Runs from front middle → Runs middle back to → Runs from (front ++ back) to)
     (entry_stays : (from to : World) (made : List Record) (wanted : Record) → Runs from made to → entry_of to wanted ≡ entry_of from wanted)
   where
     module _ {Context : Type 0} (world : Context → World) where
-      -- the entry of a call, where its context is
+      -- the entry of a call, if its context exists
       abbrev pub entry_at : List Context → ℕ × Record → Option Entry
       entry_at contexts made = option_map (λ context. entry_of (world context) made.1) (slice_get contexts made.0)
 
@@ -168,7 +168,7 @@ module _ {World Record : Type 0} (Runs : World → List Record → World → Typ
       travels_none : (contexts : List Context) → Travels contexts [] contexts
       travels_none contexts = record { calls = []; noted = refl; moved = λ place. went_none (slice_get contexts place) }
 
-      -- silent entries
+      -- entries without calls
       travels_silently : (contexts : List Context) (told : List Entry) → filter is_call told ≡ [] → Travels contexts told contexts
       travels_silently contexts told none = record { calls = []; noted = ap (map Some) none; moved = λ place. went_none (slice_get contexts place) }
 
@@ -232,7 +232,7 @@ module _ {World Record : Type 0} (Runs : World → List Record → World → Typ
       shifted_noted context contexts [] = refl
       shifted_noted context contexts (made ∷ calls) = ap (λ rest. entry_at contexts made ∷ rest) (shifted_noted context contexts calls)
 
-      -- the first of them, and the others
+      -- the calls of the first context, followed by those of the others
       travels_both : (context settled : Context) (contexts others : List Context) (first later : List Entry) → Trip context first settled
           → Travels contexts later others → Travels (context ∷ contexts) (first ++ later) (settled ∷ others)
       travels_both context settled contexts others first later one more = record {
@@ -269,7 +269,7 @@ module _ {World Record : Type 0} (Runs : World → List Record → World → Typ
           → Trip context told after × (filter is_outcome told ≡ []))
           (edits_trip : (before after : Context) (edit : Edit) (answer : Result ℕ EditFault) → theory.conduct.Edits before edit answer after → world after ≡ world before)
         where
-          -- what is done of messages, and of components
+          -- the messages are lawful, their outcomes are noted, and the noted calls move the contexts
           pub record Goes (before : List Context) (told : List Entry) (deeds : List (Deed Context)) (after : List Context) : Type 0 where
             pub lawful : AllByRecursion IsLawful deeds
             pub outcomes : filter is_outcome told ≡ flat_map outcomes_of deeds
@@ -402,7 +402,7 @@ module _ {World Record : Type 0} (Runs : World → List Record → World → Typ
               (record { lawful = tt; outcomes = expired.1; travels = expired.0 })
               (happens_goes _ after happening accepts.brings accepts.happens))
 
-          -- of a run, until memory is refused
+          -- for a run, until memory runs out
           pub run_goes : (before after : State Context Words) (happenings : List Happening) (answers : List (Answer Context))
               → Run theory before happenings answers after → after.stopped ≡ false
               → Goes before.world.contexts (journal_of answers) (deeds_of answers) after.world.contexts

@@ -42,7 +42,7 @@ use Rattle.sv_uri.specs.declared.path.Canon.{Canon}
 use Rattle.sv_message.specs.Phrases.{phrase_of}
 use Rattle.sv_message.specs.declared.response.Response.{Response}
 
--- ---- calls of listeners alone
+-- ---- only calls of listeners
 
 abbrev AreHeard : List Record → Type 0
 AreHeard made = AllByRecursion (λ one. is_of_listener one ≡ true) made
@@ -62,7 +62,7 @@ heard_then : (front back : List Record) → AreHeard front → AreHeard back →
 heard_then [] back one two = two
 heard_then (made ∷ front) back one two = (one.0, heard_then front back one.1 two)
 
--- ---- what calls no component
+-- ---- operations that call no component
 
 reset_silent : (status : ℕ) → Silent (Resets status None)
 reset_silent status =
@@ -103,7 +103,7 @@ module _ (site : Site) where
   answer_silent canon (answers.Error status (Some page)) none = absurd (cc)
   answer_silent canon (answers.SeeOther location) none = sends_silent location
 
-  -- whether memory ended it or not
+  -- an answer without a dispatch calls only listeners, even if memory runs out
   answered_heard : (canon : Canon) (event : Option Event) (answer : Answer) (x y : State) (r : List Record) (result : Option (Unit {0}))
       → is_dispatch answer ≡ false → Answered site canon event answer x r y result → AreHeard r
   answered_heard canon event answer x y r result none (inl both) =
@@ -113,7 +113,7 @@ module _ (site : Site) where
   answered_heard canon event answer x y r result none (inr first) = tells_heard event x y r None first.0
 
 module _ {S F L : Type 0} (moving : ComponentSteps S F L) where
-  -- what is heard moves neither servlets nor filters
+  -- notifications move neither servlets nor filters
   heard_runs : (before after : World S F L) (made : List Record) → IsRun moving before made after → AreHeard made
       → (after.servlets ≡ before.servlets) × (after.filters ≡ before.filters)
   unfolding IsRun

@@ -1,4 +1,4 @@
--- Who is logged in, in a container that was started (Jakarta Servlet 6.0, section 13.6.3).
+-- The callers in a started container (Jakarta Servlet 6.0, section 13.6.3).
 use Rattle.std.specs.Prelude.{◌≡◌, ℕ, false, List, Ok}
 use Rattle.sv_component.specs.Steps.{ComponentSteps}
 use Rattle.sv_container.specs.Container.{state_of}
@@ -15,13 +15,14 @@ use Rattle.sv_run.specs.State.{State}
 
 module _ {S F L W : Type 0} (moving : ComponentSteps S F L)
     (draws : W → ℕ × ℕ → W → Type 0) where
-  -- behind what became of messages, a session of a context holds a caller only by a login that fits, which nothing has undone
+  -- after these messages, a session of a context holds a caller only by a login to it as that caller, which nothing
+  -- has undone
   abbrev pub CallersHaveLoggedIn : List (Answer (ContextState S F L)) → State (ContextState S F L) W → Type 0
   CallersHaveLoggedIn answers after =
       (place number caller : ℕ) → HoldsAt (theory moving draws) place number caller after.world.contexts
       → LoggedInBefore (theory moving draws) place number caller (deeds_of answers)
 
-  -- so it is behind each run of a container that was started, until memory is refused
+  -- this holds after each run of a started container, until memory runs out
   abbrev pub CallersOfAStartedContainerHaveLoggedIn : Type 0
   CallersOfAStartedContainerHaveLoggedIn =
       (deployments : List (Deployment S F L)) (words : W) (noted noted_after : JournalState) (container : Container S F L W) (happenings : List Happening)

@@ -1,4 +1,5 @@
--- What a connection is sent, from the bytes that are read of it to those that are written (RFC 9112, section 9; Jakarta Servlet 6.0, section 13.8).
+-- The output of a connection, from the bytes that are read to those that are written (RFC 9112, section 9; Jakarta
+-- Servlet 6.0, section 13.8).
 use Rattle.std.specs.Prelude.{◌≡◌, ℕ, false, [], ◌∷◌, ◌++◌, filter, map, Result, Ok}
 use Rattle.std.specs.List.{AllByRecursion}
 use Rattle.sv_component.specs.Steps.{ComponentSteps}
@@ -19,13 +20,13 @@ use Rattle.sv_streams.specs.Calls.{Making}
 
 module _ {S F L W T C : Type 0} (moving : ComponentSteps S F L)
     (draws : W → ℕ × ℕ → W → Type 0) (makes : Making T) (tells : C → ℕ → C → Type 0) where
-  -- a container takes an event
+  -- the container takes an event
   abbrev pub TakesSo : Reacting (Container S F L W)
   TakesSo before happening result after = StepsSo (theory moving draws) (state_of before) happening result (state_of after)
 
-  -- the events of the connection are a run of the container, which sends what is written; the entries of that run tell the outcome of each message
-  -- once, in order, and a request enters exactly where the combined constraints allow it; and if the container ran, the run is lawful, up to where memory
-  -- was refused
+  -- the events of the connection are a run of the container, whose responses are written; the entries of the run
+  -- report the outcome of each message once, in order; a request enters exactly if the combined constraints allow it;
+  -- and if the container was running, the run is lawful until memory runs out
   pub record IsSentLawfully (connection : ℕ) (before : Container S F L W) (stream : T) (clock : C) (result : Result Over StepFault)
       (after : Container S F L W) (stream_after : T) (clock_after : C) : Type 0 where
     pub served : IsARun TakesSo makes tells (theory moving draws) state_of connection before stream clock result after

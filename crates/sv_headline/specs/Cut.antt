@@ -1,4 +1,4 @@
--- What a script prints whose run memory cut (Jakarta Servlet 6.0, section 13.8).
+-- The output of a script whose run ends out of memory (Jakarta Servlet 6.0, section 13.8).
 use Rattle.std.specs.Prelude.{◌≡◌, ◌⊎◌, List, ◌++◌, Result, Ok, Err}
 use Rattle.sv_component.specs.Steps.{ComponentSteps}
 use Rattle.sv_container.specs.Starting.{Starts}
@@ -18,8 +18,8 @@ use Rattle.sv_run.specs.declared.counted_words.CountedWords.{CountedWords}
 
 module _ {S F L I O : Type 0} (moving : ComponentSteps S F L) (gives : Making I)
     (takes : Making O) where
-  -- a container started, and memory was refused later: what was written is the text of its start and of the events before, which are a lawful
-  -- run; it was shut down, and nothing was written behind
+  -- the container started, and memory ran out later; the output is the text of its start and of the events before,
+  -- which are a lawful run; the container was shut down, and nothing more was written
   pub record PrintsACutRun (deployments : List (Deployment S F L)) (script : I) (output : O) (script_after : I) (output_after : O) : Type 0 where
     pub words : CountedWords
     pub are_fresh : AreFresh words
@@ -30,14 +30,15 @@ module _ {S F L I O : Type 0} (moving : ComponentSteps S F L) (gives : Making I)
         started (record { container = container }) script output script_after output_after
     pub run : RunsLawfully moving container cut.played
 
-  -- a run of a script that answers want of memory has written nothing, or that
+  -- a run of a script that ends out of memory has written nothing, or such an output
   abbrev pub WhatARefusedScriptPrintsIsCut : Type 0
   WhatARefusedScriptPrintsIsCut =
       (deployments : List (Deployment S F L)) (script : I) (output : O) (script_after : I) (output_after : O)
       → RunsScript moving gives takes deployments script output (Err NoMemory) script_after output_after
       → (output_after ≡ output) ⊎ PrintsACutRun deployments script output script_after output_after
 
-  -- it begins what a run prints that ended well, whose start notes the same entries and whose first events bring the same
+  -- that output begins the output of a complete run, if the starts note the same entries and the first events have the
+  -- same reactions
   abbrev pub WhatARefusedScriptPrintsBeginsTheWhole : Type 0
   WhatARefusedScriptPrintsBeginsTheWhole =
       (deployments others : List (Deployment S F L)) (script other_script : I) (output other_output : O) (result : Result (Unit {0}) RunFault)

@@ -1,4 +1,5 @@
--- The lives of components from the start of their container to its stop (Jakarta Servlet 6.0, sections 2.3.3.2, 2.3.4 and 6.2.1).
+-- The lives of components from the start of their container to its stop (Jakarta Servlet 6.0, sections 2.3.3.2, 2.3.4
+-- and 6.2.1).
 use Rattle.std.specs.Prelude.{◌≡◌, ℕ, ◌<◌, ◌==◌, Bool, true, false, List, [], ◌∷◌, ◌++◌, length, Ok}
 use Rattle.std.specs.List.{list_any}
 use Rattle.sv_component.specs.Call.{Call, Destroyed}
@@ -34,13 +35,13 @@ abbrev pub component_calls : Place → List Record → List Call
 component_calls (Servlet place) made = calls_at place (servlet_calls made)
 component_calls (Filter place) made = calls_at place (filter_calls made)
 
--- destroyed once, and not called behind that
+-- destroyed once, by the last call
 pub record IsDestroyedOnce (calls : List Call) : Type 0 where
   pub front : List Call
   pub are : calls ≡ front ++ Destroyed ∷ []
   pub not_before : list_any is_destroy front ≡ false
 
--- a component that was initialised is destroyed once and last, and one that was not is not called
+-- a component that was initialized is destroyed once and last, and one that was not is not called
 abbrev pub EndsOnce : Bool → List Call → Type 0
 EndsOnce true calls = IsDestroyedOnce calls
 EndsOnce false calls = calls ≡ []
@@ -51,17 +52,18 @@ module _ {S F L : Type 0} (context : ContextState S F L) where
   HasComponent (Servlet place) = place < length context.servlets
   HasComponent (Filter place) = place < length context.filters
 
-  -- whether it was initialised
+  -- whether it was initialized
   abbrev pub was_initialised : Place → Bool
   was_initialised place = list_any (is_at place) context.initialised
 
-  -- what the stop of the context calls: what was initialised and is not gone is destroyed, the sessions end, and the listeners hear
+  -- the calls of the stop of the context: the components in service are destroyed, the sessions end, and the listeners
+  -- are notified
   abbrev pub calls_of_stop : List Session → List Record
   calls_of_stop sessions = stop_calls (length context.listeners) (in_service context) sessions
 
 module _ {S F L : Type 0} (moving : ComponentSteps S F L) where
-  -- a context goes from one state to its last, and stops: its components are moved by some calls, then by those of the stop, and by nothing else; in
-  -- all, each that was initialised is destroyed, once and last, and no other is called
+  -- a context reaches its last state and stops; only calls move its components, first those of events, then those of
+  -- the stop; in all, each component that was initialized is destroyed, once and last, and no other is called
   pub record LivesToItsStop (first last : ContextState S F L) (parts : Parts S F L) : Type 0 where
     pub lives : Lives moving first last
     pub sessions : List Session
@@ -77,7 +79,7 @@ module _ {S F L : Type 0} (moving : ComponentSteps S F L) where
       × LivesToItsStop context its_last its_parts × AllLiveToTheirStops contexts other_last other_parts
       × (last ≡ its_last ∷ other_last) × (parts ≡ its_parts ∷ other_parts)
 
-  -- so it is of each context of a container, from its start over however many events to its stop
+  -- this holds for each context of a container, from its start over any number of events to its stop
   abbrev pub EachIsDestroyedOnce : Type 0 → Type 0
   EachIsDestroyedOnce Words =
       (deployments : List (Deployment S F L)) (words : Words) (noted noted_after : JournalState) (started stopping : Container S F L Words) (events : ℕ)

@@ -1,4 +1,4 @@
--- What a script prints, from its bytes to those of the output (Jakarta Servlet 6.0, section 13.8).
+-- The output of a script, from input bytes to output bytes (Jakarta Servlet 6.0, section 13.8).
 use Rattle.std.specs.Prelude.{◌≡◌, List, Result, Ok, Err}
 use Rattle.sv_component.specs.Steps.{ComponentSteps}
 use Rattle.sv_headline.specs.Record.{IsLawfulRun}
@@ -21,7 +21,7 @@ use Rattle.sv_container.specs.declared.running.Running.{Running}
 use Rattle.sv_streams.specs.Calls.{Making}
 use Rattle.sv_run.specs.declared.counted_words.CountedWords.{CountedWords}
 
--- all was written: the run ended well, or a line of the script is to blame
+-- all was written: the run ended well or at a faulty line of the script
 abbrev pub IsWritten : Result (Unit {0}) RunFault → Type 0
 IsWritten (Ok done) = Unit {0}
 IsWritten (Err (Script line)) = Unit {0}
@@ -31,8 +31,8 @@ IsWritten (Err NoMemory) = ⊥
 IsWritten (Err Connection) = ⊥
 
 module _ {S F L : Type 0} (moving : ComponentSteps S F L) where
-  -- the events that a script asks for are a run of the container, of which their texts tell; the run is lawful; and whoever is logged in behind it has
-  -- logged in
+  -- the events that a script asks for are a run of the container, and their texts report it; the run is lawful; and
+  -- every caller at its end has logged in
   pub record RunsLawfully (container : Container S F L CountedWords) (played : Played (Running S F L CountedWords)) : Type 0 where
     pub plays : PlaysALawfulRun (StepsOf moving draws) (theory moving draws)
         run_of (record { container = container }) played
@@ -41,8 +41,8 @@ module _ {S F L : Type 0} (moving : ComponentSteps S F L) where
 
 module _ {S F L I O : Type 0} (moving : ComponentSteps S F L) (gives : Making I)
     (takes : Making O) where
-  -- a container started with the deployments; what was written is the text of its start, of the events that the script asks for, and of its stop; and
-  -- these events are a lawful run
+  -- the container started with the deployments; the output is the text of its start, of the events that the script
+  -- asks for, and of its stop; and these events are a lawful run
   pub record PrintsALawfulRun (deployments : List (Deployment S F L)) (script : I) (output : O) (result : Result (Unit {0}) RunFault) (script_after : I)
       (output_after : O) : Type 0 where
     pub words : CountedWords

@@ -8,15 +8,15 @@ use Rattle.sv_context.specs.State.{ContextState, world_of}
 use Rattle.sv_run.specs.Contexts.{Conduct}
 use Rattle.sv_run.specs.Events.{AltersAll}
 
--- so many events alter contexts one after another, each as the step of a container promises, whether it is accepted or refused
+-- a number of events alter the contexts one after another, each as a step of a container may, accepted or refused
 abbrev pub AltersInTurn : {Context : Type 0} → Conduct Context → ℕ → List Context → List Context → Type 0
 AltersInTurn moved_so zero before after = after ≡ before
 AltersInTurn {Context} moved_so (suc events) before after =
     (between : List Context) × AltersAll moved_so before between × AltersInTurn moved_so events between after
 
 module _ {S F L : Type 0} (moving : ComponentSteps S F L) where
-  -- some calls move the components of a context, and none besides: of its servlets one that was gone before is not called, one that is gone behind them
-  -- is destroyed, once and last, and no other is destroyed, nor is a filter. None comes or goes
+  -- only calls move the components of a context; a servlet that was gone before is not called; one that becomes gone is
+  -- destroyed, once and last; no other servlet is destroyed, and no filter is; their numbers stay the same
   pub record Lives (before after : ContextState S F L) : Type 0 where
     pub made : List Record
     pub runs : IsRun moving (world_of before unnoted) made (world_of after unnoted)
@@ -31,7 +31,7 @@ module _ {S F L : Type 0} (moving : ComponentSteps S F L) where
   AllLive (context ∷ contexts) after =
       (last : ContextState S F L) × (others : List (ContextState S F L)) × Lives context last × AllLive contexts others × (after ≡ last ∷ others)
 
-  -- however many events come, the components of each context live so
+  -- over any number of events, each context satisfies `Lives`
   abbrev pub ComponentsAreDestroyedOnce : Type 0
   ComponentsAreDestroyedOnce =
       (events : ℕ) (before after : List (ContextState S F L)) → AltersInTurn (conduct moving) events before after

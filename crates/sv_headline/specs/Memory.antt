@@ -1,4 +1,4 @@
--- What a script in memory prints: known bytes in, and known bytes out (Jakarta Servlet 6.0, section 13.8).
+-- The output of a script in memory: known bytes in, and known bytes out (Jakarta Servlet 6.0, section 13.8).
 use Rattle.std.specs.Prelude.{◌≡◌, ℕ, List, ◌++◌, map, Ok}
 use Rattle.sv_component.specs.Steps.{ComponentSteps}
 use Rattle.sv_container.specs.Starting.{Starts}
@@ -18,8 +18,8 @@ use Rattle.sv_streams.specs.Memory.{IsMade, MemoryState}
 use Rattle.sv_run.specs.declared.counted_words.CountedWords.{CountedWords}
 
 module _ {S F L : Type 0} (moving : ComponentSteps S F L) where
-  -- a container started with the deployments, what the lines of the input ask for is a lawful run of it, and it stopped; what is printed is the text of
-  -- the start, of each event, and of the stop
+  -- the container started with the deployments, the events that the input lines ask for are a lawful run of it, and it
+  -- stopped; the output is the text of the start, of each event, and of the stop
   pub record PrintsItsRun (deployments : List (Deployment S F L)) (input printed : List ℕ) : Type 0 where
     pub words : CountedWords
     pub are_fresh : AreFresh words
@@ -33,7 +33,7 @@ module _ {S F L : Type 0} (moving : ComponentSteps S F L) where
     pub stops : StopsOf moving played.handler stopped
     pub text : printed ≡ start_text started.entries ++ reactions_text 1 played.reactions ++ shutdown_text stopped.entries
 
-  -- a script in memory that ended well prints its run, behind what was written before
+  -- a script in memory that ended well appends the text of its run to the output
   abbrev pub AScriptInMemoryPrintsItsRun : Type 0
   AScriptInMemoryPrintsItsRun =
       (deployments : List (Deployment S F L)) (script output script_after output_after : MemoryState)

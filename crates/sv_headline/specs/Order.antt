@@ -1,4 +1,5 @@
--- The order of a context's sessions (Jakarta Servlet 6.0, chapter 7): no two have the same number, so that whoever holds a caller is found by it.
+-- The order of a context's sessions (Jakarta Servlet 6.0, chapter 7): no two have the same number, so a lookup by
+-- number finds the session that holds a caller.
 use Rattle.std.specs.Prelude.{◌≡◌, ℕ, List, [], Ok}
 use Rattle.sv_component.specs.Steps.{ComponentSteps}
 use Rattle.sv_context.specs.Conduct.{conduct}
@@ -10,7 +11,7 @@ use Rattle.sv_journal.specs.declared.entry.Entry.{Entry}
 use Rattle.sv_run.specs.Contexts.{Handling}
 use Rattle.sv_session.specs.Store.{IsOrderly}
 
--- there is order at first, where there is no session, and each request and each expiry leaves it
+-- the sessions are in order at first, when there are none, and each request and each expiry keeps the order
 pub record SessionsStayInOrder {S F L : Type 0} (moving : ComponentSteps S F L) : Type 0 where
   pub begins : (deployment : Deployment S F L) (context : ContextState S F L) (noted noted_after : JournalState)
       → Deploys moving deployment noted (Ok context) noted_after → (context.store.sessions ≡ []) × IsOrderly context.store

@@ -1,5 +1,5 @@
--- The headline: what every run of a container with our contexts does with messages and components, until memory is refused (Jakarta Servlet 6.0,
--- sections 9.1, 10.9, 11.3, 13.6.3 and 13.8).
+-- The theorem over every run of a container with our contexts: the outcomes of messages and the calls of components,
+-- until memory runs out (Jakarta Servlet 6.0, sections 9.1, 10.9, 11.3, 13.6.3 and 13.8).
 use Rattle.std.specs.Prelude.{◌≡◌, ◌≢◌, ◌⊎◌, ℕ, Bool, false, not, ◌==◌, List, [], ◌∷◌, filter, map, Option, None, Some, slice_get, if◌then◌else◌}
 use Rattle.std.specs.List.{AllByRecursion, flat_map}
 use Rattle.std.specs.Option.{option_map}
@@ -58,7 +58,7 @@ module _ {S F L : Type 0} (context : ContextState S F L) (request : Request) whe
   abbrev pub path_in : List ℕ
   path_in = path_within context.content.context_path request.canon.path
 
-  -- the session that the cookies name, and the sessions behind the access to it
+  -- the session that the cookies name, and the sessions after it was accessed
   abbrev pub session_in : Option ℕ
   session_in = session_held context.content.app (asked_of context request) context.store
 
@@ -69,11 +69,11 @@ module _ {S F L : Type 0} (context : ContextState S F L) (request : Request) whe
   abbrev pub caller_in : Option Caller
   caller_in = caller_held context.users session_in sessions_in
 
-  -- what the combined constraints, as they stand, say of the method, the path and that caller
+  -- the decision of the current combined constraints on the method, the path and that caller
   abbrev pub verdict_in : OwnedDecision
   verdict_in = verdict context.policy.constraints context.policy.rules request.message.method path_in caller_in
 
-  -- what the login step answers, where the context has form login
+  -- the outcome of the login step, if the context has form login
   abbrev pub login_in : Option LoginOutcome
   login_in = option_map (λ step. step.0) (login_step context.content.app context.users (asked_of context request) session_in sessions_in)
 
@@ -84,16 +84,16 @@ module _ {S F L : Type 0} (context : ContextState S F L) (request : Request) whe
     pub why : OwnedWhy
     pub allowed : verdict_in ≡ Open why
 
-  -- the case of a message: a hidden path, a login post, or what the constraints say
+  -- the case of a message: a hidden path, a login post, or the decision of the constraints
   abbrev pub IsBecause : Outcome → Type 0
   IsBecause cause = IsCase (record { is_protected = is_protected path_in; login = login_in; verdict = verdict_in }) cause
 
--- the same context, were these its constraints
+-- the same context with these constraints
 abbrev pub under : {S F L : Type 0} → Standing → ContextState S F L → ContextState S F L
 under constraints context = record context { policy = constraints }
 
--- how a message is answered that does not enter: by the FORWARD of a page of form login, by an error's status, with the ERROR of its page where there
--- is one, or by a redirect
+-- the response to a message that does not enter: the FORWARD of a page of form login, a redirect, or the status of an
+-- error, with the ERROR dispatch of its page if there is one
 abbrev pub Otherwise : Site → Reply → Does (Unit {0})
 Otherwise site replies.Entered = never
 Otherwise site (replies.Page page) = Requested site (Served site kinds.Forward page)
@@ -102,8 +102,8 @@ Otherwise site (replies.Error status (Some page)) = Requested site (ShowsError s
 Otherwise site (replies.SeeOther location) = SendsTo location
 
 module _ {S F L : Type 0} (handling : Handling (ContextState S F L)) where
-  -- one outcome is noted, and behind it the calls that were made. Behind what the listeners hear of the session they are those of the dispatches, and
-  -- would be under any constraints: within them nothing is decided again
+  -- one outcome is noted, followed by the calls that were made; after the listeners' notifications of the session,
+  -- these are the calls of the dispatches, and would be under any constraints: the dispatches decide nothing again
   pub record IsDoneBy (entry : Entry) (dispatches : Site → Does (Unit {0})) : Type 0 where
     pub made : List Record
     pub noted : handling.entries ≡ entry ∷ map (record_entry (world_of handling.context unnoted)) made
@@ -115,13 +115,13 @@ module _ {S F L : Type 0} (handling : Handling (ContextState S F L)) where
         (state_in handling.after exchange) (Some tt)
     pub response : handling.response ≡ finished exchange
 
-  -- noted as entered, and answered by a REQUEST
+  -- noted as entered, with the response of a REQUEST dispatch
   abbrev pub Enters : Type 0
   Enters =
       IsDoneBy (entries.Entered handling.context.content.context_path (path_in handling.context handling.request))
       (λ site. Requested site (Served site kinds.Request (within handling.context handling.request.canon)))
 
-  -- noted by its cause, and answered otherwise
+  -- noted by its cause, with another response
   pub record StaysOut : Type 0 where
     pub cause : Outcome
     pub because : IsBecause handling.context handling.request cause
@@ -129,14 +129,15 @@ module _ {S F L : Type 0} (handling : Handling (ContextState S F L)) where
     pub done : IsDoneBy (outcome_entry handling.context.content.context_path (path_in handling.context handling.request) cause)
         (λ site. Otherwise site (admission.answer_to handling.context.content cause))
 
--- a message to a context enters exactly where it may; one that the container answers itself is refused or hidden by a named cause
+-- a message to a context enters exactly if it may; one that the container answers itself is refused or hidden by a
+-- named cause
 abbrev pub IsLawful : {S F L : Type 0} → Deed (ContextState S F L) → Type 0
 IsLawful (Answered entry) = (cause : RefusalCause) × ((entry ≡ entries.Refused cause) ⊎ (entry ≡ entries.Hidden cause))
 IsLawful (Handled place handling) =
     (MayEnter handling.context handling.request × Enters handling) ⊎ ((MayEnter handling.context handling.request → ⊥) × StaysOut handling)
 
--- where messages go by their targets: the context at the place handles one by its canonical path; the container answers one itself, and refuses what is
--- no message
+-- the destinations of messages by their targets: the context at the place handles a message by its canonical path; the
+-- container answers a message itself, or refuses input that is no message
 abbrev pub IsDestinedBy : {Context : Type 0} → (Target → Destination) → Deed Context → Type 0
 IsDestinedBy goes_to (Handled place handling) = goes_to handling.request.message.target ≡ Within place handling.request.canon
 IsDestinedBy goes_to (Answered entry) =
@@ -147,7 +148,7 @@ abbrev pub outcomes_of : {Context : Type 0} → Deed Context → List Entry
 outcomes_of (Answered entry) = entry ∷ []
 outcomes_of (Handled place handling) = filter is_outcome handling.entries
 
--- whether an entry says what was called, or what a listener heard
+-- whether an entry reports a call or a notification of a listener
 abbrev pub is_call : Entry → Bool
 is_call entry = not (is_outcome entry)
 
@@ -173,11 +174,12 @@ module _ {S F L : Type 0} (moving : ComponentSteps S F L) where
         (after : State (ContextState S F L) Words) : Type 0 where
       -- each message goes to the context whose path serves its target, or to none
       pub destined : AllByRecursion (IsDestinedBy (destination (theory moving draws) before.world.contexts)) (deeds_of answers)
-      -- there it enters exactly where it may, and every other stays out by a named cause; within its dispatches nothing is decided again
+      -- it enters exactly if it may, and every other message stays out by a named cause; within its dispatches nothing
+      -- is decided again
       pub messages : AllByRecursion IsLawful (deeds_of answers)
-      -- the journal tells the outcomes of the messages, in their order
+      -- the journal notes the outcomes of the messages, in their order
       pub outcomes : filter is_outcome (journal_of answers) ≡ flat_map outcomes_of (deeds_of answers)
-      -- and the calls, of which each component is moved by exactly its own, in their order
+      -- it also notes the calls; each component is moved by exactly its own calls, in their order
       pub calls : List (ℕ × Record)
       pub noted : map Some (filter is_call (journal_of answers)) ≡ map (entry_at before.world.contexts) calls
       pub moved : (place : ℕ) → IsMovedBy (slice_get before.world.contexts place) (calls_of place calls) (slice_get after.world.contexts place)

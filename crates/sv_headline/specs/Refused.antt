@@ -1,4 +1,5 @@
--- What an event that wants memory leaves of servlets and filters (Jakarta Servlet 6.0, sections 6.2, 9.4, 10.9.2 and 13.6.3).
+-- The effects of an event that runs out of memory on servlets and filters (Jakarta Servlet 6.0, sections 6.2, 9.4,
+-- 10.9.2 and 13.6.3).
 use Rattle.std.specs.Prelude.{◌≡◌, ℕ, Bool, true, false, List, Some, None, map, slice_get}
 use Rattle.std.specs.List.{AllByRecursion}
 use Rattle.sv_admission.specs.declared.answer.Answer.{Answer}
@@ -22,7 +23,7 @@ is_dispatch (Error status None) = false
 is_dispatch (Error status (Some page)) = true
 is_dispatch (SeeOther location) = false
 
--- whether the request is answered so, as it was admitted
+-- whether the answer to the request, as admitted, is a dispatch
 abbrev pub is_dispatched : {S F L : Type 0} → ContextState S F L → Request → Bool
 is_dispatched context request = is_dispatch (admitted context (asked_of context request)).answer
 
@@ -30,7 +31,8 @@ abbrev pub servlets_and_filters : {S F L : Type 0} → ContextState S F L → Li
 servlets_and_filters context = (context.servlets, context.filters)
 
 module _ {S F L Words : Type 0} (moving : ComponentSteps S F L) (draws : Words → ℕ × ℕ → Words → Type 0) where
-  -- in an event that wants memory, however far it came, the servlets and filters of a context of whose requests none is dispatched are as before
+  -- an event that runs out of memory, however far it came, leaves the servlets and filters of a context unchanged if
+  -- it dispatched none of the context's requests
   abbrev pub TheUndispatchedCallNone : Type 0
   TheUndispatchedCallNone =
       (before after : State (ContextState S F L) Words) (happening : Happening)

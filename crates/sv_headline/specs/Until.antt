@@ -1,4 +1,4 @@
--- The headline where memory is refused: it holds up to the event that wanted it.
+-- The theorem for runs that run out of memory: it holds up to the event that does.
 use Rattle.std.specs.Prelude.{◌≡◌, ℕ, false, List, ◌∷◌, ◌++◌, Err}
 use Rattle.std.specs.Bool.{MatchBool}
 use Rattle.std.specs.List.{AllByRecursion}
@@ -13,7 +13,7 @@ use Rattle.sv_run.specs.declared.step_fault.StepFault.TheVariants.{NoMemory, Sto
 
 module _ {S F L Words : Type 0} (moving : ComponentSteps S F L)
     (draws : Words → ℕ × ℕ → Words → Type 0) where
-  -- an event wanted memory: those before it are a lawful run, it broke off, and each one behind it is refused
+  -- an event ran out of memory: the events before it are a lawful run, it broke off, and each later one is refused
   pub record IsLawfulUpTo (before : State (ContextState S F L) Words) (happenings : List Happening) (answers : List (Answer (ContextState S F L)))
       (after : State (ContextState S F L) Words) : Type 0 where
     pub front : List Happening
@@ -29,7 +29,7 @@ module _ {S F L Words : Type 0} (moving : ComponentSteps S F L)
     pub breaks : Breaks (theory moving draws) between wanting after
     pub refuses : AllByRecursion (λ answer. answer ≡ Err Stopped) refused
 
-  -- a run is lawful, or it is up to where memory was refused
+  -- a run is lawful, or it is lawful until memory runs out
   abbrev pub IsLawfulUntilRefused : State (ContextState S F L) Words → List Happening → List (Answer (ContextState S F L)) → State (ContextState S F L) Words
       → Type 0
   IsLawfulUntilRefused before happenings answers after =

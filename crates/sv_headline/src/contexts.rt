@@ -1,4 +1,4 @@
-//! What runs of a container want of its contexts, of ours.
+//! The requirements that runs of a container have on its contexts, proved for our contexts.
 
 ghost use Rattle.sv_component.specs.Steps.{steps_of};
 ghost use Rattle.sv_headline.specs.Order.{SessionsStayInOrder};
@@ -12,8 +12,8 @@ use sv_run::Words;
 use sv_session::{callers_are_entered, components_keep_the_sessions, sessions_stay_in_order};
 use sv_tree::{answers_move_the_sessions, moved_sessions_are_kept};
 
-/// The sessions of a context end when they have expired, and only then; and no request leaves one that has expired at its moment (Jakarta Servlet
-/// 6.0, section 7.5).
+/// A session of a context ends if it has expired, and expiry ends no other session. No request leaves a session that
+/// has expired at its time (Jakarta Servlet 6.0, section 7.5).
 pub fn contexts_end_expired_sessions<S: Servlet, F: Filter, L: Listener, W: Words>()
     ensures { EndsExpired (theory (steps_of S.servlet_step F.filter_step L.listener_step) W.draws) }
 {
@@ -24,14 +24,16 @@ pub fn contexts_end_expired_sessions<S: Servlet, F: Filter, L: Listener, W: Word
     moved_sessions_are_kept();
 }
 
-/// The entry of a request's outcome stands first in what is noted of it, and no other outcome does; of sessions that expire no outcome is noted.
+/// The first entry that a request notes is its outcome, and it notes no other outcome. The expiry of sessions notes no
+/// outcome.
 pub fn contexts_tell_outcomes<S: Servlet, F: Filter, L: Listener, W: Words>()
     ensures { TellsOutcomes (theory (steps_of S.servlet_step F.filter_step L.listener_step) W.draws) }
 {
     runs_are_journalled::<S, F, L>();
 }
 
-/// A session of a context gets a caller by a login alone, as the user whose name and password the login sent (Jakarta Servlet 6.0, section 13.6.3).
+/// A session of a context gets a caller only by a login, as the user whose name and password the login sent (Jakarta
+/// Servlet 6.0, section 13.6.3).
 pub fn callers_come_by_login<S: Servlet, F: Filter, L: Listener, W: Words>()
     ensures { GivesCallersByLogin (theory (steps_of S.servlet_step F.filter_step L.listener_step) W.draws) }
 {
@@ -40,8 +42,9 @@ pub fn callers_come_by_login<S: Servlet, F: Filter, L: Listener, W: Words>()
     moved_sessions_are_kept();
 }
 
-/// The sessions of a context stand in the order of their numbers, at first and behind each request and each expiry (Jakarta Servlet 6.0, chapter 7).
-/// So no two have the same number, and the session of a number that holds a caller is the one that is found by it.
+/// The sessions of a context are in the order of their numbers, at first and after each request and each expiry
+/// (Jakarta Servlet 6.0, chapter 7). So no two sessions have the same number, and a lookup by number finds the session
+/// that holds a caller.
 pub fn sessions_of_contexts_stay_in_order<S: Servlet, F: Filter, L: Listener>()
     ensures { SessionsStayInOrder (steps_of S.servlet_step F.filter_step L.listener_step) }
 {
@@ -50,7 +53,7 @@ pub fn sessions_of_contexts_stay_in_order<S: Servlet, F: Filter, L: Listener>()
     answers_move_the_sessions();
 }
 
-/// An edit changes the constraints of a context as they stand by its outcome, and neither a request nor an expiry changes them.
+/// An edit changes the current constraints of a context as its outcome says. Requests and expiry do not change them.
 pub fn edits_alone_change_the_constraints<S: Servlet, F: Filter, L: Listener, W: Words>()
     ensures { ChangesConstraintsByEdits (theory (steps_of S.servlet_step F.filter_step L.listener_step) W.draws) }
 {}

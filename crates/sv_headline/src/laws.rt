@@ -1,4 +1,4 @@
-//! The headline over scripts and over connections, each the contract of a function that only calls other laws.
+//! The theorem over scripts and over connections. Each law is the contract of a function that only calls other laws.
 
 ghost use Rattle.sv_component.specs.Steps.{steps_of};
 ghost use Rattle.sv_headline.specs.Callers.{CallersOfAStartedContainerHaveLoggedIn};
@@ -21,8 +21,8 @@ use sv_script::{
 };
 use sv_streams::{Clock, MemoryStream, Sink, Source, Stream};
 
-/// In each run of a container that was started, until memory is refused, a session holds a caller only by a login that fits, which nothing has undone:
-/// whoever is logged in has logged in (Jakarta Servlet 6.0, section 13.6.3).
+/// In every run of a started container, until memory runs out, a session holds a caller only by a login to it as that
+/// caller. No later message has undone that login. So every caller has logged in (Jakarta Servlet 6.0, section 13.6.3).
 pub fn callers_of_a_started_container_have_logged_in<S: Servlet, F: Filter, L: Listener, W: Words>()
     ensures { CallersOfAStartedContainerHaveLoggedIn (steps_of S.servlet_step F.filter_step L.listener_step) W.draws }
 {
@@ -30,10 +30,11 @@ pub fn callers_of_a_started_container_have_logged_in<S: Servlet, F: Filter, L: L
     callers_logged_in_since_the_start::<S, F, L, W>();
 }
 
-/// Where a run of a script ended well, or a line of the script is to blame, what was written is the text of a container's run: from its start over
-/// the events that the script asks for, up to its stop. That run is lawful (`every_run_is_lawful`): a message enters exactly where the
-/// combined constraints allow its method and its path to the caller of its session, every other has a named cause, and components are moved by exactly
-/// the calls that the entries of the text note (Jakarta Servlet 6.0, section 13.8). Whoever is logged in behind it has logged in.
+/// If a script ends well or at a faulty line, the output is the text of a run of the container: its start, the events
+/// that the script asks for, and its stop. That run is lawful (`every_run_is_lawful`). A message enters exactly if the
+/// combined constraints allow its method and its path to the caller of its session; every other message has a named
+/// cause. Components are moved by exactly the calls that the entries of the text note (Jakarta Servlet 6.0, section
+/// 13.8). Every caller at the end of the run has logged in.
 pub fn what_a_script_prints_is_lawful<S: Servlet, F: Filter, L: Listener, I: Source, O: Sink>()
     ensures { WhatAScriptPrintsIsLawful (steps_of S.servlet_step F.filter_step L.listener_step) I.makes O.makes }
 {
@@ -44,16 +45,16 @@ pub fn what_a_script_prints_is_lawful<S: Servlet, F: Filter, L: Listener, I: Sou
     a_script_is_a_lawful_run::<Running<S, F, L, CountedWords>, Context<S, F, L>, CountedWords>();
 }
 
-/// A script in memory that ended well has written, behind what was there, the text of the run that its bytes ask for: that of the start of a container,
-/// those of the events of its lines, numbered from 1, and that of the stop, of a run that is lawful.
+/// A script in memory that ends well appends the text of its run to the output: the text of the container's start, of
+/// the events of its lines, numbered from 1, and of the stop. The run is lawful.
 pub fn a_script_in_memory_prints_its_run<S: Servlet, F: Filter, L: Listener>()
     ensures { AScriptInMemoryPrintsItsRun (steps_of S.servlet_step F.filter_step L.listener_step) }
 {
     what_a_script_prints_is_lawful::<S, F, L, MemoryStream, MemoryStream>();
 }
 
-/// A run of a script that answers want of memory has written nothing, or the text of a container's start and of the events before the refusal, and
-/// nothing behind it: those events are a run as above, and the container was shut down.
+/// A run of a script that ends out of memory has written nothing, or the text of the container's start and of the
+/// events before the failure. Those events are a lawful run, and the container was shut down.
 pub fn what_a_refused_script_prints_is_cut<S: Servlet, F: Filter, L: Listener, I: Source, O: Sink>()
     ensures { WhatARefusedScriptPrintsIsCut (steps_of S.servlet_step F.filter_step L.listener_step) I.makes O.makes }
 {
@@ -64,8 +65,8 @@ pub fn what_a_refused_script_prints_is_cut<S: Servlet, F: Filter, L: Listener, I
     a_script_is_a_lawful_run::<Running<S, F, L, CountedWords>, Context<S, F, L>, CountedWords>();
 }
 
-/// What it has written begins what a run prints that ended well, or at a line of its script, where both starts note the same entries and the same
-/// answers are given to the first events.
+/// The output of a run that ends out of memory begins the output of a complete run, which ends well or at a faulty
+/// line. It does so if both starts note the same entries and the first events have the same reactions.
 pub fn what_a_refused_script_prints_begins_the_whole<
     S: Servlet,
     F: Filter,
@@ -78,11 +79,12 @@ pub fn what_a_refused_script_prints_begins_the_whole<
     a_cut_text_begins_the_whole::<Running<S, F, L, CountedWords>, I, O>();
 }
 
-/// What is written of a connection is what a container's run sends, from its opening to its end or to the event that is refused, over the pieces that
-/// are read of it: one answer after another, all of it, or a part from the first byte on where a write failed (RFC 9112, section 9). The entries of that
-/// run tell the outcome of each message once, in order, and a request enters exactly where the combined constraints allow its method and its path to the
-/// caller of its session (Jakarta Servlet 6.0, section 13.8). If the container ran, that run is lawful (`every_run_is_lawful`), up to where
-/// memory was refused.
+/// The output of a connection is sent by a run of the container over the pieces of input that are read. The run goes
+/// from the opening of the connection to its end or to the event that is refused. Responses follow one another; all
+/// are written, or, if a write fails, a first part of the bytes (RFC 9112, section 9). The entries of the run report
+/// the outcome of each message once, in order. A request enters exactly if the combined constraints allow its method
+/// and its path to the caller of its session (Jakarta Servlet 6.0, section 13.8). If the container was running at the
+/// start, the run is lawful (`every_run_is_lawful`) until memory runs out.
 pub fn what_a_connection_is_sent_is_lawful<
     S: Servlet,
     F: Filter,

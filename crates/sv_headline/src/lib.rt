@@ -1,6 +1,8 @@
-//! The headline: what a script prints, and what a connection is sent, is of a lawful run, in which a request enters exactly where the combined
-//! constraints allow it. Below it what runs of a container want of its contexts, proved of ours, the laws of runs over them, and the lives of components
-//! over every list of events, up to the stop.
+//! The theorem over whole runs: the output of a script and of a connection is that of a lawful run. In a lawful run a
+//! request enters exactly if the combined constraints allow it.
+//!
+//! The crate also proves what runs require of contexts, for our contexts, and the laws of runs over them. Finally it
+//! proves the lives of components over every list of events, up to the stop.
 #![tactic(auto)]
 
 mod contexts;

@@ -1,4 +1,4 @@
-//! The headline, over our contexts.
+//! The theorem over every run, for our contexts.
 
 ghost use Rattle.sv_component.specs.Steps.{steps_of};
 ghost use Rattle.sv_headline.specs.Record.{EveryRunIsLawful};
@@ -10,11 +10,16 @@ use sv_context::Context;
 use sv_outcome::just_one_case_holds;
 use sv_run::{Words, want_of_memory_stops};
 
-/// Over every list of events, until memory is refused: a message goes to the context whose path serves its target, and there it enters, noted so and
-/// answered by a dispatch of the request, exactly where its path is not hidden, it is no login post and the combined constraints, as they stand, allow its
-/// method, its path and the caller of its session (Jakarta Servlet 6.0, section 13.8); every other has a named cause, and is answered by a redirect, an
-/// error, a page of form login or that of the error; within a dispatch nothing is decided again; and each component is moved by exactly the calls that the
-/// journal notes of it, in their order.
+/// Every run over a list of events is lawful, until memory runs out:
+///
+/// - A message goes to the context whose path serves its target.
+/// - There it enters exactly if its path is not hidden, it is no login post, and the constraints allow it. These are
+///   the current combined constraints, applied to its method, its path and the caller of its session (Jakarta Servlet
+///   6.0, section 13.8). The journal notes that it enters, and a dispatch of the request gives its response.
+/// - Every other message has a named cause. Its response is a redirect, an error, an error page or a page of form
+///   login.
+/// - Within a dispatch nothing is decided again.
+/// - Each component is moved by exactly the calls that the journal notes for it, in their order.
 pub fn every_run_is_lawful<S: Servlet, F: Filter, L: Listener, W: Words>()
     ensures { EveryRunIsLawful (steps_of S.servlet_step F.filter_step L.listener_step) W.draws }
 {
@@ -24,8 +29,9 @@ pub fn every_run_is_lawful<S: Servlet, F: Filter, L: Listener, W: Words>()
     edits_alone_change_the_constraints::<S, F, L, W>();
 }
 
-/// The same of each run of a container that runs, whether memory is refused in it or not: it is lawful as a whole, or it is so up to the event that wanted
-/// memory. That event broke off and stopped the container, so that its own entries and answer are lost, and each event behind it is refused.
+/// Every run that starts with a running container is lawful as a whole, or it is lawful up to an event that ran out of
+/// memory. That event broke off and stopped the container. Its own entries and response are lost, and each later event
+/// is refused.
 pub fn every_run_is_lawful_until_memory_is_refused<S: Servlet, F: Filter, L: Listener, W: Words>()
     ensures { EveryRunIsLawfulUntilRefused (steps_of S.servlet_step F.filter_step L.listener_step) W.draws }
 {

@@ -1,4 +1,4 @@
-//! What an event that wants memory leaves, of a container with our contexts.
+//! The effects of an event that runs out of memory, in a container with our contexts.
 
 ghost use Rattle.sv_component.specs.Steps.{steps_of};
 ghost use Rattle.sv_headline.specs.Refused.{TheUndispatchedCallNone};
@@ -6,8 +6,9 @@ ghost use Rattle.sv_headline.specs.Refused.{TheUndispatchedCallNone};
 use sv_component::{Filter, Listener, Servlet};
 use sv_run::Words;
 
-/// In an event that wants memory, the servlets and filters of a context of whose requests none is dispatched are as before the event, however far it
-/// came: no call is made of them for a request that is refused plainly or sent elsewhere, for a request to another context, or for an expiry.
+/// An event that runs out of memory leaves the servlets and filters of a context unchanged, if it dispatched none of
+/// the context's requests. So they are not called for a request that is refused without a page or redirected, for a
+/// request to another context, or for an expiry.
 pub fn the_undispatched_call_none<S: Servlet, F: Filter, L: Listener, W: Words>()
     ensures { TheUndispatchedCallNone (steps_of S.servlet_step F.filter_step L.listener_step) W.draws }
 {}

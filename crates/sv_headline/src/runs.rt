@@ -1,4 +1,4 @@
-//! The laws of runs, of a container with our contexts.
+//! The laws of runs, for a container with our contexts.
 
 ghost use Rattle.sv_component.specs.Steps.{steps_of};
 ghost use Rattle.sv_headline.specs.Start.{CallersLoggedInSinceTheStart};
@@ -14,8 +14,8 @@ use sv_component::{Filter, Listener, Servlet};
 use sv_context::Context;
 use sv_run::Words;
 
-/// Over every list of events, the journal tells the outcome of each message once, in order, and a request enters exactly where the combined
-/// constraints allow it (Jakarta Servlet 6.0, section 13.8).
+/// Over every list of events, the journal reports the outcome of each message once, in order. A request enters exactly
+/// if the combined constraints allow it (Jakarta Servlet 6.0, section 13.8).
 pub fn requests_enter_exactly_where_allowed<S: Servlet, F: Filter, L: Listener, W: Words>()
     ensures { RequestsEnterExactlyWhereAllowed (theory (steps_of S.servlet_step F.filter_step L.listener_step) W.draws) }
 {
@@ -23,8 +23,8 @@ pub fn requests_enter_exactly_where_allowed<S: Servlet, F: Filter, L: Listener, 
     sv_run::requests_enter_exactly_where_allowed::<Context<S, F, L>, W>();
 }
 
-/// Over every list of events, until memory is refused, a session holds a caller only by a login that fits, which nothing has undone (Jakarta
-/// Servlet 6.0, section 13.6.3).
+/// Over every list of events, until memory runs out, a session holds a new caller only by a login to it as that caller.
+/// No later message has undone that login (Jakarta Servlet 6.0, section 13.6.3).
 pub fn callers_logged_in<S: Servlet, F: Filter, L: Listener, W: Words>()
     ensures { CallersLoggedIn (theory (steps_of S.servlet_step F.filter_step L.listener_step) W.draws) }
 {
@@ -32,15 +32,15 @@ pub fn callers_logged_in<S: Servlet, F: Filter, L: Listener, W: Words>()
     sv_run::callers_logged_in::<Context<S, F, L>, W>();
 }
 
-/// The same of a run that begins without sessions, as one of contexts that were just deployed does
-/// ([`sessions_of_contexts_stay_in_order`](crate::sessions_of_contexts_stay_in_order)): whoever is logged in has logged in.
+/// In a run that begins without sessions, every caller has logged in. Newly deployed contexts have no sessions
+/// ([`sessions_of_contexts_stay_in_order`](crate::sessions_of_contexts_stay_in_order)).
 pub fn callers_logged_in_since_the_start<S: Servlet, F: Filter, L: Listener, W: Words>()
     ensures { CallersLoggedInSinceTheStart (theory (steps_of S.servlet_step F.filter_step L.listener_step) W.draws) }
 {
     callers_logged_in::<S, F, L, W>();
 }
 
-/// A piece brings what its two parts bring at one moment: the same bytes, entries and state.
+/// A piece of input has the same effect as its two parts at the same time: the same bytes, entries and state.
 pub fn pieces_may_be_cut<S: Servlet, F: Filter, L: Listener, W: Words>()
     ensures { PiecesMayBeCut (theory (steps_of S.servlet_step F.filter_step L.listener_step) W.draws) }
 {
@@ -48,7 +48,7 @@ pub fn pieces_may_be_cut<S: Servlet, F: Filter, L: Listener, W: Words>()
     sv_run::pieces_may_be_cut::<Context<S, F, L>, W>();
 }
 
-/// A piece brings what its parts bring at one moment, however many they are.
+/// A piece of input has the same effect as its parts at the same time, however many they are.
 pub fn pieces_may_come_in_parts<S: Servlet, F: Filter, L: Listener, W: Words>()
     ensures { PiecesMayComeInParts (theory (steps_of S.servlet_step F.filter_step L.listener_step) W.draws) }
 {
@@ -56,7 +56,8 @@ pub fn pieces_may_come_in_parts<S: Servlet, F: Filter, L: Listener, W: Words>()
     sv_run::pieces_may_come_in_parts::<Context<S, F, L>, W>();
 }
 
-/// Of a piece that completes no item and an event of another connection, neither of which raises the moment, either order brings the same.
+/// A piece that completes no item and an event of another connection have the same effect in either order, if neither
+/// advances the time.
 pub fn orders_are_alike<S: Servlet, F: Filter, L: Listener, W: Words>()
     ensures { OrdersAreAlike (theory (steps_of S.servlet_step F.filter_step L.listener_step) W.draws) }
 {
@@ -64,8 +65,9 @@ pub fn orders_are_alike<S: Servlet, F: Filter, L: Listener, W: Words>()
     sv_run::orders_are_alike::<Context<S, F, L>, W>();
 }
 
-/// At one moment, a piece and its parts, however many they are, have the same answers and lead to the same states: where the piece is refused, each
-/// part is refused for the same cause, and the other way round. Want of memory is left out.
+/// At the same time, a piece and its parts, however many they are, have the same answers and lead to the same states.
+/// The piece is refused exactly if each part is refused for the same cause. Events that run out of memory are
+/// excluded.
 pub fn pieces_are_taken_in_parts<S: Servlet, F: Filter, L: Listener, W: Words>()
     ensures { PiecesAreTakenInParts (theory (steps_of S.servlet_step F.filter_step L.listener_step) W.draws) }
 {
@@ -73,8 +75,9 @@ pub fn pieces_are_taken_in_parts<S: Servlet, F: Filter, L: Listener, W: Words>()
     sv_run::pieces_are_taken_in_parts::<Context<S, F, L>, W>();
 }
 
-/// Of a piece that completes no item and an event of another connection, neither of which raises the moment, either order allows the same answers,
-/// entries and end states, whichever of them is refused. Want of memory is left out.
+/// A piece that completes no item and an event of another connection allow the same answers, entries and end states in
+/// either order, if neither advances the time. This holds whichever of them is refused. Events that run out of memory
+/// are excluded.
 pub fn orders_are_taken_alike<S: Servlet, F: Filter, L: Listener, W: Words>()
     ensures { OrdersAreTakenAlike (theory (steps_of S.servlet_step F.filter_step L.listener_step) W.draws) }
 {
@@ -82,8 +85,8 @@ pub fn orders_are_taken_alike<S: Servlet, F: Filter, L: Listener, W: Words>()
     sv_run::orders_are_taken_alike::<Context<S, F, L>, W>();
 }
 
-/// Over every list of events, until memory is refused, the constraints of a context stand as its own edits have left them, one after another,
-/// whatever was edited in others (Jakarta Servlet 6.0, section 13.8).
+/// Over every list of events, until memory runs out, the constraints of a context are those that its own edits
+/// produce, one after another. Edits of other contexts do not matter (Jakarta Servlet 6.0, section 13.8).
 pub fn constraints_change_by_edits_alone<S: Servlet, F: Filter, L: Listener, W: Words>()
     ensures { ConstraintsChangeByEditsAlone (theory (steps_of S.servlet_step F.filter_step L.listener_step) W.draws) }
 {

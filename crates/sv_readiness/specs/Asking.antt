@@ -1,4 +1,4 @@
--- The lines at the socket file.
+-- The commands at the control socket.
 use Rattle.std.specs.Prelude.{◌≡◌, ◌==◌, ℕ, ◌++◌, Bool, List, [], bytes_eq, codes, position, take, Option, None, Some, Result, Ok, Err, if◌then◌else◌}
 use Rattle.std.specs.Fmt.{decimal}
 use Rattle.std.specs.Option.{option_and_then, option_map}
@@ -22,15 +22,15 @@ use Rattle.sv_script.specs.declared.line.ScriptLine.TheVariants as script
 use Rattle.sv_text.specs.Gives.{GivesAnswer}
 use Rattle.sv_text.specs.declared.no_memory.NoMemory.{NoMemory}
 
--- where the first line ends, which has so many bytes at most, its end with it
+-- the place of the first line end, if it is within the first `MAX_LINE_BYTES` bytes
 abbrev pub line_end : List ℕ → Option ℕ
 line_end bytes = position (λ b. b == 10) (take MAX_LINE_BYTES bytes)
 
--- the server is asked to stop
+-- the line is the command `stop`
 abbrev pub asks_to_stop : List ℕ → Bool
 asks_to_stop line = bytes_eq line (codes "stop")
 
--- a method, a target, and a user behind another blank, where one is named
+-- the target and, after another blank, the user if one is named; the method is parsed already
 abbrev pub explaining_of : List ℕ → List ℕ → Option (List ℕ × List ℕ) → Option Ask
 explaining_of method rest None = Some (Explain method rest None)
 explaining_of method rest (Some cut) = option_map (λ user. Explain method cut.0 (Some user)) (text_of cut.1)
@@ -42,7 +42,7 @@ explaining rest = option_and_then (λ cut. option_and_then (λ method. explainin
 abbrev pub explain_of : List ℕ → Option Ask
 explain_of line = option_and_then (λ cut. if bytes_eq cut.0 (codes "explain") then explaining cut.1 else None) (at_blank line)
 
--- of the lines of a script the edits alone
+-- only the edits among the lines of a script
 abbrev pub script_ask : Result ScriptLine LineFault → Ask
 script_ask (Ok (script.Edit path edit)) = ask.Edit path edit
 script_ask other = Unknown
@@ -51,44 +51,45 @@ abbrev pub or_edit : Option Ask → List ℕ → Ask
 or_edit (Some explain) line = explain
 or_edit None line = script_ask (asked line)
 
--- what any other line asks
+-- the command of any other line
 abbrev pub ask_of : List ℕ → Ask
 ask_of line =
     if bytes_eq line (codes "status") then Status else
     if bytes_eq line (codes "uncovered") then Uncovered else or_edit (explain_of line) line
 
--- how things stand, each figure behind its name
+-- the figures of the connections, each after its name
 abbrev pub figures_text : Figures → List ℕ
 figures_text figures =
     codes "connections " ++ decimal figures.connections ++ codes " writing " ++ decimal figures.writing
     ++ codes " held " ++ decimal figures.held ++ codes " opened " ++ decimal figures.opened
 
--- what is said behind that of how the handler stands
+-- the handler's part of the status line, which follows the figures
 abbrev pub standing_text : Option (List ℕ) → List ℕ
 standing_text None = []
 standing_text (Some text) = text
 
--- the line that tells both
+-- the status line: the figures, then the handler's status
 abbrev pub status_line : Figures → Option (List ℕ) → List ℕ
 status_line figures stands = figures_text figures ++ standing_text stands ++ codes "\n"
 
--- what is said where nothing is known
+-- the reply of the handler, or `unknown` if it has none
 abbrev pub known_text : Option (List ℕ) → List ℕ
 known_text None = codes "unknown\n"
 known_text (Some text) = text
 
--- what is said where no event is taken any more
+-- the reply when the handler takes no more events
 abbrev pub last_text : List ℕ → Figures → List ℕ
 last_text line figures = if bytes_eq line (codes "status") then status_line figures None else codes "stopping\n"
 
 module _ {R : Type 0} (before : R) where
-  -- that is said, unless there was no memory, and no event was taken
+  -- the reply is this text, unless memory ran out; the handler takes no event
   abbrev pub SaysAlone : List ℕ → Result (Result (List ℕ) NoMemory) StepFault → R → Type 0
   SaysAlone text (Ok said) after = GivesAnswer said text × (after ≡ before)
   SaysAlone text (Err fault) after = ⊥
 
   module _ (steps : Reacting R) where
-    -- an edit is taken once, and answered as a replay prints it; where there was no memory to answer, it was not taken
+    -- the handler takes an edit once, and the reply is the text that a replay prints; if memory for the reply runs
+    -- out, it takes no edit
     abbrev pub EditsTo : List ℕ → Edit → Result (Result (List ℕ) NoMemory) StepFault → R → Type 0
     EditsTo path edit (Ok (Ok text)) after =
         (reaction : Reaction) × steps before (Edited path edit) (Ok reaction) after × (text ≡ edited_lines reaction.edited)
@@ -96,7 +97,7 @@ module _ {R : Type 0} (before : R) where
     EditsTo path edit (Err fault) after = steps before (Edited path edit) (Err fault) after
 
     module _ (explains : Explaining R) (uncovers stands : Saying R) (figures : Figures) where
-      -- what comes of what is asked
+      -- the reply to each command, and the handler's state after it
       abbrev pub RepliesTo : Ask → Result (Result (List ℕ) NoMemory) StepFault → R → Type 0
       RepliesTo Status result after = SaysAlone (status_line figures (stands before)) result after
       RepliesTo Uncovered result after = SaysAlone (known_text (uncovers before)) result after

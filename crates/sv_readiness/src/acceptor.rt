@@ -1,4 +1,4 @@
-//! A listener whose connections are accepted without waiting.
+//! A nonblocking listener that accepts connections.
 
 use crate::crowd::{Crowd, lacks_room};
 use crate::listening::LISTENER;
@@ -6,20 +6,21 @@ use mio::net::{TcpListener, TcpStream};
 use mio::{Interest, Registry, Token};
 use std::io::ErrorKind;
 
-/// A listener, what is known of who comes to it, and whether the system has room for them.
+/// A listener, the state of its waiting clients, and whether the system has capacity for them.
 #[derive(Drop)]
 pub(crate) struct Acceptor<'a> {
     registry: &'a Registry,
     listener: TcpListener,
     crowd: Crowd,
-    // Whether an accept is tried; whether one may have come who is not reported; and whether one was reported, and none was accepted since.
+    // Whether an accept is tried; whether an unreported client may be waiting; and whether the listener was reported
+    // and no client was accepted since.
     is_tried: bool,
     may_come: bool,
     has_come: bool,
 }
 
 impl<'a> Acceptor<'a> {
-    /// Nobody has come yet to the listener, which is registered there.
+    /// Returns the acceptor of a listener that is registered with this registry. No client has connected yet.
     pub fn new(registry: &'a Registry, listener: TcpListener) -> Acceptor<'a> {
         Acceptor {
             registry,
@@ -31,28 +32,30 @@ impl<'a> Acceptor<'a> {
         }
     }
 
-    /// Whether one may have come who is not reported.
+    /// Whether an unreported client may be waiting.
     pub fn may_come(&self) -> bool {
         self.may_come
     }
 
-    /// Whether another accept is tried before any is told of.
+    /// Whether another accept is tried before the next event is reported.
     pub fn is_tried(&self) -> bool {
         self.is_tried
     }
 
-    /// Notes that the listener was reported.
+    /// Notes that the system reported the listener.
     pub fn note_report(&mut self) {
         self.has_come = true;
     }
 
-    /// Notes whether it is told that one may have come: an accept is tried behind that alone.
+    /// Notes whether the event reported to the caller says that a client may be waiting. An accept is tried only after
+    /// such an event.
     pub fn note_told(&mut self, is_told: bool) {
         self.is_tried = is_told;
         self.may_come = self.may_come && !is_told;
     }
 
-    /// The stream of one who has come, where an accept is tried. The listener may have been reported alone, or with others.
+    /// Returns the stream of a waiting client, if an accept is tried and finds one. `was_alone` says whether the
+    /// listener was the only source in its report.
     pub fn accept(&mut self, was_alone: bool) -> Option<TcpStream> {
         if !self.is_tried {
             return None;
@@ -81,41 +84,43 @@ impl<'a> Acceptor<'a> {
         None
     }
 
-    // Behind one who was accepted: where the listener was reported alone, another who has come is to be reported anew. An accept that finds nobody takes
-    // as long as ten such calls, so one is tried only where others that were reported have their share of it, or where that call fails.
+    // Called after an accept. If the listener was the only source in its report, rearming it has the next waiting
+    // client reported. An accept that finds no client takes as long as ten such calls. So one is tried only if other
+    // sources were reported, which share its cost, or if rearming fails.
     fn look_for_next(&mut self, was_alone: bool) {
         self.is_tried = !(was_alone && self.asks_anew());
         self.may_come = self.is_tried;
     }
 
-    // Asks to be told of who comes, also of who has come before. Says whether that could be had.
+    // Rearms the listener, which also reports clients that connected before. Returns whether that succeeded.
     fn asks_anew(&mut self) -> bool {
         self.registry
             .reregister(&mut self.listener, Token(LISTENER), Interest::READABLE)
             .is_ok()
     }
 
-    // Notes that the system has no room for another. It says so also where none has come; then one who has, or comes, is to be reported anew.
+    // Notes that the system has no capacity for another connection. Linux also returns this error if no client is
+    // waiting; then the listener is rearmed, so that a client that is waiting or connects later is reported.
     fn note_refusal(&mut self) {
         if self.has_come {
             self.note_crowd();
             return;
         }
-        // Where that fails, one who comes is reported all the same, and one who has come is looked for each second.
+        // If rearming fails, a new client is still reported, and a waiting client is looked for once per second.
         self.asks_anew();
     }
 
-    /// Notes that the system has no room for one who came.
+    /// Notes that the system has no capacity for a waiting client.
     pub fn note_crowd(&mut self) {
         self.crowd = self.crowd.refused();
     }
 
-    /// Notes that a second has passed.
+    /// Called once per second.
     pub fn note_second(&mut self) {
         self.crowd = self.crowd.second();
     }
 
-    /// Whether it is to be told that the system has no room for one who came: that is told once.
+    /// Whether to report that the system has no capacity for a waiting client. It is reported once.
     pub fn tells_crowd(&mut self) -> bool {
         let is_found = self.crowd == Crowd::Found;
         if is_found {
@@ -124,19 +129,19 @@ impl<'a> Acceptor<'a> {
         is_found
     }
 
-    /// Whether that was told last, so that a connection makes room.
+    /// Whether that was the last such report, so that a connection is being closed to make room.
     pub fn is_making_room(&self) -> bool {
         self.crowd == Crowd::Told
     }
 
-    /// Takes all who came anew, behind a connection that has made room.
+    /// Looks again for all waiting clients, after a connection was closed to make room.
     pub fn take_anew(&mut self) {
         self.crowd = Crowd::Past;
         self.may_come = true;
     }
 }
 
-// Whether a further accept may give a connection.
+// Whether another accept may return a connection.
 fn is_passing(kind: ErrorKind) -> bool {
     matches!(kind, ErrorKind::Interrupted | ErrorKind::ConnectionAborted)
 }

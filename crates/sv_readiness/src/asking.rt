@@ -1,4 +1,4 @@
-//! What a line at the socket file asks.
+//! Parses the commands of the control socket.
 
 ghost use Rattle.std.specs.Prelude.{◌≡◌, string_bytes, take, IfOk, Ok, Some};
 ghost use Rattle.sv_readiness.specs.Asking as spec;
@@ -14,29 +14,29 @@ use sv_policy::Edit;
 use sv_script::{LineFault, ScriptLine, at_blank, read_line, text_of};
 use sv_text::{Bytes, NoMemory, Text};
 
-/// What a line asks that does not ask to stop.
+/// A command other than `stop`.
 #[derive(Drop)]
 pub(crate) enum Ask {
-    /// How things stand.
+    /// Show the status.
     Status,
-    /// Which methods the constraints leave uncovered.
+    /// List the methods that the security constraints leave uncovered.
     Uncovered,
-    /// What would become of a request with this method and this target, from this user or without a caller.
+    /// Explain what would happen to a request with this method and target, from this user or without a caller.
     Explain(Text, Bytes, Option<Text>),
-    /// That the constraints of the context of this path are edited so.
+    /// Edit the security constraints of the context with this path.
     Edit(Text, Edit),
-    /// Nothing that is known.
+    /// Any other line.
     Unknown,
 }
 
-/// Where the first line ends, which has [`MAX_LINE_BYTES`] at most, its end with it.
+/// Returns the place of the first line end, if it is within the first [`MAX_LINE_BYTES`] bytes.
 pub(crate) fn line_end(bytes: &[u8]) -> Option<usize>
     ensures { result ≡ spec.line_end bytes.now }
 {
     front_of(bytes).iter().position(|b| *b == b'\n')
 }
 
-// As many bytes as a line may have, or all.
+// Returns the first `MAX_LINE_BYTES` bytes, or all bytes if there are fewer.
 fn front_of(bytes: &[u8]) -> &[u8]
     ensures { result.now ≡ take MAX_LINE_BYTES bytes.now }
 {
@@ -46,14 +46,14 @@ fn front_of(bytes: &[u8]) -> &[u8]
     bytes.split_at(MAX_LINE_BYTES).0
 }
 
-/// Whether a line, which stands here without its end, asks that the server stops.
+/// Whether a line, given without its line end, is the command `stop`.
 pub(crate) fn asks_to_stop(line: &[u8]) -> bool
     ensures { result ≡ spec.asks_to_stop line.now }
 {
     line == b"stop".as_slice()
 }
 
-/// What any other line asks, which stands here without its end.
+/// Returns the command of any other line, given without its line end.
 ///
 /// # Errors
 /// Memory ran out.
@@ -73,7 +73,7 @@ pub(crate) fn ask_of(alloc: Global, line: &[u8]) -> Result<Ask, NoMemory>
     }
 }
 
-// `explain METHOD TARGET` or `explain METHOD TARGET USER`.
+// Parses `explain METHOD TARGET` or `explain METHOD TARGET USER`.
 fn explain_of(alloc: Global, line: &[u8]) -> Result<Option<Ask>, NoMemory>
     ensures { GivesAnswer result (spec.explain_of line.now) }
 {
@@ -86,7 +86,7 @@ fn explain_of(alloc: Global, line: &[u8]) -> Result<Option<Ask>, NoMemory>
     explaining(alloc, rest)
 }
 
-// What is behind the word.
+// Parses the arguments of `explain`.
 fn explaining(alloc: Global, rest: &[u8]) -> Result<Option<Ask>, NoMemory>
     ensures { GivesAnswer result (spec.explaining rest.now) }
 {
@@ -99,7 +99,7 @@ fn explaining(alloc: Global, rest: &[u8]) -> Result<Option<Ask>, NoMemory>
     explaining_of(alloc, method, rest)
 }
 
-// What is behind the method.
+// Parses the target and the user of `explain`, which follow the method.
 fn explaining_of(alloc: Global, method: Text, rest: &[u8]) -> Result<Option<Ask>, NoMemory>
     ensures { GivesAnswer result (spec.explaining_of method rest.now (fields.at_blank rest.now)) }
 {
@@ -114,7 +114,7 @@ fn explaining_of(alloc: Global, method: Text, rest: &[u8]) -> Result<Option<Ask>
     Ok(Some(Ask::Explain(method, target, Some(user))))
 }
 
-// The text that bytes are, where they are UTF-8.
+// Returns a copy of the bytes as text, if they are UTF-8.
 fn copied(alloc: Global, bytes: &[u8]) -> Result<Option<Text>, NoMemory>
     ensures { GivesAnswer result (fields.text_of bytes.now) }
 {
@@ -124,7 +124,7 @@ fn copied(alloc: Global, bytes: &[u8]) -> Result<Option<Text>, NoMemory>
     Ok(Some(Text::copy_of(alloc, text)?))
 }
 
-// `append` and `withdraw`, as in a script.
+// Parses `append` and `withdraw`, which have the syntax of a script.
 fn edit_of(alloc: Global, line: &[u8]) -> Result<Ask, NoMemory>
     ensures { GivesAnswer result (spec.script_ask (script.asked line.now)) }
 {
@@ -135,7 +135,7 @@ fn edit_of(alloc: Global, line: &[u8]) -> Result<Ask, NoMemory>
     }
 }
 
-// Of the lines of a script the edits alone.
+// Accepts only the edits among the lines of a script.
 fn script_ask(line: ScriptLine) -> Ask
     ensures { result ≡ spec.script_ask (Ok line) }
 {
@@ -150,7 +150,7 @@ fn script_ask(line: ScriptLine) -> Ask
     }
 }
 
-/// How things stand with the connections, each figure behind its name.
+/// Returns the figures of the connections, each after its name.
 ///
 /// # Errors
 /// Memory ran out.
@@ -161,7 +161,7 @@ pub(crate) fn figures_text(alloc: Global, figures: Figures) -> Result<String, Al
     format!(in alloc; "{shown}")
 }
 
-// Prints how things stand.
+// Displays the figures of the connections.
 #[derive(Clone, Copy)]
 struct Shown(Figures);
 

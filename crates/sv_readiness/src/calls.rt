@@ -1,4 +1,4 @@
-//! A read and a write that do not wait.
+//! Nonblocking reads and writes.
 
 ghost use Rattle.std.specs.Prelude.{◌<◌, length};
 ghost use Rattle.sv_readiness.specs.Calls.{ReadsSome, WritesSome};
@@ -6,7 +6,7 @@ ghost use Rattle.sv_readiness.specs.Calls.{ReadsSome, WritesSome};
 use std::io::{ErrorKind, Read, Write};
 use sv_connection::Tried;
 
-/// Reads once. A read that was interrupted is made again.
+/// Reads once. An interrupted read is retried.
 #[inline(always)]
 pub(crate) fn try_read<R: Read>(reader: &mut R, buffer: &mut [u8]) -> Tried
     requires { 0 < length buffer.old }
@@ -23,7 +23,7 @@ pub(crate) fn try_read<R: Read>(reader: &mut R, buffer: &mut [u8]) -> Tried
     Tried::Failed
 }
 
-/// Writes once. A write that was interrupted is made again, and one that takes nothing has failed.
+/// Writes once. An interrupted write is retried, and a write of zero bytes counts as failed.
 #[inline(always)]
 pub(crate) fn try_write<W: Write>(writer: &mut W, bytes: &[u8]) -> Tried
     ensures { WritesSome (W.contents writer.old) result bytes.now (W.contents writer.new) }

@@ -1,4 +1,4 @@
-//! The socket file at which a server that runs is asked, edited and stopped.
+//! The control socket, a Unix socket file that takes commands for a running server.
 
 ghost use Rattle.std.specs.Prelude.{◌≡◌, ◌≤◌, drop, length};
 ghost use Rattle.sv_connection.specs.Asking.{EditsOnce};
@@ -16,10 +16,10 @@ use sv_connection::{Figures, PollEvent, Queries, Tried};
 use sv_run::{EventHandler, StepFault};
 use sv_text::{Bytes, NoMemory};
 
-/// The token of the socket file. No connection has it as its number.
+/// The token of the control socket. No connection has it as its number.
 pub(crate) const CONTROL: usize = usize::MAX - 1;
 
-/// The token of who asks there. No connection has it as its number.
+/// The token of the control client. No connection has it as its number.
 pub(crate) const ASKER: usize = usize::MAX - 2;
 
 const UNKNOWN: &[u8] = b"unknown\n";
@@ -28,7 +28,8 @@ const STOPPING: &[u8] = b"stopping\n";
 
 const NO_MEMORY: &[u8] = b"no memory\n";
 
-/// A listener at a socket file, and who asks there: one after another, as they have connected. One line is taken of each, and answered.
+/// The listener of the control socket and its current client. Clients are served one after another, in the order in
+/// which they connected. Each sends one line and receives one reply.
 #[derive(Drop)]
 pub(crate) struct Control<'a> {
     alloc: Global,
@@ -44,7 +45,7 @@ pub(crate) struct Control<'a> {
 }
 
 impl<'a> Control<'a> {
-    /// Nobody asks yet. What is sent is reported by this registry.
+    /// Returns a control socket without a client. The registry reports the readiness of its clients.
     pub fn new(alloc: Global, registry: &'a Registry, listener: UnixListener) -> Control<'a> {
         Control {
             alloc,
@@ -60,7 +61,7 @@ impl<'a> Control<'a> {
         }
     }
 
-    /// Takes who connected first, where nobody asks.
+    /// Accepts the next client, if none is connected.
     pub fn welcome(&mut self, now: u64) {
         self.has_refused = false;
         for _ in 0..u64::MAX {
@@ -84,29 +85,30 @@ impl<'a> Control<'a> {
         }
     }
 
-    /// Takes who connected first, where nobody asks, behind the report that someone connected.
+    /// Accepts the next client, if none is connected, after the system reported that one is waiting.
     pub fn welcome_told(&mut self, now: u64) {
         self.has_come = true;
         self.welcome(now);
     }
 
-    // Notes that the system has no room for another. It says so also where none has come; then one who has, or comes, is to be reported anew.
+    // Notes that the system has no capacity for another client. Linux also returns this error if no client is waiting;
+    // then the listener is rearmed, so that a client that is waiting or connects later is reported.
     fn note_refusal(&mut self) {
         self.has_refused = self.has_come;
         if !self.has_come {
-            // Where that fails, one who comes is reported all the same.
+            // If rearming fails, a new client is still reported.
             let _ = self
                 .registry
                 .reregister(&mut self.listener, Token(CONTROL), Interest::READABLE);
         }
     }
 
-    /// Whether the system had no room for who connected.
+    /// Whether the system had no capacity for a waiting client.
     pub fn has_refused(&self) -> bool {
         self.has_refused
     }
 
-    // Takes who has connected, where what is sent there can be reported.
+    // Makes a stream the current client, if its readiness can be reported. The stream is closed otherwise.
     fn take(&mut self, stream: UnixStream, now: u64) {
         let mut stream = stream;
         let token = Token(ASKER);
@@ -121,7 +123,7 @@ impl<'a> Control<'a> {
         }
     }
 
-    /// Lets go who sent no whole line in time, or did not take its answer, and takes the next.
+    /// Closes a client that sent no whole line in time or did not read its reply, and accepts the next.
     pub fn expire(&mut self, now: u64) {
         if self.until <= now {
             self.let_go(now);
@@ -129,8 +131,8 @@ impl<'a> Control<'a> {
         self.welcome(now);
     }
 
-    /// Reads on of who asks, and says where a line is whole. That the server stops is answered here. Who ends before a line is whole is let go, and who
-    /// is answered already is written to.
+    /// Reads from the client and returns an event once its line is whole. This function itself replies to `stop`. A
+    /// client that closes before its line is whole is dropped. If a reply is in progress, writes more of it.
     pub fn hear(&mut self, now: u64) -> Option<PollEvent> {
         if !self.answer.is_empty() {
             self.write_on(now);
@@ -154,7 +156,7 @@ impl<'a> Control<'a> {
         None
     }
 
-    // What a whole line tells.
+    // Returns the event of a whole line.
     fn told_by_line(&mut self, now: u64) -> PollEvent {
         if asks_to_stop(self.line.as_slice()) {
             self.stop(now);
@@ -176,7 +178,7 @@ impl<'a> Control<'a> {
         }
     }
 
-    // Takes more of a line, without its end.
+    // Adds bytes to the line, and cuts it before its line end.
     fn add(&mut self, bytes: &[u8]) -> Heard {
         if self.line.extend_from_slice(bytes).is_err() {
             return Heard::End;
@@ -191,21 +193,21 @@ impl<'a> Control<'a> {
         }
     }
 
-    // Answers that the server stops. Who asked learns of its end by the end of the connection.
+    // Replies that the server stops. The client learns that the server has stopped when the connection closes.
     fn stop(&mut self, now: u64) {
         if let Some(stream) = self.asker.take() {
             let mut stream = stream;
-            // Who is gone hears nothing.
+            // A client that is gone misses the reply.
             let _ = try_write(&mut stream, STOPPING);
             self.stopper = Some(stream);
         }
         self.welcome(now);
     }
 
-    /// Answers the line that is whole, by how things stand and by the handler, which takes the edit that it asks for.
+    /// Replies to the whole line with the figures and the handler, which applies the edit that the line asks for.
     ///
     /// # Errors
-    /// Why the edit was refused.
+    /// The handler's [`StepFault`] for the edit. The client then gets the reply `no memory`.
     pub fn answer_query<R: EventHandler + Queries>(
         &mut self,
         figures: Figures,
@@ -227,14 +229,14 @@ impl<'a> Control<'a> {
         }
     }
 
-    /// Answers the line that is whole where no event is taken any more, by how things stand.
+    /// Replies to the whole line when the handler takes no more events, with only the figures.
     pub fn tell(&mut self, figures: Figures, now: u64) {
         let line = mem::replace(&mut self.line, Vec::new(self.alloc));
         let text = last_text(self.alloc, line.as_slice(), figures);
         self.give(text, now);
     }
 
-    // Answers who asked, or says that there is no memory.
+    // Sends a reply, or says that memory ran out.
     fn give(&mut self, text: Result<Bytes, NoMemory>, now: u64) {
         match text {
             Ok(text) => self.write(text, now),
@@ -242,23 +244,24 @@ impl<'a> Control<'a> {
         }
     }
 
-    // Says a few words, which a stream that was not written to has room for.
+    // Sends a short reply, which fits into the send buffer of a stream that was not written to, and drops the client.
     fn say(&mut self, words: &[u8], now: u64) {
         if let Some(stream) = &mut self.asker {
-            // Who is gone hears nothing.
+            // A client that is gone misses the reply.
             let _ = try_write(stream, words);
         }
         self.let_go(now);
     }
 
-    // Answers by a text, which may be longer than what the stream takes at once.
+    // Sends a reply that may be longer than one write accepts.
     fn write(&mut self, text: Bytes, now: u64) {
         self.answer = text.into_vec();
         self.until = now.saturating_add(MAX_ASKING_SECONDS);
         self.write_on(now);
     }
 
-    // Writes what is left of an answer, as far as that goes without waiting. Behind the last of it, or where a write fails, who asked is let go.
+    // Writes the rest of a reply until a write would block. The client is dropped after the last byte or a failed
+    // write.
     fn write_on(&mut self, now: u64) {
         for _ in 0..u64::MAX {
             match self.write_once() {
@@ -272,7 +275,7 @@ impl<'a> Control<'a> {
         }
     }
 
-    // Writes once, where something is left.
+    // Writes once, if any of the reply is left.
     fn write_once(&mut self) -> Wrote {
         if self.answer.is_empty() {
             return Wrote::End;
@@ -290,7 +293,7 @@ impl<'a> Control<'a> {
         }
     }
 
-    // Asks to be told when the stream takes more.
+    // Arms the stream for writing.
     fn await_room(&mut self) -> Wrote {
         let Some(stream) = &mut self.asker else {
             return Wrote::End;
@@ -302,7 +305,7 @@ impl<'a> Control<'a> {
         }
     }
 
-    // Lets go who asked, and takes the next.
+    // Drops the client and accepts the next.
     fn let_go(&mut self, now: u64) {
         self.asker = None;
         self.answer = Vec::new(self.alloc);
@@ -310,7 +313,7 @@ impl<'a> Control<'a> {
     }
 }
 
-// Passes over so many bytes.
+// Removes the first `count` bytes.
 fn skip(bytes: &mut Vec<u8>, count: usize)
     requires { count ≤ length bytes.old.items }
     ensures { bytes.new.items ≡ drop count bytes.old.items }
@@ -320,28 +323,28 @@ fn skip(bytes: &mut Vec<u8>, count: usize)
     bytes.truncate(len - count);
 }
 
-// What a write of an answer came to.
+// The outcome of one write of a reply.
 #[derive(Clone, Copy)]
 enum Wrote {
-    // More may be taken at once.
+    // The next write may accept more.
     Some,
-    // The next write would have to wait.
+    // The next write would block.
     UntilPaused,
-    // Nothing is left, nobody is there, or the write failed.
+    // The reply is complete, no client is connected, or the write failed.
     End,
 }
 
-// What reading on of a line came to.
+// The outcome of reading more of a line.
 #[derive(Clone, Copy)]
 enum Heard {
-    // More may come at once.
+    // The next read may return more.
     Part,
     // The line is whole.
     Whole,
-    // The line is longer than any that is known.
+    // The line is longer than any command may be.
     TooLong,
-    // The next read would have to wait, or nobody asks.
+    // The next read would block, or no client is connected.
     UntilPaused,
-    // There is no more to read, or no memory for the line.
+    // The stream has ended or failed, or memory for the line ran out.
     End,
 }

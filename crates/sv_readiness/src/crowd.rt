@@ -1,32 +1,34 @@
-//! Whether the system had room for who came.
+//! Whether the system has capacity for waiting clients.
 
 use std::io::Error;
 
-/// What Linux answers where it has no memory (`ENOMEM`), no descriptor (`ENFILE`), none for this process (`EMFILE`), or no buffer (`ENOBUFS`).
+/// The Linux errors for no memory (`ENOMEM`), no descriptor in the system (`ENFILE`), no descriptor for this process
+/// (`EMFILE`) and no buffer (`ENOBUFS`).
 const NO_ROOM: [i32; 4] = [12, 23, 24, 105];
 
-/// Whether an error says that the system has no room for another connection.
+/// Whether an error says that the system has no capacity for another connection.
 pub fn lacks_room(error: &Error) -> bool {
     error
         .raw_os_error()
         .is_some_and(|code| NO_ROOM.contains(&code))
 }
 
-/// Whether the system had room for who came: descriptors are the first that it lacks.
+/// Whether the system has capacity for waiting clients. Descriptors usually run out first.
 #[derive(Clone, Copy, PartialEq, Eq)]
 pub enum Crowd {
-    /// It had room for all, as far as is known.
+    /// The system has capacity for all clients, as far as is known.
     None,
-    /// It had none for one, which is to be told.
+    /// The system had no capacity for a client, and this is not reported yet.
     Found,
-    /// That was told, and a connection makes room now.
+    /// The shortage was reported, and a connection is being closed to make room.
     Told,
-    /// It was told before, and is told again where it is so behind the next second, or behind another who came.
+    /// The shortage was reported before. It is reported again if it persists after the next second or after another
+    /// client was accepted.
     Past,
 }
 
 impl Crowd {
-    /// Behind one for whom there was no room.
+    /// Called when the system had no capacity for a client.
     pub fn refused(self) -> Crowd {
         match self {
             Crowd::None => Crowd::Found,
@@ -34,7 +36,7 @@ impl Crowd {
         }
     }
 
-    /// Behind a second.
+    /// Called once per second.
     pub fn second(self) -> Crowd {
         match self {
             Crowd::Past => Crowd::None,

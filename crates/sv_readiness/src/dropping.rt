@@ -1,4 +1,4 @@
-//! What is read of a connection that is over, and dropped.
+//! Reads and drops the input of a closed connection.
 
 ghost use Rattle.std.specs.Prelude.{◌≡◌, ◌<◌, length};
 ghost use Rattle.sv_readiness.specs.Dropping.{Drops};
@@ -8,18 +8,18 @@ use crate::limits::{DROPPED_READ_BYTES, FIRST_DROPPED_READ_BYTES, MAX_DROPPED_RE
 use std::io::Read;
 use sv_connection::Tried;
 
-/// What reading on came to.
+/// The outcome of reading on.
 #[derive(Clone, Copy, Debug, PartialEq, Eq)]
 pub(crate) enum Dropped {
-    /// Nothing more is to be read: the stream has ended or failed, or enough of it was dropped.
+    /// Nothing more is read: the stream has ended or failed, or the limit of dropped bytes is reached.
     All,
-    /// The next read would have to wait.
+    /// The next read would block.
     UntilPaused,
-    /// More may have come.
+    /// The next read may return more.
     Some,
 }
 
-/// Reads what has come and drops it, in so many reads and as many bytes as are left to be dropped at most.
+/// Reads input and drops it. Makes at most [`MAX_DROPPED_READS`] reads and drops at most `left` bytes.
 pub(crate) fn drop_some<R: Read>(reader: &mut R, left: &mut usize) -> Dropped
     ensures { Drops (R.remaining reader.old) left.old left.new (R.remaining reader.new) }
 {
@@ -31,7 +31,7 @@ pub(crate) fn drop_some<R: Read>(reader: &mut R, left: &mut usize) -> Dropped
     }
 }
 
-// Reads on where something had come, in one read fewer than may be made.
+// Reads on after a first read that returned bytes. Makes at most the remaining `MAX_DROPPED_READS - 1` reads.
 fn drop_more<R: Read>(reader: &mut R, left: &mut usize) -> Dropped
     ensures { Drops (R.remaining reader.old) left.old left.new (R.remaining reader.new) }
 {

@@ -1,4 +1,4 @@
-//! The limits in numbers, each a clause of a function that does nothing.
+//! The limits as numbers, each a clause of a function that does nothing.
 
 ghost use Rattle.std.specs.Prelude.{◌≡◌};
 
@@ -8,7 +8,8 @@ use crate::limits::{
     MAX_READY_BEFORE_ACCEPT, MAX_READY_BEFORE_READING, MAX_SENT_AT_ONCE,
 };
 
-/// The limits of this crate as numbers. What is dropped of a connection that is over is 1 MiB at a time, and 16 MiB in all, at most.
+/// States the limits of this crate as numbers. By them a closed connection drops at most 1 MiB at a time and 16 MiB in
+/// total.
 pub fn limits_are_as_stated()
     ensures events { EVENTS_AT_ONCE ≡ 256 }
     ensures ready { MAX_READY_BEFORE_ACCEPT ≡ 128 }

@@ -1,5 +1,5 @@
-//! Connections over sockets whose calls do not wait: what reports their readiness, accepts them and tells time. What a socket gives and takes,
-//! and what the system reports, is known to no contract.
+//! Connections over nonblocking sockets: the poller that reports readiness, accepts connections and tracks time.
+//! Contracts assume nothing about the data of sockets or the events of the system.
 #![tactic(auto)]
 
 mod acceptor;

@@ -1,4 +1,4 @@
-//! The streams of connections that are over, while their peers may still send.
+//! The streams of closed connections whose peers may still send (lingering close; RFC 9112, section 9.6).
 
 use crate::dropping::{Dropped, drop_some};
 use crate::limits::{LINGER_SECONDS, MAX_DROPPED_BYTES, MAX_LINGERING};
@@ -8,7 +8,8 @@ use std::alloc::Global;
 use std::io::Read;
 use std::marker::Model;
 
-/// A stream that is read on. It is registered under the number that its connection had, which no other is given.
+/// A stream in lingering close. It stays registered under the number of its connection, which no other connection
+/// gets.
 #[derive(Drop)]
 struct Lingerer<T> {
     number: u64,
@@ -20,7 +21,7 @@ struct Lingerer<T> {
 impl<T: Read + Source> Lingerer<T> {
     ghost use Rattle.std.specs.Prelude.{◌≡◌};
 
-    // Drops what has come, and says whether more may be told.
+    // Drops the available input, and returns whether more may be reported.
     fn read_on(&mut self, registry: &Registry) -> bool
         ensures { self.new.number ≡ self.old.number }
     {
@@ -31,7 +32,7 @@ impl<T: Read + Source> Lingerer<T> {
         }
     }
 
-    // Asks to be told also of what has come before.
+    // Arms the stream, which also reports input that arrived before.
     fn arm(&mut self, registry: &Registry) -> bool
         ensures { self.new.number ≡ self.old.number }
     {
@@ -42,7 +43,7 @@ impl<T: Read + Source> Lingerer<T> {
     }
 }
 
-/// The streams of connections that are over and are read on, the oldest first. Contracts see how many they are.
+/// The streams in lingering close, oldest first. Contracts see their number.
 #[derive(Drop)]
 pub(crate) struct Lingering<T> {
     streams: Vec<Lingerer<T>>,
@@ -63,7 +64,7 @@ impl<T: Read + Source + Drop> Lingering<T> {
     ghost use Rattle.std.specs.Prelude.{◌≡◌, ◌==◌, ◌≤◌, ◌<◌, ◌+◌, false, IfSome};
     ghost use Rattle.sv_readiness.specs.declared.limits.TheConstants.{MAX_LINGERING};
 
-    /// None.
+    /// Returns a set without streams.
     pub fn new(alloc: Global) -> Lingering<T>
         ensures { result ≡ 0 }
     {
@@ -72,15 +73,15 @@ impl<T: Read + Source + Drop> Lingering<T> {
         }
     }
 
-    /// Whether none is kept.
+    /// Whether there are no streams.
     pub fn is_empty(&self) -> bool
         ensures { result ≡ (self.now == 0) }
     {
         self.streams.is_empty()
     }
 
-    /// Drops what has come on a stream, and keeps it where more may come; where as many are kept as there may be, the oldest is let go. Where there is
-    /// no memory to keep it, it is let go itself.
+    /// Drops the available input of a stream and keeps the stream if more may arrive. If the limit of streams is
+    /// reached, the oldest is closed. If memory for the new one runs out, it is closed itself.
     pub fn take(&mut self, number: u64, stream: T, now: u64, registry: &Registry)
         ensures { self.new ≤ self.old + 1 }
     {
@@ -108,7 +109,8 @@ impl<T: Read + Source + Drop> Lingering<T> {
         }
     }
 
-    /// Drops what has come on the stream of a number, where it is kept, and lets it go where nothing more is to be read of it. Says whether it was kept.
+    /// Drops the available input of the stream with this number, if it is kept. Closes the stream if nothing more can
+    /// be read from it. Returns whether it was kept.
     pub fn read_on(&mut self, number: u64, registry: &Registry) -> bool
         ensures fewer { self.new ≤ self.old }
         ensures one { self.old ≤ self.new + 1 }
@@ -129,7 +131,7 @@ impl<T: Read + Source + Drop> Lingering<T> {
         self.streams.iter().position(|it| it.number == number)
     }
 
-    /// Lets go those whose time is over.
+    /// Closes the streams whose time has expired.
     pub fn expire(&mut self, now: u64)
         ensures { self.new ≤ self.old }
     {

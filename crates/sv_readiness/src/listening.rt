@@ -1,4 +1,4 @@
-//! A listener, whose connections are reported.
+//! A listener and the poll that reports its connections.
 
 use crate::control::CONTROL;
 use mio::net::{TcpListener, TcpStream, UnixListener};
@@ -14,10 +14,10 @@ use std::os::unix::net::UnixStream;
 // The token of the listener. No connection has it as its number.
 pub(crate) const LISTENER: usize = usize::MAX;
 
-// Who may write to a file, as the system's mode has it: its owner alone.
+// File mode that lets only the owner connect.
 const OWNER_ALONE: u32 = 0o600;
 
-/// A listener, and what reports when a connection has come or may be read or written.
+/// A listener, and the poll that reports waiting clients and ready connections.
 #[derive(Drop)]
 pub struct Listening {
     pub(crate) poll: Poll,
@@ -26,10 +26,10 @@ pub struct Listening {
 }
 
 impl Listening {
-    /// Listens at an address, where port 0 stands for any that is free.
+    /// Listens at an address. Port 0 selects any free port.
     ///
     /// # Errors
-    /// The system's: the address is taken or is none of this machine's, or the sockets cannot be had.
+    /// The system's: the address is taken or does not belong to this machine, or the sockets could not be created.
     pub fn at<H: Net>(host: &H, address: SocketAddr) -> io::Result<Listening> {
         let poll = Poll::new(host)?;
         let mut listener = without_delay(TcpListener::bind(host, address)?);
@@ -42,11 +42,12 @@ impl Listening {
         })
     }
 
-    /// Takes lines at a socket file, too, which is made, and to which its owner alone may connect (and who may do anything on the machine). One that
-    /// stands there, and at which nobody listens any more, is replaced.
+    /// Also listens at a control socket, which this function creates. Only the owner of the file (and a privileged
+    /// user) may connect. An existing socket file without a listener is replaced.
     ///
     /// # Errors
-    /// The system's: another file has that name, somebody listens there, or the socket or its mode cannot be had. The file may stand there then.
+    /// The system's: another file has that name, another process listens there, or the socket or its mode could not be
+    /// set up. The socket file may then exist.
     pub fn take_lines_at<H: Files + Net>(&mut self, host: &H, path: &str) -> io::Result<()> {
         if is_left(host, path) {
             remove_file(host, path)?;
@@ -61,7 +62,7 @@ impl Listening {
         Ok(())
     }
 
-    /// The address at which it listens.
+    /// Returns the address of the listener.
     ///
     /// # Errors
     /// The system's.
@@ -69,7 +70,7 @@ impl Listening {
         self.listener.local_addr()
     }
 
-    /// Another owner of what is registered.
+    /// Returns another handle to the registry.
     ///
     /// # Errors
     /// The system's.
@@ -78,15 +79,16 @@ impl Listening {
     }
 }
 
-// The listener, whose connections send at once what is written to them: a socket that Linux accepts has that of its listener.
+// Sets `TCP_NODELAY` on the listener. Linux passes the option on to accepted sockets, so responses are sent without
+// delay.
 fn without_delay(listener: TcpListener) -> TcpListener {
     let socket = TcpStream::from(OwnedFd::from(listener));
-    // Where the system holds an answer back nevertheless, it is later and the same.
+    // If setting it fails, responses are the same but may be delayed.
     let _ = socket.set_nodelay(true);
     TcpListener::from(OwnedFd::from(socket))
 }
 
-// Lets go who connected before the file was its owner's alone.
+// Drops clients that connected before the file mode was set.
 fn turn_away(listener: &UnixListener) {
     for _ in 0..u64::MAX {
         if listener.accept().is_err() {
@@ -95,7 +97,7 @@ fn turn_away(listener: &UnixListener) {
     }
 }
 
-// Whether a socket file stands there at which nobody listens any more.
+// Whether the path is a socket file without a listener.
 fn is_left<H: Files + Net>(host: &H, path: &str) -> bool {
     let is_socket = match symlink_metadata(host, path) {
         Ok(found) => found.file_type().is_socket(),
@@ -104,7 +106,7 @@ fn is_left<H: Files + Net>(host: &H, path: &str) -> bool {
     is_socket && is_refused(host, path)
 }
 
-// Whether a connection to a socket file is refused.
+// Whether the system refuses a connection to a socket file.
 fn is_refused<H: Net>(host: &H, path: &str) -> bool {
     match UnixStream::connect(host, path) {
         Ok(_) => false,

@@ -1,10 +1,10 @@
-//! What the system reported, and was not told yet.
+//! The events that the system reported and the caller has not received yet.
 
 use crate::limits::EVENTS_AT_ONCE;
 use mio::Events;
 
-/// The tokens of the events of one wait, and how many of them were told. One whose peer has ended, or failed, is told once more: what it sent before
-/// is read first, and the end only behind that.
+/// The tokens of the events of one wait, and how many of them were delivered. An event that says that the peer has
+/// closed or failed is delivered twice. So the input before the end is read first, and the end after it.
 #[derive(Drop)]
 pub(crate) struct Ready {
     tokens: [usize; EVENTS_AT_ONCE],
@@ -14,7 +14,7 @@ pub(crate) struct Ready {
 }
 
 impl Ready {
-    /// Nothing was reported.
+    /// Returns an empty list of events.
     pub fn new() -> Ready {
         Ready {
             tokens: [0; EVENTS_AT_ONCE],
@@ -24,7 +24,7 @@ impl Ready {
         }
     }
 
-    /// The token of the next event, where one was not told yet.
+    /// Returns the token of the next event, if any is left.
     pub fn next(&mut self) -> Option<usize> {
         if self.told >= self.count {
             return None;
@@ -34,7 +34,7 @@ impl Ready {
         token
     }
 
-    // Goes on to the next event, unless this one is told once more.
+    // Moves on to the next event, unless this one is due a second time.
     fn pass(&mut self) {
         match self.again.get_mut(self.told) {
             Some(again) if *again => *again = false,
@@ -42,17 +42,17 @@ impl Ready {
         }
     }
 
-    /// Whether an event was not told yet.
+    /// Whether an event is left.
     pub fn has_next(&self) -> bool {
         self.told < self.count
     }
 
-    /// Whether the last wait reported one event at most.
+    /// Whether the last wait reported at most one event.
     pub fn is_single(&self) -> bool {
         self.count <= 1
     }
 
-    /// Takes the events of a wait.
+    /// Replaces the events by those of a wait.
     pub fn refill(&mut self, events: &Events) {
         self.told = 0;
         self.count = 0;

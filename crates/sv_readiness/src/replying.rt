@@ -1,4 +1,4 @@
-//! What is said to a line at the socket file.
+//! Replies to the commands at the control socket.
 
 ghost use Rattle.std.specs.Prelude.{◌≡◌, ◌+◌, ◌++◌, ◌≤◌, [], length, vec_capacity};
 ghost use Rattle.std.specs.Fmt.{decimal};
@@ -15,14 +15,15 @@ use sv_policy::{Edit, EditFault};
 use sv_run::{EventHandler, Happening, StepFault};
 use sv_text::{Bytes, NoMemory, Text};
 
-// Room for the answer to an edit, which has 34 bytes at most.
+// Capacity for the reply to an edit, which has at most 34 bytes.
 const EDITED_ROOM: usize = 64;
 
-/// What is said to a line that does not ask to stop, which stands here without its end. An edit is taken by the handler, once, and answered by its number
-/// or why it was refused; any other line is no event. Where there is no memory to answer, that is told within, and nothing was done.
+/// Returns the reply to a line other than `stop`, given without its line end. The handler takes an edit once, and the
+/// reply is its number or the reason for its refusal. No other line is an event. If memory for the reply runs out, the
+/// inner result is an error and the handler has taken no event.
 ///
 /// # Errors
-/// Why the edit was not taken.
+/// The handler's [`StepFault`] for the edit.
 pub(crate) fn reply<R: EventHandler + Queries>(
     alloc: Global,
     line: &[u8],
@@ -44,7 +45,7 @@ pub(crate) fn reply<R: EventHandler + Queries>(
     }
 }
 
-/// What is said to a line where no event is taken any more.
+/// Returns the reply to a line when the handler takes no more events.
 ///
 /// # Errors
 /// Memory ran out.
@@ -57,7 +58,7 @@ pub(crate) fn last_text(alloc: Global, line: &[u8], figures: Figures) -> Result<
     Bytes::copy_of(alloc, b"stopping\n")
 }
 
-// How things stand with the connections, and with the handler.
+// Returns the status of the connections and of the handler.
 fn standing_text<R: Queries>(
     alloc: Global,
     figures: Figures,
@@ -69,7 +70,7 @@ fn standing_text<R: Queries>(
     status_text(alloc, figures, &stands)
 }
 
-// The line of how things stand.
+// Formats the status line.
 fn status_text(alloc: Global, figures: Figures, stands: &Option<Bytes>) -> Result<Bytes, NoMemory>
     ensures { GivesAnswer result (spec.status_line figures stands.now) }
 {
@@ -81,14 +82,14 @@ fn status_text(alloc: Global, figures: Figures, stands: &Option<Bytes>) -> Resul
     Ok(Bytes::from_vec(line))
 }
 
-// What the handler says of what is left uncovered.
+// Returns the handler's list of uncovered methods.
 fn uncovered_text<R: Queries>(alloc: Global, handler: &R) -> Result<Bytes, NoMemory>
     ensures { GivesAnswer result (spec.known_text (R.uncovers handler.now)) }
 {
     known_text(alloc, handler.uncovered(alloc)?)
 }
 
-// What is said, or that nothing is known.
+// Returns the text, or `unknown` if there is none.
 fn known_text(alloc: Global, said: Option<Bytes>) -> Result<Bytes, NoMemory>
     ensures { GivesAnswer result (spec.known_text said) }
 {
@@ -98,7 +99,7 @@ fn known_text(alloc: Global, said: Option<Bytes>) -> Result<Bytes, NoMemory>
     }
 }
 
-// What the handler says of a request.
+// Returns the handler's explanation of a request.
 fn explain_text<R: Queries>(
     alloc: Global,
     method: &Text,
@@ -118,7 +119,7 @@ fn explain_text<R: Queries>(
     }
 }
 
-// Has an edit taken. There is room for the answer before.
+// Passes an edit to the handler. The memory for the reply is reserved first.
 fn edit_reply<R: EventHandler + Queries>(
     alloc: Global,
     path: &str,
@@ -140,7 +141,7 @@ fn edit_reply<R: EventHandler + Queries>(
     }
 }
 
-// The answer to an edit.
+// Appends the reply to an edit.
 fn push_edited(text: &mut Vec<u8>, edited: Option<Result<u64, EditFault>>)
     requires none { text.old.items ≡ [] }
     requires room { EDITED_ROOM ≤ vec_capacity text.old }
@@ -153,7 +154,7 @@ fn push_edited(text: &mut Vec<u8>, edited: Option<Result<u64, EditFault>>)
     }
 }
 
-// A line of a word and a number.
+// Appends a line of a word and a number.
 fn push_number(text: &mut Vec<u8>, word: &[u8], number: u64)
     requires none { text.old.items ≡ [] }
     requires short { length word.now ≤ 16 }
@@ -166,17 +167,17 @@ fn push_number(text: &mut Vec<u8>, word: &[u8], number: u64)
     push_all(text, b"\n");
 }
 
-// Adds bytes, for which there is room.
+// Appends bytes within the reserved capacity.
 fn push_all(text: &mut Vec<u8>, bytes: &[u8])
     requires { length text.old.items + length bytes.now ≤ vec_capacity text.old }
     ensures items { text.new.items ≡ text.old.items ++ bytes.now }
     ensures room { vec_capacity text.old ≤ vec_capacity text.new }
 {
-    // There is room.
+    // The capacity suffices, so this cannot fail.
     let _room = text.extend_from_slice(bytes);
 }
 
-// The number by which a fault of an edit is told.
+// Returns the number that reports a fault of an edit.
 fn edit_code(fault: EditFault) -> u64
     ensures { result ≡ printed.edit_code fault }
 {

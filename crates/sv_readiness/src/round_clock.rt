@@ -1,19 +1,19 @@
-//! A clock that is read once for what was reported together.
+//! A cached clock, read once for all events of a report.
 
 ghost use Rattle.std.specs.Prelude.{◌≡◌};
 
 use std::cell::Cell;
 use sv_streams::Clock;
 
-/// A clock that tells the moment of a cell, which holds what [`Sockets`](crate::Sockets) read last: they read it once for what was reported together.
-/// What it tells is known to no contract.
+/// A clock that returns the time in a cell. [`Sockets`](crate::Sockets) sets the cell when it reads the system clock,
+/// once for a group of events. Contracts assume nothing about this time.
 #[derive(Clone, Copy)]
 pub struct RoundClock<'a> {
     moment: &'a Cell<u64>,
 }
 
 impl<'a> RoundClock<'a> {
-    /// The clock that tells what the cell holds.
+    /// Returns the clock of a cell.
     pub fn new(moment: &'a Cell<u64>) -> RoundClock<'a>
         ensures { result.moment ≡ moment.entry }
     {

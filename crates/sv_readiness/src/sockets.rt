@@ -1,4 +1,4 @@
-//! A listener and its connections as a poller.
+//! The poller of a listener and its connections.
 
 use crate::acceptor::Acceptor;
 use crate::control::{ASKER, CONTROL, Control};
@@ -19,7 +19,8 @@ use sv_connection::{Closing, Figures, PollEvent, Poller, Queries};
 use sv_run::{EventHandler, StepFault};
 use sv_streams::{Clock as _, SystemClock};
 
-/// A listener and its connections. What the system fails to do for one of them ends that one alone, or is tried again within a second.
+/// A listener and its connections. A system error for one of them ends only that connection, or is retried within a
+/// second.
 #[derive(Drop)]
 pub struct Sockets<'a, C> {
     clock: &'a C,
@@ -30,21 +31,22 @@ pub struct Sockets<'a, C> {
     ready: Ready,
     lingering: Lingering<TcpStream>,
     control: Option<Control<'a>>,
-    // The moment that was read last, for who is told what is ready; the second that was read last; and that behind which one has passed.
+    // The cached wall clock in seconds, which timestamps events; the monotonic second that was read last; the last
+    // second that was reported; and the time that was left of the current one.
     moment: &'a Cell<u64>,
     now: u64,
     second: u64,
     rest: Duration,
     told: u32,
-    // The connection that was accepted and is told as ready next.
+    // The accepted connection that is reported as ready next.
     accepted: Option<u64>,
     has_reported: bool,
     has_failed: bool,
 }
 
 impl<'a, C: Clock> Sockets<'a, C> {
-    /// The connections of a listener, whose registry this is, by the time of a clock. Whenever that is read, the cell is given the moment, in seconds
-    /// since 1970.
+    /// Returns the poller of a listener and its registry, with the time of a clock. Each time the clock is read, the
+    /// cell `moment` is set to the time in seconds since 1970.
     ///
     /// # Errors
     /// Memory ran out.
@@ -81,13 +83,13 @@ impl<'a, C: Clock> Sockets<'a, C> {
         })
     }
 
-    /// Whether no more could be reported.
+    /// Whether the system failed to report events.
     pub fn has_failed(&self) -> bool {
         self.has_failed
     }
 
-    /// Reads on, and drops, what comes of connections that are over, until no more may come or the time of each is over. So their answers are not cut
-    /// by the end of the process.
+    /// Runs lingering close to its end: reads and drops input of closed connections until none can send more or the
+    /// time of each has expired. So the end of the process does not truncate their responses.
     pub fn read_out(&mut self) {
         for _ in 0..u64::MAX {
             if self.lingering.is_empty() || self.wait() == PollEvent::Stop {
@@ -96,7 +98,8 @@ impl<'a, C: Clock> Sockets<'a, C> {
         }
     }
 
-    // What is told of a token. Nothing is, where it is that of a stream which is read on, or of the socket file before a line is whole there.
+    // Returns the event of a token, if any. A stream in lingering close and a control client without a whole line have
+    // none.
     fn told_of(&mut self, token: usize) -> Option<PollEvent> {
         if token == CONTROL || token == ASKER {
             return self.heard_at(token);
@@ -114,7 +117,7 @@ impl<'a, C: Clock> Sockets<'a, C> {
         Some(told_by(token))
     }
 
-    // What is told of the socket file.
+    // Returns the event of the control socket, if any.
     fn heard_at(&mut self, token: usize) -> Option<PollEvent> {
         let now = self.seconds();
         let Some(control) = &mut self.control else {
@@ -126,7 +129,8 @@ impl<'a, C: Clock> Sockets<'a, C> {
         control.hear(now)
     }
 
-    // Lets go the streams whose time is over, and who asks at the socket file, where that is not heard by now: else it is told.
+    // Closes expired streams and an expired control client. The client is read first; if its line is whole, returns
+    // its event instead.
     fn expire(&mut self) -> Option<PollEvent> {
         self.lingering.expire(self.second);
         let told = self.heard_at(ASKER);
@@ -139,14 +143,14 @@ impl<'a, C: Clock> Sockets<'a, C> {
         None
     }
 
-    // Whether it is to be told that a connection may have come: behind so many that were ready, or where another was accepted and behind that all that
-    // are ready were told.
+    // Whether to report that a client may be waiting: after [`MAX_READY_BEFORE_ACCEPT`] ready connections, or, if an
+    // unreported client may be waiting, after all events of the report.
     fn is_turn_to_accept(&self) -> bool {
         let has_told_all = self.has_reported && !self.ready.has_next();
         self.told >= MAX_READY_BEFORE_ACCEPT || (self.acceptor.may_come() && has_told_all)
     }
 
-    // Waits until something is reported, or the second that was read last is over; not at all, where a connection may have come.
+    // Waits for events, at most until the last second read ends. Does not wait if a client may be waiting.
     fn report(&mut self) -> io::Result<()> {
         let rest = if self.acceptor.may_come() {
             Duration::ZERO
@@ -160,8 +164,9 @@ impl<'a, C: Clock> Sockets<'a, C> {
         Ok(())
     }
 
-    // What is told where nothing reported is left to be: that no more can be reported; that a second is over, unless it is what is heard at the socket
-    // file, and with the next then; or nothing yet, and what is reported now is told behind that. So the clock is read once for a wait.
+    // Called when no event is left. Polls once and reads the clock once. Returns `Stop` if polling fails. If a second
+    // has passed, returns the event of the control socket, and otherwise `Second`. Returns no event if the second has
+    // not passed; the caller then delivers the events that were polled.
     fn report_next(&mut self) -> Option<PollEvent> {
         if self.report().is_err() {
             self.has_failed = true;
@@ -173,12 +178,12 @@ impl<'a, C: Clock> Sockets<'a, C> {
         None
     }
 
-    // Whether a token is that of a connection that is over and whose stream is still kept, which is then read on.
+    // Whether a token belongs to a stream in lingering close, which is then read on.
     fn lingers(&mut self, token: usize) -> bool {
         token != LISTENER && self.lingering.read_on(token as u64, self.registry)
     }
 
-    // Whether another second than before is told.
+    // Whether the second differs from the last one that was reported.
     fn has_second_passed(&mut self) -> bool {
         self.read_time();
         let has_passed = self.now != self.second;
@@ -189,14 +194,15 @@ impl<'a, C: Clock> Sockets<'a, C> {
         has_passed
     }
 
-    // Reads the time, at which what is told counts as done until it is read again.
+    // Reads the time. Events are served at this time until it is read again.
     fn read_time(&mut self) {
         self.now = self.read_clock();
         let mut clock = SystemClock::new(self.clock);
         self.moment.set(clock.now());
     }
 
-    // The second that it is by the clock, where that can be read, and how long it takes until it is over.
+    // Returns the second of the monotonic clock and notes how long it lasts. If the clock fails, returns the previous
+    // second.
     fn read_clock(&mut self) -> u64 {
         match self.clock.monotonic() {
             Ok(time) => {
@@ -210,7 +216,8 @@ impl<'a, C: Clock> Sockets<'a, C> {
         }
     }
 
-    // Whether it is to be told that the system has no room for one who came. Behind that all who came are taken anew, those at the socket file first.
+    // Whether to report that the system has no capacity for a waiting client. After that report, all waiting clients
+    // are looked for again, those of the control socket first.
     fn tells_crowd(&mut self) -> bool {
         if self.acceptor.tells_crowd() {
             return true;
@@ -222,7 +229,7 @@ impl<'a, C: Clock> Sockets<'a, C> {
         false
     }
 
-    // Takes who came to the socket file, where nobody asks there.
+    // Accepts the next client of the control socket, if none is connected.
     fn welcome(&mut self) {
         let now = self.seconds();
         if let Some(control) = &mut self.control {
@@ -230,7 +237,7 @@ impl<'a, C: Clock> Sockets<'a, C> {
         }
     }
 
-    // Notes where the system had no room for who came to the socket file.
+    // Notes if the system had no capacity for a client of the control socket.
     fn note_refused_asker(&mut self) {
         if let Some(control) = &self.control
             && control.has_refused()
@@ -239,8 +246,9 @@ impl<'a, C: Clock> Sockets<'a, C> {
         }
     }
 
-    // The peer of a connection that was accepted. It is told as ready at the next wait, or its readiness is reported from now on, where another may be
-    // accepted before that. The last numbers are tokens of what is no connection.
+    // Returns the peer of an accepted connection. The next wait reports it as ready. If another accept may come first,
+    // its readiness is reported by the system instead. The last numbers are tokens of the listener and the control
+    // socket, so no connection gets them.
     fn peer_of(&mut self, stream: TcpStream, number: u64) -> Option<StreamPeer<'a, TcpStream>> {
         let token = Token(number as usize);
         if token.0 >= ASKER {
@@ -255,7 +263,7 @@ impl<'a, C: Clock> Sockets<'a, C> {
         Some(peer)
     }
 
-    // Waits until something is to be told.
+    // Waits for the next event.
     fn next_told(&mut self) -> PollEvent {
         self.note_refused_asker();
         if self.tells_crowd() {
@@ -304,7 +312,8 @@ impl<'a, C: Clock> Poller for Sockets<'a, C> {
 
     fn close(&mut self, number: u64, peer: StreamPeer<'a, TcpStream>, closing: Closing) {
         let mut peer = peer;
-        // What is dropped is closed: so is what makes room. A peer that is gone is sent no end.
+        // Dropping the stream closes it. A connection that makes room is closed at once. A peer that is gone is sent
+        // no end.
         let lingers = may_send_on(closing, &peer)
             && !self.acceptor.is_making_room()
             && peer.arm_for_reading();
@@ -334,13 +343,14 @@ impl<'a, C: Clock> Poller for Sockets<'a, C> {
         }
     }
 
-    // The second that was read last, behind which little was done: the clock is read behind each wait, and behind so many that were told.
+    // Returns the second that was read last. It is current: the clock is read after each wait and after every
+    // `MAX_READY_BEFORE_READING` events.
     fn seconds(&mut self) -> u64 {
         self.now
     }
 }
 
-// The socket file, where there is one.
+// Returns the control socket, if its listener is given.
 fn control_of(
     alloc: Global,
     registry: &Registry,
@@ -352,7 +362,7 @@ fn control_of(
     }
 }
 
-// Whether a peer whose connection is closed so may send on: what it sends is dropped then.
+// Whether the peer of a connection with this way of closing may send more, which lingering close then drops.
 fn may_send_on<T: Source>(closing: Closing, peer: &StreamPeer<'_, T>) -> bool {
     match closing {
         Closing::AtOnce => false,
@@ -361,12 +371,12 @@ fn may_send_on<T: Source>(closing: Closing, peer: &StreamPeer<'_, T>) -> bool {
     }
 }
 
-// How long it takes from that time on until the second is over.
+// Returns the time from then until the end of the second.
 fn rest_of_second(time: Duration) -> Duration {
     Duration::from_millis(1000_u64.saturating_sub(u64::from(time.subsec_millis())))
 }
 
-// What a token tells: the connection of that number may be ready, or one may have come.
+// Returns the event of a token: a connection may be ready, or a client may be waiting.
 fn told_by(token: usize) -> PollEvent {
     if token == LISTENER {
         return PollEvent::Incoming;

@@ -1,4 +1,4 @@
-//! The stream of a connection whose calls do not wait.
+//! The nonblocking stream of a connection.
 
 ghost use Rattle.std.specs.Prelude.{◌≡◌, ◌&&◌, ◌⊎◌, false, nat_le, true};
 ghost use Rattle.sv_readiness.specs.declared.limits.TheConstants.{MAX_SENT_AT_ONCE};
@@ -10,13 +10,14 @@ use mio::{Interest, Registry, Token};
 use std::io::{Read, Write};
 use sv_connection::{Peer, Tried};
 
-/// A stream whose readiness is reported under a token, from the first call on that would have to wait: of a connection that is answered and closed before
-/// one does, nothing is ever asked of the system.
+/// A stream whose readiness is reported under a token. It is registered with the system at the first call that would
+/// block. A connection that gets its response and closes before that is never registered.
 ///
-/// A read that leaves room in its buffer has taken all that had come. The next read answers that it would have to wait, without asking the system,
-/// unless the stream rests in between: a write that would have to wait, and being told anew, are where a connection rests. What comes behind such a
-/// read is reported, and an end that had come with it is told once more (see `Ready`). Room to write is reported from the first write on that would have
-/// to wait, since most answers find room, and a new connection would be told of its room before anything has come.
+/// A read that does not fill its buffer has taken all input that had arrived. The next read returns that it would
+/// block, without a system call. A write that would block, or arming the stream, ends this state: a connection pauses
+/// only there. The system reports input that arrives after such a read. The poller delivers an end that arrived with
+/// the input twice (see `Ready`). Write readiness is reported only after a first write that would block. Most
+/// responses fit into the send buffer, and a new connection would be reported as writable before any input.
 #[derive(Drop)]
 pub struct StreamPeer<'a, T> {
     stream: T,
@@ -29,7 +30,7 @@ pub struct StreamPeer<'a, T> {
 }
 
 impl<'a, T: Source> StreamPeer<'a, T> {
-    /// The stream, of which this registry reports under the token what comes.
+    /// Returns the peer of a stream. The registry reports its readiness under the token.
     pub fn new(stream: T, registry: &'a Registry, token: Token) -> StreamPeer<'a, T>
         ensures stream { result.stream ≡ stream }
         ensures token { result.token ≡ token }
@@ -48,21 +49,22 @@ impl<'a, T: Source> StreamPeer<'a, T> {
         }
     }
 
-    /// Whether the last read left room, so that nothing had come behind what it gave, and no more was written than has left at once.
+    /// Whether the last read took all input that had arrived, and the output is small enough to be sent at once.
     pub fn is_settled(&self) -> bool
         ensures { result ≡ (self.now.is_drained && nat_le self.now.written MAX_SENT_AT_ONCE) }
     {
         self.is_drained && self.written <= MAX_SENT_AT_ONCE
     }
 
-    /// Gives the stream up.
+    /// Returns the stream.
     pub fn into_stream(self) -> T
         ensures { result ≡ self.entry.stream }
     {
         self.stream
     }
 
-    /// Asks to be told of what comes, also of what has come before, where nothing of it is reported yet. Says whether that could be had.
+    /// Arms the stream for reading if it is not registered yet. Arming also reports input that arrived before. Returns
+    /// whether the stream is registered.
     pub(crate) fn arm_for_reading(&mut self) -> bool
         ensures kept { (self.new.stream ≡ self.old.stream) ⊎ T.keeps self.old.stream self.new.stream }
         ensures reported { result ≡ self.new.is_reported }
@@ -74,7 +76,7 @@ impl<'a, T: Source> StreamPeer<'a, T> {
         self.is_reported
     }
 
-    // Asks to be told of this, also of what was there before. Says whether that could be had.
+    // Arms the stream for these interests, including readiness from before. Returns whether that succeeded.
     fn ask_for(&mut self, interests: Interest) -> bool
         ensures { T.keeps self.old.stream self.new.stream }
     {
@@ -89,7 +91,7 @@ impl<'a, T: Source> StreamPeer<'a, T> {
         asked.is_ok()
     }
 
-    // Asks to be told of what comes and of room to write, also of what was there before.
+    // Arms the stream for reading and writing, including readiness from before.
     fn ask_for_both(&mut self) -> bool
         ensures { T.keeps self.old.stream self.new.stream }
     {
@@ -98,7 +100,7 @@ impl<'a, T: Source> StreamPeer<'a, T> {
         self.is_told_of_room
     }
 
-    // Is told of what comes from now on. Where that cannot be had, the connection is given up when its time is over.
+    // Waits for more input. If arming fails, the connection ends when its time limit expires.
     fn wait_for_more(&mut self)
         ensures { (self.new.stream ≡ self.old.stream) ⊎ T.keeps self.old.stream self.new.stream }
     {
@@ -106,7 +108,7 @@ impl<'a, T: Source> StreamPeer<'a, T> {
         self.arm_for_reading();
     }
 
-    // Is told of room to write from now on. Where that cannot be had, the connection is given up when its time is over.
+    // Waits until the stream is writable. If arming fails, the connection ends when its time limit expires.
     fn wait_for_room(&mut self)
         ensures { (self.new.stream ≡ self.old.stream) ⊎ T.keeps self.old.stream self.new.stream }
     {
@@ -167,7 +169,7 @@ impl<T: Read + Write + Source> Peer for StreamPeer<'_, T> {
     }
 }
 
-// Whether a read took less than its buffer holds, and it was not the end.
+// Whether a read returned fewer bytes than its buffer holds, but at least one.
 fn leaves_room(tried: Tried, len: usize) -> bool {
     matches!(tried, Tried::Done(count) if 0 < count && count < len)
 }
