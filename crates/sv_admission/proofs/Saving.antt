@@ -24,13 +24,12 @@ some_fault [] fault done refused h = cc
 some_fault (first ∷ faults) fault done refused h = refl
 
 -- a session was opened, and the target saved in it
-pub opened_so : (asked : Asked) (moment : ℕ) (words : ℕ × ℕ) (target : List ℕ) (store between after : Store) (number : ℕ) (x : Settled)
-    → asked.moment ≡ moment → asked.words ≡ words
-    → (opening_faults store ≡ []) × (number ≡ store.serial + 1) × (between ≡ opened words moment store)
+pub opened_so : (asked : Asked) (target : List ℕ) (store between after : Store) (number : ℕ) (x : Settled)
+    → (opening_faults store ≡ []) × (number ≡ store.serial + 1) × (between ≡ opened asked.words asked.moment store)
     → after ≡ with_saved number (Some target) between → x ≡ renewed None number after
     → x ≡ saved_in asked target None store
-opened_so asked moment words target store between after number x at with_words (none, is_number, opens) saves is =
-    let made : renewed None number after ≡ opened_with asked target store = rw (saves, opens, is_number, ← at, ← with_words) refl in
+opened_so asked target store between after number x (none, is_number, opens) saves is =
+    let made : renewed None number after ≡ opened_with asked target store = rw (saves, opens, is_number) refl in
     is ∙ made ∙ sym (no_fault (opening_faults store) (opened_with asked target store) (unchanged None store) none)
 
 -- none could be opened

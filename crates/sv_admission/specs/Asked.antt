@@ -2,6 +2,7 @@
 use Rattle.std.specs.Prelude.{ℕ}
 use Rattle.sv_uri.specs.declared.path.Canon.{Canon}
 use Rattle.sv_message.specs.declared.message.Message.{Message}
+use Rattle.sv_admission.specs.declared.request.Request.{Request}
 
 pub record Asked : Type 0 where
   pub message : Message
@@ -14,3 +15,7 @@ pub record Asked : Type 0 where
 
 abbrev pub asked_by : Message → Canon → ℕ → ℕ × ℕ → Asked
 asked_by message canon moment words = record { message = message; canon = canon; moment = moment; words = words }
+
+-- what a request holds
+abbrev pub asked_in : Request → Asked
+asked_in request = asked_by request.message.now request.canon.now request.moment request.words

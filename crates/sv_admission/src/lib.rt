@@ -6,6 +6,7 @@ mod answer;
 mod judging;
 mod laws;
 mod limits;
+mod request;
 mod settling;
 
 pub use admission::{Admission, admit};
@@ -15,3 +16,4 @@ pub use laws::{
     no_admission_leaves_an_expired_session,
 };
 pub use limits::{FORBIDDEN, SEE_OTHER};
+pub use request::Request;

@@ -1,15 +1,15 @@
 //! What a message leaves of the sessions before it is answered.
 
-ghost use Rattle.std.specs.Prelude.{◌≡◌, IfOk, None, Option, Some, bytes_eq, codes};
+ghost use Rattle.std.specs.Prelude.{◌≡◌, IfOk, None, Some, bytes_eq, codes};
 ghost use Rattle.std.specs.Option.{option_copied};
-ghost use Rattle.sv_event.specs.declared.event.Event.{Event as EventData};
 ghost use Rattle.sv_session.specs.Store.{Store};
 ghost use Rattle.sv_text.specs.Gives.{GivesAnswer};
-ghost use Rattle.sv_admission.specs.Asked.{Asked, asked_by};
+ghost use Rattle.sv_admission.specs.Asked.{asked_in};
 ghost use Rattle.sv_admission.specs.Seen.{seen};
 ghost use Rattle.sv_admission.specs.Settled as spec;
 
 use crate::judging::caller_held;
+use crate::request::Request;
 use std::alloc::Global;
 use sv_event::Event;
 use sv_exchange::HeldSession;
@@ -19,7 +19,6 @@ use sv_realm::{Caller, Realm};
 use sv_session::{SessionFault, Sessions};
 use sv_site::sent_to;
 use sv_text::{NoMemory, Text};
-use sv_uri::path::Canon;
 
 /// The session of a message, whether the message opened or renamed it, and the event that this is.
 #[derive(Drop)]
@@ -55,37 +54,25 @@ impl Settled {
     }
 }
 
-/// Settles the sessions for a message of this outcome, which holds this session (Jakarta Servlet 6.0, sections 7.1 and 13.6.3): where a GET
-/// is sent to the login page, its target is saved.
+/// Settles the sessions for a request of this outcome, which holds this session (Jakarta Servlet 6.0, sections 7.1 and 13.6.3). If a GET is sent
+/// to the login page, its target is saved.
 ///
 /// # Errors
-/// `NoMemory` where a growth was refused.
+/// `NoMemory` if an allocation fails.
 pub(crate) fn settle(
     alloc: Global,
     context_path: &str,
-    message: &Message,
-    canon: &Canon,
-    moment: u64,
-    words: (u64, u64),
+    request: &Request<'_>,
     held: Option<u64>,
     outcome: &Outcome,
     sessions: &mut Sessions,
 ) -> Result<Settled, NoMemory>
     ensures { IfOk result (λ settled. seen sessions.new settled
-        ≡ spec.settled_by context_path.now (asked_by message.now canon.now moment words) held outcome.now sessions.old) }
+        ≡ spec.settled_by context_path.now (asked_in request.now) held outcome.now sessions.old) }
 {
     match outcome {
         Outcome::LoggedIn { number, .. } => Ok(Settled::renewed(held, *number)),
-        Outcome::SentToLogin(_) => interrupt(
-            alloc,
-            context_path,
-            message,
-            canon,
-            moment,
-            words,
-            held,
-            sessions,
-        ),
+        Outcome::SentToLogin(_) => interrupt(alloc, context_path, request, held, sessions),
         Outcome::Protected => Ok(Settled::unchanged(held)),
         Outcome::LoginFailed => Ok(Settled::unchanged(held)),
         Outcome::NoSession => Ok(Settled::unchanged(held)),
@@ -95,25 +82,27 @@ pub(crate) fn settle(
     }
 }
 
-// Saves where the client wanted to go.
+// Saves the target of a GET.
 fn interrupt(
     alloc: Global,
     context_path: &str,
-    message: &Message,
-    canon: &Canon,
-    moment: u64,
-    words: (u64, u64),
+    request: &Request<'_>,
     held: Option<u64>,
     sessions: &mut Sessions,
 ) -> Result<Settled, NoMemory>
     ensures { IfOk result (λ settled. seen sessions.new settled
-        ≡ spec.interrupted context_path.now (asked_by message.now canon.now moment words) held sessions.old) }
+        ≡ spec.interrupted context_path.now (asked_in request.now) held sessions.old) }
 {
-    if !is_get(message) {
+    if !is_get(request.message) {
         return Ok(Settled::unchanged(held));
     }
-    let target = sent_to(alloc, context_path, canon.path.as_str(), canon)?;
-    save_in(moment, words, target, held, sessions)
+    let target = sent_to(
+        alloc,
+        context_path,
+        request.canon.path.as_str(),
+        request.canon,
+    )?;
+    save_in(request, target, held, sessions)
 }
 
 fn is_get(message: &Message) -> bool
@@ -122,37 +111,33 @@ fn is_get(message: &Message) -> bool
     message.method.as_str() == "GET"
 }
 
-// Saves the target in the session that is held, or else in one that is opened, where one can be.
+// Saves the target in the held session, or else in a new one if one can be opened.
 fn save_in(
-    moment: u64,
-    words: (u64, u64),
+    request: &Request<'_>,
     target: Text,
     held: Option<u64>,
     sessions: &mut Sessions,
 ) -> Result<Settled, NoMemory>
-    ensures { (asked : Asked) → asked.moment ≡ moment → asked.words ≡ words →
-        IfOk result (λ settled. seen sessions.new settled ≡ spec.saved_in asked target held sessions.old) }
+    ensures { IfOk result (λ settled. seen sessions.new settled ≡ spec.saved_in (asked_in request.now) target held sessions.old) }
 {
     match held {
         Some(number) => {
             sessions.save(number, target);
             Ok(Settled::unchanged(Some(number)))
         }
-        None => open_with(moment, words, target, sessions),
+        None => open_with(request, target, sessions),
     }
 }
 
-// Opens a session, where one can be, and saves the target in it.
+// Opens a session, if one can be opened, and saves the target in it.
 fn open_with(
-    moment: u64,
-    words: (u64, u64),
+    request: &Request<'_>,
     target: Text,
     sessions: &mut Sessions,
 ) -> Result<Settled, NoMemory>
-    ensures { (asked : Asked) → asked.moment ≡ moment → asked.words ≡ words →
-        IfOk result (λ settled. seen sessions.new settled ≡ spec.saved_in asked target None sessions.old) }
+    ensures { IfOk result (λ settled. seen sessions.new settled ≡ spec.saved_in (asked_in request.now) target None sessions.old) }
 {
-    match sessions.open(words, moment) {
+    match sessions.open(request.words, request.moment) {
         Ok(number) => {
             sessions.save(number, target);
             Ok(Settled::renewed(None, number))
@@ -165,27 +150,25 @@ fn open_with(
     }
 }
 
-/// The session with which a message is answered.
+/// Returns the session with which a request is answered.
 ///
 /// # Errors
-/// `NoMemory` where a growth was refused.
+/// `NoMemory` if an allocation fails.
 pub(crate) fn session_of(
     alloc: Global,
     users: &Realm,
-    session: Option<u64>,
-    is_renewed: bool,
+    settled: &Settled,
     sessions: &Sessions,
 ) -> Result<Option<HeldSession>, NoMemory>
-    ensures { (event : Option EventData) → GivesAnswer result
-        (spec.session_of users.now (record { store = sessions.now; session = session; is_renewed = is_renewed; event = event })) }
+    ensures { GivesAnswer result (spec.session_of users.now (seen sessions.now settled.now)) }
 {
-    let Some(number) = session else {
+    let Some(number) = settled.session else {
         return Ok(None);
     };
-    let caller = copied(alloc, caller_held(users, session, sessions))?;
+    let caller = copied(alloc, caller_held(users, settled.session, sessions))?;
     Ok(Some(HeldSession {
         number,
-        is_renewed,
+        is_renewed: settled.is_renewed,
         caller,
     }))
 }

@@ -1,5 +1,5 @@
 -- A deployment and its end.
-use Rattle.std.proofs.Common.{◌≡◌, ℕ, Bool, true, false, List, [], length, refl, sym, ap, subst, Result, Ok, Err}
+use Rattle.std.proofs.Common.{◌≡◌, ℕ, Bool, true, false, List, length, refl, sym, ap, subst, Result, Ok, Err}
 use Rattle.std.specs.Prelude.{MatchBool}
 use Rattle.sv_component.specs.Runs.{Runs}
 use Rattle.sv_component.specs.Steps.{ComponentSteps}
@@ -42,9 +42,7 @@ components_of : {S F L : Type 0} (path : List ℕ) (app : WebApp) (files : List 
     → IsResultOf path app parts outcome (Ok live) after → AreComponentsOf (record { context_path = path; app = app; files = files }) live
 components_of path app files parts live after (Started inits) is = record {
   context = is.1.context;
-  servlets = is.1.servlets;
-  filters = is.1.filters;
-  listeners = is.1.listeners;
+  counts = record { servlets = is.1.servlets; filters = is.1.filters; listeners = is.1.listeners };
 }
 components_of path app files parts live after (Undone inits) is = absurd is
 components_of path app files parts live after Untouched is = absurd is

@@ -1,11 +1,15 @@
--- An edit that memory refused.
-use Rattle.std.proofs.Common.{◌≡◌, ℕ, Result, Ok, Err, ap, ◌∙◌}
+-- Edits of a context, and those that memory refused.
+use Rattle.std.proofs.Common.{◌≡◌, ℕ, List, Result, Ok, Err, refl, ap, ◌∙◌, subst}
+use Rattle.sv_live.specs.Standing.{LiveState}
 use Rattle.sv_context.specs.Editing.{Edits}
-use Rattle.sv_context.specs.State.{ContextState}
+use Rattle.sv_context.specs.State.{ContextState, context_of}
 use Rattle.sv_policy.specs.Compiled.{Standing}
 use Rattle.sv_policy.specs.Edits.{GivesOutcome, edit_outcome}
 use Rattle.sv_policy.specs.declared.edit.Edit.{Edit}
 use Rattle.sv_policy.specs.declared.edit_fault.EditFault.{EditFault}
+use Rattle.sv_realm.specs.declared.user.User.{User}
+use Rattle.sv_session.specs.Store.{Store}
+use Rattle.sv_site.specs.Site.{Content}
 
 -- a refused edit leaves the constraints
 policy_stays : (old new : Standing) (answer : Result ℕ EditFault) (fault : EditFault) (outcome : Result (ℕ × Standing) EditFault)
@@ -13,6 +17,14 @@ policy_stays : (old new : Standing) (answer : Result ℕ EditFault) (fault : Edi
 policy_stays old new answer fault (Err cause) gives is = gives.1
 policy_stays old new (Err cause) fault (Ok done) gives is = gives.1
 policy_stays old new (Ok number) fault (Ok done) gives is = cc
+
+-- an edit of the constraints is one of the context
+pub edits_so : {S F L : Type 0} (content : Content) (old new : Standing) (users : List User) (live : LiveState S F L) (store : Store) (before : ContextState S F L)
+    (edit : Edit) (answer : Result ℕ EditFault)
+    → context_of content old users live store ≡ before → GivesOutcome old new answer (edit_outcome old edit)
+    → Edits before edit answer (context_of content new users live store)
+edits_so content old new users live store before edit answer is outcome =
+    subst (λ context. Edits context edit answer (context_of content new users live store)) is (record { outcome = outcome; stays = refl })
 
 -- so it leaves the context
 pub refused_stays : {S F L : Type 0} (before after : ContextState S F L) (edit : Edit) (answer : Result ℕ EditFault) (fault : EditFault)

@@ -10,6 +10,7 @@ use Rattle.sv_journal.specs.Journal.{JournalState}
 use Rattle.sv_live.specs.Calling.{StandsAsBefore}
 use Rattle.sv_live.specs.Standing.{LiveState, live_world}
 use Rattle.sv_live.specs.SessionEnds.{all_told, end_events}
+use Rattle.sv_live.specs.World.{HasSameCounts}
 use Rattle.sv_session.specs.Calls.{ended, ending, expired_number, expiring, left_by_expiry, without}
 use Rattle.sv_session.specs.Expiry.{HasNoneExpired}
 use Rattle.sv_session.specs.Laws.{ExpiryEndsWhereNoneHasExpired}
@@ -21,7 +22,7 @@ use Rattle.sv_context.specs.Expiry.{Expires, ends_told}
 use Rattle.sv_policy.specs.Compiled.{Standing}
 use Rattle.sv_realm.specs.declared.user.User.{User}
 use Rattle.sv_site.specs.Site.{Content}
-use Rattle.sv_context.specs.State.{AreComponentsOf, ContextState, IsSameDeployment, context_of, world_of}
+use Rattle.sv_context.specs.State.{AreComponentsOf, AreCounted, ContextState, IsSameDeployment, context_of, world_of}
 
 -- contexts of the same parts are the same
 same_context : {S F L : Type 0} (one other : ContextState S F L) → one.content ≡ other.content → one.policy ≡ other.policy → one.users ≡ other.users
@@ -48,13 +49,19 @@ world_same content policy users live store noted components =
     ap (λ (path : List ℕ). record { context = path; servlets = live.parts.servlets.items; filters = live.parts.filters.items; listeners = live.parts.listeners.items; journal = noted })
     components.context
 
+pub counts_stay : {S F L : Type 0} (content : Content) (live live_after : LiveState S F L) → AreCounted content live → HasSameCounts live.parts live_after.parts
+    → AreCounted content live_after
+counts_stay content live live_after counted same = record {
+  servlets = same.servlets ∙ counted.servlets;
+  filters = same.filters ∙ counted.filters;
+  listeners = same.listeners ∙ counted.listeners;
+}
+
 pub components_stay : {S F L : Type 0} (content : Content) (live live_after : LiveState S F L) → AreComponentsOf content live → StandsAsBefore live live_after
     → AreComponentsOf content live_after
 components_stay content live live_after components stands = record {
   context = stands.context ∙ components.context;
-  servlets = stands.counts.servlets ∙ components.servlets;
-  filters = stands.counts.filters ∙ components.filters;
-  listeners = stands.counts.listeners ∙ components.listeners;
+  counts = counts_stay content live live_after components.counts stands.counts;
 }
 
 -- the tellings of one more

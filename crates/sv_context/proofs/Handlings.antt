@@ -30,7 +30,7 @@ use Rattle.sv_context.specs.Answered.{Answered}
 use Rattle.sv_context.specs.Handled.{GivesResponse, CutShort, HandlesMessage, IsAnswered, admitted, exchange_begun, state_in}
 use Rattle.sv_context.specs.Responding.{EndsExchange, RespondsNoted}
 use Rattle.sv_context.specs.State.{AreComponentsOf, ContextState, context_of, world_of}
-use Rattle.sv_context.proofs.Expiries.{world_same}
+use Rattle.sv_context.proofs.Expiries.{counts_stay, world_same}
 use Rattle.sv_context.proofs.Journals.{taken}
 use Rattle.sv_context.proofs.Statuses.{answered_code}
 
@@ -46,9 +46,7 @@ module _ {S F L : Type 0} (moving : ComponentSteps S F L) where
       → ServedBy moving (Answered site canon event answer) live x noted result live' x' noted' → AreComponentsOf content live → AreComponentsOf content live'
   answered_components content site canon event answer live live' x x' noted noted' result did components = record {
     context = did.context ∙ components.context;
-    servlets = did.counts.servlets ∙ components.servlets;
-    filters = did.counts.filters ∙ components.filters;
-    listeners = did.counts.listeners ∙ components.listeners;
+    counts = counts_stay content live live' components.counts did.counts;
   }
 
   pub components_stay : (content : Content) (site : Site) (canon : Canon) (entry : Entry) (event : Option Event) (answer : Answer) (live live' : LiveState S F L) (x x' : exchanges.State)

@@ -66,9 +66,13 @@ pub record IsSameDeployment {S F L : Type 0} (before after : ContextState S F L)
   pub listeners : length after.listeners ≡ length before.listeners
   pub initialised : after.initialised ≡ before.initialised
 
--- the started components are those of the content: it has their path, and declares as many
-pub record AreComponentsOf {S F L : Type 0} (content : Content) (live : LiveState S F L) : Type 0 where
-  pub context : live.context ≡ content.context_path
+-- the descriptor declares as many components
+pub record AreCounted {S F L : Type 0} (content : Content) (live : LiveState S F L) : Type 0 where
   pub servlets : length live.parts.servlets.items ≡ length content.app.servlets
   pub filters : length live.parts.filters.items ≡ length content.app.filters
   pub listeners : length live.parts.listeners.items ≡ length content.app.listeners
+
+-- the started components are those of the content: it has their path, and declares as many
+pub record AreComponentsOf {S F L : Type 0} (content : Content) (live : LiveState S F L) : Type 0 where
+  pub context : live.context ≡ content.context_path
+  pub counts : AreCounted content live

@@ -2,26 +2,21 @@
 
 ghost use Rattle.std.specs.Prelude.{◌≡◌, length};
 
+use crate::responder::Responder;
 use std::marker::Model;
-use sv_exchange::Exchange;
-use sv_live::Live;
 use sv_policy::Policy;
 use sv_realm::Realm;
 use sv_session::Sessions;
-use sv_site::Site;
 
-/// A deployed context: a web application that is started, with its sessions (Jakarta Servlet 6.0, chapters 2, 3 and 7). Contracts see a
-/// `ContextState`.
+/// A deployed context: a started web application with its sessions (Jakarta Servlet 6.0, chapters 2, 3 and 7). Contracts see a `ContextState`, which
+/// says nothing of the exchange between two requests.
 #[derive(Drop)]
 pub struct Context<S, F, L> {
-    pub(crate) site: Site,
+    pub(crate) responder: Responder<S, F, L>,
     pub(crate) users: Realm,
-    // The constraints as they stand: at first those of the descriptor, of which it has copies.
+    // The current constraints: at first copies of those of the descriptor.
     pub(crate) policy: Policy,
-    pub(crate) live: Live<S, F, L>,
     pub(crate) sessions: Sessions,
-    // What each request is asked and answered in, one after another. Contracts see nothing of it.
-    pub(crate) exchange: Exchange,
 }
 
 impl<S, F, L> Model for Context<S, F, L> {
@@ -29,9 +24,9 @@ impl<S, F, L> Model for Context<S, F, L> {
 
     ghost Value = { ContextState S F L };
 
-    ghost view = { λ context. context_of context.site context.policy context.users context.live context.sessions };
+    ghost view = { λ context. context_of context.responder.site context.policy context.users context.responder.live context.sessions };
 
-    ghost invariant = { λ context. AreComponentsOf context.site context.live };
+    ghost invariant = { λ context. AreComponentsOf context.responder.site context.responder.live };
 }
 
 impl<S, F, L> Context<S, F, L> {

@@ -10,6 +10,7 @@ ghost use Rattle.sv_context.specs.Deployment.{Deploys, Undeploys, declared_polic
 use crate::context::Context;
 use crate::deploy_fault::DeployFault;
 use crate::limits::SECONDS_OF_MINUTE;
+use crate::responder::Responder;
 use std::alloc::Global;
 use sv_chain::Chains;
 use sv_component::{Filter, Listener, Servlet};
@@ -47,13 +48,16 @@ impl<S: Servlet, F: Filter, L: Listener> Context<S, F, L> {
         ensures { Undeploys (steps_of S.servlet_step F.filter_step L.listener_step) self journal.old result journal.new }
     {
         let Context {
-            site,
+            responder,
             users,
             policy: _,
-            live,
             mut sessions,
-            exchange: _,
         } = self;
+        let Responder {
+            site,
+            live,
+            exchange: _,
+        } = responder;
         let parts = live.stop(alloc, &mut sessions, journal);
         let (path, descriptor, files) = site.into_parts();
         Deployment {
@@ -102,13 +106,16 @@ fn start<S: Servlet, F: Filter, L: Listener>(
             let sessions = no_sessions(alloc, &descriptor);
             let chains = Chains::compile(alloc, &descriptor);
             let site = Site::new(path, descriptor, files, patterns, chains);
-            Ok(Context {
+            let responder = Responder {
                 site,
+                live,
+                exchange: Exchange::new(alloc),
+            };
+            Ok(Context {
+                responder,
                 users,
                 policy,
-                live,
                 sessions,
-                exchange: Exchange::new(alloc),
             })
         }
         Err(StartFault { code, parts }) => Err(DeployFault {

@@ -21,7 +21,13 @@ impl<S: Servlet, F: Filter, L: Listener> Context<S, F, L> {
     pub fn expire(&mut self, alloc: Global, moment: u64, journal: &mut Journal)
         ensures { Expires (steps_of S.servlet_step F.filter_step L.listener_step) moment self.old journal.old self.new journal.new }
     {
-        end_expired(alloc, moment, &mut self.live, &mut self.sessions, journal);
+        end_expired(
+            alloc,
+            moment,
+            &mut self.responder.live,
+            &mut self.sessions,
+            journal,
+        );
     }
 }
 

@@ -12,6 +12,6 @@ impl<S, F, L> Context<S, F, L> {
     pub fn forget_sessions(&mut self, alloc: Global)
         ensures { self.new ≡ without_sessions self.old }
     {
-        self.sessions = no_sessions(alloc, self.site.descriptor());
+        self.sessions = no_sessions(alloc, self.responder.site.descriptor());
     }
 }

@@ -14,10 +14,11 @@ impl<S, F, L> HasContextPath for Context<S, F, L> {
     ghost path_of = { λ context. context.content.context_path };
 
     fn context_path(&self) -> &str {
-        self.site.context_path()
+        self.responder.site.context_path()
     }
 }
 
+// `handle` and `expire` forward to the public methods of the same names, whose contracts say more than the trait's: they also cover a journal that breaks.
 impl<S: Servlet, F: Filter, L: Listener> sv_run::Context for Context<S, F, L> {
     ghost use Rattle.sv_component.specs.Steps.{steps_of};
     ghost use Rattle.sv_context.specs.Conduct.{conduct as conduct_by};
@@ -40,7 +41,7 @@ impl<S: Servlet, F: Filter, L: Listener> sv_run::Context for Context<S, F, L> {
 
     #[inline(always)]
     fn recycle(&mut self, response: Response) {
-        self.recycle(response);
+        self.responder.exchange.recycle(response);
     }
 
     fn expire(&mut self, alloc: Global, moment: u64, journal: &mut Journal) {
@@ -48,7 +49,7 @@ impl<S: Servlet, F: Filter, L: Listener> sv_run::Context for Context<S, F, L> {
     }
 
     fn edit(&mut self, alloc: Global, edit: &Edit) -> Result<u64, EditFault> {
-        self.edit(alloc, edit)
+        self.policy.edit_copy(alloc, edit)
     }
 
     ghost is_motion = { motion_by (steps_of S.servlet_step F.filter_step L.listener_step) };

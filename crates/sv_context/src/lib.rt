@@ -2,11 +2,9 @@
 //! deployed and undeployed one after another.
 #![tactic(auto)]
 
-mod answering;
 mod context;
 mod deploy_fault;
 mod deploying;
-mod editing;
 mod expiring;
 mod forgetting;
 mod handling;
@@ -16,6 +14,7 @@ mod letting_go;
 mod limits;
 mod policy;
 mod pushing;
+mod responder;
 mod room;
 mod several;
 mod shutdown;

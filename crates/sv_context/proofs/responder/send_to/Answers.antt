@@ -1,7 +1,7 @@
 use Rattle.std.proofs.Common.{ap}
 use Rattle.sv_dispatch.specs.Did.{seen}
 use Rattle.sv_context.proofs.Responses.{sends_so}
-use Rattle.sv_context.proofs.answering.send_to.Goals as goal
+use Rattle.sv_context.proofs.responder.send_to.Goals as goal
 
 pub returns : goal.returns
 returns c =

@@ -1,7 +1,7 @@
 use Rattle.std.proofs.Common.{ap}
 use Rattle.std.specs.Option.{option_copied}
 use Rattle.sv_context.proofs.Responses.{tells_none}
-use Rattle.sv_context.proofs.answering.tell_first.Goals as goal
+use Rattle.sv_context.proofs.responder.tell_first.Goals as goal
 use Rattle.sv_component.specs.Steps.{steps_of}
 
 pub returns-in-None-clause-told : goal.returns-in-None-clause-told

@@ -1,5 +1,5 @@
 use Rattle.sv_context.proofs.Responses.{by_hearing}
-use Rattle.sv_context.proofs.answering.hear.Goals as goal
+use Rattle.sv_context.proofs.responder.hear.Goals as goal
 use Rattle.sv_component.specs.Steps.{steps_of}
 
 pub returns-clause-heard : goal.returns-clause-heard
