@@ -16,12 +16,28 @@ use sv_wire::{Awaited, Inbox, Item};
 pub struct Connections {
     alloc: Global,
     inboxes: HashMap<u64, Inbox>,
+    // Spares the look-up of a connection that is asked about after its piece was read.
+    latest: Option<Latest>,
+}
+
+/// What is awaited of the connection whose piece was read last.
+#[derive(Clone, Copy, Debug, Drop)]
+pub(crate) struct Latest {
+    number: u64,
+    awaited: Awaited,
 }
 
 impl Model for Connections {
+    ghost use Rattle.std.specs.Prelude.{ℕ, List};
+    ghost use Rattle.sv_host.specs.Connections.{IsAwaited};
+    ghost use Rattle.sv_run.specs.Connections.{connections_of};
+    ghost use Rattle.sv_wire.specs.Inbox.{Held};
+
     ghost Value = { List (ℕ × Held) };
 
     ghost view = { λ connections. connections.inboxes.entries };
+
+    ghost invariant = { λ connections. IsAwaited (connections_of connections.inboxes.entries) connections.latest };
 }
 
 impl Connections {
@@ -32,6 +48,7 @@ impl Connections {
         Connections {
             alloc,
             inboxes: HashMap::new(alloc),
+            latest: None,
         }
     }
 
@@ -54,6 +71,18 @@ impl Connections {
     pub fn awaits(&self, number: u64) -> Awaited
         ensures { result ≡ awaited_in (connections_of self.now) number }
     {
+        if let Some(latest) = self.latest {
+            if latest.number == number {
+                return latest.awaited;
+            }
+        }
+        self.look_up(number)
+    }
+
+    // Looks up what is awaited of a connection.
+    fn look_up(&self, number: u64) -> Awaited
+        ensures { result ≡ awaited_in (connections_of self.now) number }
+    {
         match self.inboxes.get(&number) {
             Some(inbox) => inbox.awaits(),
             None => Awaited::Nothing,
@@ -68,6 +97,7 @@ impl Connections {
         requires { (connections_of self.old).held number ≡ None }
         ensures { IfOk result (λ _. connections_of self.new ≡ opened number (connections_of self.old)) }
     {
+        self.latest = None;
         self.inboxes.insert(number, Inbox::new(self.alloc))?;
         Ok(())
     }
@@ -77,6 +107,7 @@ impl Connections {
         requires { IsSome ((connections_of self.old).held number) }
         ensures { connections_of self.new ≡ forgotten number (connections_of self.old) }
     {
+        self.latest = None;
         self.inboxes.remove(&number);
     }
 
@@ -91,7 +122,12 @@ impl Connections {
         ensures { OnOk result (FeedsOne (connections_of self.old) number piece.now items.new.items (connections_of self.new)) }
     {
         match self.inboxes.get_mut(&number) {
-            Some(inbox) => inbox.feed(piece, items),
+            Some(inbox) => {
+                let fed = inbox.feed(piece, items);
+                let awaited = inbox.awaits();
+                self.latest = Some(Latest { number, awaited });
+                fed
+            }
             None => unreachable!(),
         }
     }
@@ -101,6 +137,7 @@ impl Connections {
         requires { IsSome ((connections_of self.old).held number) }
         ensures { connections_of self.new ≡ with_held number spent_for_good (connections_of self.old) }
     {
+        self.latest = None;
         match self.inboxes.get_mut(&number) {
             Some(inbox) => {
                 inbox.end();

@@ -7,8 +7,8 @@ use Rattle.sv_host.proofs.connections.Connections.feed.Goals as goal
 
 pub returns : goal.returns
 returns c =
-    subst (λ (entries : List (ℕ × Held)). OnOk c.feed.result (FeedsOne (connections_of entries) c.args.number c.args.piece.now c.feed.new.items.items (connections_of (c.get_mut.follows.lender c.feed.new.self).entries)))
+    subst (λ (entries : List (ℕ × Held)). OnOk c.feed-fed.result (FeedsOne (connections_of entries) c.args.number c.args.piece.now c.feed-fed.new.items.items (connections_of (c.get_mut.follows.lender c.feed-fed.new.self).entries)))
     c.self.view_is
-    (feeds_one c.self.inside.inboxes.entries c.args.number c.args.piece.now c.feed.result c.feed.new.items.items c.in-Some.inbox.now c.feed.new.self
-    (c.get_mut.follows.lender c.feed.new.self).entries (c.get_mut.follows.holds c.feed.new.self).0
-    c.in-Some.ensures.value c.feed.ensures.reads c.feed.ensures.spent)
+    (feeds_one c.self.inside.inboxes.entries c.args.number c.args.piece.now c.feed-fed.result c.feed-fed.new.items.items c.in-Some.inbox.now c.feed-fed.new.self
+    (c.get_mut.follows.lender c.feed-fed.new.self).entries (c.get_mut.follows.holds c.feed-fed.new.self).0
+    c.in-Some.ensures.value c.feed-fed.ensures.reads c.feed-fed.ensures.spent)
