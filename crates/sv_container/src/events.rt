@@ -1,5 +1,6 @@
 //! The events of a container.
 
+ghost use Rattle.std.specs.Prelude.{◌≡◌};
 ghost use Rattle.sv_component.specs.Steps.{steps_of};
 ghost use Rattle.sv_container.specs.Container.{state_of};
 ghost use Rattle.sv_context.specs.Conduct.{conduct};
