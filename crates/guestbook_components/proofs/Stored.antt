@@ -1,4 +1,4 @@
--- What holds of an answer that was made of another one.
+-- A property that passes from one result to another.
 use Rattle.std.proofs.Common.{◌≡◌, Result, Ok, Err, IfOk, OnOk}
 
 pub passes : {T E F : Type 0} (result : Result T F) (answer : Result T E) (P : Type 0) → IfOk result (λ value. answer ≡ Ok value) → OnOk answer P → OnOk result P

@@ -1,4 +1,4 @@
--- The fields by which browsers are told what a page may do (Content Security Policy Level 3, section 3.1; Fetch, section 3.6).
+-- Header fields that restrict a page in browsers (Content Security Policy Level 3, section 3.1; Fetch, section 3.6).
 use Rattle.std.specs.Prelude.{◌≡◌, List, [], ◌∷◌, codes}
 use Rattle.sv_component.specs.declared.answers.Gate.TheVariants.{Pass}
 use Rattle.sv_component.specs.Call.{Call, Entered}
@@ -13,7 +13,7 @@ security_fields =
     ∷ SetHeader (codes "cache-control") (codes "no-store")
     ∷ []
 
--- what the filter lets pass has all of them
+-- exchanges that the filter passes have all of them
 abbrev pub Shields : Call → Type 0
 Shields (Entered asked Pass answered) = answered ≡ after_all security_fields asked
 Shields call = Unit {0}

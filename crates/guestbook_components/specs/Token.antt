@@ -1,4 +1,4 @@
--- The token by which a session knows its own forms again.
+-- The token that ties a form to its session.
 use Rattle.std.specs.Prelude.{ℕ, Bool, false, List, ◌++◌, Option, Some, bytes_eq, codes}
 use Rattle.std.specs.Option.{option_map}
 use Rattle.hex.specs.Hex.{encode_lower}
@@ -8,15 +8,15 @@ use Rattle.sv_exchange.specs.Sessions.{session_id_of}
 use Rattle.sv_exchange.specs.State.{State}
 use Rattle.guestbook_components.specs.declared.token.TheConstants.{PURPOSE}
 
--- a digest of the session's id, in hexadecimal digits
+-- a digest of the session id, in hexadecimal digits
 abbrev pub token_for : List ℕ → List ℕ
 token_for id = encode_lower (sha256 (PURPOSE.now ++ id))
 
--- there is none where there is no session
+-- without a session there is no token
 abbrev pub token_of : State → Option (List ℕ)
 token_of asked = option_map token_for (session_id_of asked)
 
--- a form that was sent has the token of the session that sent it
+-- the form that was sent has the token of the session that sent it
 abbrev pub is_sent_back : Option (List ℕ) → Option (List ℕ) → Bool
 is_sent_back (Some token) (Some sent) = bytes_eq sent token
 is_sent_back token sent = false

@@ -9,10 +9,10 @@ ghost use Rattle.guestbook_components.specs.Book.{HasRun, IsEntryOf, entry_value
 use sqlite::{Alter, Connection, Error, Row, params};
 use std::alloc::Global;
 
-/// How many entries a page shows at most.
+/// Maximum number of entries on a page.
 pub const PAGE_LEN: usize = 50;
 
-/// Numbers are given once, so that a form of an old page names no other entry.
+/// The table of entries. Numbers are never reused, so that a form on an old page names no other entry.
 const TABLE: &str = "CREATE TABLE IF NOT EXISTS entry (
     number INTEGER PRIMARY KEY AUTOINCREMENT,
     author TEXT NOT NULL,
@@ -20,30 +20,30 @@ const TABLE: &str = "CREATE TABLE IF NOT EXISTS entry (
     words TEXT NOT NULL
 ) STRICT";
 
-/// Writes an entry down.
+/// Inserts an entry.
 const INSERT: &str = "INSERT INTO entry (author, moment, words) VALUES (?1, ?2, ?3)";
 
-/// Takes the entry of a number out.
+/// Deletes the entry of a number.
 const DELETE: &str = "DELETE FROM entry WHERE number = ?1";
 
-/// The entries below a number, the newest first, and no more than another number.
+/// Selects the entries below a number, newest first, up to a limit.
 const SELECT: &str =
     "SELECT number, author, moment, words FROM entry WHERE number < ?1 ORDER BY number DESC LIMIT ?2";
 
 /// An entry, as its author wrote it.
 #[derive(Drop)]
 pub struct Entry {
-    /// The number, by which it is taken out; those of later entries are greater.
+    /// The number, which selects the entry for removal. Later entries have greater numbers.
     pub number: i64,
-    /// The name of the user who wrote it.
+    /// The name of the user that wrote it.
     pub author: String,
-    /// When it was written, in seconds since 1970.
+    /// The time at which it was written, in seconds since 1970.
     pub moment: i64,
-    /// What was written.
+    /// The text of the entry.
     pub words: String,
 }
 
-/// The database could not be read or written, or lacked memory: what was asked for was not done.
+/// The database could not be read or written, or memory ran out. The operation was not performed.
 #[derive(Debug, Drop)]
 pub struct BookFault;
 
@@ -53,23 +53,24 @@ impl From<Error> for BookFault {
     }
 }
 
-/// The entries that were acknowledged.
+/// The acknowledged entries.
 #[derive(Drop)]
 pub struct Book<S: Alter> {
     connection: Connection<S>,
 }
 
 impl<S: Alter + Drop> Book<S> {
-    /// The book of this database, whose table is made where it is missing.
+    /// Opens the book in this database, and creates its table if it is missing.
     ///
     /// # Errors
-    /// [`BookFault`]: the database is no book, or cannot be written.
+    /// [`BookFault`]: the database is not a book, or cannot be written.
     pub fn new(mut connection: Connection<S>) -> Result<Book<S>, BookFault> {
         connection.execute_batch(TABLE)?;
         Ok(Book { connection })
     }
 
-    /// Writes an entry down, with the second since 1970 in which that was. It stands in the file when this returns, whatever becomes of the program.
+    /// Writes an entry with its time in seconds since 1970. When this returns, the entry is in the file, even if the
+    /// program then ends.
     ///
     /// # Errors
     /// [`BookFault`]: it was not written.
@@ -81,10 +82,10 @@ impl<S: Alter + Drop> Book<S> {
         Ok(())
     }
 
-    /// Takes the entry of that number out, where there is one.
+    /// Removes the entry of this number, if there is one.
     ///
     /// # Errors
-    /// [`BookFault`]: it was not taken out.
+    /// [`BookFault`]: it was not removed.
     pub fn remove(&mut self, number: i64) -> Result<(), BookFault>
         ensures { OnOk result (HasRun S.Store DELETE.now (Int number ∷ []) self.old.connection self.new.connection) }
     {
@@ -92,7 +93,7 @@ impl<S: Alter + Drop> Book<S> {
         Ok(())
     }
 
-    /// The newest entries whose numbers are below that one, the last that was written first, and at most [`PAGE_LEN`].
+    /// Returns the newest entries with numbers below this one, newest first, and at most [`PAGE_LEN`].
     ///
     /// # Errors
     /// [`BookFault`]: they could not be read.
@@ -104,7 +105,7 @@ impl<S: Alter + Drop> Book<S> {
     }
 }
 
-// The seconds as the table has them.
+// Converts seconds to the type of the column.
 fn seconds_of(moment: u64) -> Result<i64, BookFault>
     ensures { IfOk result (λ seconds. seconds ≡ pos moment) }
 {
@@ -114,7 +115,7 @@ fn seconds_of(moment: u64) -> Result<i64, BookFault>
     }
 }
 
-// An entry more in the table.
+// Inserts an entry into the table.
 fn insert<S: Alter>(
     connection: &mut Connection<S>,
     author: &str,
@@ -127,7 +128,7 @@ fn insert<S: Alter>(
     connection.execute(INSERT, params![author, seconds, words])
 }
 
-// The entry of that number less in the table.
+// Deletes the entry of this number from the table.
 fn delete<S: Alter>(connection: &mut Connection<S>, number: i64) -> Result<usize, Error>
     ensures { HasCleanDisk (state S.Store connection.new) → Executes DELETE.now (Int number ∷ [])
         (state S.Store connection.old) (state S.Store connection.new) result }
@@ -135,7 +136,7 @@ fn delete<S: Alter>(connection: &mut Connection<S>, number: i64) -> Result<usize
     connection.execute(DELETE, params![number])
 }
 
-// The entries of the rows that were found.
+// Returns the entries of the rows found.
 fn entries_of(alloc: Global, found: Result<Vec<Row>, Error>) -> Result<Vec<Entry>, BookFault> {
     let found = found?;
     let mut entries = Vec::new(alloc);
@@ -143,7 +144,7 @@ fn entries_of(alloc: Global, found: Result<Vec<Row>, Error>) -> Result<Vec<Entry
     Ok(entries)
 }
 
-// The entries of these rows, behind others.
+// Appends the entries of these rows.
 fn push_entries(entries: &mut Vec<Entry>, rows: &[Row]) -> Result<(), BookFault> {
     for row in rows {
         push_entry(entries, entry_of(row)?)?;
@@ -151,7 +152,7 @@ fn push_entries(entries: &mut Vec<Entry>, rows: &[Row]) -> Result<(), BookFault>
     Ok(())
 }
 
-// An entry more.
+// Appends an entry.
 fn push_entry(entries: &mut Vec<Entry>, entry: Entry) -> Result<(), BookFault> {
     match entries.push(entry) {
         Ok(()) => Ok(()),
@@ -159,7 +160,7 @@ fn push_entry(entries: &mut Vec<Entry>, entry: Entry) -> Result<(), BookFault> {
     }
 }
 
-// The entry of a row.
+// Returns the entry of a row.
 fn entry_of(row: &Row) -> Result<Entry, BookFault>
     ensures { IfOk result (IsEntryOf row.now) }
 {

@@ -1,6 +1,6 @@
-//! The files of the site, which are the same for everyone.
+//! The static files of the site, which are the same for all users.
 
-/// The page of the login (Jakarta Servlet 6.0, section 13.6.3).
+/// The login page (Jakarta Servlet 6.0, section 13.6.3).
 pub const LOGIN: &str = r#"<!doctype html>
 <html lang="en">
 <meta charset="utf-8">
@@ -18,7 +18,7 @@ pub const LOGIN: &str = r#"<!doctype html>
 </html>
 "#;
 
-/// The page behind a login that failed.
+/// The page after a failed login.
 pub const LOGIN_FAILED: &str = r#"<!doctype html>
 <html lang="en">
 <meta charset="utf-8">
@@ -37,7 +37,7 @@ pub const LOGIN_FAILED: &str = r#"<!doctype html>
 </html>
 "#;
 
-/// The style sheet: for phones first, in light and in dark.
+/// The style sheet, for phones first, with a light and a dark mode.
 pub const STYLE: &str =
     r#":root { color-scheme: light dark; --ink: #1c2330; --paper: #f6f4ef; --card: #fff; --line: #d9d4c7; --accent: #2f6f4f; }
 @media (prefers-color-scheme: dark) { :root { --ink: #e9e6df; --paper: #171a1f; --card: #21262d; --line: #39404a; --accent: #7fc8a0; } }

@@ -1,4 +1,4 @@
-//! The servlet of the book.
+//! The servlet of the guestbook.
 
 ghost use Rattle.std.specs.Prelude.{◌≡◌, IfOk, IfSome, Ok, OnOk, codes, false, true};
 ghost use Rattle.std.specs.Str.Parse.{signed_digits_value};
@@ -18,13 +18,13 @@ use sv_web::{
     redirect, send_html, step_of,
 };
 
-/// The greatest entry, in bytes of UTF-8.
+/// Maximum length of an entry, in bytes of UTF-8.
 const MAX_WORDS: usize = 4_000;
 
-/// The role of those who take entries out.
+/// The role that may remove entries.
 const ADMINISTRATOR: &str = "administrator";
 
-/// Shows the book, and takes its forms: who may send which one is for the descriptor to say.
+/// Shows the book and handles its forms. The descriptor defines who may send which form.
 #[derive(Drop)]
 pub struct Guestbook<S: Alter> {
     pub book: Book<S>,
@@ -47,7 +47,7 @@ impl<S: Alter + Drop> Servlet for Guestbook<S> {
     fn destroy(&mut self) {}
 }
 
-/// What a form is sent for.
+/// The purpose of a form.
 #[derive(Clone, Copy)]
 enum Form {
     Write,
@@ -56,7 +56,7 @@ enum Form {
 }
 
 impl Form {
-    // The form that is sent to that path.
+    // Returns the form that is sent to this path.
     fn at(path: &str) -> Option<Form> {
         match path {
             "/write" => Some(Form::Write),
@@ -67,7 +67,7 @@ impl Form {
     }
 }
 
-// The step behind a page or a form: it is done, or that of its fault.
+// Returns the step after a page or a form: `Done`, or the step of its fault.
 fn step_behind(alloc: Global, done: Result<(), Fault>) -> Step {
     match done {
         Ok(()) => Step::Done,
@@ -75,7 +75,7 @@ fn step_behind(alloc: Global, done: Result<(), Fault>) -> Step {
     }
 }
 
-// The page of the entries, where it is asked for.
+// Sends the page of entries, if the method requests it.
 fn show_book<S: Alter + Drop>(
     alloc: Global,
     book: &mut Book<S>,
@@ -91,7 +91,7 @@ fn show_book<S: Alter + Drop>(
     send_page(alloc, exchange, entries.as_slice(), requests)
 }
 
-// The number below which the page begins that is asked for, by GET alone.
+// Returns the number below which the requested page begins, or none if the method is neither GET nor HEAD.
 fn page_asked_for(alloc: Global, exchange: &mut Exchange) -> Result<Option<i64>, Fault>
     ensures { Reaches exchange.old exchange.new }
 {
@@ -101,7 +101,7 @@ fn page_asked_for(alloc: Global, exchange: &mut Exchange) -> Result<Option<i64>,
     }
 }
 
-// The page of these entries, for whoever asks.
+// Sends the page of these entries for the user of the session.
 fn send_page(
     alloc: Global,
     exchange: &mut Exchange,
@@ -115,7 +115,7 @@ fn send_page(
     Ok(())
 }
 
-// The page of these entries, with the forms of the user of the session.
+// Returns the page of these entries, with the forms of the user of the session.
 fn page_of(
     alloc: Global,
     exchange: &Exchange,
@@ -127,7 +127,7 @@ fn page_of(
     book_page(alloc, entries, reader, requests)
 }
 
-// The user of the session, where one is logged in.
+// Returns the user of the session, if one is logged in.
 fn member_of<'a>(exchange: &'a Exchange, token: Option<&'a Text>) -> Option<Member<'a>>
     ensures { IfSome result (IsOfMember exchange.now) }
 {
@@ -140,14 +140,15 @@ fn member_of<'a>(exchange: &'a Exchange, token: Option<&'a Text>) -> Option<Memb
     })
 }
 
-// The number below which the page begins: that of the query, where it has one.
+// Returns the number below which the page begins: that of the query, or else the greatest number.
 fn first_below(exchange: &Exchange) -> Result<i64, NoMemory> {
     let before = exchange.parameter("before")?;
     let before = before.as_ref().map_or("", Text::as_str);
     Ok(before.parse::<i64>().unwrap_or(i64::MAX))
 }
 
-// A form's path: by POST the form does what it is for, and by GET, as a login leads there, nothing. Both lead back to the book.
+// Handles the path of a form. A POST performs the action of the form. A GET, to which a login leads, does nothing. Both
+// redirect to the book.
 fn take_form<S: Alter + Drop>(
     alloc: Global,
     book: &mut Book<S>,
@@ -167,7 +168,7 @@ fn take_form<S: Alter + Drop>(
     Ok(())
 }
 
-// Does what the form is for, if it has the token of its session.
+// Performs the action of the form, if it has the token of its session.
 fn obey<S: Alter + Drop>(
     alloc: Global,
     book: &mut Book<S>,
@@ -196,7 +197,7 @@ fn leave(exchange: &mut Exchange) -> Result<(), Fault>
     Ok(())
 }
 
-// An entry of the caller.
+// Writes an entry of the caller.
 fn write<S: Alter + Drop>(
     alloc: Global,
     book: &mut Book<S>,
@@ -209,7 +210,7 @@ fn write<S: Alter + Drop>(
     answer_of(alloc, written)
 }
 
-// The words of an entry that were sent.
+// Returns the words of an entry that were sent, if they are not blank and not too long.
 fn words_of(alloc: Global, exchange: &Exchange) -> Result<Text, Fault>
     ensures { IfOk result (λ words. words ≡ value_of (codes "words") exchange.now) }
 {
@@ -224,7 +225,7 @@ fn words_of(alloc: Global, exchange: &Exchange) -> Result<Text, Fault>
     Ok(words)
 }
 
-// An entry less, which an administrator takes out: the descriptor lets no one else come here, and neither does this.
+// Removes an entry for an administrator. The descriptor admits no one else, and the role is checked here again.
 fn remove<S: Alter + Drop>(
     alloc: Global,
     book: &mut Book<S>,
@@ -240,7 +241,7 @@ fn remove<S: Alter + Drop>(
     answer_of(alloc, book.remove(number))
 }
 
-// The number of an entry that was sent.
+// Returns the number of an entry that was sent.
 fn number_of(alloc: Global, exchange: &Exchange) -> Result<i64, Fault>
     ensures { IfOk result (λ number. number ≡ signed_digits_value 10 (value_of (codes "number") exchange.now)) }
 {
@@ -251,7 +252,7 @@ fn number_of(alloc: Global, exchange: &Exchange) -> Result<i64, Fault>
     }
 }
 
-// The error of that code, if there is memory for its text.
+// Returns the error of this code, or out of memory if there is none for its text.
 fn error_of(alloc: Global, code: u16, text: &str) -> Fault {
     match Text::copy_of(alloc, text) {
         Ok(text) => Fault::Error(code, text),
@@ -259,7 +260,7 @@ fn error_of(alloc: Global, code: u16, text: &str) -> Fault {
     }
 }
 
-// The first value of that name, empty where none was sent.
+// Returns the first value of this name, or an empty text if none was sent.
 fn value_of(alloc: Global, exchange: &Exchange, name: &str) -> Result<Text, NoMemory>
     ensures { IfOk result (λ value. value ≡ value_of name.now exchange.now) }
 {
@@ -269,7 +270,7 @@ fn value_of(alloc: Global, exchange: &Exchange, name: &str) -> Result<Text, NoMe
     }
 }
 
-// The name of the caller, empty where there is none.
+// Returns the name of the caller, or an empty text if there is none.
 fn caller_name(exchange: &Exchange) -> &str
     ensures { result.now ≡ caller_name exchange.now }
 {
@@ -279,7 +280,7 @@ fn caller_name(exchange: &Exchange) -> &str
     }
 }
 
-// What the book answered; its fault fails this request alone.
+// Returns the answer of the book. A fault of the book fails only this request.
 fn answer_of<T>(alloc: Global, answer: Result<T, BookFault>) -> Result<T, Fault>
     ensures { IfOk result (λ value. answer ≡ Ok value) }
 {

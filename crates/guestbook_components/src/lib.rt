@@ -1,4 +1,5 @@
-//! The components of a guestbook with logins and roles, whose entries stand in a SQLite file, and the context that they are deployed in.
+//! The components of a guestbook with logins and roles, and the context that deploys them. The entries are in a SQLite
+//! file.
 #![tactic(auto)]
 
 mod book;

@@ -7,21 +7,22 @@ use std::alloc::{AllocError, Global};
 use std::str;
 use sv_web::{NoMemory, escape_html};
 
-/// Who reads the page, where a user is logged in.
+/// A logged-in user that reads the page.
 #[derive(Clone, Copy)]
 pub struct Member<'a> {
     /// The name of the user.
     pub name: &'a str,
-    /// Whether the user may take entries out.
+    /// Whether the user may remove entries.
     pub is_administrator: bool,
-    /// What each form of this session sends back.
+    /// The token that each form of this session sends back.
     pub token: &'a str,
 }
 
-/// The page of these entries, with the forms that its reader may send, and how many requests came since the start.
+/// Returns the page of these entries, with the forms that its reader may send and the number of requests since the
+/// start.
 ///
 /// # Errors
-/// [`NoMemory`]: a growth was refused.
+/// [`NoMemory`]: out of memory.
 pub fn book_page(
     alloc: Global,
     entries: &[Entry],
@@ -33,7 +34,7 @@ pub fn book_page(
     Ok(page)
 }
 
-// The parts of the page, which is lent, so that none that fails has to let it go.
+// Appends the parts of the page. The page is borrowed, so that a part that fails does not have to drop it.
 fn push_page(
     alloc: Global,
     page: &mut String,
@@ -56,14 +57,14 @@ fn push_page(
     )
 }
 
-// A text that was made for the page, if there was memory for it.
+// Appends a formatted text, if there was memory for it.
 fn push_made(page: &mut String, made: Result<String, AllocError>) -> Result<(), NoMemory> {
     let made = made?;
     page.push_str(made.as_str())?;
     Ok(())
 }
 
-/// The page down to its heading.
+/// The page up to its heading.
 const HEAD: &str = r#"<!doctype html>
 <html lang="en">
 <meta charset="utf-8">
@@ -74,12 +75,12 @@ const HEAD: &str = r#"<!doctype html>
 <h1><a href="/">Guestbook</a></h1>
 "#;
 
-/// What strangers are shown in place of forms.
+/// The text shown instead of forms if no user is logged in.
 const INVITATION: &str =
     r#"<p class="greeting">Members write here. <a class="button" href="/write">Log in</a></p>
 "#;
 
-// What a member may do.
+// Appends the forms of a member.
 fn push_forms(alloc: Global, page: &mut String, member: Member<'_>) -> Result<(), NoMemory> {
     let name = escape_html(alloc, member.name)?;
     let name = name.as_str();
@@ -101,7 +102,7 @@ fn push_forms(alloc: Global, page: &mut String, member: Member<'_>) -> Result<()
     )
 }
 
-// The entries, the newest first.
+// Appends the entries, newest first.
 fn push_entries(
     alloc: Global,
     page: &mut String,
@@ -116,7 +117,7 @@ fn push_entries(
     Ok(())
 }
 
-// An entry, which an administrator may take out.
+// Appends an entry, with a form to remove it if the reader is an administrator.
 fn push_entry(
     alloc: Global,
     page: &mut String,
@@ -135,7 +136,7 @@ fn push_entry(
     Ok(())
 }
 
-// The day of a moment, as `25 Nov 2026`: the middle of what a Date field has (RFC 9110, section 5.6.7).
+// Appends the day of a time, such as `25 Nov 2026`: the middle of a Date field's value (RFC 9110, section 5.6.7).
 fn push_date(page: &mut String, moment: i64) -> Result<(), NoMemory> {
     let Ok(seconds) = u64::try_from(moment) else {
         return Ok(());
@@ -152,7 +153,7 @@ fn push_date(page: &mut String, moment: i64) -> Result<(), NoMemory> {
     Ok(())
 }
 
-// The form by which an administrator takes an entry out.
+// Appends the form with which an administrator removes an entry.
 fn push_removal(
     alloc: Global,
     page: &mut String,
@@ -175,7 +176,7 @@ fn push_removal(
     )
 }
 
-// Where a page is full, the way to the next one.
+// Appends a link to older entries, if the page is full.
 fn push_older(alloc: Global, page: &mut String, entries: &[Entry]) -> Result<(), NoMemory> {
     if entries.len() < PAGE_LEN {
         return Ok(());

@@ -1,4 +1,4 @@
-//! A text in a page.
+//! A paragraph in a page.
 
 ghost use Rattle.std.specs.Prelude.{◌≡◌, ◌++◌, OnOk, string_bytes};
 ghost use Rattle.guestbook_components.specs.Paragraph.{opening, paragraph};
@@ -6,10 +6,10 @@ ghost use Rattle.guestbook_components.specs.Paragraph.{opening, paragraph};
 use std::alloc::Global;
 use sv_web::{NoMemory, escape_html};
 
-/// Adds a paragraph of that class with a text, which is shown as it was written, whatever it is.
+/// Adds a paragraph of this class, which shows any text as it was written.
 ///
 /// # Errors
-/// [`NoMemory`]: a growth was refused; a part of it may stand there.
+/// [`NoMemory`]: out of memory; a part of the paragraph may have been added.
 #[tactic(auto, unfolding(crate::specs::Paragraph::paragraph))]
 pub fn push_paragraph(
     alloc: Global,

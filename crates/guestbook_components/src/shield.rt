@@ -1,4 +1,4 @@
-//! Fields that tell browsers what a page of this site may do.
+//! Header fields that restrict the site's pages in browsers.
 
 ghost use Rattle.std.specs.Prelude.{◌≡◌, OnOk};
 ghost use Rattle.sv_exchange.specs.Changing.{Reaches, after_all};
@@ -7,11 +7,11 @@ ghost use Rattle.guestbook_components.specs.Shielding.{security_fields};
 use std::alloc::Global;
 use sv_web::{Config, Exchange, ExchangeFault, Fault, Filter, Gate, Init, NoMemory, gate_of};
 
-/// Only this site's own style sheet and forms, in no frame.
+/// Allows only this site's own style sheet and forms, and no frames.
 const POLICY: &str =
     "default-src 'none'; style-src 'self'; form-action 'self'; base-uri 'none'; frame-ancestors 'none'";
 
-/// Sets them on every answer.
+/// Sets the header fields on every response.
 #[derive(Drop)]
 pub struct Shield {}
 

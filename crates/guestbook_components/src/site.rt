@@ -1,4 +1,4 @@
-//! Who may ask for what on the site, its users, and what it is deployed with.
+//! The access rules of the site, its users, and its deployment.
 
 use crate::book::Book;
 use crate::files::{LOGIN, LOGIN_FAILED, STYLE};
@@ -9,8 +9,8 @@ use sqlite::Alter;
 use std::alloc::Global;
 use sv_web::{Deployment, NoMemory};
 
-/// Who may ask for what, how users log in, and that the fields of the filter stand on the pages of the login as well (Jakarta Servlet 6.0,
-/// sections 6.2.5, 13.4 and 13.6.3): elements of a `web.xml` as TOML.
+/// The access rules, the login, and the mapping that adds the filter's fields to the login pages (Jakarta Servlet 6.0,
+/// sections 6.2.5, 13.4 and 13.6.3), as elements of a `web.xml` in TOML.
 const DESCRIPTOR: &str = r#"
 version = 2
 
@@ -41,7 +41,8 @@ auth-method = "FORM"
 form-login-config = { form-login-page = "/login.html", form-error-page = "/login-failed.html" }
 "#;
 
-/// The users of the example: the passwords of ann, ben and eve are `violet`, `harbor` and `lantern`. `tools/new-user` makes an entry.
+/// The users of the example. The passwords of ann, ben and eve are `violet`, `harbor` and `lantern`. `tools/new-user`
+/// creates an entry.
 const USERS: &str = r#"
 [[user]]
 name = "ann"
@@ -62,10 +63,10 @@ digest = "46a6ec95492c6f50c913985ede0e4a7a3c2e4def7a9b509f29a2f24d8d6b5009"
 roles = ["member", "administrator"]
 "#;
 
-/// The site over a book: its one context, which is the root.
+/// Returns the site with this book: one context, which is the root.
 ///
 /// # Errors
-/// [`NoMemory`].
+/// [`NoMemory`]: out of memory.
 pub fn site_of<S: Alter + Drop>(
     alloc: Global,
     book: Book<S>,
@@ -78,7 +79,7 @@ pub fn site_of<S: Alter + Drop>(
     deployed(alloc, guestbook, Shield {}, visits)
 }
 
-// The site with these components, of whatever types: so the prover sees each call of it without them.
+// Deploys these components. It is generic, so that the prover sees each call of it without their types.
 fn deployed<S: Drop, F: Drop, L: Drop>(
     alloc: Global,
     servlet: S,
@@ -93,7 +94,7 @@ fn deployed<S: Drop, F: Drop, L: Drop>(
     with_files(deployment)
 }
 
-// The site with its files and its users as well.
+// Adds the files and the users to the site.
 fn with_files<S: Drop, F: Drop, L: Drop>(
     deployment: Deployment<S, F, L>,
 ) -> Result<Vec<Deployment<S, F, L>>, NoMemory> {

@@ -1,4 +1,4 @@
-//! What a form sends back, so that no other site can send it in a user's name.
+//! The token that a form sends back, so that no other site can send it in a user's name.
 
 ghost use Rattle.std.specs.Prelude.{◌≡◌, ◌++◌, IfOk};
 ghost use Rattle.sha2.specs.Sha256.{sha256};
@@ -8,10 +8,11 @@ use sha2::{Digest, Sha256};
 use std::alloc::Global;
 use sv_web::{Exchange, Fault, NoMemory, Text};
 
-/// What the digests are for, so that they are of no use elsewhere.
+/// The purpose of the digests, so that they are of no use elsewhere.
 const PURPOSE: &[u8] = b"guestbook form ";
 
-/// The token of the forms of this session: a digest of its id, which no other site knows. `None` where there is no session, and so no user.
+/// Returns the token of this session's forms: a digest of the session id, which no other site knows. Returns `None`
+/// without a session, and thus without a user.
 pub fn token_of(alloc: Global, exchange: &Exchange) -> Result<Option<Text>, NoMemory>
     ensures { IfOk result (λ token. token ≡ token_of exchange.now) }
 {
@@ -21,7 +22,7 @@ pub fn token_of(alloc: Global, exchange: &Exchange) -> Result<Option<Text>, NoMe
     }
 }
 
-// The token of the session of that id.
+// Returns the token of the session of this id.
 fn token_for(alloc: Global, id: &str) -> Result<Text, NoMemory>
     ensures { IfOk result (λ token. token ≡ token_for id.now) }
 {
@@ -29,7 +30,7 @@ fn token_for(alloc: Global, id: &str) -> Result<Text, NoMemory>
     Ok(Text::from_string(hex::encode(alloc, &digest)?))
 }
 
-// The digest of two texts, one behind the other.
+// Returns the digest of two texts, appended to each other.
 fn digest_of(first: &[u8], second: &[u8]) -> [u8; 32]
     ensures { result ≡ sha256 (first.now ++ second.now) }
 {
@@ -39,10 +40,10 @@ fn digest_of(first: &[u8], second: &[u8]) -> [u8; 32]
     hasher.finalize()
 }
 
-/// Whether the form that was sent has the token of this session.
+/// Returns whether the form that was sent has the token of this session.
 ///
 /// # Errors
-/// [`Fault::NoMemory`] alone.
+/// Only [`Fault::NoMemory`].
 pub fn is_own_form(alloc: Global, exchange: &Exchange) -> Result<bool, Fault>
     ensures { IfOk result (λ own. own ≡ is_own_form exchange.now) }
 {

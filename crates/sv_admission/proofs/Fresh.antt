@@ -1,4 +1,4 @@
--- What a message does to sessions are calls of its moment, so it leaves none that has expired.
+-- A message changes the sessions only by calls at its time. If none had expired, it leaves none that has.
 use Rattle.std.proofs.Common.{◌≡◌, ℕ, ◌+◌, false, not, List, [], ◌∷◌, length, eqb, arith, refl, subst, Option, None, Some, inl, inr}
 use Rattle.std.specs.Option.{option_map, option_map_or}
 use Rattle.std.proofs.lemmas.Bool.{cases_Bool, eqb-true, not-false}
@@ -33,7 +33,7 @@ none_from_length : (faults : List SessionFault) → not (eqb (length faults) 0) 
 none_from_length [] h = refl
 none_from_length (fault ∷ faults) h = let none = eqb-true (length (fault ∷ faults)) 0 (not-false _ h) in absurd (omega (arith, none))
 
--- with the law of the calls of a moment
+-- Assuming the law that no call leaves an expired session.
 module _ (law : CallsLeaveNoneExpired) (now : ℕ) where
   by_call : (call : Call) (store after : Store) → left_by call store ≡ after → IsAt now call → HasNoneExpired now store → HasNoneExpired now after
   by_call call store after is at fresh = subst (HasNoneExpired now) is (law now call store at fresh)
@@ -42,7 +42,7 @@ module _ (law : CallsLeaveNoneExpired) (now : ℕ) where
   fresh_access None store fresh = fresh
   fresh_access (Some number) store fresh = by_call (Touch number now) store _ refl refl fresh
 
-  -- a session for a login
+  -- A session for a login.
   fresh_session : (held : Option ℕ) (words : ℕ × ℕ) (store : Store) (found : Option ℕ) → living held store ≡ found
       → option_map_or (λ number. renaming_faults number store) found (opening_faults store) ≡ []
       → HasNoneExpired now store → HasNoneExpired now (option_map_or (λ number. renamed number words store) found (opened words now store))

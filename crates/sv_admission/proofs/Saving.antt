@@ -1,4 +1,4 @@
--- How the code settles sessions.
+-- Settling the sessions in the code.
 use Rattle.std.proofs.Common.{◌≡◌, ℕ, ◌+◌, Bool, true, false, List, [], ◌∷◌, refl, sym, ◌∙◌, ap, subst, Option, None, Some, Result, Ok, Err, IfOk}
 use Rattle.std.specs.List.{slice_get}
 use Rattle.std.specs.Str.{bytes_eq}
@@ -23,7 +23,7 @@ pub some_fault : {A : Type 0} (faults : List SessionFault) (fault : SessionFault
 some_fault [] fault done refused h = cc
 some_fault (first ∷ faults) fault done refused h = refl
 
--- a session was opened, and the target saved in it
+-- A session was opened, and the target saved in it.
 pub opened_so : (asked : Asked) (target : List ℕ) (store between after : Store) (number : ℕ) (x : Settled)
     → (opening_faults store ≡ []) × (number ≡ store.serial + 1) × (between ≡ opened asked.words asked.moment store)
     → after ≡ with_saved number (Some target) between → x ≡ renewed None number after
@@ -32,14 +32,14 @@ opened_so asked target store between after number x (none, is_number, opens) sav
     let made : renewed None number after ≡ opened_with asked target store = rw (saves, opens, is_number) refl in
     is ∙ made ∙ sym (no_fault (opening_faults store) (opened_with asked target store) (unchanged None store) none)
 
--- none could be opened
+-- No session could be opened.
 refused_so : (asked : Asked) (target : List ℕ) (store after : Store) (fault : SessionFault) (x : Settled)
     → (slice_get (opening_faults store) 0 ≡ Some fault) × (after ≡ store) → x ≡ unchanged None after
     → x ≡ saved_in asked target None store
 refused_so asked target store after fault x (some, same) is =
     is ∙ ap (unchanged None) same ∙ sym (some_fault (opening_faults store) fault (opened_with asked target store) (unchanged None store) some)
 
--- the store is full, or its serials are spent
+-- The store is full, or its serial numbers are used up.
 pub full_so : (asked : Asked) (target : List ℕ) (store after : Store) (fault : SessionFault) (x : Settled)
     → fault ≡ TooMany → RefusesCall (opening_faults store) fault store after → x ≡ unchanged None after → x ≡ saved_in asked target None store
 full_so asked target store after fault x is refuses =
@@ -50,12 +50,12 @@ pub spent_so : (asked : Asked) (target : List ℕ) (store after : Store) (fault 
 spent_so asked target store after fault x is refuses =
     refused_so asked target store after SerialSpent x (subst (λ other. RefusesCall (opening_faults store) other store after) is refuses)
 
--- a method other than GET
+-- A method other than GET.
 pub not_saved : (context_path : List ℕ) (asked : Asked) (held : Option ℕ) (store : Store) (test : Bool) (x : Settled)
     → test ≡ bytes_eq asked.message.method (codes "GET") → test ≡ false → x ≡ unchanged held store → x ≡ interrupted context_path asked held store
 not_saved context_path asked held store test x is not is_unchanged = let other = sym is ∙ not in rw other is_unchanged
 
--- GET
+-- The method GET.
 pub is_saved : (context_path : List ℕ) (asked : Asked) (target : List ℕ) (held : Option ℕ) (store after : Store) (test : Bool) (result : Result code.Settled NoMemory)
     → test ≡ bytes_eq asked.message.method (codes "GET") → test ≡ true → target ≡ sent_to context_path asked.canon.path asked.canon.query
     → IfOk result (λ settled. seen after settled ≡ saved_in asked target held store)
@@ -64,7 +64,7 @@ is_saved context_path asked target held store after test (Err refusal) is got wh
 is_saved context_path asked target held store after test (Ok settled) is got where_to saves =
     let get = sym is ∙ got in rw get (saves ∙ ap (λ text. saved_in asked text held store) where_to)
 
--- the target is saved in the session that is held
+-- The target is saved in the held session.
 pub held_so : (asked : Asked) (target : List ℕ) (held : Option ℕ) (number : ℕ) (store after : Store) (x : Settled)
     → held ≡ Some number → after ≡ with_saved number (Some target) store → x ≡ unchanged (Some number) after → x ≡ saved_in asked target held store
 held_so asked target held number store after x is saves is_unchanged = rw is (is_unchanged ∙ ap (unchanged (Some number)) saves)

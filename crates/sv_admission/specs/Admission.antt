@@ -1,5 +1,5 @@
--- What becomes of a message in its context before any component is called: the session that it holds is accessed, it is judged, and the sessions
--- are settled (Jakarta Servlet 6.0, chapters 7 and 13).
+-- The admission of a message to its context, before any component is called. The session that it holds is accessed, it
+-- is judged, and the sessions are settled (Jakarta Servlet 6.0, chapters 7 and 13).
 use Rattle.std.specs.Prelude.{List}
 use Rattle.sv_outcome.specs.declared.outcome.Outcome.{Outcome}
 use Rattle.sv_outcome.specs.OutcomeEntry.{outcome_entry}
@@ -15,15 +15,15 @@ use Rattle.sv_admission.specs.Settled.{Settled, session_of, settled_by}
 use Rattle.sv_admission.specs.declared.admission.Admission.{Admission}
 
 module _ (content : Content) (standing : Standing) (users : List User) (asked : Asked) (store : Store) where
-  -- the sessions behind the access
+  -- The sessions after the access.
   abbrev pub store_accessed : Store
   store_accessed = accessed (session_held content.app asked store) asked.moment store
 
-  -- what becomes of the message
+  -- The outcome of the message.
   abbrev pub outcome_in : Outcome
   outcome_in = outcome_of content.app standing users asked (session_held content.app asked store) store_accessed
 
-  -- what it leaves of the sessions
+  -- The sessions after the message is judged.
   abbrev pub settled_in : Settled
   settled_in = settled_by content.context_path asked (session_held content.app asked store) outcome_in
       (left_by_login content.app users asked (session_held content.app asked store) store_accessed)

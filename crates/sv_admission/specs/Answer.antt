@@ -1,4 +1,4 @@
--- How a message is answered (Jakarta Servlet 6.0, sections 10.5, 10.9, 13.6.3 and 13.8).
+-- The answer to a message (Jakarta Servlet 6.0, sections 10.5, 10.9, 13.6.3 and 13.8).
 use Rattle.std.specs.Prelude.{ℕ, List, ◌++◌, Option, None, codes, unwrap_or, option_and_then}
 use Rattle.std.specs.Option.{option_map}
 use Rattle.std.specs.Result.{result_ok}
@@ -14,7 +14,8 @@ use Rattle.sv_admission.specs.declared.answer.Answer.{Answer}
 use Rattle.sv_admission.specs.declared.answer.Answer.TheVariants as answers
 use Rattle.sv_admission.specs.declared.limits.TheConstants.{FORBIDDEN}
 
--- the path and the query of a page of form login; a well-formed descriptor has no other than such as have a canonical path
+-- The path and the query of a page of form login. In a well-formed descriptor, each of these pages has a canonical
+-- path.
 abbrev pub page_at : Option (List ℕ) → Canon
 page_at page = unwrap_or (option_and_then (λ text. result_ok (canonical text)) page) (record { path = codes "/"; query = None })
 
@@ -24,15 +25,15 @@ login_page app = page_at (option_map (λ pages. pages.login_page) app.login)
 abbrev pub login_error_page : WebApp → Canon
 login_error_page app = page_at (option_map (λ pages. pages.error_page) app.login)
 
--- the root of a context
+-- The root of a context.
 abbrev pub root_of : List ℕ → List ℕ
 root_of context_path = location context_path ++ codes "/"
 
--- an error of the container's own, with its page where there is one
+-- An error that the container raises, with its page if there is one.
 abbrev pub error_with : Content → ℕ → Answer
 error_with content status = answers.Error status (error_page content status None)
 
--- how a message is answered, case by case
+-- The answer to a message, by its outcome.
 abbrev pub answer_to : Content → Outcome → Answer
 answer_to content outcomes.Protected = error_with content NOT_FOUND
 answer_to content (outcomes.LoggedIn number target) = answers.SeeOther (unwrap_or target (root_of content.context_path))

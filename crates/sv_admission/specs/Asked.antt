@@ -6,16 +6,16 @@ use Rattle.sv_admission.specs.declared.request.Request.{Request}
 
 pub record Asked : Type 0 where
   pub message : Message
-  -- the path in the context, with the query
+  -- The path in the context, with the query.
   pub canon : Canon
-  -- in seconds since 1970
+  -- The time of the message, in seconds since 1970.
   pub moment : ℕ
-  -- the two random ones of the message
+  -- The two random words of the message.
   pub words : ℕ × ℕ
 
 abbrev pub asked_by : Message → Canon → ℕ → ℕ × ℕ → Asked
 asked_by message canon moment words = record { message = message; canon = canon; moment = moment; words = words }
 
--- what a request holds
+-- A request, as contracts see it.
 abbrev pub asked_in : Request → Asked
 asked_in request = asked_by request.message.now request.canon.now request.moment request.words

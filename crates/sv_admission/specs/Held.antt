@@ -9,15 +9,15 @@ use Rattle.sv_session.specs.Calls.{caller_of, touched}
 use Rattle.sv_session.specs.Store.{Store}
 use Rattle.sv_admission.specs.Asked.{Asked}
 
--- the session that the message's cookies name, of those with the name that the context gives its own
+-- The session that the message's cookies name. Only cookies with the name of the context's session cookie count.
 abbrev pub session_held : WebApp → Asked → Store → Option ℕ
 session_held app asked store = held app.session.cookie.name asked.message.fields store
 
--- the message is an access to it
+-- The message accesses the session that it holds, if any.
 abbrev pub accessed : Option ℕ → ℕ → Store → Store
 accessed None moment store = store
 accessed (Some number) moment store = touched number moment store
 
--- the user who has logged in to a session
+-- The user who is logged in to a session, if any.
 abbrev pub caller_held : List User → Option ℕ → Store → Option Caller
 caller_held users session store = option_and_then (caller_at users) (option_and_then (λ number. caller_of number store) session)

@@ -1,4 +1,4 @@
--- What is found of a message, and what becomes of it (Jakarta Servlet 6.0, sections 10.5, 13.6.3 and 13.8).
+-- The findings about a message, and its outcome (Jakarta Servlet 6.0, sections 10.5, 13.6.3 and 13.8).
 use Rattle.std.specs.Prelude.{ℕ, List, Option, codes, find, if◌then◌else◌}
 use Rattle.std.specs.Option.{option_map, option_map_or}
 use Rattle.sv_constraints.specs.Verdict.{verdict}
@@ -17,19 +17,19 @@ use Rattle.sv_session.specs.Store.{Store}
 use Rattle.sv_admission.specs.Asked.{Asked}
 use Rattle.sv_admission.specs.Held.{caller_held}
 
--- the type of the body
+-- The content type of the body.
 abbrev pub content_type : List Field → Option (List ℕ)
 content_type fields = option_map (λ field. field.value.bytes) (find (is_named (codes "content-type")) fields)
 
 abbrev pub post_in : Asked → Post
 post_in asked = post_of asked.message.method asked.canon.path (content_type asked.message.fields) asked.message.body
 
--- the login step of the message, where the context has form login: what it answers, and what it leaves of the sessions
+-- The login step of the message, if the context has form login: its outcome and the sessions after it.
 abbrev pub login_step : WebApp → List User → Asked → Option ℕ → Store → Option (LoginOutcome × Store)
 login_step app users asked session store =
     option_map (λ pages. login users (post_in asked) session asked.words asked.moment store) app.login
 
--- the verdict is that of the constraints as they stand
+-- The findings about a message. The verdict is that of the current constraints.
 abbrev pub findings : WebApp → Standing → List User → Asked → Option ℕ → Store → Findings
 findings app standing users asked session store = record {
   is_protected = is_protected asked.canon.path;
@@ -40,7 +40,7 @@ findings app standing users asked session store = record {
 abbrev pub outcome_of : WebApp → Standing → List User → Asked → Option ℕ → Store → Outcome
 outcome_of app standing users asked session store = outcome (findings app standing users asked session store)
 
--- what a login leaves of the sessions; behind a hidden folder there is none
+-- The sessions after the login step. A message to a hidden folder has no login step.
 abbrev pub left_by_login : WebApp → List User → Asked → Option ℕ → Store → Store
 left_by_login app users asked session store =
     if is_protected asked.canon.path then store

@@ -1,4 +1,4 @@
--- What holds of every message in its context (Jakarta Servlet 6.0, sections 7.5, 10.5, 13.6.3 and 13.8).
+-- Laws of every message in its context (Jakarta Servlet 6.0, sections 7.5, 10.5, 13.6.3 and 13.8).
 use Rattle.std.specs.Prelude.{◌≡◌, ◌↔◌, List}
 use Rattle.sv_admission.specs.Admission.{admission, settled_in, store_accessed}
 use Rattle.sv_admission.specs.Asked.{Asked}
@@ -15,18 +15,19 @@ use Rattle.sv_session.specs.Expiry.{HasNoneExpired}
 use Rattle.sv_session.specs.Store.{Store}
 use Rattle.sv_site.specs.Site.{Content}
 
--- what is found of a message
+-- The findings about a message.
 abbrev pub found_of : Content → Standing → List User → Asked → Store → Findings
 found_of content standing users asked store =
     findings content.app standing users asked (session_held content.app asked store) (store_accessed content standing users asked store)
 
--- the journal says of a message that it entered exactly where its path is not hidden, it is no login post, and the verdict is open
+-- The journal entry of a message says that it entered exactly if its path is not hidden, it is no login post, and the
+-- verdict is open.
 abbrev pub EntersExactlyByAnOpenVerdict : Type 0
 EntersExactlyByAnOpenVerdict = (content : Content) (standing : Standing) (users : List User) (asked : Asked) (store : Store)
     → ((admission content standing users asked store).entry ≡ entries.Entered content.context_path asked.canon.path)
     ↔ (IsOrdinary (found_of content standing users asked store) × ((why : OwnedWhy) × ((found_of content standing users asked store).verdict ≡ decisions.Open why)))
 
--- where no session has expired at the moment of a message, it leaves none that has
+-- If no session has expired at the time of a message, it leaves none that has.
 abbrev pub LeavesNoneExpired : Type 0
 LeavesNoneExpired = (content : Content) (standing : Standing) (users : List User) (asked : Asked) (store : Store)
     → HasNoneExpired asked.moment store → HasNoneExpired asked.moment (settled_in content standing users asked store).store

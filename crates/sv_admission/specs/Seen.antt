@@ -1,4 +1,4 @@
--- What the code has of settled sessions, beside the store.
+-- The settled sessions of the code, completed by the store.
 use Rattle.sv_session.specs.Store.{Store}
 use Rattle.sv_admission.specs.Settled.{Settled}
 use Rattle.sv_admission.specs.declared.settling.Settled as code

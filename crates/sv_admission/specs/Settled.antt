@@ -1,4 +1,5 @@
--- What a message leaves of the sessions before it is answered (Jakarta Servlet 6.0, sections 7.1, 7.2, 11.3 and 13.6.3).
+-- The sessions after a message is judged and before it is answered (Jakarta Servlet 6.0, sections 7.1, 7.2, 11.3 and
+-- 13.6.3).
 use Rattle.std.specs.Prelude.{ℕ, ◌+◌, Bool, true, false, List, Option, None, Some, codes, bytes_eq, if◌then◌else◌}
 use Rattle.std.specs.Option.{option_map}
 use Rattle.sv_exchange.specs.declared.held_session.HeldSession.{HeldSession}
@@ -14,7 +15,7 @@ use Rattle.sv_site.specs.FileServlet.{sent_to}
 use Rattle.sv_admission.specs.Asked.{Asked}
 use Rattle.sv_admission.specs.Held.{caller_held}
 
--- the sessions, that of the message, whether the message opened or renamed it, and the event that this is
+-- The sessions, the session of the message, whether the message opened or renamed it, and the event of doing so.
 pub record Settled : Type 0 where
   pub store : Store
   pub session : Option ℕ
@@ -24,7 +25,7 @@ pub record Settled : Type 0 where
 abbrev pub unchanged : Option ℕ → Store → Settled
 unchanged session store = record { store = store; session = session; is_renewed = false; event = None }
 
--- a login renamed the session that was held, or else opened one
+-- A login renames the held session, or opens one if none is held.
 abbrev pub renewal : Option ℕ → ℕ → Event
 renewal None number = SessionCreated number
 renewal (Some held) number = SessionIdChanged number
@@ -32,7 +33,7 @@ renewal (Some held) number = SessionIdChanged number
 abbrev pub renewed : Option ℕ → ℕ → Store → Settled
 renewed held number store = record { store = store; session = Some number; is_renewed = true; event = Some (renewal held number) }
 
--- a session is opened, in which a target is saved
+-- A session is opened, and a target is saved in it.
 abbrev pub opened_with : Asked → List ℕ → Store → Settled
 opened_with asked target store = record {
   store = with_saved (store.serial + 1) (Some target) (opened asked.words asked.moment store);
@@ -41,19 +42,19 @@ opened_with asked target store = record {
   event = Some (SessionCreated (store.serial + 1));
 }
 
--- the target is saved in the session that is held, or else in one that is opened, where one can be
+-- The target is saved in the held session, or in a new one if none is held and one can be opened.
 abbrev pub saved_in : Asked → List ℕ → Option ℕ → Store → Settled
 saved_in asked target (Some number) store = unchanged (Some number) (with_saved number (Some target) store)
 saved_in asked target None store = unless (opening_faults store) (opened_with asked target store) (unchanged None store)
 
--- where the client wanted to go, which a login of its comes back to: a GET alone is saved
+-- The target of a GET is saved, so that a login can return to it. Other methods save nothing.
 abbrev pub interrupted : List ℕ → Asked → Option ℕ → Store → Settled
 interrupted context_path asked session store =
     if bytes_eq asked.message.method (codes "GET")
     then saved_in asked (sent_to context_path asked.canon.path asked.canon.query) session store
     else unchanged session store
 
--- case by case
+-- The sessions after a message, by its outcome.
 abbrev pub settled_by : List ℕ → Asked → Option ℕ → Outcome → Store → Settled
 settled_by context_path asked session Protected store = unchanged session store
 settled_by context_path asked session (LoggedIn number target) store = renewed session number store
@@ -64,7 +65,7 @@ settled_by context_path asked session (SentToLogin why) store = interrupted cont
 settled_by context_path asked session (NoLogin why) store = unchanged session store
 settled_by context_path asked session (Denied why) store = unchanged session store
 
--- the session with which the message is answered
+-- The session with which the message is answered.
 abbrev pub session_of : List User → Settled → Option HeldSession
 session_of users settled =
     option_map (λ number. record { number = number; is_renewed = settled.is_renewed; caller = caller_held users (Some number) settled.store }) settled.session

@@ -1,4 +1,4 @@
-//! What becomes of a message in its context before any component is called.
+//! The admission of a message to its context, before any component is called.
 
 ghost use Rattle.std.specs.Prelude.{◌≡◌, OnOk};
 ghost use Rattle.sv_text.specs.Gives.{GivesAnswer};
@@ -21,21 +21,22 @@ use sv_session::Sessions;
 use sv_site::Site;
 use sv_text::NoMemory;
 
-/// What becomes of a message in its context before any component is called.
+/// The admission of a message to its context, before any component is called.
 #[derive(Drop)]
 pub struct Admission {
-    /// What the journal says of it.
+    /// The journal entry of the message.
     pub entry: Entry,
-    /// How it is answered.
+    /// The answer to the message.
     pub answer: Answer,
-    /// The session with which it is answered.
+    /// The session with which the message is answered.
     pub session: Option<HeldSession>,
-    /// What the listeners hear of that session before anything else, where the message opened or renamed it.
+    /// The event that listeners receive before any other, if the message opened or renamed the session.
     pub event: Option<Event>,
 }
 
-/// Judges a request in its context. The session that its cookies name is accessed. Hidden folders are checked first, then logins, then the current
-/// constraints of the policy (Jakarta Servlet 6.0, sections 7.6, 10.5, 13.6.3 and 13.8). If a GET is sent to the login page, its target is saved.
+/// Judges a request in its context. The session that its cookies name is accessed. Hidden folders are checked first,
+/// then logins, then the current constraints of the policy (Jakarta Servlet 6.0, sections 7.6, 10.5, 13.6.3 and 13.8).
+/// If a GET is sent to the login page, its target is saved.
 ///
 /// # Errors
 /// `NoMemory` if an allocation fails; the sessions may already have changed.
@@ -71,7 +72,7 @@ pub fn admit(
     })
 }
 
-// Returns the session that the cookies of the request name, and accesses it.
+// Returns the session that the request's cookies name, if any, and accesses it.
 fn access(site: &Site, request: &Request<'_>, sessions: &mut Sessions) -> Option<u64>
     ensures held { result ≡ session_held site.now.app (asked_in request.now) sessions.old }
     ensures accessed { sessions.new ≡ accessed result request.now.moment sessions.old }

@@ -1,4 +1,4 @@
-//! How a message is answered, and what the journal says of it.
+//! The answer to a message, and its journal entry.
 
 ghost use Rattle.std.specs.Prelude.{◌≡◌, None, unwrap_or};
 ghost use Rattle.std.specs.Option.{option_copied, option_map};
@@ -19,23 +19,23 @@ use sv_uri::fault::CanonFault;
 use sv_uri::path::Canon;
 use sv_uri::{canon, location};
 
-/// How a message is answered.
+/// The answer to a message.
 #[derive(Drop)]
 pub enum Answer {
-    /// By the filters and the servlet or the file of its path.
+    /// The filters and the servlet or the file servlet answer it.
     Entered,
-    /// By a page of form login, to which it is forwarded (Jakarta Servlet 6.0, section 13.6.3).
+    /// The message is forwarded to a page of form login (Jakarta Servlet 6.0, section 13.6.3).
     Page(Apart<Canon>),
-    /// By an error of this status, with its page where the context has one (section 10.9).
+    /// An error of this status, with its page if the context has one (section 10.9).
     Error(u16, Rare<Canon>),
-    /// The client is sent to this location, to fetch it by GET (RFC 9110, section 15.4.4).
+    /// A redirect to this location, which the client fetches by GET (RFC 9110, section 15.4.4).
     SeeOther(Text),
 }
 
-/// The entry of a message to this path in the context, of this outcome, and how the message is answered.
+/// Returns the journal entry of a message with this path and outcome, and its answer.
 ///
 /// # Errors
-/// `NoMemory` where a growth was refused.
+/// `NoMemory` if an allocation fails.
 pub(crate) fn concluded(
     alloc: Global,
     site: &Site,
@@ -94,7 +94,7 @@ fn error_with(alloc: Global, site: &Site, status: u16) -> Result<Answer, NoMemor
     }
 }
 
-// The target that was saved, or else the root of the context.
+// Returns the saved target, or the root of the context if none was saved.
 fn target_or_root(alloc: Global, site: &Site, target: Option<Text>) -> Result<Text, NoMemory>
     ensures { GivesAnswer result (unwrap_or target (root_of site.now.context_path)) }
 {
@@ -130,7 +130,7 @@ fn login_error_page(login: &Option<FormLogin>) -> Option<&str>
     }
 }
 
-// The path and the query of a page of form login.
+// Returns the path and the query of a page of form login, or the root if there is no valid page.
 fn page_at(alloc: Global, page: Option<&str>) -> Result<Apart<Canon>, NoMemory>
     ensures { GivesAnswer result (page_at (option_copied page.entry)) }
 {

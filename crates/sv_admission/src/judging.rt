@@ -1,4 +1,4 @@
-//! What becomes of a message.
+//! The outcome of a message.
 
 ghost use Rattle.std.specs.Prelude.{◌≡◌, OnOk, OnErr, is_some};
 ghost use Rattle.std.specs.Option.{option_copied};
@@ -23,7 +23,8 @@ use sv_realm::{Caller, Realm};
 use sv_session::Sessions;
 use sv_text::NoMemory;
 
-/// Decides the outcome of a request that holds this session, by the current policy. A login that passes changes the sessions.
+/// Decides the outcome of a request that holds this session, by the current policy. A login that passes changes the
+/// sessions.
 ///
 /// # Errors
 /// `NoMemory` if an allocation fails.
@@ -112,7 +113,7 @@ fn decided(
     Ok(Outcome::of_decision(decision, app.login.is_some()))
 }
 
-// The type of the body.
+// Returns the content type of the body, if any.
 fn content_type(fields: &[Field]) -> Option<&[u8]>
     ensures { option_copied result ≡ content_type fields.now }
 {

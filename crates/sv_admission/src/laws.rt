@@ -7,21 +7,22 @@ use crate::limits::{FORBIDDEN, SEE_OTHER};
 use sv_outcome::a_message_enters_exactly_by_an_open_verdict;
 use sv_session::no_call_leaves_an_expired_session;
 
-/// The journal says of a message that it entered exactly where its path is not hidden, it is no login post, and the verdict is open.
+/// The journal entry of a message says that it entered exactly if its path is not hidden, it is no login post, and the
+/// verdict is open.
 pub fn an_entry_says_entered_exactly_by_an_open_verdict()
     ensures { EntersExactlyByAnOpenVerdict }
 {
     a_message_enters_exactly_by_an_open_verdict();
 }
 
-/// Where no session has expired at the moment of a message, its admission leaves none that has.
+/// If no session has expired at the time of a message, its admission leaves none that has.
 pub fn no_admission_leaves_an_expired_session()
     ensures { LeavesNoneExpired }
 {
     no_call_leaves_an_expired_session();
 }
 
-/// The numbers of this crate: definitions and code cite the constants, so that both would move with one.
+/// The values of this crate's constants, which both the definitions and the code use.
 pub fn limits_are_as_stated()
     ensures see_other { SEE_OTHER ≡ 303 }
     ensures forbidden { FORBIDDEN ≡ 403 }

@@ -1,4 +1,5 @@
-//! What becomes of a message in its context before any component is called (Jakarta Servlet 6.0, chapters 7, 10 and 13).
+//! The admission of a message to its context, before any component is called (Jakarta Servlet 6.0, chapters 7, 10 and
+//! 13).
 #![tactic(auto)]
 
 mod admission;

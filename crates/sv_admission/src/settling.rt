@@ -1,4 +1,4 @@
-//! What a message leaves of the sessions before it is answered.
+//! The sessions after a message is judged and before it is answered.
 
 ghost use Rattle.std.specs.Prelude.{◌≡◌, IfOk, None, Some, bytes_eq, codes};
 ghost use Rattle.std.specs.Option.{option_copied};
@@ -20,7 +20,7 @@ use sv_session::{SessionFault, Sessions};
 use sv_site::sent_to;
 use sv_text::{NoMemory, Text};
 
-/// The session of a message, whether the message opened or renamed it, and the event that this is.
+/// The session of a message, whether the message opened or renamed it, and the event of doing so.
 #[derive(Drop)]
 pub(crate) struct Settled {
     pub session: Option<u64>,
@@ -54,8 +54,8 @@ impl Settled {
     }
 }
 
-/// Settles the sessions for a request of this outcome, which holds this session (Jakarta Servlet 6.0, sections 7.1 and 13.6.3). If a GET is sent
-/// to the login page, its target is saved.
+/// Settles the sessions for a request of this outcome, which holds this session (Jakarta Servlet 6.0, sections 7.1 and
+/// 13.6.3). If a GET is sent to the login page, its target is saved.
 ///
 /// # Errors
 /// `NoMemory` if an allocation fails.
@@ -111,7 +111,7 @@ fn is_get(message: &Message) -> bool
     message.method.as_str() == "GET"
 }
 
-// Saves the target in the held session, or else in a new one if one can be opened.
+// Saves the target in the held session, or in a new one if none is held and one can be opened.
 fn save_in(
     request: &Request<'_>,
     target: Text,

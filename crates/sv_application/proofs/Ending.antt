@@ -1,4 +1,4 @@
--- How a fault of a part is the fault of the whole.
+-- The fault of a part is the fault of the whole.
 use Rattle.std.proofs.Common.{◌≡◌, ℕ, List, Option, Some, None, MatchOption, Result, Ok, Err, IsErrAnd, refl}
 use Rattle.sv_text.specs.Gives.{Gives}
 use Rattle.sv_files.specs.Fault.{files_of}
@@ -12,7 +12,7 @@ use Rattle.sv_program.specs.declared.command_fault.CommandFault.TheVariants as f
 use Rattle.sv_application.specs.Files.{files_fault, told}
 use Rattle.sv_application.specs.Results.{both}
 
--- a fault of a step that was come to is the fault of the whole
+-- if the whole fails with the fault of a part, a fault of that part is its result
 pub ends : {A B X : Type 0} (view : A → B) (fault : CommandFault) (result : Result A CommandFault) (part : Step X) (whole : Step B)
     → ((found : CommandFault) → part ≡ Err found → whole ≡ Err found)
     → MatchOption (command_fault fault) (Unit {0}) (λ found. part ≡ Err found) → IsErrAnd result (λ e. e ≡ fault)
@@ -24,7 +24,7 @@ ends {B = B} {X = X} view fault (Err e) part whole comes failed same = rw same (
     at None h = tt
     at (Some f) h = comes f h
 
--- files that are refused
+-- the result for a list of files that is refused
 pub refused_files : (path : List ℕ) (listed : List File) (found : Option FilesFault) (result : Step (List File))
     → MatchOption found (Unit {0}) (λ f. files_of listed ≡ Err f)
     → MatchOption found (result ≡ Err fault.NoMemory) (λ f. Gives command_fault result (Err (files_fault path f)))
@@ -32,7 +32,7 @@ pub refused_files : (path : List ℕ) (listed : List File) (found : Option Files
 refused_files path listed None result h said = rw said tt
 refused_files path listed (Some f) result h said = rw h said
 
--- both of two readings are given, or the first fault of them
+-- the result is both readings, or the first fault
 pub both_given : {A B : Type 0} (one : Result A CommandFault) (other : Result B CommandFault) (first : Step A) (second : Step B)
     → Gives command_fault one first → Gives command_fault other second → Gives command_fault (both one other) (both first second)
 both_given (Ok a) (Ok b) first second given then = rw (given, then) refl

@@ -1,4 +1,4 @@
--- The components that are made fit what is declared.
+-- The components fit their declarations.
 use Rattle.std.proofs.Common.{◌≡◌, ℕ, List, [], ◌∷◌, length, map, Option, Some, None, Result, Ok, Err, refl, ap}
 use Rattle.std.specs.Option.{ok_or}
 use Rattle.sv_text.specs.Steps.{◌>>=◌}
@@ -17,7 +17,7 @@ bind-Ok : {A B C E : Type 0} (first : Result A E) (next : A → Result B E) (b :
 bind-Ok (Ok a) next b h k = k a refl h
 bind-Ok (Err f) next b h k = cc
 
--- what is made of each keeps what each has
+-- a property that each step keeps is kept for the list
 kept : {A B C : Type 0} (step : A → Made B) (had : A → C) (has : B → C) → ((a : A) (b : B) → step a ≡ Ok b → has b ≡ had a)
     → (items : List A) (made : List B) → each step items ≡ Ok made → map has made ≡ map had items
 kept step had has one [] made h = let same : made ≡ [] = cc in ap (map has) same
@@ -29,7 +29,7 @@ kept step had has one (a ∷ rest) made h =
     let others : map has bs ≡ map had rest = kept step had has one rest bs are_bs in
     rw (same, first, others) refl))
 
--- a component is made for each
+-- one component is made for each item
 as_many : {A B : Type 0} (step : A → Made B) (items : List A) (made : List B) → each step items ≡ Ok made → length made ≡ length items
 as_many step [] made h = let same : made ≡ [] = cc in ap length same
 as_many step (a ∷ rest) made h =

@@ -1,4 +1,4 @@
--- What each of a list stands for, as far as a loop has come.
+-- A loop that makes one component for each item.
 use Rattle.std.proofs.Common.{◌≡◌, ◌∙◌, ℕ, ◌+◌, ◌<◌, List, [], ◌∷◌, ◌++◌, length, drop, get_or, drop-cons, add-one, Result, Ok, Err, refl, suc, sym, ap, append_assoc}
 use Rattle.sv_text.specs.Steps.{◌>>=◌}
 use Rattle.sv_application.specs.Parts.{each}

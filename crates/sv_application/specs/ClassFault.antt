@@ -3,7 +3,7 @@ use Rattle.std.specs.Prelude.{ℕ, List, codes, Option, Some, None}
 use Rattle.sv_application.specs.declared.class_fault.ClassFault.{ClassFault}
 use Rattle.sv_application.specs.declared.class_fault.ClassFault.TheVariants.{UnknownClass, NoMemory}
 
--- the class, apart from want of memory
+-- the class, unless memory ran out
 abbrev pub class_fault : ClassFault → Option (List ℕ)
 class_fault (UnknownClass class) = Some class
 class_fault NoMemory = None

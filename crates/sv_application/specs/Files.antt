@@ -1,4 +1,4 @@
--- The static files of a context, and what is told of a list that has a fault.
+-- The static files of a context, and the fault of a list that is refused.
 use Rattle.std.specs.Prelude.{ℕ, List, Result, Ok, Err}
 use Rattle.sv_files.specs.declared.fault.FilesFault.{FilesFault}
 use Rattle.sv_files.specs.declared.fault.FilesFault.TheVariants.{BadPath, Duplicate, TooMany, TooLarge, NoMemory}
@@ -17,7 +17,7 @@ number NoMemory = 5
 abbrev pub files_fault : List ℕ → FilesFault → CommandFault
 files_fault path found = fault.Files path (number found)
 
--- the files that may be served, or the fault of the list that they are
+-- the files that may be served, or the fault of the list
 abbrev pub told : List ℕ → Result (List File) FilesFault → Step (List File)
 told path (Ok files) = Ok files
 told path (Err found) = Err (files_fault path found)

@@ -4,7 +4,7 @@ use Rattle.std.specs.Str.{bytes_eq}
 use Rattle.sv_application.specs.declared.program_filter.ProgramFilter.{ProgramFilter}
 use Rattle.sv_application.specs.declared.program_filter.ProgramFilter.TheVariants.{Mark, Halt, Bad}
 
--- a new filter of the class: it does not know its name yet
+-- a new filter of the class, without its name
 abbrev pub new_filter : List ℕ → Option ProgramFilter
 new_filter class =
     if bytes_eq class (codes "Mark") then Some (Mark (record { name = [] }))

@@ -6,10 +6,10 @@ use Rattle.sv_component.specs.Call.{Call}
 use Rattle.sv_application.specs.declared.program_listener.ProgramListener.{ProgramListener}
 use Rattle.sv_application.specs.declared.program_listener.ProgramListener.TheVariants.{Log}
 
--- a new listener of the class: it has heard nothing
+-- a new listener of the class, which has received no event
 abbrev pub new_listener : List ℕ → Option ProgramListener
 new_listener class = if bytes_eq class (codes "Log") then Some (Log (record { heard = 0 })) else None
 
--- what an event does to a listener is what it does to one of its class
+-- the effect of an event on a listener is its effect on the listener's class
 abbrev pub HearsAs : ProgramListener → Call → ProgramListener → Type 0
 HearsAs (Log before) call (Log after) = Counts before.heard call after.heard

@@ -15,11 +15,11 @@ use Rattle.sv_application.specs.declared.program_filter.ProgramFilter.{ProgramFi
 use Rattle.sv_application.specs.declared.program_listener.ProgramListener.{ProgramListener}
 use Rattle.sv_application.specs.declared.program_servlet.ProgramServlet.{ProgramServlet}
 
--- what is made, or the first class that the program does not have
+-- a result, or the first class that the program does not have
 abbrev pub Made : Type 0 → Type 0
 Made A = Result A (List ℕ)
 
--- what each stands for, in order
+-- the results of a step for all items, in order, or the first fault
 abbrev pub each : {A B E : Type 0} → (A → Result B E) → List A → Result (List B) E
 each step [] = Ok []
 each step (a ∷ rest) = do
@@ -49,7 +49,8 @@ pub record Components : Type 0 where
   pub filters : List (Named ProgramFilter)
   pub listeners : List ProgramListener
 
--- the components of a descriptor in its order: of unknown classes that of a servlet is the first, then that of a filter
+-- the components of a descriptor, in order; if classes are unknown, the result is the first one of a servlet, else of a
+-- filter, else of a listener
 abbrev pub components_of : WebApp → Made Components
 components_of app = do
   its_servlets ← each servlet_of app.servlets
@@ -60,7 +61,7 @@ components_of app = do
 abbrev pub components : lifecycle.Parts ProgramServlet ProgramFilter ProgramListener → Components
 components parts = record { servlets = parts.servlets.items; filters = parts.filters.items; listeners = parts.listeners.items }
 
--- a result by what is seen of its value
+-- a result, with a view of its value
 abbrev pub seen : {A B E : Type 0} → (A → B) → Result A E → Result B E
 seen view (Ok a) = Ok (view a)
 seen view (Err fault) = Err fault

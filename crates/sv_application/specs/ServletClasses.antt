@@ -4,7 +4,7 @@ use Rattle.std.specs.Str.{bytes_eq}
 use Rattle.sv_application.specs.declared.program_servlet.ProgramServlet.{ProgramServlet}
 use Rattle.sv_application.specs.declared.program_servlet.ProgramServlet.TheVariants.{Who, Paths, Nest, Go, Fail, ErrorCode, Gone, Keep, Bye, Out, Stream}
 
--- a new servlet of the class: it has no parameter yet, and has not been called
+-- a new servlet of the class, without parameters or calls
 abbrev pub new_servlet : List ℕ → Option ProgramServlet
 new_servlet class =
     if bytes_eq class (codes "Who") then Some (Who (record {}))

@@ -1,4 +1,4 @@
-//! Why a descriptor's components were not made.
+//! Faults of creating a descriptor's components.
 
 ghost use Rattle.std.specs.Prelude.{◌≡◌, Some};
 ghost use Rattle.sv_application.specs.ClassFault.{fault_text};
@@ -8,12 +8,13 @@ use std::error::Error;
 use std::fmt;
 use sv_text::{NoMemory, Text};
 
-/// Why the components of a descriptor were not made. It is printed as the name of the class, or `no memory`.
+/// The reason why the components of a descriptor were not created. Its text is the name of the class, or `no memory`.
 #[derive(Debug, Drop)]
 pub enum ClassFault {
-    /// The program has no class of that name for the component: the first of the servlets' classes, then the filters', then the listeners'.
+    /// The program has no such class for the component. This is the first unknown class of the servlets, then of the
+    /// filters, then of the listeners.
     UnknownClass(Text),
-    /// A growth was refused; nothing is said of the classes.
+    /// Memory ran out. The classes may or may not be known.
     NoMemory,
 }
 

@@ -1,4 +1,4 @@
-//! What a descriptor declares, and the component that it stands for.
+//! Declarations in a descriptor, and the components that they declare.
 
 ghost use Rattle.std.specs.Prelude.{ℕ, List, Result, Err};
 ghost use Rattle.sv_text.specs.Gives.{Gives};
@@ -19,15 +19,15 @@ pub(crate) trait Declared {
     /// The component.
     type Component: Drop;
 
-    // The component, or the name of its class where it is unknown.
+    // The declared component, or the name of its class if that is unknown.
     ghost stands_for: { Self → Result Self.Component (List ℕ) };
 
-    /// The component that is declared.
+    /// Creates the declared component.
     fn component(&self, alloc: Global) -> Result<Self::Component, ClassFault>
         ensures { Gives class_fault result (stands_for self.now) };
 }
 
-/// The components that are declared, in their order.
+/// Creates the declared components, in order.
 ///
 /// # Errors
 /// The first unknown class, or [`ClassFault::NoMemory`].
@@ -89,7 +89,7 @@ impl Declared for ListenerEntry {
     }
 }
 
-// The fault of an unknown class.
+// Returns the fault of an unknown class.
 fn unknown<T>(alloc: Global, class: &Text) -> Result<T, ClassFault>
     ensures { Gives class_fault result (Err class.now) }
 {

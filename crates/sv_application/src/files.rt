@@ -11,7 +11,7 @@ use sv_files::{File, Files, FilesFault};
 use sv_program::CommandFault;
 use sv_text::{Listed, Text};
 
-/// The static files of the context of this path, which are those in the list.
+/// Creates the static files of the context at this path from the list.
 ///
 /// # Errors
 /// [`CommandFault::Files`] with the fault of the list, or [`CommandFault::NoMemory`].
@@ -24,7 +24,7 @@ pub fn files_of(alloc: Global, path: &str, listed: Listed<File>) -> Result<Files
     }
 }
 
-// Files that are refused, or that there is no memory for.
+// Returns the fault of files that are refused, or of running out of memory.
 fn refused<T>(alloc: Global, path: &str, fault: FilesFault) -> Result<T, CommandFault>
     ensures { MatchOption (list_fault fault) (result ≡ Err CommandFault.NoMemory)
         (λ found. Gives command_fault result (Err (files_fault path.now found))) }

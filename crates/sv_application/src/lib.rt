@@ -1,5 +1,5 @@
-//! The components that a deployment descriptor declares, made of the program's own classes; and what the deployments of a server and those of an application
-//! have in common.
+//! Creates the components that a deployment descriptor declares, from the program's own classes. Also contains the code
+//! that deployments of the server and of applications share.
 #![tactic(auto)]
 
 mod class_fault;

@@ -15,12 +15,13 @@ use std::alloc::Global;
 use sv_descriptor::Descriptor;
 use sv_live::Parts;
 
-/// The components that the descriptor declares, in its order and with its names, each a new one of its class. They fit it, so that a start with
-/// them is never refused for other components than it declares (Jakarta Servlet 6.0, section 14.4).
+/// Creates the components that the descriptor declares, in its order and with its names, each a new instance of its
+/// class. They fit the descriptor: a start is never refused because its components differ from the declared ones
+/// (Jakarta Servlet 6.0, section 14.4).
 ///
 /// # Errors
-/// [`ClassFault::UnknownClass`] with the first unknown class of the servlets, else of the filters, else of the listeners; or
-/// [`ClassFault::NoMemory`].
+/// [`ClassFault::UnknownClass`] with the first unknown class of the servlets, else of the filters, else of the
+/// listeners; or [`ClassFault::NoMemory`].
 pub fn parts_of(
     alloc: Global,
     descriptor: &Descriptor,

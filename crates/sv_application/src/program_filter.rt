@@ -1,4 +1,4 @@
-//! The filters of the program as one type.
+//! The program's filters as one type.
 
 ghost use Rattle.std.specs.Prelude.{◌≡◌};
 ghost use Rattle.sv_application.specs.FilterClasses.{new_filter};
@@ -11,16 +11,17 @@ use sv_text::NoMemory;
 /// A filter of one of the program's classes.
 #[derive(Drop)]
 pub enum ProgramFilter {
-    /// Leaves its name: the class `Mark`.
+    /// Adds its name to the response: the class `Mark`.
     Mark(Mark),
-    /// Answers for all that stands behind it: the class `Halt`.
+    /// Responds instead of the rest of the chain: the class `Halt`.
     Halt(Halt),
     /// Does not start: the class `Bad`.
     Bad(Bad),
 }
 
 impl ProgramFilter {
-    /// A new filter of the class of that name, to be initialised; none where no class of filters has it.
+    /// Creates a filter of the class of this name, which is not yet initialized. Returns none if no filter class has
+    /// this name.
     pub fn of_class(alloc: Global, class: &str) -> Option<ProgramFilter>
         ensures { result ≡ new_filter class.now }
     {

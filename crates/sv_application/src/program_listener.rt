@@ -1,4 +1,4 @@
-//! The listeners of the program as one type.
+//! The program's listeners as one type.
 
 ghost use Rattle.std.specs.Prelude.{◌≡◌};
 ghost use Rattle.sv_application.specs.ListenerClasses.{new_listener};
@@ -9,12 +9,12 @@ use sv_component::{Event, Listener};
 /// A listener of one of the program's classes.
 #[derive(Drop)]
 pub enum ProgramListener {
-    /// Counts what it hears: the class `Log`.
+    /// Counts events: the class `Log`.
     Log(Log),
 }
 
 impl ProgramListener {
-    /// A new listener of the class of that name; none where no class of listeners has it.
+    /// Creates a listener of the class of this name. Returns none if no listener class has this name.
     pub fn of_class(class: &str) -> Option<ProgramListener>
         ensures { result ≡ new_listener class.now }
     {

@@ -1,4 +1,4 @@
-//! The servlets of the program as one type.
+//! The program's servlets as one type.
 
 ghost use Rattle.std.specs.Prelude.{◌≡◌};
 ghost use Rattle.sv_application.specs.ServletClasses.{new_servlet};
@@ -10,19 +10,19 @@ use sv_component::{Config, Exchange, Init, Servlet, Step};
 /// A servlet of one of the program's classes.
 #[derive(Drop)]
 pub enum ProgramServlet {
-    /// Tells the caller: the class `Who`.
+    /// Writes the caller's name: the class `Who`.
     Who(Who),
-    /// Tells its paths: the class `Paths`.
+    /// Writes its paths: the class `Paths`.
     Paths(Paths),
-    /// Includes: the class `Nest`.
+    /// Includes a path: the class `Nest`.
     Nest(Nest),
-    /// Forwards: the class `Go`.
+    /// Forwards to a path: the class `Go`.
     Go(Go),
     /// Fails: the class `Fail`.
     Fail(Fail),
-    /// Answers an error: the class `Err`.
+    /// Responds with an error: the class `Err`.
     ErrorCode(ErrorCode),
-    /// Goes out of service: the class `Gone`.
+    /// Is out of service: the class `Gone`.
     Gone(Gone),
     /// Counts in the session: the class `Keep`.
     Keep(Keep),
@@ -30,12 +30,13 @@ pub enum ProgramServlet {
     Bye(Bye),
     /// Logs the caller out: the class `Out`.
     Out(Out),
-    /// Writes in pieces: the class `Stream`.
+    /// Sends its response in pieces: the class `Stream`.
     Stream(Stream),
 }
 
 impl ProgramServlet {
-    /// A new servlet of the class of that name, to be initialised; none where no class of servlets has it.
+    /// Creates a servlet of the class of this name, which is not yet initialized. Returns none if no servlet class has
+    /// this name.
     pub fn of_class(alloc: Global, class: &str) -> Option<ProgramServlet>
         ensures { result ≡ new_servlet class.now }
     {

@@ -1,14 +1,14 @@
-//! Two results as one, so that neither of two large values lives where the other may fail.
+//! Combines two results, so that no large value is live where the other result may fail.
 
 ghost use Rattle.std.specs.Prelude.{◌≡◌};
 ghost use Rattle.sv_application.specs.Results.{both};
 
 use sv_program::CommandFault;
 
-/// Both of two readings.
+/// Returns both values.
 ///
 /// # Errors
-/// The fault of the first, else that of the other.
+/// The fault of the first result, else that of the other.
 pub fn both<A: Drop, B: Drop>(
     one: Result<A, CommandFault>,
     other: Result<B, CommandFault>,

@@ -1,4 +1,4 @@
--- What the contexts of an application are deployed with (Jakarta Servlet 6.0, sections 4.4 and 14.4).
+-- The deployments of an application's contexts (Jakarta Servlet 6.0, sections 4.4 and 14.4).
 use Rattle.std.specs.Prelude.{ℕ, List, [], ◌∷◌, codes, Option, Some, None, Result, Ok, Err}
 use Rattle.sv_text.specs.Gives.{Gives}
 use Rattle.sv_text.specs.Steps.{◌>>=◌}
@@ -16,7 +16,7 @@ use Rattle.sv_program.specs.declared.configuration.ContextTexts.{ContextTexts}
 use Rattle.sv_realm.specs.declared.user.User.{User}
 use Rattle.sv_web.specs.declared.content.Content.{Content}
 
--- there is a users file where it has a text
+-- a context has a users file if its text is not empty
 abbrev pub users_name : List ℕ → Option (List ℕ)
 users_name [] = None
 users_name (first ∷ rest) = Some (codes "users")
@@ -29,15 +29,15 @@ texts_of path descriptor users = record {
   users = Some users;
 }
 
--- its descriptor and its users, as these texts are read
+-- the descriptor and the users that these texts give
 abbrev pub configured : ContextTexts → Step (WebApp × List User)
 configured texts = both (descriptor_in texts) (users_in texts)
 
--- these, and its files if they can be served
+-- the descriptor, the users and the files, or the first fault among them
 abbrev pub read_of : List ℕ → List ℕ → List ℕ → List File → Step ((WebApp × List User) × List File)
 read_of path descriptor users files = both (configured (texts_of path descriptor users)) (told path (files_of files))
 
--- what a context is deployed with, its components as lists
+-- the deployment of a context, with its components as lists
 pub record Deployed (S F L : Type 0) : Type 0 where
   pub path : List ℕ
   pub descriptor : WebApp
@@ -59,7 +59,7 @@ module _ {S F L : Type 0} where
     listeners = given.parts.listeners.items;
   }
 
-  -- its descriptor and its users as their texts are read, its files if they can be served, and its components as they are
+  -- the descriptor and the users from their texts, the files if they can be served, and the components unchanged
   abbrev pub deployment_of : Content S F L → Step (Deployed S F L)
   deployment_of content = do
     read ← read_of content.path content.descriptor content.users content.files
@@ -73,11 +73,11 @@ module _ {S F L : Type 0} where
       listeners = content.listeners;
     })
 
-  -- each of them, or the first fault
+  -- the deployments of all contexts, or the first fault
   abbrev pub deployments_of : List (Content S F L) → Step (List (Deployed S F L))
   deployments_of contents = each deployment_of contents
 
-  -- an application with a fault does not run: the fault is the answer, or want of memory
+  -- an application with a fault does not run; the result is the fault, unless memory ran out
   abbrev pub IsRefusedBy : Step (List (Deployed S F L)) → Result (Unit {0}) CommandFault → Type 0
   IsRefusedBy (Ok all) result = Unit {0}
   IsRefusedBy (Err fault) result = Gives command_fault result (Err fault)

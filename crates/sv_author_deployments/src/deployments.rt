@@ -1,4 +1,4 @@
-//! What the contexts of an application are deployed with.
+//! The deployments of an application's contexts.
 
 ghost use Rattle.std.specs.Prelude.{map};
 ghost use Rattle.sv_text.specs.Gives.{Gives, GivesAnswer};
@@ -19,12 +19,12 @@ use sv_settings::ContextEntry;
 use sv_text::{Listed, NoMemory, Text};
 use sv_web::Content;
 
-/// What the contexts of an application are deployed with, in their order: their descriptors and users as their texts are read, and their
-/// components as they are.
+/// Creates the deployments of an application's contexts, in order. Descriptors and users are read from their texts, and
+/// components are unchanged.
 ///
 /// # Errors
-/// The first fault, of each context in turn that of its descriptor ([`CommandFault::Descriptor`]), its users ([`CommandFault::Users`]) and its
-/// static files ([`CommandFault::Files`]); or [`CommandFault::NoMemory`].
+/// The first fault, for each context in order of its descriptor ([`CommandFault::Descriptor`]), its users
+/// ([`CommandFault::Users`]) and its static files ([`CommandFault::Files`]); or [`CommandFault::NoMemory`].
 pub fn deployments_of<S: Servlet, F: Filter, L: Listener>(
     alloc: Global,
     contexts: Vec<sv_web::Deployment<S, F, L>>,
@@ -38,7 +38,7 @@ pub fn deployments_of<S: Servlet, F: Filter, L: Listener>(
     Ok(deployments)
 }
 
-// What one context is deployed with.
+// Creates the deployment of one context.
 fn deployment_of<S: Servlet, F: Filter, L: Listener>(
     alloc: Global,
     content: Content<S, F, L>,
@@ -68,7 +68,7 @@ fn deployment_of<S: Servlet, F: Filter, L: Listener>(
     })
 }
 
-// What is read of a context's texts and files: its descriptor and its users, and its files.
+// Reads the descriptor, the users and the files of a context.
 fn read(
     alloc: Global,
     path: &str,
@@ -82,14 +82,14 @@ fn read(
     both(configured(alloc, &texts), files_of(alloc, path, files))
 }
 
-// The descriptor and the users of a context with these texts.
+// Reads the descriptor and the users of a context from these texts.
 fn configured(alloc: Global, texts: &ContextTexts) -> Result<(Descriptor, Realm), CommandFault>
     ensures { Gives command_fault result (spec.configured texts.now) }
 {
     both(descriptor_in(alloc, texts), realm_in(alloc, texts))
 }
 
-// The texts of a context's files.
+// Returns the texts of a context's files.
 fn texts_of(
     alloc: Global,
     path: &str,
@@ -111,7 +111,7 @@ fn texts_of(
     })
 }
 
-// The name of the users file, where it has a text.
+// Returns the name of the users file, if its text is not empty.
 fn users_name(alloc: Global, users: &str) -> Result<Option<Text>, NoMemory>
     ensures { GivesAnswer result (spec.users_name users.now) }
 {

@@ -1,4 +1,4 @@
-//! What the contexts of an application are deployed with, of what its author put together.
+//! The deployments of an application's contexts, from the contents that its author provides.
 #![tactic(auto)]
 
 mod deployments;

@@ -1,4 +1,4 @@
--- The reading of a body: it is one, and what is read stays as it is, whatever follows.
+-- The reading of a body is unique, and more bytes do not change it.
 use Rattle.std.proofs.Common.{◌≡◌, ℕ, ◌+◌, ◌≤◌, Bool, true, false, ◌⊎◌, List, [], ◌∷◌, ◌++◌, length, take, drop, Option, None, Some, refl, sym, ap, ◌∙◌, subst, inl, inr, cond, ltb, eqb, arith, length-append}
 use Rattle.std.specs.Str.{bytes_eq}
 use Rattle.std.proofs.lemmas.Bool.{ltb-false}
@@ -20,9 +20,9 @@ use Rattle.sv_body.specs.Machine.{ReadsRest}
 use Rattle.sv_text.proofs.FrontLemmas.{cut-whole, cut-append, Endless-inverse}
 use Rattle.sv_body.proofs.MachineLemmas.{read_length_long, read_data_long, data_end}
 
--- ---- before more bytes
+-- ---- more bytes
 
--- what is read of a body, where more bytes follow
+-- A reading of a body, with more bytes after it.
 abbrev pub and_more : Body → List ℕ → Body
 and_more unfinished more = unfinished
 and_more (complete bytes rest) more = complete bytes (rest ++ more)
@@ -32,7 +32,7 @@ abbrev part_more : Part → List ℕ → Part
 part_more (chunk bytes rest) more = chunk bytes (rest ++ more)
 part_more (last body) more = last (and_more body more)
 
--- where a cut is made, it stays, and the bytes that it takes are there
+-- A cut does not change when more bytes follow, and the bytes that it takes are present.
 module _ (kind : TextKind) (text more : List ℕ) where
   pub whole_stays : (n : ℕ) → cut_text kind text ≡ Whole n → (cut_text kind (text ++ more) ≡ Whole n) × (n ≤ length text)
   whole_stays n is = (
@@ -162,7 +162,7 @@ Begins_more bytes text more part = by_cut (cut_text SizeLine text) refl
         )
     by_cut Unended is begins = inl begins
 
--- what a longer text begins with: so does the shorter, or it begins with nothing yet
+-- If a longer text begins with a part, the shorter one begins with the same part, or its part is unfinished.
 Begins_front : (bytes text more : List ℕ) (part : Part) → Begins bytes (text ++ more) part
     → (front : Part) × Begins bytes text front × ((front ≡ last unfinished) ⊎ (part ≡ part_more front more))
 Begins_front bytes text more part begins = by_cut (cut_text SizeLine text) refl
@@ -283,7 +283,7 @@ pub ReadsBody-unique : (framing : Framing) (text : List ℕ) (body other : Body)
 ReadsBody-unique (Length count) text body other a b = a ∙ sym b
 ReadsBody-unique Chunked text body other a b = ReadsChunks-unique [] text a.0 b.0 body other a.1 b.1
 
--- what is read of a body stays as it is, unless more is awaited
+-- More bytes do not change the reading of a body, unless it is unfinished.
 pub ReadsBody_more : (framing : Framing) (text more : List ℕ) (body : Body) → ReadsBody framing text body
     → (body ≡ unfinished) ⊎ ReadsBody framing (text ++ more) (and_more body more)
 ReadsBody_more (Length count) text more body reads = by_length (read_length_more [] count text more)
@@ -299,7 +299,7 @@ ReadsBody_more Chunked text more body reads = by_chunks (ReadsChunks_more [] tex
     by_chunks (inl none) = inl none
     by_chunks (inr same) = inr (reads.0, same)
 
--- what is read of a longer text: so is it of the shorter, or more is awaited there
+-- If a longer text has a reading, the shorter one has the same reading, or is unfinished.
 pub ReadsBody_front : (framing : Framing) (text more : List ℕ) (body : Body) → ReadsBody framing (text ++ more) body
     → (front : Body) × ReadsBody framing text front × ((front ≡ unfinished) ⊎ (body ≡ and_more front more))
 ReadsBody_front (Length count) text more body reads = (read_length [] count text, refl, by_length (read_length_more [] count text more))

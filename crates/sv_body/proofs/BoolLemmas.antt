@@ -1,4 +1,4 @@
--- A choice by a test whose answer is known.
+-- A choice by a test with a known result.
 use Rattle.std.proofs.Common.{◌≡◌, Bool, true, false, sym, subst}
 use Rattle.std.specs.Bool.{MatchBool}
 

@@ -1,4 +1,4 @@
--- No text is without a reading as a body.
+-- Every text has a reading as a body, up to double negation.
 use Rattle.std.proofs.Common.{ℕ, zero, suc, ◌<◌, Bool, true, false, List, [], ◌∷◌, ◌++◌, length, take, drop, Option, None, Some, refl, sym, subst, cond, ltb, arith}
 use Rattle.std.proofs.lemmas.List.{length-drop}
 use Rattle.httparse.specs.Grammar.{chunk_size}
@@ -11,7 +11,7 @@ use Rattle.sv_body.specs.Body.{read_length, ReadsBody}
 use Rattle.sv_body.specs.Chunks.{Body, unfinished, complete, Part, chunk, last, cut_text, ReadsSize, after_line, BeginsAt, Begins, ReadsChunks}
 use Rattle.sv_body.proofs.LimitLemmas.{LeavesRest, leaves_longer, Begins_keeps}
 
--- it cannot be that there is none
+-- It is impossible that there is none.
 abbrev pub NotNone : Type 0 → Type 0
 NotNone X = (X → ⊥) → ⊥
 
@@ -46,7 +46,7 @@ pub some_body : (framing : Framing) (text : List ℕ) → NotNone ((body : Body)
 some_body (Length count) text none = none (read_length [] count text, refl)
 some_body Chunked text none = some_chunks (suc (length text)) [] text (omega arith) none
 
--- ---- what stands behind a body
+-- ---- the rest after a body
 
 ReadsChunks_leaves : (bytes text : List ℕ) (chunks : List (List ℕ)) (body : Body) → ReadsChunks bytes text chunks body → LeavesRest body text
 ReadsChunks_leaves bytes text [] body reads = (Begins_keeps bytes text (last body) reads).1

@@ -1,4 +1,4 @@
--- How many bytes a body has, and how many stand behind what is read of it.
+-- The number of bytes in a body, and in the rest after it.
 use Rattle.std.proofs.Common.{◌≡◌, ℕ, ◌+◌, ◌≤◌, ◌<◌, Bool, true, false, List, [], ◌∷◌, ◌++◌, length, take, drop, Option, None, Some, refl, sym, ap, subst, cond, ltb, eqb, arith, length-append}
 use Rattle.std.specs.Str.{bytes_eq}
 use Rattle.std.proofs.lemmas.Bool.{ltb-false}
@@ -15,19 +15,19 @@ use Rattle.sv_body.specs.Body.{read_length, ReadsBody, FitsLimit}
 use Rattle.sv_body.specs.Chunks.{Body, unfinished, complete, broken, Part, chunk, last, cut_text, trailer_at, read_trailer, read_data, after_line, BeginsAt, Begins, ReadsChunks}
 use Rattle.sv_body.proofs.MachineLemmas.{data_end}
 
--- where what is read of a body leaves a rest, it is no longer than the text
+-- The rest after a body is no longer than the text.
 abbrev pub LeavesRest : Body → List ℕ → Type 0
 LeavesRest unfinished text = Unit {0}
 LeavesRest (complete bytes rest) text = length rest ≤ length text
 LeavesRest (broken fault rest) text = length rest ≤ length text
 
--- what a body of which those bytes are read may be: its bytes are those
+-- If the body is complete, it has exactly these bytes.
 abbrev IsOf : List ℕ → Body → Type 0
 IsOf bytes unfinished = Unit {0}
 IsOf bytes (complete whole rest) = whole ≡ bytes
 IsOf bytes (broken fault rest) = Unit {0}
 
--- a chunk keeps the body within its limit, and takes bytes; what is read last is of the bytes before it
+-- A chunk takes bytes and keeps the body within its limit. The last part adds no bytes to the body.
 abbrev Keeps : List ℕ → List ℕ → Part → Type 0
 Keeps bytes text (chunk more rest) = (length bytes + length more ≤ MAX_BODY_LEN) × (length rest < length text)
 Keeps bytes text (last body) = IsOf bytes body × LeavesRest body text
@@ -62,7 +62,7 @@ line_keeps bytes text (Some size) = by_test (ltb MAX_BODY_LEN (length bytes + si
     by_test true over = (tt, omega arith)
     by_test false within = by_zero (eqb size 0) (ltb-false MAX_BODY_LEN (length bytes + size) within)
 
--- what is kept behind the front of a text is kept by the whole text
+-- `Keeps` carries over to a longer text.
 keeps_longer : (bytes front text : List ℕ) (part : Part) → length front ≤ length text → Keeps bytes front part → Keeps bytes text part
 keeps_longer bytes front text (chunk more rest) longer keeps = (keeps.0, omega (arith, longer, keeps.1))
 keeps_longer bytes front text (last unfinished) longer keeps = keeps
@@ -79,9 +79,9 @@ Begins_keeps bytes text part = by_cut (cut_text SizeLine text)
     by_cut Endless begins = subst (Keeps bytes text) (sym begins) (tt, omega (arith, length-drop 256 text))
     by_cut Unended begins = subst (Keeps bytes text) (sym begins) (tt, tt)
 
--- ---- whole bodies
+-- ---- complete bodies
 
--- a body that is whole has no more bytes than a body may have
+-- A complete body is within the limit.
 abbrev pub IsWithin : Body → Type 0
 IsWithin unfinished = Unit {0}
 IsWithin (complete bytes rest) = length bytes ≤ MAX_BODY_LEN
@@ -115,7 +115,7 @@ length_keeps count text fits = by_test (ltb (length text) count)
     by_test true = (tt, tt)
     by_test false = (omega (arith, fits, length-take count text), omega (arith, length-drop count text))
 
--- a body whose framing is within the limit is within it
+-- A body is within the limit if its framing is.
 pub ReadsBody_keeps : (framing : Framing) (text : List ℕ) (body : Body) → FitsLimit framing → ReadsBody framing text body → IsWithin body × LeavesRest body text
 ReadsBody_keeps (Length count) text body fits reads =
     subst (λ b. IsWithin b × LeavesRest b text) (sym reads) (length_keeps count text fits)

@@ -1,4 +1,4 @@
--- Fronts and rests of texts that are longer than their first part.
+-- Taking and dropping more than the first part of a joined list.
 use Rattle.std.proofs.Common.{◌≡◌, ℕ, zero, suc, ◌+◌, List, [], ◌∷◌, ◌++◌, length, take, drop, ap, arith}
 
 pub take_behind : (xs ys : List ℕ) (k n : ℕ) → k ≡ length xs + n → take k (xs ++ ys) ≡ xs ++ take n ys

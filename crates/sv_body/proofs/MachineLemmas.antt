@@ -1,4 +1,4 @@
--- What a machine reads behind a text that it has taken.
+-- How a machine continues after a text that it has taken.
 use Rattle.std.proofs.Common.{◌≡◌, ℕ, ◌+◌, ◌-◌, ◌<◌, ◌≤◌, Bool, true, false, List, [], ◌++◌, length, take, drop, refl, sym, ap, ◌∙◌, subst, cond, ltb, min, arith, length-append}
 use Rattle.std.specs.Str.{bytes_eq}
 use Rattle.std.proofs.lemmas.Bool.{cond-true, cond-false, lt-ltb, le-ltb, ltb-true, ltb-false}
@@ -21,7 +21,7 @@ pub read_length_long : (bytes : List ℕ) (count : ℕ) (text : List ℕ) → co
     → read_length bytes count text ≡ complete (bytes ++ take count text) (drop count text)
 read_length_long bytes count text long = cond-false (ltb (length text) count) unfinished _ (le-ltb _ _ long)
 
--- the front of it is read already
+-- The front of the body is already read.
 pub read_length_on : (bytes front rest : List ℕ) (count left : ℕ) → count ≡ length front + left
     → read_length (bytes ++ front) left rest ≡ read_length bytes count (front ++ rest)
 read_length_on bytes front rest count left is = by_test (ltb (length rest) left) refl
@@ -40,7 +40,7 @@ read_length_on bytes front rest count left is = by_test (ltb (length rest) left)
 
 -- ---- the bytes of a chunk
 
--- the part whose bytes stand behind those
+-- A part with these bytes put before its own.
 abbrev behind : List ℕ → Part → Part
 behind front (chunk bytes rest) = chunk (front ++ bytes) rest
 behind front (last body) = last body
@@ -48,7 +48,7 @@ behind front (last body) = last body
 pub read_data_short : (count : ℕ) (text : List ℕ) → length text < count + 2 → read_data count text ≡ last unfinished
 read_data_short count text short = cond-true (ltb (length text) (count + 2)) (last unfinished) _ (lt-ltb _ _ short)
 
--- where the chunk's bytes and the two behind them are there
+-- The part, if the chunk's bytes and the two after them are present.
 abbrev pub data_end : ℕ → List ℕ → Part
 data_end count text =
     cond (bytes_eq (take 2 (drop count text)) crlf_bytes) (chunk (take count text) (drop (count + 2) text)) (last (broken BadChunk (drop (count + 2) text)))
@@ -56,7 +56,7 @@ data_end count text =
 pub read_data_long : (count : ℕ) (text : List ℕ) → count + 2 ≤ length text → read_data count text ≡ data_end count text
 read_data_long count text long = cond-false (ltb (length text) (count + 2)) (last unfinished) _ (le-ltb _ _ long)
 
--- the front of a chunk's bytes is read already
+-- The front of a chunk's bytes is already read.
 pub read_data_on : (front rest : List ℕ) (count left : ℕ) → count ≡ length front + left
     → read_data count (front ++ rest) ≡ behind front (read_data left rest)
 read_data_on front rest count left is = by_test (ltb (length rest) (left + 2)) refl
@@ -87,7 +87,7 @@ GoesOn_behind bytes front (chunk more rest) body reads =
     subst (λ all. ReadsRest all rest body) (append_assoc bytes front more) reads
 GoesOn_behind bytes front (last end) body reads = reads
 
--- what goes on behind the front of a chunk's bytes
+-- The reading that continues after the front of a chunk's bytes.
 pub data_on : (bytes front rest : List ℕ) (count left : ℕ) (body : Body) → count ≡ length front + left
     → GoesOn (bytes ++ front) (read_data left rest) body → GoesOn bytes (read_data count (front ++ rest)) body
 data_on bytes front rest count left body is reads =
@@ -146,7 +146,7 @@ module _ (bytes text : List ℕ) (count here : ℕ) (taken : here ≡ min count 
       whole : (more : List ℕ) → 0 ≡ count - here
       whole more = omega (arith, long, taken)
 
--- the CRLF behind a chunk's bytes
+-- The CRLF after a chunk's bytes.
 module _ (bytes held text after : List ℕ) (here : ℕ) (taken : here ≡ min (length text) (2 - length held))
     (short : length held < 2) (is : after ≡ held ++ take here text) where
   long : length after ≡ length held + here
@@ -172,7 +172,7 @@ module _ (bytes held text after : List ℕ) (here : ℕ) (taken : here ≡ min (
       all more =
           parts more ∙ ap (λ t. after ++ (t ++ more)) (drop_all here text (omega (arith, part, long, taken)))
 
-  -- both bytes are there
+  -- Both bytes are present.
   both : (more : List ℕ) → 2 ≤ length after → read_data 0 (held ++ (text ++ more)) ≡
       cond (bytes_eq after crlf_bytes) (chunk [] (drop here text ++ more)) (last (broken BadChunk (drop here text ++ more)))
   both more full =

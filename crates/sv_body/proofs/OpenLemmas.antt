@@ -1,4 +1,4 @@
--- An open text that is cut with the text behind it.
+-- An open text that is cut together with the text after it.
 use Rattle.std.proofs.Common.{◌≡◌, ℕ, ◌+◌, ◌-◌, ◌<◌, ◌≤◌, true, false, ◌⊎◌, List, ◌++◌, length, take, drop, min, sym, ap, ◌∙◌, inl, inr, arith, length-append}
 use Rattle.std.proofs.lemmas.Bool.{cases_lt, false≢true}
 use Rattle.std.proofs.lemmas.List.{append_assoc, take-append-le, drop-append-le, length-take, take-append-drop, take_all}
@@ -15,7 +15,7 @@ module _ (kind : TextKind) (held stream : List ℕ) (here : ℕ) (unended : cut_
   long : length (held ++ take here stream) ≡ length held + here
   long = omega (arith, taken, length-append held (take here stream), length-take here stream)
 
-  -- the bytes that are taken, and those behind them
+  -- The bytes that are taken, and those after them.
   parts : (more : List ℕ) → held ++ (stream ++ more) ≡ (held ++ take here stream) ++ (drop here stream ++ more)
   parts more =
       ap (λ text. held ++ (text ++ more)) (sym (take-append-drop here stream))
@@ -25,7 +25,7 @@ module _ (kind : TextKind) (held stream : List ℕ) (here : ℕ) (unended : cut_
   limit_fits : length held < text_limit kind
   limit_fits = (Unended-inverse (text_limit kind) held _ unended).1
 
-  -- no front of what had come ends the text
+  -- No front of the bytes received before ends the text.
   pub fronts_open : (k : ℕ) → k < length held + 1 → ends_text kind (take k (held ++ take here stream)) ≡ false
   fronts_open k below =
       ap (ends_text kind) (take-append-le k held (take here stream) (omega arith))

@@ -16,19 +16,19 @@ use Rattle.sv_body.specs.declared.machine.Stop.TheVariants.{Awaits, Complete, Br
 use Rattle.sv_body.specs.Chunks.{Body, unfinished, complete, broken, Part, chunk, last, cut_text, ReadsSize, after_line, trailer_at, read_trailer, BeginsAt, Begins}
 use Rattle.sv_body.specs.Machine.{ReadsRest, GoesOn, Resumes, FitsStage, CutsOpen, BeginsChunk, StopsFrom, StepsFrom}
 
--- what the text begins with, and what goes on behind it, make the reading of it
+-- The first part of a text, and the reading that continues it, make up the reading of the text.
 pub rest_from : (bytes stream : List ℕ) (part : Part) (body : Body) → Begins bytes stream part → GoesOn bytes part body
     → ReadsRest bytes stream body
 rest_from bytes stream (chunk more rest) body begins on = (more ∷ on.0, (rest, begins, on.1))
 rest_from bytes stream (last end) body begins on = ([], subst (λ x. Begins bytes stream (last x)) (sym on) begins)
 
--- a stop, where the text begins at a place
+-- A stop in a text that begins at this offset.
 abbrev pub moved_by : ℕ → Stop → Stop
 moved_by at Awaits = Awaits
 moved_by at (Complete count) = Complete (at + count)
 moved_by at (Broken fault count) = Broken fault (at + count)
 
--- a machine that awaits more at a stage
+-- A machine that awaits more at a stage.
 pub awaits_at : (from stage : Stage) (before had held bytes stream : List ℕ) (new : Machine) → new.stage ≡ stage → new.held.items ≡ held
     → new.body.items ≡ bytes
     → FitsStage stage held bytes × Resumes stage bytes (held ++ []) unfinished
@@ -133,7 +133,7 @@ module _ (bytes held stream after : List ℕ) where
 
 -- ---- a run
 
--- what one step does and what comes behind it
+-- One step, and the run after it.
 module _ (from stage : Stage) (had before held bytes stream : List ℕ) (at : ℕ)
     (leads : (more : List ℕ) (body : Body) → Resumes stage bytes (held ++ (drop at stream ++ more)) body → Resumes from had (before ++ (stream ++ more)) body) where
   here : (body : Body) → Resumes stage bytes (held ++ drop at stream) body → Resumes from had (before ++ stream) body

@@ -5,26 +5,26 @@ use Rattle.sv_body.specs.declared.framing.Framing.TheVariants.{Length, Chunked}
 use Rattle.sv_body.specs.declared.limits.TheConstants.{MAX_BODY_LEN}
 use Rattle.sv_body.specs.Chunks.{Body, unfinished, complete, ReadsChunks}
 
--- what contracts see of a body that is being read: its framing, and the bytes that have come, as they came
+-- What contracts see of a body that is being read: its framing, and the bytes received so far.
 pub record Awaited : Type 0 where
   pub framing : Framing
   pub came : List ℕ
 
--- before the first byte
+-- Before the first byte.
 abbrev pub nothing_came : Framing → Awaited
 nothing_came framing = record { framing = framing; came = [] }
 
--- what is read of a body of which those bytes are read and so many are awaited
+-- The reading of a text that continues a body of known length: `bytes` were read before, and `count` more are due.
 abbrev pub read_length : List ℕ → ℕ → List ℕ → Body
 read_length bytes count text =
     if nat_lt (length text) count then unfinished else complete (bytes ++ take count text) (drop count text)
 
--- what is read of the body that the text begins with
+-- The reading of the body at the start of the text.
 abbrev pub ReadsBody : Framing → List ℕ → Body → Type 0
 ReadsBody (Length count) text body = body ≡ read_length [] count text
 ReadsBody Chunked text body = (chunks : List (List ℕ)) × ReadsChunks [] text chunks body
 
--- a body of that framing has no more bytes than a body may have: a length says so, and of chunks it is judged as they come
+-- A framing that keeps its body within the limit. A length is checked here, and chunks are checked as they are read.
 abbrev pub FitsLimit : Framing → Type 0
 FitsLimit (Length count) = count ≤ MAX_BODY_LEN
 FitsLimit Chunked = ⊤

@@ -12,59 +12,59 @@ use Rattle.sv_body.specs.declared.text_kind.TextKind.TheVariants.{SizeLine, Trai
 use Rattle.sv_body.specs.declared.limits.TheConstants.{MAX_BODY_LEN, MAX_SIZE_LINE_LEN, MAX_TRAILER_LEN}
 use Rattle.sv_text.specs.Front.{cut}
 
--- what is read of a body
+-- The reading of a body.
 pub data Body : Type 0 where
-  -- its end is not there
+  -- It has not ended.
   unfinished : Body
-  -- its bytes, and what follows it
+  -- Its bytes, and the text after it.
   complete : List ℕ → List ℕ → Body
-  -- a fault, and what follows where it shows
+  -- A fault, and the text after the place where it is found.
   broken : BodyFault → List ℕ → Body
 
--- what the chunks of a body begin with
+-- The reading of the next chunk.
 pub data Part : Type 0 where
-  -- the bytes of a chunk, and what follows it
+  -- The bytes of the chunk, and the text after it.
   chunk : List ℕ → List ℕ → Part
-  -- no further chunk: what is read of the body
+  -- No further chunk, and the reading of the body.
   last : Body → Part
 
--- whether a text ends: a size line at its LF, a trailer section where it is an empty line or behind its first one
+-- Whether a text is complete. A size line ends with LF; a trailer section is a single CRLF or ends with two.
 abbrev pub ends_text : TextKind → List ℕ → Bool
 ends_text SizeLine text = ends_with nat_eq text (line_feed ∷ [])
 ends_text Trailer text = bytes_eq text crlf_bytes || ends_with nat_eq text (crlf_bytes ++ crlf_bytes)
 
--- a text's end lies within so many bytes
+-- The number of bytes within which a text must end.
 abbrev pub text_limit : TextKind → ℕ
 text_limit SizeLine = MAX_SIZE_LINE_LEN
 text_limit Trailer = MAX_TRAILER_LEN
 
--- where a text ends that the stream begins with
+-- Where the text at the start of a stream ends.
 abbrev pub cut_text : TextKind → List ℕ → Cut
 cut_text kind stream = cut (ends_text kind) (text_limit kind) stream
 
--- the size that the whole text of a line says, or none where it is no size line
+-- The size that a whole line gives, or none if it is not a size line.
 abbrev pub ReadsSize : List ℕ → Option ℕ → Type 0
 ReadsSize line None = (l : ChunkLine) → ¬ (ReadsChunkLine line l [])
 ReadsSize line (Some size) = (l : ChunkLine) × ReadsChunkLine line l [] × (size ≡ chunk_size l)
 
--- by where the trailer section ends, the body is whole: the section is dropped
+-- The reading of a body, by where its trailer section ends. The section is dropped.
 abbrev pub trailer_at : Cut → List ℕ → List ℕ → Body
 trailer_at (Whole len) bytes text = complete bytes (drop len text)
 trailer_at Endless bytes text = broken TrailerTooLarge (drop MAX_TRAILER_LEN text)
 trailer_at Unended bytes text = unfinished
 
--- what is read of a body with those bytes behind its last chunk
+-- The reading of a body that has these bytes, from the text after its last chunk.
 abbrev pub read_trailer : List ℕ → List ℕ → Body
 read_trailer bytes text = trailer_at (cut_text Trailer text) bytes text
 
--- a chunk of that size behind its size line: its bytes and CRLF
+-- The reading of a chunk of this size from the text after its size line: its bytes and CRLF.
 abbrev pub read_data : ℕ → List ℕ → Part
 read_data size text =
     if nat_lt (length text) (size + 2) then last unfinished
     else if bytes_eq (take 2 (drop size text)) crlf_bytes then chunk (take size text) (drop (size + 2) text)
     else last (broken BadChunk (drop (size + 2) text))
 
--- what stands behind a size line, where the chunks before it gave those bytes
+-- The reading of the text after a size line, given the bytes of the chunks before it.
 abbrev pub after_line : List ℕ → Option ℕ → List ℕ → Part
 after_line bytes None text = last (broken BadChunk text)
 after_line bytes (Some size) text =
@@ -72,17 +72,17 @@ after_line bytes (Some size) text =
     else if size == 0 then last (read_trailer bytes text)
     else read_data size text
 
--- by where its size line ends, what the text begins with
+-- The reading of the next chunk, by where its size line ends.
 abbrev pub BeginsAt : Cut → List ℕ → List ℕ → Part → Type 0
 BeginsAt (Whole len) bytes text part = (size : Option ℕ) × ReadsSize (take len text) size × (part ≡ after_line bytes size (drop len text))
 BeginsAt Endless bytes text part = part ≡ last (broken BadChunk (drop MAX_SIZE_LINE_LEN text))
 BeginsAt Unended bytes text part = part ≡ last unfinished
 
--- what the text begins with behind chunks that gave those bytes
+-- The reading of the next chunk, given the bytes of the chunks before it.
 abbrev pub Begins : List ℕ → List ℕ → Part → Type 0
 Begins bytes text part = BeginsAt (cut_text SizeLine text) bytes text part
 
--- behind chunks that gave `bytes` the text is those chunks in order, and what is read of the body in all
+-- The text that follows chunks with these `bytes` consists of these chunks, and gives this reading of the whole body.
 abbrev pub ReadsChunks : List ℕ → List ℕ → List (List ℕ) → Body → Type 0
 ReadsChunks bytes text [] body = Begins bytes text (last body)
 ReadsChunks bytes text (data_bytes ∷ chunks) body =

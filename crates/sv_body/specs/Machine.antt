@@ -1,4 +1,4 @@
--- What a machine that has read the front of a body makes of the text behind it (RFC 9112, sections 6 and 7.1).
+-- How a machine that has read the start of a body reads the text after it (RFC 9112, sections 6 and 7.1).
 use Rattle.std.specs.Prelude.{◌≡◌, ℕ, ◌+◌, ◌-◌, ◌<◌, ◌≤◌, List, [], ◌++◌, length, take, drop, Option}
 use Rattle.sv_text.specs.declared.front.Cut.{Cut}
 use Rattle.sv_text.specs.declared.front.Cut.TheVariants.{Whole, Endless, Unended}
@@ -16,16 +16,16 @@ use Rattle.sv_body.specs.declared.machine.Stop.TheVariants.{Awaits, Complete, Br
 use Rattle.sv_body.specs.Chunks.{Body, unfinished, complete, broken, Part, chunk, last, cut_text, text_limit, read_data, read_trailer, after_line, ReadsChunks}
 use Rattle.sv_body.specs.Body.{read_length, ReadsBody}
 
--- behind chunks that gave `bytes` the text is some chunks, and what is read of the body in all
+-- The text that follows chunks with these `bytes` consists of some chunks, and gives this reading of the whole body.
 abbrev pub ReadsRest : List ℕ → List ℕ → Body → Type 0
 ReadsRest bytes text body = (chunks : List (List ℕ)) × ReadsChunks bytes text chunks body
 
--- what is read of the body in all, where that part of it comes next
+-- The reading of the whole body, if this part comes next.
 abbrev pub GoesOn : List ℕ → Part → Body → Type 0
 GoesOn bytes (chunk more rest) body = ReadsRest (bytes ++ more) rest body
 GoesOn bytes (last end) body = body ≡ end
 
--- what is read of the body in all, at that stage
+-- The reading of the whole body, from a stage on.
 abbrev pub Resumes : Stage → List ℕ → List ℕ → Body → Type 0
 Resumes (Plain count) bytes text body = body ≡ read_length bytes count text
 Resumes SizeLine bytes text body = ReadsRest bytes text body
@@ -33,11 +33,11 @@ Resumes (Data count) bytes text body = GoesOn bytes (read_data count text) body
 Resumes DataEnd bytes text body = GoesOn bytes (read_data 0 text) body
 Resumes Trailer bytes text body = body ≡ read_trailer bytes text
 
--- what a machine reads of the body in all, where that text comes next
+-- The reading of the whole body by a machine, if this text comes next.
 abbrev pub Continues : Machine → List ℕ → Body → Type 0
 Continues machine more body = Resumes machine.stage machine.body.items (machine.held.items ++ more) body
 
--- what is held of an open text at that stage has no end yet, and the bytes are within the limit of a body
+-- The invariant of each stage: the held bytes do not end their text, and chunks keep the body within its limit.
 abbrev pub FitsStage : Stage → List ℕ → List ℕ → Type 0
 FitsStage (Plain count) held bytes = held ≡ []
 FitsStage SizeLine held bytes = (cut_text text.SizeLine held ≡ Unended) × (length bytes ≤ MAX_BODY_LEN)
@@ -48,7 +48,7 @@ FitsStage Trailer held bytes = cut_text text.Trailer held ≡ Unended
 abbrev pub IsFit : Machine → Type 0
 IsFit machine = FitsStage machine.stage machine.held.items machine.body.items
 
--- an open text, of which the bytes `held` had come, is cut with the text behind it, of which the bytes up to `after` are taken
+-- Where an open text ends: `held` was received before, `stream` follows, and the machine then holds `after`.
 abbrev pub CutsOpen : TextKind → List ℕ → List ℕ → List ℕ → Cut → Type 0
 CutsOpen kind held stream after (Whole len) =
     (length held < len) × (len ≤ length after) × (len - length held ≤ length stream)
@@ -61,7 +61,7 @@ CutsOpen kind held stream after Endless =
     × (drop (text_limit kind) (held ++ (stream ++ more)) ≡ drop (text_limit kind - length held) stream ++ more))
 CutsOpen kind held stream after Unended = (after ≡ held ++ stream) × (cut_text kind after ≡ Unended)
 
--- where a machine that was at that stage comes to a stop in the text
+-- How a machine in this stage stops in the text.
 abbrev pub StopsFrom : Stage → List ℕ → List ℕ → List ℕ → Stop → Machine → Type 0
 StopsFrom stage held bytes stream Awaits new =
     IsFit new × Continues new [] unfinished
@@ -71,7 +71,7 @@ StopsFrom stage held bytes stream (Complete count) new =
 StopsFrom stage held bytes stream (Broken fault count) new =
     (count ≤ length stream) × Resumes stage bytes (held ++ stream) (broken fault (drop count stream))
 
--- what a step over the text does, where the machine was at that stage
+-- The result of one step over the text from this stage.
 abbrev pub StepsFrom : Stage → List ℕ → List ℕ → List ℕ → Step → Machine → Type 0
 StepsFrom stage held bytes stream (Moved count) new =
     (0 < count) × (count ≤ length stream) × IsFit new
@@ -84,7 +84,7 @@ StopsAt old stream stop new = StopsFrom old.stage old.held.items old.body.items 
 abbrev pub StepsTo : Machine → List ℕ → Step → Machine → Type 0
 StepsTo old stream step new = StepsFrom old.stage old.held.items old.body.items stream step new
 
--- what is begun behind a size line that ends after so many bytes, where the chunks before it gave those bytes
+-- The step at a size line that took `at` bytes of the text, given the bytes of the chunks before it.
 abbrev pub BeginsChunk : List ℕ → Option ℕ → ℕ → Step → Machine → Type 0
 BeginsChunk bytes size at (Moved count) new =
     (count ≡ at) × IsFit new
@@ -94,6 +94,6 @@ BeginsChunk bytes size at (Stopped (Broken fault count)) new =
 BeginsChunk bytes size at (Stopped Awaits) new = ⊥
 BeginsChunk bytes size at (Stopped (Complete count)) new = ⊥
 
--- a machine before the first byte of a body of that framing
+-- A machine before the first byte of a body with this framing.
 abbrev pub Opens : Framing → Machine → Type 0
 Opens framing machine = IsFit machine × ((more : List ℕ) (body : Body) → Continues machine more body → ReadsBody framing more body)

@@ -1,4 +1,4 @@
--- What a reader of a body makes of a piece (RFC 9112, section 6).
+-- How a reader of a body handles a piece (RFC 9112, section 6).
 use Rattle.std.specs.Prelude.{◌≡◌, ℕ, ◌≤◌, List, ◌++◌, length, drop}
 use Rattle.sv_body.specs.declared.body_reader.BodyEnd.{BodyEnd}
 use Rattle.sv_body.specs.declared.body_reader.BodyEnd.TheVariants.{Complete, Broken}
@@ -7,12 +7,12 @@ use Rattle.sv_body.specs.declared.body_reader.Progress.TheVariants.{Awaits, Ende
 use Rattle.sv_body.specs.Body.{Awaited, nothing_came, ReadsBody}
 use Rattle.sv_body.specs.Chunks.{Body, unfinished, complete, broken}
 
--- what is read of a body that ends so, where that follows it
+-- The reading of a body that ends in this way, with `rest` after it.
 abbrev pub ended : BodyEnd → List ℕ → Body
 ended (Complete bytes) rest = complete bytes rest
 ended (Broken fault) rest = broken fault rest
 
--- a reader before the piece makes that of it, and is `after` behind it: where the body ends, nothing has come
+-- The progress of a reader over a piece. If the body ended, the reader is again before the first byte of a body.
 abbrev pub ReadsOn : Awaited → List ℕ → Progress → Awaited → Type 0
 ReadsOn before piece Awaits after =
     (after ≡ record { framing = before.framing; came = before.came ++ piece })

@@ -1,4 +1,4 @@
-//! Why a body is refused.
+//! The faults of a body.
 
 ghost use Rattle.std.specs.Prelude.{Some};
 ghost use Rattle.sv_body.specs.BodyFault.{name_of};
@@ -9,9 +9,9 @@ use std::fmt;
 /// Why a body is refused.
 #[derive(Clone, Copy, Debug)]
 pub enum BodyFault {
-    /// A size line, or what stands behind a chunk's bytes, is in no form of a chunk (RFC 9112, section 7.1).
+    /// A size line is malformed or too long, or no CRLF follows a chunk's bytes (RFC 9112, section 7.1).
     BadChunk = 1,
-    /// The sizes of the chunks pass the limit of a body (RFC 9110, section 15.5.14).
+    /// The sizes of the chunks exceed the limit of a body (RFC 9110, section 15.5.14).
     TooLarge = 2,
     /// The trailer section does not end within its limit (RFC 9112, section 7.1.2).
     TrailerTooLarge = 3,

@@ -11,10 +11,10 @@ use std::alloc::Global;
 use std::marker::Model;
 use sv_text::{Bytes, NoMemory};
 
-/// Reads one body, which comes in pieces (RFC 9112, section 6). Beside the bytes of the body it holds numbers and one
-/// size line or trailer section that is not whole.
+/// Reads one body from pieces of its stream (RFC 9112, section 6). Besides the bytes of the body it holds counters, and
+/// at most one incomplete size line, CRLF or trailer section.
 ///
-/// Contracts see its framing, and the bytes that have come, as they came.
+/// Contracts see its framing and the bytes received so far, unchanged.
 #[derive(Drop)]
 pub struct BodyReader {
     framing: Framing,
@@ -22,21 +22,21 @@ pub struct BodyReader {
     came: History,
 }
 
-/// What a reader makes of a piece.
+/// The progress of a reader after a piece.
 #[derive(Drop)]
 pub enum Progress {
-    /// The body is not whole. The reader goes on with the next piece.
+    /// The body is incomplete. The reader continues with the next piece.
     Awaits,
-    /// How the body ends, after so many bytes of the piece.
+    /// The body ended after this number of bytes of the piece.
     Ended(BodyEnd, usize),
 }
 
 /// How a body ends.
 #[derive(Drop)]
 pub enum BodyEnd {
-    /// It is whole, and has those bytes.
+    /// The body is complete, and has these bytes.
     Complete(Bytes),
-    /// It has a fault.
+    /// The body has a fault.
     Broken(BodyFault),
 }
 
@@ -56,7 +56,7 @@ impl Model for BodyReader {
 impl BodyReader {
     ghost use Rattle.sv_body.specs.Progress.{ReadsOn};
 
-    /// A reader before the first byte of a body. It takes no memory.
+    /// Returns a reader before the first byte of a body. Allocates nothing.
     pub fn new(alloc: Global, framing: Framing) -> BodyReader
         ensures { result ≡ nothing_came framing }
     {
@@ -67,9 +67,9 @@ impl BodyReader {
         }
     }
 
-    /// Reads a piece of the stream up to the end of the body, if it is there. Behind the end, a fault or want of memory the
-    /// reader is as before the first byte of a body.
-    // Where a piece is a single byte, its price is that of the calls.
+    /// Reads a piece of the stream, up to the end of the body if the piece contains it. After the end, a fault or
+    /// running out of memory, the reader is again before the first byte of a body.
+    // Inlined: for pieces of a single byte, calls are most of the cost.
     #[inline(always)]
     pub fn read(&mut self, piece: &[u8]) -> Result<Progress, NoMemory>
         ensures read { IfOk result (λ progress. ReadsOn self.old piece.now progress self.new) }

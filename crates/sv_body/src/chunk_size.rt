@@ -1,10 +1,10 @@
-//! The size that a line before a chunk says.
+//! The size in the size line of a chunk.
 
 ghost use Rattle.sv_body.specs.Chunks.{ReadsSize};
 
 use httparse::{Status, parse_chunk_size};
 
-/// The size that a whole line says, unless it is no line before a chunk.
+/// Returns the size in a size line, or `None` if the line is not exactly one size line.
 pub(crate) fn read_size(line: &[u8]) -> Option<usize>
     ensures { ReadsSize line.now result }
 {

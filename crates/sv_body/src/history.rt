@@ -1,11 +1,11 @@
-//! Bytes that have come, for proofs alone.
+//! The bytes received so far, for proofs only.
 
 ghost use Rattle.std.specs.Prelude.{◌≡◌, ℕ, List, [], ◌++◌};
 ghost use Rattle.std.specs.Borrow.{ftrue};
 
 use std::marker::Model;
 
-/// The bytes that have come, as contracts see them. It takes no memory, and its methods do nothing when they run.
+/// The bytes received so far, as contracts see them. It takes no memory, and its methods do nothing at run time.
 #[derive(Drop)]
 pub struct History {
     pub ghost bytes: { List ℕ },
@@ -22,14 +22,14 @@ pub struct Piece<'a> {
 }
 
 impl History {
-    /// No byte has come.
+    /// Returns a history without bytes.
     pub fn new() -> History
         ensures { result.bytes ≡ [] }
     {
         History {}
     }
 
-    /// A piece has come.
+    /// Returns this history with a piece appended.
     pub fn and(&self, _piece: &Piece<'_>) -> History
         ensures { result.bytes ≡ self.now.bytes ++ _piece.now.bytes.now }
     {

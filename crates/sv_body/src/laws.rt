@@ -1,19 +1,19 @@
-//! The laws of the reading of bodies, each the contract of a function that does nothing.
+//! Theorems about reading bodies, each the contract of a function with an empty body.
 
 ghost use Rattle.std.specs.Prelude.{◌≡◌};
 ghost use Rattle.sv_body.specs.Storage.{OpenTextsAreShort};
 
 use crate::limits::{MAX_BODY_LEN, MAX_SIZE_LINE_LEN, MAX_TRAILER_LEN};
 
-/// The limits as numbers: definitions and code cite the constants, so that both would move with one.
+/// Pins the limits to numbers. Definitions and code cite the constants, so a changed constant would change both.
 pub fn limits_are_as_stated()
     ensures body { MAX_BODY_LEN ≡ 1048576 }
     ensures size_line { MAX_SIZE_LINE_LEN ≡ 256 }
     ensures trailer { MAX_TRAILER_LEN ≡ 8192 }
 {}
 
-/// The law that a reader holds, beside the bytes of the body, fewer bytes than a trailer section may have, whatever has
-/// come: its invariant says that its machine is fit.
+/// Besides the bytes of the body, a reader holds fewer bytes than a trailer section may have, for every input. Its
+/// invariant says that its machine is fit.
 pub fn open_texts_are_short()
     ensures { OpenTextsAreShort }
 {}

@@ -1,4 +1,4 @@
-//! The bodies of messages, read from a stream of bytes.
+//! Reading the bodies of messages from a stream of bytes.
 #![tactic(auto)]
 
 mod body_fault;

@@ -1,10 +1,10 @@
 //! The limits of a body.
 
-/// A body has at most so many bytes.
+/// The maximum number of bytes in a body.
 pub const MAX_BODY_LEN: usize = 1_048_576;
 
-/// A chunk's size line ends within so many bytes.
+/// The number of bytes within which a chunk's size line must end.
 pub const MAX_SIZE_LINE_LEN: usize = 256;
 
-/// The trailer section ends within so many bytes.
+/// The number of bytes within which the trailer section must end.
 pub const MAX_TRAILER_LEN: usize = 8_192;

@@ -1,4 +1,4 @@
-//! A machine that reads a body from pieces of its stream.
+//! A state machine that reads a body from pieces of its stream.
 
 ghost use Rattle.std.specs.Prelude.{◌≡◌, ◌≤◌, [], length, IfOk};
 ghost use Rattle.sv_text.specs.declared.front.Cut.TheVariants.{Unended};
@@ -14,46 +14,46 @@ use std::alloc::Global;
 use std::mem;
 use sv_text::{Cut, Delimited, NoMemory, cut_front};
 
-/// What comes next of a body.
+/// The part of a body that is read next.
 #[derive(Clone, Copy)]
 pub(crate) enum Stage {
-    /// So many bytes of a body whose length is known.
+    /// The remaining bytes of a body of known length.
     Plain(usize),
     /// A size line.
     SizeLine,
-    /// So many bytes of a chunk.
+    /// The remaining bytes of a chunk.
     Data(usize),
-    /// The CRLF behind a chunk's bytes.
+    /// The CRLF after a chunk's bytes.
     DataEnd,
     /// The trailer section.
     Trailer,
 }
 
-/// What a machine found in a text.
+/// The result of one step over a text.
 #[derive(Clone, Copy)]
 pub(crate) enum Step {
-    /// So many bytes, behind which another stage begins.
+    /// The machine read this number of bytes and entered another stage.
     Moved(usize),
-    /// The machine has come to a stop.
+    /// The machine stopped.
     Stopped(Stop),
 }
 
-/// Where a machine comes to a stop in a text.
+/// The place in a text at which a machine stops.
 #[derive(Clone, Copy)]
 pub(crate) enum Stop {
-    /// At its end: more is awaited.
+    /// At the end of the text: more is awaited.
     Awaits,
-    /// At the end of the body, after so many bytes.
+    /// At the end of the body, after this number of bytes.
     Complete(usize),
-    /// At a fault, which shows after so many bytes.
+    /// At a fault, found after this number of bytes.
     Broken(BodyFault, usize),
 }
 
-/// A body of which the front is read.
+/// The state of reading a body.
 #[derive(Drop)]
 pub(crate) struct Machine {
     pub(crate) stage: Stage,
-    /// What has come of a size line, of a CRLF or of the trailer section.
+    /// The bytes received of an incomplete size line, CRLF or trailer section.
     pub(crate) held: Vec<u8>,
     pub(crate) body: Vec<u8>,
 }
@@ -61,7 +61,7 @@ pub(crate) struct Machine {
 impl Machine {
     ghost use Rattle.sv_body.specs.Machine.{Opens, IsFit, FitsStage, StepsFrom, StepsTo, StopsAt, BeginsChunk, CutsOpen};
 
-    /// A machine before the first byte of a body.
+    /// Returns a machine before the first byte of a body.
     pub(crate) fn new(alloc: Global, framing: Framing) -> Machine
         ensures { Opens framing result }
     {
@@ -75,7 +75,7 @@ impl Machine {
         }
     }
 
-    /// Goes back before the first byte of a body, and gives the bytes that were read of one.
+    /// Resets the machine to before the first byte of a body, and returns the bytes of the body read so far.
     pub(crate) fn begin_anew(&mut self, framing: Framing) -> Vec<u8>
         ensures opens { Opens framing self.new }
         ensures bytes { result ≡ self.old.body }
@@ -84,7 +84,7 @@ impl Machine {
         mem::replace(self, Machine::new(alloc, framing)).body
     }
 
-    /// Reads a text up to where it comes to a stop. After `NoMemory` the machine is of no use.
+    /// Reads a text until the machine stops. After `NoMemory` the machine must be reset with `begin_anew`.
     pub(crate) fn run(&mut self, text: &[u8]) -> Result<Stop, NoMemory>
         requires { IsFit self.old }
         ensures { IfOk result (λ stop. StopsAt self.old text.now stop self.new) }
@@ -103,7 +103,7 @@ impl Machine {
         }
     }
 
-    /// Reads what comes next. After `NoMemory` the machine is of no use.
+    /// Takes one step over a text. After `NoMemory` the machine must be reset with `begin_anew`.
     fn step(&mut self, text: &[u8]) -> Result<Step, NoMemory>
         requires { IsFit self.old }
         ensures { IfOk result (λ step. StepsTo self.old text.now step self.new) }
@@ -199,7 +199,7 @@ impl Machine {
         }
     }
 
-    /// Sets as much of the text behind the open text as its limit allows, and says where it ends.
+    /// Appends as much of the text to the open text as its limit allows, and returns where the open text ends.
     fn cut_open(&mut self, kind: TextKind, text: &[u8]) -> Result<Cut, NoMemory>
         requires { cut_text kind self.old.held.items ≡ Unended }
         ensures cut { IfOk result (CutsOpen kind self.old.held.items text.now self.new.held.items) }
@@ -212,7 +212,7 @@ impl Machine {
         Ok(cut_front(&kind, &self.held, held + 1))
     }
 
-    /// Begins what stands behind a size line, which ended after so many bytes.
+    /// Enters the stage after a size line that gave this size and ended after `at` bytes.
     fn begin_chunk(&mut self, size: Option<usize>, at: usize) -> Step
         requires held { self.old.held.items ≡ [] }
         requires within { length self.old.body.items ≤ MAX_BODY_LEN }

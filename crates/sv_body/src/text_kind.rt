@@ -1,9 +1,9 @@
-//! The texts of a chunked body that have an end.
+//! The delimited texts of a chunked body.
 
 use crate::limits::{MAX_SIZE_LINE_LEN, MAX_TRAILER_LEN};
 use sv_text::Delimited;
 
-/// A text of a chunked body that has an end (RFC 9112, section 7.1).
+/// A delimited text of a chunked body (RFC 9112, section 7.1).
 #[derive(Clone, Copy)]
 pub(crate) enum TextKind {
     SizeLine,

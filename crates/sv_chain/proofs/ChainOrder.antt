@@ -1,4 +1,4 @@
--- In which order filters stand in a chain.
+-- The order of the filters in a chain.
 use Rattle.std.proofs.Common.{ℕ, ◌≡◌, ◌≢◌, ◌+◌, ◌<◌, ◌≤◌, Bool, true, false, not, ◌&&◌, ◌||◌, eqb, ltb, inl, inr, List, [], ◌∷◌, ◌++◌, length, filter, Option, None, Some, refl, sym, ap, subst, zero-add, ◌∙◌, ◌⊎◌, arith}
 use Rattle.std.specs.List.{All, AllPairs, list_any, flat_map, position_or_len, slice_index_or}
 use Rattle.std.specs.Option.{option_to_list}
@@ -13,7 +13,7 @@ use Rattle.sv_chain.specs.Laws.{GoesBefore, is_mapping_of, stands}
 use Rattle.sv_chain.proofs.Growing.{others}
 use Rattle.sv_chain.proofs.Membership.{stands-filters}
 
--- where the first item that passes stands
+-- The index of the first item that passes.
 first_here : (A : Type 0) (test : A → Bool) (x : A) (xs : List A) → test x ≡ true → position_or_len test (x ∷ xs) ≡ 0
 first_here A test x xs passes = cond-false _ _ _ (ap not passes)
 
@@ -33,7 +33,7 @@ behind_none A test (x ∷ xs) behind = elim (cases_Bool (test x)) [
   | inr fails ↦ rw fails (behind_none A test xs (omega (arith, behind, first_later A test x xs fails)))
 ]
 
--- where a place first stands in a list
+-- The index of the first occurrence of a place in a list.
 abbrev at : ℕ → List ℕ → ℕ
 at place places = position_or_len (λ other. eqb other place) places
 
@@ -55,7 +55,7 @@ at_back place (x ∷ xs) ys beyond = elim (cases_Bool (eqb x place)) [
       omega (arith, first_later ℕ (λ other. eqb other place) x (xs ++ ys) apart, rest)
 ]
 
--- places that stand once keep the order in which they first stood
+-- Removing duplicates keeps the order of first occurrences.
 pub once_in_order : (places : List ℕ) → AllPairs (λ a b. at a places < at b places) (without_doubles places)
 once_in_order [] = λ i j d before within. absurd (omega (arith, within))
 once_in_order (x ∷ places) =
@@ -74,7 +74,7 @@ once_in_order (x ∷ places) =
     later : (y : ℕ) → eqb x y ≡ false → at y (x ∷ places) ≡ 1 + at y places
     later y other = first_later ℕ (λ other. eqb other y) x places other
 
--- the first mapping of a filter that passes the test
+-- The first mapping of a filter that passes the test.
 abbrev first_of : WebApp → (FilterMapping → Bool) → ℕ → List FilterMapping → ℕ
 first_of app test place mappings = position_or_len (λ mapping. is_mapping_of app place mapping && test mapping) mappings
 
@@ -82,7 +82,7 @@ seen : (found : Option ℕ) → (found ≡ None) ⊎ ((place : ℕ) × (found �
 seen None = inl refl
 seen (Some place) = inr (place, refl)
 
--- of two filters the one that stands first has the first mapping
+-- If one filter occurs before another, its first mapping precedes the other's.
 filters_in_order : (app : WebApp) (test : FilterMapping → Bool) (p q : ℕ) (mappings : List FilterMapping)
     → at p (filters_of app.filters test mappings) < at q (filters_of app.filters test mappings) → first_of app test p mappings < first_of app test q mappings
 filters_in_order app test p q [] before = absurd (omega (arith, before))
@@ -137,14 +137,14 @@ filters_in_order app test p q (mapping ∷ mappings) before =
               ]
         ]
 
--- a filter that does not stand among those of the mappings has no mapping that passes
+-- A filter that is not among those of the mappings has no mapping that passes the test.
 unmapped : (app : WebApp) (test : FilterMapping → Bool) (place : ℕ) (mappings : List FilterMapping)
     → length (filters_of app.filters test mappings) ≤ at place (filters_of app.filters test mappings) → first_of app test place mappings ≡ length mappings
 unmapped app test place mappings beyond =
     none_behind FilterMapping (λ mapping. is_mapping_of app place mapping && test mapping) mappings
     (sym (stands-filters app test place mappings) ∙ behind_none ℕ (λ other. eqb other place) (filters_of app.filters test mappings) beyond)
 
--- of two filters of a chain the one that stands first goes before the other
+-- Of two filters of a chain, the one that occurs first goes before the other.
 ordered : (app : WebApp) (path servlet : List ℕ) (kind : Kind) (front back : List ℕ) → front ≡ filters_of app.filters (maps_path kind path) app.filter_mappings
     → back ≡ filters_of app.filters (maps_servlet kind servlet) app.filter_mappings → (p q : ℕ) → at p (front ++ back) < at q (front ++ back) → GoesBefore app path servlet kind p q
 ordered app path servlet kind front back its_front its_back p q less = elim (cases_Bool (ltb (at p front) (length front))) [

@@ -1,4 +1,4 @@
--- How a chain grows by one place, and that each of its places has a filter.
+-- Appending one place to a chain, and the proof that each place of a chain has a filter.
 use Rattle.std.proofs.Common.{ℕ, ◌≡◌, ◌+◌, ◌<◌, Bool, true, false, not, ◌||◌, cond, eqb, List, [], ◌∷◌, ◌++◌, length, get_or, take, filter, Option, Some, None, IfSome, append-nil, sym, refl, ap, ◌∙◌, ⊎_elim}
 use Rattle.std.specs.List.{All, flat_map}
 use Rattle.std.specs.Option.{option_to_list}
@@ -13,15 +13,15 @@ use Rattle.sv_mapping.proofs.FirstBest.{position_within}
 use Rattle.sv_chain.specs.FilterChain.{filter_chain, filter_place, maps_path, maps_servlet, without_doubles}
 use Rattle.sv_chain.specs.Laws.{stands}
 
--- the filter of a mapping
+-- The filter of a mapping.
 abbrev filter_in : List FilterEntry → FilterMapping → List ℕ
 filter_in filters mapping = option_to_list (filter_place filters mapping.filter_name)
 
--- ---- places that stand once
+-- ---- Places without duplicates
 abbrev pub others : ℕ → List ℕ → List ℕ
 others place places = filter (λ other. not (eqb other place)) places
 
--- what is not taken out stays
+-- Removing one place keeps all others.
 pub stands-others : (x y : ℕ) → eqb x y ≡ false → (places : List ℕ) → stands y (others x places) ≡ stands y places
 stands-others x y apart [] = refl
 stands-others x y apart (place ∷ places) =
@@ -33,7 +33,7 @@ stands-others x y apart (place ∷ places) =
     (λ differs. ap (stands y) (cond-true _ _ _ (not_from_false _ differs)) ∙ ap (λ t. eqb place y || t) rest)
     (cases_Bool (eqb place x))
 
--- one more place
+-- Appending one place.
 pub without_doubles-push : (xs : List ℕ) (y : ℕ) → without_doubles (xs ++ y ∷ []) ≡ cond (stands y (without_doubles xs)) (without_doubles xs) (without_doubles xs ++ y ∷ [])
 without_doubles-push [] y = refl
 without_doubles-push (x ∷ xs) y =
@@ -60,7 +60,7 @@ without_doubles-push (x ∷ xs) y =
     pushed m n places true here = refl
     pushed m n places false here = ap (λ rest. m ∷ rest) (filter-append _ places (n ∷ []) ∙ ap (λ rest. others m places ++ rest) here)
 
--- the next place of a list, where the chain has it and where it has not
+-- The next place of a list, if the chain has it already, and if it does not.
 pub doubles-old : (places chain : List ℕ) (i : ℕ) → i < length places → chain ≡ without_doubles (take i places) → stands (get_or places i 0) chain ≡ true → chain ≡ without_doubles (take (i + 1) places)
 doubles-old places chain i within before found =
     let place = get_or places i 0 in
@@ -71,7 +71,7 @@ doubles-new places chain i within before none =
     let place = get_or places i 0 in
     sym (ap without_doubles (take_more places i 0 within) ∙ (without_doubles-push (take i places) place ∙ (ap (λ all. cond (stands place all) all (all ++ place ∷ [])) (sym before) ∙ cond-false _ _ _ none)))
 
--- ---- each place has a filter
+-- ---- Each place has a filter
 abbrev IsPlace : List FilterEntry → ℕ → Type 0
 IsPlace filters place = place < length filters
 

@@ -1,4 +1,4 @@
--- Which filters stand in a chain.
+-- The filters that are in a chain.
 use Rattle.std.proofs.Common.{ℕ, ◌≡◌, Bool, true, false, ◌&&◌, ◌||◌, eqb, inl, inr, List, [], ◌∷◌, ◌++◌, filter, refl, sym, ap, ◌∙◌}
 use Rattle.std.specs.List.{list_any, flat_map}
 use Rattle.std.specs.Option.{option_to_list}
@@ -11,7 +11,7 @@ use Rattle.sv_chain.specs.FilterChain.{filter_chain, filter_place, filters_of, m
 use Rattle.sv_chain.specs.Laws.{is_mapping_of, leads_to, stands}
 use Rattle.sv_chain.proofs.Growing.{stands-others}
 
--- each place stands once, and none is lost
+-- Removing duplicates loses no place.
 stands-once : (place : ℕ) (places : List ℕ) → stands place (without_doubles places) ≡ stands place places
 stands-once place [] = refl
 stands-once place (x ∷ places) = elim (cases_Bool (eqb x place)) [
@@ -19,7 +19,7 @@ stands-once place (x ∷ places) = elim (cases_Bool (eqb x place)) [
   | inr apart ↦ ap (λ t. eqb x place || t) (stands-others x place apart (without_doubles places) ∙ stands-once place places)
 ]
 
--- the filters of mappings that pass a test
+-- The filters of the mappings that pass a test.
 pub stands-filters : (app : WebApp) (test : FilterMapping → Bool) (place : ℕ) (mappings : List FilterMapping)
     → stands place (filters_of app.filters test mappings) ≡ list_any (λ mapping. is_mapping_of app place mapping && test mapping) mappings
 stands-filters app test place [] = refl
@@ -45,7 +45,7 @@ stands-filters app test place (mapping ∷ mappings) =
     gone true b = refl
     gone false b = refl
 
--- one of two tests passes somewhere exactly where one passes somewhere or the other does
+-- Some item passes one of two tests exactly if some item passes the first or some item passes the second.
 either : (A : Type 0) (a b c : A → Bool) (xs : List A)
     → (list_any (λ x. a x && b x) xs || list_any (λ x. a x && c x) xs) ≡ list_any (λ x. a x && (b x || c x)) xs
 either A a b c [] = refl

@@ -1,4 +1,4 @@
--- A chain depends on the names of the filters.
+-- A chain depends only on the names of the filters and on their mappings.
 use Rattle.std.proofs.Common.{ℕ, ◌≡◌, ◌+◌, Bool, not, cond, List, [], ◌∷◌, ◌++◌, length, map, filter, Option, Some, None, nat_lt, refl, sym, ap, ◌∙◌}
 use Rattle.std.specs.List.{flat_map, position, position_or_len}
 use Rattle.std.specs.Option.{option_to_list}
@@ -15,7 +15,7 @@ position_or_len-names : (test : List ℕ → Bool) (filters : List FilterEntry) 
 position_or_len-names test [] = refl
 position_or_len-names test (entry ∷ filters) = ap (λ n. cond (not (test entry.filter_name)) (1 + n) 0) (position_or_len-names test filters)
 
--- the place of a name
+-- The index of a name.
 abbrev place_of : List (List ℕ) → List ℕ → Option ℕ
 place_of names name = position (λ text. bytes_eq text name) names
 
@@ -24,7 +24,7 @@ named filters name =
     ap (λ n. cond (nat_lt n (length filters)) (Some n) None) (position_or_len-names (λ text. bytes_eq text name) filters)
     ∙ ap (λ n. cond (nat_lt (position_or_len (λ text. bytes_eq text name) (map (λ filter. filter.filter_name) filters)) n) (Some (position_or_len (λ text. bytes_eq text name) (map (λ filter. filter.filter_name) filters))) None) (sym (length-map filters (λ filter. filter.filter_name)))
 
--- the places of the filters of mappings, by the names of all filters
+-- The indices of the filters of mappings, by the names of all filters.
 abbrev places_of : List (List ℕ) → List FilterMapping → List ℕ
 places_of names mappings = flat_map (λ mapping. option_to_list (place_of names mapping.filter_name)) mappings
 

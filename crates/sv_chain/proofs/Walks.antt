@@ -1,4 +1,4 @@
--- A step of the proof of what chains were compiled of. Assumes `Logic`.
+-- A step of the proof about the ghost descriptor of compiled chains. Assumes `Logic`.
 use Rattle.std.proofs.Common.{List, [], ◌∷◌, refl}
 use seplogic.Ra.Ura.{Ura}
 use mir.Val.{Val, vstruct, vnil}

@@ -1,4 +1,4 @@
-//! The chains of one kind of dispatches that are kept.
+//! The cached chains of one kind of dispatch.
 
 ghost use Rattle.std.specs.Prelude.{◌≡◌, ◌≤◌, ◌+◌, ◌<◌, ◌^◌, ℕ, List, None, Some, OnErr, OnOk, if◌then◌else◌};
 ghost use Rattle.std.specs.BTreeMap.{btree_map_len};
@@ -11,13 +11,13 @@ use std::alloc::Global;
 use std::collections::BTreeMap;
 use sv_text::{NoMemory, Text};
 
-/// The chains of one kind of dispatches that are kept, one for each path: in a context a path has one servlet.
+/// The cached chains of one kind of dispatch, one for each path: in a context a path has one servlet.
 #[derive(Drop)]
 pub(crate) struct ByPath {
     pub(crate) chains: BTreeMap<String, KeptChain>,
 }
 
-/// A chain that is kept, and the servlet that it is for.
+/// A cached chain, and the servlet that it is for.
 #[derive(Drop)]
 pub(crate) struct KeptChain {
     pub(crate) servlet: Text,
@@ -25,7 +25,7 @@ pub(crate) struct KeptChain {
 }
 
 impl ByPath {
-    /// None is kept.
+    /// Creates an empty cache.
     pub(crate) fn new(alloc: Global) -> ByPath
         ensures none { (path servlet : List ℕ) → found_in result path servlet ≡ None }
         ensures count { btree_map_len result.chains ≡ 0 }
@@ -35,14 +35,14 @@ impl ByPath {
         }
     }
 
-    /// How many are kept.
+    /// Returns the number of cached chains.
     pub(crate) fn count(&self) -> usize
         ensures { result ≡ btree_map_len self.now.chains }
     {
         self.chains.len()
     }
 
-    /// The chain that is kept for the path and the servlet.
+    /// Returns the cached chain for the path and the servlet, if any.
     pub(crate) fn find(&self, path: &str, servlet: &str) -> Option<&Chain>
         ensures { option_copied result ≡ found_in self.now path.now servlet.now }
     {
@@ -58,7 +58,7 @@ impl ByPath {
         }
     }
 
-    /// Lets all go.
+    /// Drops all chains.
     pub(crate) fn clear(&mut self)
         ensures none { (path servlet : List ℕ) → found_in self.new path servlet ≡ None }
         ensures count { btree_map_len self.new.chains ≡ 0 }
@@ -66,10 +66,10 @@ impl ByPath {
         self.chains.clear();
     }
 
-    /// Keeps the chain of a path and a servlet, in the place of that of another servlet.
+    /// Caches the chain of a path and a servlet. It replaces the chain that was cached for the path, if any.
     ///
     /// # Errors
-    /// `NoMemory` where a growth was refused: nothing is changed.
+    /// `NoMemory` if an allocation fails; the cache is then unchanged.
     pub(crate) fn keep(
         &mut self,
         alloc: Global,

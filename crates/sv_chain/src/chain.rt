@@ -11,16 +11,16 @@ use std::alloc::Global;
 use sv_descriptor::{Descriptor, FilterEntry, FilterMapping, Kind};
 use sv_text::NoMemory;
 
-/// The filters that a dispatch passes, by their places in the descriptor's list of filters (Jakarta Servlet 6.0, section 6.2.4):
-/// first those with a mapping whose pattern matches the path, then those with a mapping that names the servlet, each in the order of
-/// the mappings. A filter that matches twice stands once, at its first place. Only mappings for the kind of the dispatch count; one
-/// that names no kind is for requests alone.
+/// Returns the filters that a dispatch passes, as indices into the descriptor's list of filters (Jakarta Servlet 6.0,
+/// section 6.2.4). Filters with a mapping whose pattern matches the path come first, then those with a mapping that
+/// names the servlet, each in the order of the mappings. A filter that matches twice appears once, at its first
+/// position. Only mappings for the kind of the dispatch count; a mapping that names no kind is only for requests.
 ///
-/// The path is the one that is dispatched to, within the context, and may be any text. The servlet is the one that answers it,
-/// `default` where that is the file servlet; the name `*` of a mapping stands for every servlet.
+/// The path is the target of the dispatch within the context, and may be any text. The servlet is the one that serves
+/// it, or `default` for the file servlet. The name `*` in a mapping means every servlet.
 ///
 /// # Errors
-/// `NoMemory` where a growth was refused.
+/// `NoMemory` if an allocation fails.
 pub fn chain_plain(
     alloc: Global,
     descriptor: &Descriptor,

@@ -1,4 +1,4 @@
-//! The chains of a descriptor, each worked out once.
+//! The chains of a descriptor, computed on demand and cached.
 
 ghost use Rattle.std.specs.Prelude.{◌≡◌, ◌&&◌, ◌+◌, ◌<◌, ◌≤◌, ℕ, List, IfOk, IfSome, IsSome, IsTrue, false, length, ◌↔◌};
 ghost use Rattle.std.specs.List.{All};
@@ -19,9 +19,9 @@ use std::marker::Model;
 use sv_descriptor::{Descriptor, Kind};
 use sv_text::NoMemory;
 
-/// The chains of a descriptor, each worked out when it is first asked for and then kept: at most [`MAX_KEPT_CHAINS`], and none of a path
-/// and a servlet's name of more than [`MAX_KEPT_BYTES`] together. No answer depends on what is kept. Contracts see the descriptor that
-/// they were compiled of.
+/// The chains of a descriptor, each computed on first use and then cached. At most [`MAX_KEPT_CHAINS`] are cached, and
+/// only if the path and the servlet's name have at most [`MAX_KEPT_BYTES`] together. Results do not depend on the
+/// cache. Contracts see the descriptor.
 #[derive(Drop)]
 pub struct Chains {
     compiled: Compiled,
@@ -40,7 +40,7 @@ impl Model for Chains {
 }
 
 impl Chains {
-    /// The chains of a descriptor. It takes no memory: a chain is worked out when it is first asked for.
+    /// Creates the chains of a descriptor, with an empty cache and without allocating.
     pub fn compile(alloc: Global, descriptor: &Descriptor) -> Chains
         ensures { result ≡ descriptor.now }
     {
@@ -50,11 +50,12 @@ impl Chains {
         }
     }
 
-    /// The filters that a dispatch passes, by their places: what [`chain_plain`] answers of the descriptor that the chains were compiled
-    /// of (Jakarta Servlet 6.0, section 6.2.4). A chain that is kept is shared and not worked out again.
+    /// Returns the filters that a dispatch passes, as indices (Jakarta Servlet 6.0, section 6.2.4): the result of
+    /// [`chain_plain`] for the descriptor, which must be the one that was compiled. A cached chain is shared and not
+    /// computed again.
     ///
     /// # Errors
-    /// `NoMemory` where a growth was refused that the chain needs. One that is needed to keep it may be refused.
+    /// `NoMemory` if an allocation that the chain needs fails. A failure to cache the chain is ignored.
     #[tactic(auto, using(crate::proofs::Growing::chain_in))]
     pub fn of(
         &mut self,
@@ -72,7 +73,7 @@ impl Chains {
         found_or_kept(&mut self.kept, alloc, descriptor, path, servlet, kind)
     }
 
-    /// How many chains are kept.
+    /// Returns the number of cached chains.
     pub fn count(&self) -> usize
         ensures { result ≤ MAX_KEPT_CHAINS }
     {
@@ -80,7 +81,7 @@ impl Chains {
     }
 }
 
-/// The chain that is kept, and else that of the descriptor, which is kept from here on.
+/// Returns the cached chain, or computes it from the descriptor and caches it if its path and servlet are short enough.
 fn found_or_kept(
     kept: &mut KeptChains,
     alloc: Global,
@@ -107,14 +108,14 @@ fn found_or_kept(
     Ok(chain)
 }
 
-/// Whether a chain of this path and this servlet is kept.
+/// Returns whether this path and this servlet are short enough for their chain to be cached.
 fn is_short(path: &str, servlet: &str) -> bool
     ensures { IsTrue result ↔ (length path.now + length servlet.now ≤ MAX_KEPT_BYTES) }
 {
     path.len() <= MAX_KEPT_BYTES && servlet.len() <= MAX_KEPT_BYTES - path.len()
 }
 
-/// Keeps a chain, unless memory is wanting. Where as many are kept as may be, all are let go first.
+/// Caches a chain, unless memory runs out. If the cache is full, all its chains are dropped first.
 fn keep_within_limit(
     kept: &mut KeptChains,
     alloc: Global,

@@ -1,4 +1,4 @@
-//! What chains were compiled of, for proofs alone.
+//! The descriptor of compiled chains, for proofs only.
 
 ghost use Rattle.std.specs.Prelude.{◌≡◌};
 ghost use Rattle.std.specs.Borrow.{ftrue};
@@ -7,7 +7,7 @@ ghost use Rattle.sv_descriptor.specs.declared.web_app.WebApp.{WebApp};
 use std::marker::Model;
 use sv_descriptor::Descriptor;
 
-/// The descriptor that chains were compiled of, as contracts see it. It takes no memory.
+/// The descriptor of compiled chains, as contracts see it. It takes no memory.
 #[derive(Drop)]
 pub(crate) struct Compiled {
     pub(crate) ghost app: { WebApp },
@@ -18,7 +18,7 @@ impl Model for Compiled {
 }
 
 impl Compiled {
-    /// Of this descriptor.
+    /// Creates the ghost copy of this descriptor.
     pub(crate) fn of(_descriptor: &Descriptor) -> Compiled
         ensures { result.app ≡ _descriptor.now }
     {

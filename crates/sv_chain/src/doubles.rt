@@ -1,4 +1,4 @@
-//! Places that stand once.
+//! Removing duplicate indices.
 
 ghost use Rattle.std.specs.Prelude.{◌≡◌, IfOk};
 ghost use Rattle.sv_chain.specs.FilterChain.{without_doubles};
@@ -6,7 +6,7 @@ ghost use Rattle.sv_chain.specs.FilterChain.{without_doubles};
 use std::alloc::Global;
 use sv_text::NoMemory;
 
-/// Each place where it stands first, and not again.
+/// Returns the distinct indices, in the order of their first occurrences.
 pub(crate) fn without_doubles(alloc: Global, places: &[usize]) -> Result<Vec<usize>, NoMemory>
     ensures { IfOk result (λ chain. chain.items ≡ without_doubles places.now) }
 {

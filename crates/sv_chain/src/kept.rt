@@ -1,4 +1,4 @@
-//! The chains that are kept, of all kinds of dispatches.
+//! The cached chains of all kinds of dispatches.
 
 ghost use Rattle.std.specs.Prelude.{◌≡◌, ◌≤◌, ◌+◌, ℕ, List, None, OnErr, OnOk};
 ghost use Rattle.std.specs.Option.{option_copied};
@@ -12,7 +12,7 @@ use std::alloc::Global;
 use sv_descriptor::Kind;
 use sv_text::NoMemory;
 
-/// The chains that are kept, by kind, path and servlet.
+/// The cached chains, by kind, path and servlet.
 #[derive(Drop)]
 pub(crate) struct KeptChains {
     pub(crate) request: ByPath,
@@ -22,7 +22,7 @@ pub(crate) struct KeptChains {
 }
 
 impl KeptChains {
-    /// None is kept.
+    /// Creates an empty cache.
     pub(crate) fn new(alloc: Global) -> KeptChains
         ensures none { (path servlet : List ℕ) (kind : Kind) → found result path servlet kind ≡ None }
         ensures count { count result ≡ 0 }
@@ -35,7 +35,7 @@ impl KeptChains {
         }
     }
 
-    /// How many are kept.
+    /// Returns the number of cached chains.
     pub(crate) fn count(&self) -> usize
         requires { count self.now ≤ MAX_KEPT_CHAINS }
         ensures { result ≡ count self.now }
@@ -43,7 +43,7 @@ impl KeptChains {
         self.request.count() + self.forward.count() + self.include.count() + self.error.count()
     }
 
-    /// The chain that is kept for the path, the servlet and the kind.
+    /// Returns the cached chain for the path, the servlet and the kind, if any.
     pub(crate) fn find(&self, path: &str, servlet: &str, kind: Kind) -> Option<&Chain>
         ensures { option_copied result ≡ found self.now path.now servlet.now kind }
     {
@@ -55,7 +55,7 @@ impl KeptChains {
         }
     }
 
-    /// Lets all go.
+    /// Drops all chains.
     pub(crate) fn clear(&mut self)
         ensures none { (path servlet : List ℕ) (kind : Kind) → found self.new path servlet kind ≡ None }
         ensures count { count self.new ≡ 0 }
@@ -66,10 +66,11 @@ impl KeptChains {
         self.error.clear();
     }
 
-    /// Keeps the chain of a path, a servlet and a kind, in the place of that of another servlet.
+    /// Caches the chain of a path, a servlet and a kind. It replaces the chain that was cached for the path and the
+    /// kind, if any.
     ///
     /// # Errors
-    /// `NoMemory` where a growth was refused: nothing is changed.
+    /// `NoMemory` if an allocation fails; the cache is then unchanged.
     pub(crate) fn keep(
         &mut self,
         alloc: Global,

@@ -1,4 +1,4 @@
-//! Which filters a dispatch passes, and in which order (Jakarta Servlet 6.0, section 6.2).
+//! The filters that a dispatch passes, and their order (Jakarta Servlet 6.0, section 6.2).
 #![tactic(auto)]
 
 mod by_path;

@@ -1,7 +1,7 @@
-//! The limits of the chains that are kept.
+//! The limits of the cache of chains.
 
-/// How many chains are kept at most: when another is needed, all are let go first.
+/// Maximum number of cached chains. When the cache is full, all are dropped before the next one is added.
 pub const MAX_KEPT_CHAINS: usize = 1_024;
 
-/// How many bytes a path and the name of its servlet have together at most, where their chain is kept.
+/// Maximum number of bytes of a path and the name of its servlet, together, for their chain to be cached.
 pub const MAX_KEPT_BYTES: usize = 1_024;

@@ -1,4 +1,4 @@
-//! Which dispatches a filter mapping is for (Jakarta Servlet 6.0, sections 6.2.4 and 6.2.5).
+//! The dispatches to which a filter mapping applies (Jakarta Servlet 6.0, sections 6.2.4 and 6.2.5).
 
 ghost use Rattle.std.specs.Prelude.{◌≡◌, ◌||◌, codes};
 ghost use Rattle.std.specs.List.{list_any};
@@ -10,14 +10,14 @@ use sv_descriptor::{FilterMapping, Kind};
 use sv_mapping::Pattern;
 use sv_text::Text;
 
-/// Whether the mapping is for dispatches of the kind, and one of its patterns matches the path.
+/// Returns whether the mapping is for dispatches of the kind, and one of its patterns matches the path.
 pub(crate) fn maps_path(mapping: &FilterMapping, kind: Kind, path: &str) -> bool
     ensures { result ≡ spec.maps_path kind path.now mapping.now }
 {
     is_for(mapping, kind) && matches_one(mapping.url_patterns.as_slice(), path)
 }
 
-/// Whether the mapping is for dispatches of the kind, and names the servlet or all servlets.
+/// Returns whether the mapping is for dispatches of the kind, and names the servlet or all servlets.
 pub(crate) fn maps_servlet(mapping: &FilterMapping, kind: Kind, servlet: &str) -> bool
     ensures { result ≡ spec.maps_servlet kind servlet.now mapping.now }
 {

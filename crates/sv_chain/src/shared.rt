@@ -1,4 +1,4 @@
-//! A chain that several owners share.
+//! A chain with shared ownership.
 
 ghost use Rattle.std.specs.Prelude.{◌≡◌};
 ghost use Rattle.sv_text.specs.Gives.{GivesAnswer};
@@ -8,8 +8,8 @@ use std::marker::Model;
 use std::rc::Rc;
 use sv_text::NoMemory;
 
-/// The filters that a dispatch passes, by their places. Whoever holds it keeps it, also where the chains that it came of are let go.
-/// Contracts see the list of the places.
+/// The filters that a dispatch passes, as indices. A shared chain stays valid when the cache drops it. Contracts see
+/// the list of the indices.
 #[derive(Drop)]
 pub struct Chain {
     places: Rc<Vec<usize>>,
@@ -24,10 +24,10 @@ impl Model for Chain {
 }
 
 impl Chain {
-    /// The chain of these places.
+    /// Creates a chain of these indices.
     ///
     /// # Errors
-    /// `NoMemory` where a growth was refused.
+    /// `NoMemory` if an allocation fails.
     pub(crate) fn of(alloc: Global, places: Vec<usize>) -> Result<Chain, NoMemory>
         ensures { GivesAnswer result places.items }
     {
@@ -36,17 +36,17 @@ impl Chain {
         })
     }
 
-    /// The places in their order.
+    /// Returns the indices in their order.
     pub fn as_slice(&self) -> &[usize]
         ensures { result.now ≡ self.now }
     {
         self.places.as_ref().as_slice()
     }
 
-    /// The same chain, for one more owner.
+    /// Returns the same chain, for one more owner.
     ///
     /// # Errors
-    /// `NoMemory` where no more owners can be counted.
+    /// `NoMemory` if no more owners can be counted.
     pub(crate) fn share(&self) -> Result<Chain, NoMemory>
         ensures { GivesAnswer result self.now }
     {

@@ -4,12 +4,12 @@ use std::alloc::Global;
 use sv_component::{Config, Exchange, Filter, Gate, Init};
 use sv_text::NoMemory;
 
-/// Fails to be initialised, so that its context does not start.
+/// Fails its initialization, so that its context does not start.
 #[derive(Drop)]
 pub struct Bad {}
 
 impl Bad {
-    /// A filter to be initialised.
+    /// Creates a filter that is not yet initialized.
     pub fn new() -> Bad {
         Bad {}
     }

@@ -12,7 +12,7 @@ use sv_text::NoMemory;
 pub struct Bye {}
 
 impl Bye {
-    /// A servlet to be initialised.
+    /// Creates a servlet that is not yet initialized.
     pub fn new() -> Bye {
         Bye {}
     }

@@ -1,4 +1,4 @@
-//! A servlet that answers an error.
+//! A servlet that responds with an error.
 
 ghost use Rattle.std.specs.Prelude.{◌≡◌};
 
@@ -7,14 +7,14 @@ use std::alloc::Global;
 use sv_component::{Config, Exchange, Init, Servlet, Step};
 use sv_text::Text;
 
-/// Answers an error with the code of its parameter `code`: the class `Err` of descriptors.
+/// Responds with an error, whose status code is the parameter `code`. Descriptors name this class `Err`.
 #[derive(Drop)]
 pub struct ErrorCode {
     code: u16,
 }
 
 impl ErrorCode {
-    /// A servlet to be initialised.
+    /// Creates a servlet that is not yet initialized.
     pub fn new() -> ErrorCode
         ensures { result ≡ record { code = 0 } }
     {

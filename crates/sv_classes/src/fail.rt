@@ -7,14 +7,14 @@ use std::alloc::Global;
 use sv_component::{Config, Exchange, Init, Servlet, Step};
 use sv_text::{NoMemory, Text};
 
-/// Fails by the kind of its parameter `kind`.
+/// Fails with the kind that its parameter `kind` names.
 #[derive(Drop)]
 pub struct Fail {
     kind: Text,
 }
 
 impl Fail {
-    /// A servlet to be initialised.
+    /// Creates a servlet that is not yet initialized.
     pub fn new(alloc: Global) -> Fail
         ensures { result ≡ record { kind = [] } }
     {

@@ -7,14 +7,14 @@ use std::alloc::Global;
 use sv_component::{Config, Exchange, Init, Servlet, Step};
 use sv_text::Text;
 
-/// Forwards to the path of its parameter `path`.
+/// Forwards to the path in its parameter `path`.
 #[derive(Drop)]
 pub struct Go {
     path: Text,
 }
 
 impl Go {
-    /// A servlet to be initialised.
+    /// Creates a servlet that is not yet initialized.
     pub fn new(alloc: Global) -> Go
         ensures { result ≡ record { path = [] } }
     {

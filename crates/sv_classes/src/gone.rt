@@ -1,4 +1,4 @@
-//! A servlet that goes out of service.
+//! A servlet that is out of service.
 
 ghost use Rattle.std.specs.Prelude.{◌≡◌};
 
@@ -6,14 +6,14 @@ use crate::parameter::number;
 use std::alloc::Global;
 use sv_component::{Config, Exchange, Init, Servlet, Step};
 
-/// Is out of service for the seconds of its parameter `seconds`, for good where that is empty.
+/// Is unavailable for the seconds in its parameter `seconds`, or permanently if that is empty.
 #[derive(Drop)]
 pub struct Gone {
     seconds: Option<u32>,
 }
 
 impl Gone {
-    /// A servlet to be initialised.
+    /// Creates a servlet that is not yet initialized.
     pub fn new() -> Gone
         ensures { result ≡ record { seconds = None } }
     {

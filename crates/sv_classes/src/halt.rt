@@ -1,16 +1,16 @@
-//! A filter that answers for all that stands behind it.
+//! A filter that responds instead of the rest of the chain.
 
 use crate::plain::write_plain;
 use std::alloc::Global;
 use sv_component::{Config, Exchange, Filter, Gate, Init};
 use sv_text::NoMemory;
 
-/// Writes a line, and lets nothing pass.
+/// Writes a line and stops the chain.
 #[derive(Drop)]
 pub struct Halt {}
 
 impl Halt {
-    /// A filter to be initialised.
+    /// Creates a filter that is not yet initialized.
     pub fn new() -> Halt {
         Halt {}
     }

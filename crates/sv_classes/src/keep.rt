@@ -8,13 +8,13 @@ use std::alloc::Global;
 use sv_component::{Config, Exchange, ExchangeFault, Init, Servlet, Step};
 use sv_text::{NoMemory, Text};
 
-/// Opens the session, raises the number in its attribute `n` by one, and writes it; it begins at 0 and stays at the greatest number. Where
-/// there is no session to be had, it answers 503.
+/// Opens the session, increments the number in its attribute `n`, and writes it. An attribute without a number counts
+/// as 0, and the greatest number stays. If no session can be opened, the response is an error 503.
 #[derive(Drop)]
 pub struct Keep {}
 
 impl Keep {
-    /// A servlet to be initialised.
+    /// Creates a servlet that is not yet initialized.
     pub fn new() -> Keep {
         Keep {}
     }

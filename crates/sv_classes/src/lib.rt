@@ -1,4 +1,4 @@
-//! The program's own component classes, written as any author writes them: no class has a line of proof.
+//! The program's own component classes, written as an application author writes them: no class contains a proof.
 #![tactic(auto)]
 
 mod bad;

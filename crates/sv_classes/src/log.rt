@@ -1,24 +1,24 @@
-//! A listener that counts.
+//! A listener that counts events.
 
 ghost use Rattle.std.specs.Prelude.{◌≡◌};
 
 use sv_component::{Event, Listener};
 
-/// Counts what it hears. The count stays at the greatest number.
+/// Counts the events that it receives. The count stays at the greatest number.
 #[derive(Drop)]
 pub struct Log {
     heard: u64,
 }
 
 impl Log {
-    /// A listener that has heard nothing.
+    /// Creates a listener that has received no event.
     pub fn new() -> Log
         ensures { result.heard ≡ 0 }
     {
         Log { heard: 0 }
     }
 
-    /// How many events it has heard.
+    /// Returns the number of events received.
     pub fn heard(&self) -> u64
         ensures { result ≡ self.now.heard }
     {

@@ -1,4 +1,4 @@
-//! A filter that leaves its name.
+//! A filter that adds its name to the response.
 
 ghost use Rattle.std.specs.Prelude.{◌≡◌, []};
 
@@ -7,14 +7,15 @@ use std::alloc::Global;
 use sv_component::{Config, Exchange, Filter, Gate, Init};
 use sv_text::{NoMemory, Text};
 
-/// Adds a field `x-mark` with the filter's name, and lets everything pass. A name that no field can hold is left out.
+/// Adds a header field `x-mark` with the filter's name, and continues the chain. A name that is not a valid field value
+/// is not added.
 #[derive(Drop)]
 pub struct Mark {
     name: Text,
 }
 
 impl Mark {
-    /// A filter to be initialised.
+    /// Creates a filter that is not yet initialized.
     pub fn new(alloc: Global) -> Mark
         ensures { result ≡ record { name = [] } }
     {

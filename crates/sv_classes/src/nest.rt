@@ -1,4 +1,4 @@
-//! A servlet that includes.
+//! A servlet that includes a path.
 
 ghost use Rattle.std.specs.Prelude.{◌≡◌, []};
 ghost use Rattle.sv_exchange.specs.Changing.{Reaches};
@@ -10,9 +10,9 @@ use sv_component::{Config, Exchange, Init, Servlet, Step};
 use sv_mapping::Kind;
 use sv_text::{NoMemory, Text};
 
-/// Counts its calls. At first it writes a line with `a` and the count, and includes the path of its parameter `path`; within an include it
-/// sets a field, which is ignored there, and writes a line with `b`; behind its own include it writes one with `c`. The count stays at the
-/// greatest number.
+/// Counts its calls. On the first turn it writes a line with `a` and the count, and includes the path in its parameter
+/// `path`. When included itself, it sets a header field, which has no effect, and writes a line with `b`. After its
+/// include returns, it writes a line with `c`. The count stays at the greatest number.
 #[derive(Drop)]
 pub struct Nest {
     path: Text,
@@ -20,7 +20,7 @@ pub struct Nest {
 }
 
 impl Nest {
-    /// A servlet to be initialised.
+    /// Creates a servlet that is not yet initialized.
     pub fn new(alloc: Global) -> Nest
         ensures { result ≡ record { path = []; calls = 0 } }
     {
@@ -30,7 +30,7 @@ impl Nest {
         }
     }
 
-    // Writes the first line, and asks for the include.
+    // Writes the first line and requests the include.
     fn include(&self, alloc: Global, exchange: &mut Exchange) -> Result<Step, NoMemory>
         ensures { Reaches exchange.old exchange.new }
     {

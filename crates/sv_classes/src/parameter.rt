@@ -1,4 +1,4 @@
-//! What components are told by their parameters.
+//! Initialization parameters of components.
 
 ghost use Rattle.std.specs.Prelude.{◌≡◌, []};
 
@@ -6,12 +6,12 @@ use std::alloc::Global;
 use sv_component::{Config, Init};
 use sv_text::{NoMemory, Text};
 
-/// The text of the parameter of that name, empty where there is none.
+/// Returns the parameter of this name, or an empty text if there is none.
 pub(crate) fn parameter(alloc: Global, config: &Config, name: &str) -> Result<Text, NoMemory> {
     Text::copy_of(alloc, config.param(name).unwrap_or(""))
 }
 
-/// Keeps the text of the parameter of that name, empty where there is none, and answers to the `init`.
+/// Stores the parameter of this name, or an empty text if there is none, and returns the result of `init`.
 pub(crate) fn keep_parameter(alloc: Global, config: &Config, name: &str, kept: &mut Text) -> Init {
     match parameter(alloc, config, name) {
         Ok(text) => {
@@ -22,14 +22,14 @@ pub(crate) fn keep_parameter(alloc: Global, config: &Config, name: &str, kept: &
     }
 }
 
-/// An empty text.
+/// Returns an empty text.
 pub(crate) fn no_text(alloc: Global) -> Text
     ensures { result ≡ [] }
 {
     Text::from_string(String::new(alloc))
 }
 
-/// The number that a text of decimal digits writes; 0 for any other text, and where the number does not fit.
+/// Returns the number that a text of decimal digits writes, or 0 for any other text and for a number out of range.
 pub(crate) fn number(text: &str) -> u64 {
     if are_digits(text.as_bytes()) {
         text.parse::<u64>().unwrap_or(0)

@@ -1,4 +1,4 @@
-//! A servlet that tells its paths.
+//! A servlet that writes its paths.
 
 ghost use Rattle.sv_exchange.specs.Changing.{Reaches};
 
@@ -7,12 +7,12 @@ use std::alloc::Global;
 use sv_component::{Config, Exchange, Init, Servlet, Step};
 use sv_text::NoMemory;
 
-/// Writes a line with the servlet path and the path info, `-` where there is none (Jakarta Servlet 6.0, section 3.5).
+/// Writes a line with the servlet path and the path info, or `-` if there is none (Jakarta Servlet 6.0, section 3.5).
 #[derive(Drop)]
 pub struct Paths {}
 
 impl Paths {
-    /// A servlet to be initialised.
+    /// Creates a servlet that is not yet initialized.
     pub fn new() -> Paths {
         Paths {}
     }

@@ -1,18 +1,19 @@
-//! Plain text.
+//! Plain text responses.
 
 ghost use Rattle.sv_exchange.specs.Changing.{Reaches};
 
 use sv_component::{Exchange, ExchangeFault, Step};
 use sv_text::NoMemory;
 
-/// Says that the answer is plain text. What an exchange ignores or refuses otherwise than for memory is left out.
+/// Sets the content type to plain text. Faults of the exchange are ignored, except running out of memory.
 pub(crate) fn set_plain(exchange: &mut Exchange) -> Result<(), NoMemory>
     ensures { Reaches exchange.old exchange.new }
 {
     unless_refused(exchange.set_header("content-type", "text/plain"))
 }
 
-/// Says that the answer is plain text, and writes the text. What an exchange ignores or refuses otherwise than for memory is left out.
+/// Sets the content type to plain text and writes the text. Faults of the exchange are ignored, except running out of
+/// memory.
 pub(crate) fn write_plain(exchange: &mut Exchange, text: &[u8]) -> Result<(), NoMemory>
     ensures { Reaches exchange.old exchange.new }
 {
@@ -20,7 +21,7 @@ pub(crate) fn write_plain(exchange: &mut Exchange, text: &[u8]) -> Result<(), No
     unless_refused(exchange.write(text))
 }
 
-/// What a changing call refused for memory comes to; the other faults are passed over.
+/// Returns the error of a call that ran out of memory. Any other fault is ignored.
 pub(crate) fn unless_refused(done: Result<bool, ExchangeFault>) -> Result<(), NoMemory> {
     match done {
         Err(ExchangeFault::NoMemory) => Err(NoMemory),
@@ -28,7 +29,7 @@ pub(crate) fn unless_refused(done: Result<bool, ExchangeFault>) -> Result<(), No
     }
 }
 
-/// The answer of a servlet that wrote what it had to write.
+/// Returns the step of a servlet that has written its response.
 pub(crate) fn done(written: Result<(), NoMemory>) -> Step {
     match written {
         Ok(()) => Step::Done,

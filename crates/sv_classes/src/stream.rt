@@ -1,4 +1,4 @@
-//! A servlet whose answer leaves in pieces.
+//! A servlet that sends its response in pieces.
 
 ghost use Rattle.std.specs.Prelude.{◌≡◌, []};
 ghost use Rattle.sv_exchange.specs.Changing.{Reaches};
@@ -9,14 +9,15 @@ use std::alloc::Global;
 use sv_component::{Config, Exchange, Init, Servlet, Step};
 use sv_text::{NoMemory, Text};
 
-/// Writes a line, flushes and writes another; then it fails by the kind of its parameter `kind`, where that is not empty.
+/// Writes a line, flushes, and writes another. Then it fails with the kind in its parameter `kind`, unless that is
+/// empty.
 #[derive(Drop)]
 pub struct Stream {
     kind: Text,
 }
 
 impl Stream {
-    /// A servlet to be initialised.
+    /// Creates a servlet that is not yet initialized.
     pub fn new(alloc: Global) -> Stream
         ensures { result ≡ record { kind = [] } }
     {

@@ -1,4 +1,4 @@
-//! A servlet that tells the caller.
+//! A servlet that writes the caller's name.
 
 ghost use Rattle.sv_exchange.specs.Changing.{Reaches};
 
@@ -7,15 +7,15 @@ use std::alloc::Global;
 use sv_component::{Config, Exchange, Init, Servlet, Step};
 use sv_text::{NoMemory, Text};
 
-// What stands in front of the caller's name.
+// The text before the caller's name.
 const FRONT: &str = "caller ";
 
-/// Writes a line with the caller's name, `-` where there is none.
+/// Writes a line with the caller's name, or `-` if there is none.
 #[derive(Drop)]
 pub struct Who {}
 
 impl Who {
-    /// A servlet to be initialised.
+    /// Creates a servlet that is not yet initialized.
     pub fn new() -> Who {
         Who {}
     }
@@ -40,7 +40,7 @@ fn write_caller(alloc: Global, exchange: &mut Exchange) -> Result<(), NoMemory>
     write_plain(exchange, line.as_bytes())
 }
 
-// The line that names a caller. That of a short name takes no memory.
+// Returns the line for a caller's name. The line of a short name allocates no memory.
 fn line_of(alloc: Global, name: &str) -> Result<Text, NoMemory> {
     let mut line = Text::with_room(alloc, name.len() + FRONT.len() + 1)?;
     line.push_str(alloc, FRONT)?;

@@ -1,4 +1,4 @@
--- Runs go on by lists of records.
+-- Runs extended by lists of records.
 use Rattle.std.proofs.Common.{List, [], ◌∷◌, ◌++◌, sym, subst}
 use Rattle.std.proofs.lemmas.List.{append-nil, append_assoc}
 use Rattle.sv_component.specs.Runs.{IsRun, Moves, Record, Runs}

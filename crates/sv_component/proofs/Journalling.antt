@@ -1,4 +1,4 @@
--- What a journal gains by one entry, and by a run.
+-- The entries that a journal gains from one record and from a run.
 use Rattle.std.proofs.Common.{◌≡◌, Bool, true, false, ◌⊎◌, inl, inr, List, [], ◌∷◌, ◌++◌, map, refl, sym, ◌∙◌, ap, subst}
 use Rattle.std.specs.Prelude.{cond}
 use Rattle.std.proofs.lemmas.Bool.{cases_Bool}
@@ -16,7 +16,7 @@ true_or_false b is_true is_false = absurd (cc)
 gains_none : (journal : JournalState) → Gains journal [] journal
 gains_none journal = record { front = []; rest = []; are = refl; gained = sym (append-nil journal.entries); all = λ whole. (whole, refl); none = λ _. refl }
 
--- what is gained where the entry was noted
+-- The entries gained if this entry was recorded.
 gains_noted : (before middle after : JournalState) (entry : Entry) (entries : List Entry) → before.whole ≡ true → middle ≡ with_entry entry before
     → Gains middle entries after → Gains before (entry ∷ entries) after
 gains_noted before middle after entry entries whole is gains = record {
@@ -28,7 +28,7 @@ gains_noted before middle after entry entries whole is gains = record {
   none = λ not_whole. true_or_false before.whole whole not_whole;
 }
 
--- what is gained where the journal is broken behind the entry, which was not noted
+-- The entries gained if the journal breaks without recording this entry.
 gains_broken : (before middle after : JournalState) (entry : Entry) (entries : List Entry) → middle.entries ≡ before.entries → middle.whole ≡ false
     → Gains middle entries after → Gains before (entry ∷ entries) after
 gains_broken before middle after entry entries same not_whole gains = record {

@@ -1,4 +1,4 @@
--- Which component a record moves, and that the others stay.
+-- A record moves one component and leaves the others as they are.
 use Rattle.std.proofs.Common.{◌≡◌, ◌≢◌, ℕ, ◌<◌, inl, inr, List, [], ◌∷◌, length, get_or, set, map, Option, Some, refl, sym, ◌∙◌, ap, subst, arith}
 use Rattle.std.specs.Prelude.{◌==◌, slice_get, unwrap_or}
 use Rattle.std.specs.Option.{option_map}
@@ -17,12 +17,12 @@ use Rattle.sv_component.specs.Steps.{ComponentSteps}
 use Rattle.sv_journal.specs.Entry.{heard}
 
 module _ {A : Type 0} (step : A → Call → A → Type 0) where
-  -- the calls of one list of components, made one after another
+  -- The calls of one list of components, made in order.
   unfoldable pub ListRuns : List A → List (ℕ × Call) → List A → Type 0
   ListRuns before [] after = after ≡ before
   ListRuns before (made ∷ others) after = (middle : List A) × MovesAt step before made.0 made.1 middle × ListRuns middle others after
 
-  -- the component that is moved, by what can be read of the lists
+  -- The component at the index moves from its entry in the first list to its entry in the second.
   moved_here : (before : List A) (place : ℕ) (call : Call) (after : List A) (moves : MovesAt step before place call after) (old : A)
       → slice_get before place ≡ Some old → (moves.old ≡ old) × (slice_get after place ≡ Some moves.moved)
   moved_here before place call after moves old is = (
@@ -64,7 +64,7 @@ module _ {A : Type 0} (step : A → Call → A → Type 0) where
       let moves : MovesAt step before made.0 made.1 ran.0 = ran.1 in
       list_length ran.0 after others ran.2 ∙ ap length moves.is ∙ length-set before made.0 moves.moved
 
--- components with names move as the components do, and keep their names
+-- A named component takes the steps of the component and keeps its name.
 module _ {C : Type 0} (step : C → Call → C → Type 0) where
   named_moved : (old : Named C) (calls : List Call) (new : Named C) → Moved (NamedStep step) old calls new → Moved step old.component calls new.component × (new.name ≡ old.name)
   unfolding Moved
@@ -79,7 +79,7 @@ module _ {C : Type 0} (step : C → Call → C → Type 0) where
   named_list_moved before after made ran place old new is_old is_new =
       named_moved old (calls_at place made) new (list_moved (NamedStep step) before after made ran place old new is_old is_new)
 
-  -- the names stay
+  -- The names do not change.
   pub same_names : (before : List (Named C)) (place : ℕ) (call : Call) (after : List (Named C)) → MovesAt (NamedStep step) before place call after → (wanted : ℕ)
       → name_at before wanted ≡ name_at after wanted
   same_names before place call after moves wanted = elim (cases_lt wanted (length before)) [
@@ -168,7 +168,7 @@ module _ {S F L : Type 0} (moving : ComponentSteps S F L) where
   filter_name from (OfFilter moved call) middle moves place = sym (same_names moving.filter from.filters moved call middle.filters moves.component.0 place)
   filter_name from (OfListener moved event) middle moves place = ap (λ xs. name_at xs place) moves.component.2
 
-  -- one record changes no context and no name, so entries are the same before and after
+  -- A record changes neither the context nor a name, so entries are the same before and after it.
   same_entry : (from : World S F L) (made : Record) (middle : World S F L) → Moves moving from made middle → (other : Record) → record_entry middle other ≡ record_entry from other
   same_entry from made middle moves (OfServlet place call) =
       ap (λ context. servlet_entry context (name_at middle.servlets place) call) moves.context

@@ -1,4 +1,4 @@
--- Runs go on by one record, and join.
+-- Runs extended by one record, and runs in sequence.
 use Rattle.std.proofs.Common.{List, [], ◌∷◌, ◌++◌, refl, subst}
 use Rattle.sv_component.specs.Runs.{IsRun, Moves, Record, Runs}
 use Rattle.sv_component.specs.World.{World}
@@ -17,11 +17,11 @@ module _ {S F L : Type 0} (moving : ComponentSteps S F L) where
   runs_join from middle to [] back ran more = subst (λ w. IsRun moving w back to) ran more
   runs_join from middle to (first ∷ others) back ran more = (ran.0, ran.1, runs_join ran.0 middle to others back ran.2 more)
 
-  -- one record more
+  -- One more record.
   pub grows_by : (before : World S F L) (made : Record) (after : World S F L) → Moves moving before made after → Runs moving before (made ∷ []) after
   grows_by before made after moves from done ran = runs_on from done before made after ran moves
 
-  -- what was made, from nothing on
+  -- The records by themselves form a run.
   pub runs_grown : (before after : World S F L) (records : List Record) → Runs moving before records after → IsRun moving before records after
   unfolding IsRun
   runs_grown before after records grows = grows before [] refl

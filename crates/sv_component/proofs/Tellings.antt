@@ -1,4 +1,4 @@
--- The telling order, one listener after another, and in a world with servlets and filters.
+-- The notification order, one listener after another, and in a world with servlets and filters.
 use Rattle.std.proofs.Common.{◌≡◌, ℕ, ◌+◌, ◌-◌, ◌<◌, Bool, true, false, List, [], ◌∷◌, ◌++◌, length, get_or, map, reverse, take, refl, sym, ◌∙◌, ap, ap₂, subst, arith}
 use Rattle.std.specs.Prelude.{cond}
 use Rattle.std.specs.List.{range_with_len}
@@ -14,7 +14,7 @@ use Rattle.sv_journal.specs.Journal.{JournalState, Takes}
 use Rattle.sv_event.specs.declared.event.Event.{Event}
 use Rattle.sv_component.specs.Telling.{Tells, hearing_order, is_end, listeners_alone, told}
 
--- the place that is next when so many have heard
+-- The index of the next listener, given the number of listeners already notified.
 place_by : Bool → ℕ → ℕ → ℕ
 place_by reversed count done = cond reversed (count - 1 - done) done
 
@@ -46,7 +46,7 @@ told_none event count = refl
 pub told_all : (event : Event) (count : ℕ) → take count (told event count) ≡ told event count
 told_all event count = take_all count (told event count) (omega (arith, length_told event count))
 
--- one listener more
+-- One more listener.
 pub told_more : (event : Event) (count done place : ℕ) → done < count → place ≡ cond (is_end event) (count - 1 - done) done
     → take (done + 1) (told event count) ≡ take done (told event count) ++ OfListener place event ∷ []
 unfolding told order_by place_by
@@ -58,9 +58,9 @@ told_more event count done place within is =
     (get_or-map (λ p. OfListener p event) (hearing_order event count) done 0 (OfListener 0 event) (omega (arith, within, len))
     ∙ ap (λ p. OfListener p event) (order_at (is_end event) count done within ∙ sym is))
 
--- what listeners alone hear, in a world with servlets and filters
+-- Notifications in a world with servlets and filters.
 module _ {S F L : Type 0} (moving : ComponentSteps S F L) where
-  -- the world with other listeners and another journal
+  -- The world with other listeners and another journal.
   abbrev pub heard_world : World S F L → List L → JournalState → World S F L
   heard_world world its_listeners its_journal = record world { listeners = its_listeners; journal = its_journal }
 

@@ -1,4 +1,5 @@
--- The calls of components, with the exchange before and after where there is one (Jakarta Servlet 6.0, chapters 2, 6 and 11).
+-- Calls of components, with the exchange before and after the call, if there is one (Jakarta Servlet 6.0, chapters 2, 6
+-- and 11).
 use Rattle.std.specs.Prelude.{ℕ, Bool}
 use Rattle.sv_component.specs.declared.answers.Gate.{Gate}
 use Rattle.sv_component.specs.declared.answers.Init.{Init}

@@ -1,4 +1,4 @@
--- Laws over runs, for components of any kind.
+-- Laws of runs, for components of any type.
 use Rattle.std.specs.Prelude.{◌≡◌, ◌↔◌, ℕ, List, ◌++◌, map, slice_get, Some}
 use Rattle.sv_component.specs.Call.{Call}
 use Rattle.sv_component.specs.Motion.{Moved, MovedAt, calls_at, filter_calls, listener_calls, servlet_calls}
@@ -8,13 +8,13 @@ use Rattle.sv_component.specs.declared.named.Named.{Named}
 use Rattle.sv_component.specs.Steps.{ComponentSteps}
 use Rattle.sv_journal.specs.Journal.{Gains}
 
--- the named component at a place moved by those calls, and has its name
+-- The named component at an index takes the steps of these calls and keeps its name.
 abbrev pub NamedMovedAt : {C : Type 0} → (C → Call → C → Type 0) → List (Named C) → ℕ → List Call → List (Named C) → Type 0
 NamedMovedAt {C} step before place calls after =
     (old new : Named C) → slice_get before place ≡ Some old → slice_get after place ≡ Some new
     → Moved step old.component calls new.component × (new.name ≡ old.name)
 
--- each component is moved by exactly its calls in the run, in their order
+-- Each component takes exactly the steps of its calls in the run, in order.
 pub record ComponentsMoved {S F L : Type 0} (moving : ComponentSteps S F L) (from : World S F L) (records : List Record) (to : World S F L) : Type 0 where
   pub servlets : (place : ℕ) → NamedMovedAt moving.servlet from.servlets place (calls_at place (servlet_calls records)) to.servlets
   pub filters : (place : ℕ) → NamedMovedAt moving.filter from.filters place (calls_at place (filter_calls records)) to.filters
@@ -26,19 +26,19 @@ RunsMoveComponents {S} {F} {L} moving =
     (from to : World S F L) (records : List Record) → IsRun moving from records to
     → ComponentsMoved moving from records to
 
--- the journal gains the entries of a run, or a front of them and breaks
+-- The journal gains the entries of a run, or gains a prefix of them and breaks.
 abbrev pub RunsAreJournalled : {S F L : Type 0} → ComponentSteps S F L → Type 0
 RunsAreJournalled {S} {F} {L} moving =
     (from to : World S F L) (records : List Record) → IsRun moving from records to
     → Gains from.journal (map (record_entry from) records) to.journal
 
--- two runs, one behind the other, are one
+-- Two runs in sequence form one run.
 abbrev pub RunsJoin : {S F L : Type 0} → ComponentSteps S F L → Type 0
 RunsJoin {S} {F} {L} moving =
     (from middle to : World S F L) (front back : List Record) → IsRun moving from front middle
     → IsRun moving middle back to → IsRun moving from (front ++ back) to
 
--- what is made behind whatever was done is a run, and a run may be made behind whatever was done
+-- Calls appended to any run form a run exactly if they form one by themselves.
 abbrev pub RunsAreWhole : {S F L : Type 0} → ComponentSteps S F L → Type 0
 RunsAreWhole {S} {F} {L} moving =
     (before after : World S F L) (records : List Record)

@@ -1,4 +1,4 @@
--- Calls of components as the journal notes them.
+-- Calls of components as journal entries.
 use Rattle.std.specs.Prelude.{ℕ, List, Some, None}
 use Rattle.sv_component.specs.declared.answers.Gate.{Gate}
 use Rattle.sv_component.specs.declared.answers.Gate.TheVariants as gates
@@ -34,13 +34,13 @@ gate_answer gates.Stop = answers.Stop
 gate_answer (gates.Failed kind text) = answers.Failed (Some kind)
 gate_answer gates.NoMemory = answers.NoMemory
 
--- the entry of a servlet's call: an `init`, a `service` or a `destroy`
+-- The entry of a servlet call: an `init`, a `service` or a `destroy`.
 abbrev pub servlet_entry : List ℕ → List ℕ → Call → Entry
 servlet_entry context name (Inited config answer) = called_servlet context name names.Init (Some (init_answer answer))
 servlet_entry context name (Serviced before turn step after) = called_servlet context name (names.Service turn) (Some (step_answer step))
 servlet_entry context name call = called_servlet context name names.Destroy None
 
--- the entry of a filter's call: an `init`, a `before`, an `after` or a `destroy`
+-- The entry of a filter call: an `init`, a `before`, an `after` or a `destroy`.
 abbrev pub filter_entry : List ℕ → List ℕ → Call → Entry
 filter_entry context name (Inited config answer) = called_filter context name names.Init (Some (init_answer answer))
 filter_entry context name (Entered before gate after) = called_filter context name names.Before (Some (gate_answer gate))

@@ -1,4 +1,4 @@
--- How a servlet stands (Jakarta Servlet 6.0, section 2.3.3.2).
+-- The availability of a servlet (Jakarta Servlet 6.0, section 2.3.3.2).
 use Rattle.std.specs.Prelude.{ℕ, Bool, true, false, nat_lt, if◌then◌else◌}
 use Rattle.sv_component.specs.declared.standing.Standing.{Standing}
 use Rattle.sv_component.specs.declared.standing.Standing.TheVariants.{Serving, Gone, Away}
@@ -8,7 +8,7 @@ is_gone Serving = false
 is_gone Gone = true
 is_gone (Away until) = false
 
--- a time away that has passed is over
+-- A servlet that was away is back in service once its time has passed.
 abbrev pub standing_now : ℕ → Standing → Standing
 standing_now moment Serving = Serving
 standing_now moment Gone = Gone

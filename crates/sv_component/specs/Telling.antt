@@ -1,5 +1,5 @@
--- The telling order (Jakarta Servlet 6.0, sections 11.3.3 and 11.3.4): listeners hear in the order in which the descriptor declares them,
--- and of what ends in reverse.
+-- The notification order (Jakarta Servlet 6.0, sections 11.3.3 and 11.3.4). Listeners receive events in the order of
+-- their declaration, and in reverse order when a context, request or session ends.
 use Rattle.std.specs.Prelude.{ℕ, Bool, true, false, List, [], length, map, reverse, if◌then◌else◌}
 use Rattle.std.specs.List.{range_with_len}
 use Rattle.sv_component.specs.Call.{Call}
@@ -10,7 +10,7 @@ use Rattle.sv_event.specs.declared.event.Event.{Event}
 use Rattle.sv_event.specs.declared.event.Event.TheVariants.{ContextInitialized, ContextDestroyed, RequestInitialized, RequestDestroyed, SessionCreated, SessionDestroyed, SessionIdChanged, AttributeAdded, AttributeReplaced, AttributeRemoved}
 use Rattle.sv_component.specs.Steps.{listening}
 
--- whether a context, a request or a session ends
+-- Whether a context, a request or a session ends.
 abbrev pub is_end : Event → Bool
 is_end ContextInitialized = false
 is_end ContextDestroyed = true
@@ -23,15 +23,15 @@ is_end (AttributeAdded number name) = false
 is_end (AttributeReplaced number name) = false
 is_end (AttributeRemoved number name) = false
 
--- the places of so many listeners, in the order in which they hear
+-- The indexes of this many listeners in notification order.
 abbrev pub hearing_order : Event → ℕ → List ℕ
 hearing_order event count = if is_end event then reverse (range_with_len 0 count) else range_with_len 0 count
 
--- each of so many listeners hears the event once
+-- Each of this many listeners receives the event once.
 unfoldable pub told : Event → ℕ → List Record
 told event count = map (λ place. OfListener place event) (hearing_order event count)
 
--- listeners with their journal, and no other component
+-- A world with listeners, their journal, and no other component.
 abbrev pub listeners_alone : {L : Type 0} → List ℕ → List L → JournalState → World (Unit {0}) (Unit {0}) L
 listeners_alone its_context its_listeners its_journal = record {
   context = its_context;
@@ -41,7 +41,7 @@ listeners_alone its_context its_listeners its_journal = record {
   journal = its_journal;
 }
 
--- the listeners hear the event in the telling order, each hearing followed by its entry
+-- The listeners receive the event in notification order, and the journal takes an entry after each.
 abbrev pub Tells : {L : Type 0} → (L → Call → L → Type 0) → List ℕ → Event → List L → JournalState → List L → JournalState → Type 0
 Tells listener_step context event listeners journal listeners_after journal_after =
     Runs (listening listener_step)

@@ -11,6 +11,6 @@ pub record World (S F L : Type 0) : Type 0 where
   pub listeners : List L
   pub journal : JournalState
 
--- the name of the component at a place
+-- The name of the component at an index.
 abbrev pub name_at : {C : Type 0} → List (Named C) → ℕ → List ℕ
 name_at components place = unwrap_or (option_map (λ named. named.name) (slice_get components place)) []

@@ -1,48 +1,49 @@
-//! What components answer.
+//! Results of component calls.
 
 use sv_text::Text;
 
-/// What a component answers to `init` (Jakarta Servlet 6.0, sections 2.3.2 and 6.2.1).
+/// The result of `init` (Jakarta Servlet 6.0, sections 2.3.2 and 6.2.1).
 #[derive(Clone, Copy, Debug, PartialEq, Eq)]
 pub enum Init {
-    /// It can be called.
+    /// The component can be called.
     Ready,
-    /// A servlet is not in service; it is not destroyed either. A filter's is a failure.
+    /// The servlet is not in service, and is not destroyed either. For a filter this is a failure.
     Unavailable,
     /// The context does not start.
     Failed,
-    /// A growth was refused; the context does not start.
+    /// Memory ran out. The context does not start.
     NoMemory,
 }
 
-/// What a servlet answers to `service` (Jakarta Servlet 6.0, section 2.3.3 and chapter 9).
+/// The result of `service` (Jakarta Servlet 6.0, section 2.3.3 and chapter 9).
 #[derive(Debug, Drop)]
 pub enum Step {
-    /// It is done.
+    /// The servlet is done.
     Done,
-    /// Another servlet or file is to answer in its place: a path in the context, with a query.
+    /// Another servlet or file answers instead: a path in the context, with a query.
     Forward(Text),
-    /// Another servlet or file is to write here, and this servlet is then called for its next turn: a path in the context, with a query.
+    /// Another servlet or file writes here, and then this servlet is called for its next turn: a path in the context,
+    /// with a query.
     Include(Text),
-    /// The answer is an error: its code, where one outside 400 to 599 counts as 500, and its text.
+    /// The response is an error: its code and its text. A code outside 400 to 599 counts as 500.
     Error(u16, Text),
-    /// It failed: the kind of the failure, by which an error page is chosen, and its text.
+    /// The servlet failed: the kind of the failure, which selects an error page, and its text.
     Failed(Text, Text),
-    /// It is out of service: for that many seconds, or for good.
+    /// The servlet is unavailable for this many seconds, or for good.
     Unavailable(Option<u32>),
-    /// A growth was refused.
+    /// Memory ran out.
     NoMemory,
 }
 
-/// What a filter answers to `before` (Jakarta Servlet 6.0, chapter 6).
+/// The result of `before` (Jakarta Servlet 6.0, chapter 6).
 #[derive(Debug, Drop)]
 pub enum Gate {
-    /// What stands behind it is called.
+    /// The rest of the chain is called.
     Pass,
-    /// What stands behind it is not called: the filter answered.
+    /// The rest of the chain is not called, since the filter has answered.
     Stop,
-    /// It failed: the kind of the failure, by which an error page is chosen, and its text.
+    /// The filter failed: the kind of the failure, which selects an error page, and its text.
     Failed(Text, Text),
-    /// A growth was refused.
+    /// Memory ran out.
     NoMemory,
 }

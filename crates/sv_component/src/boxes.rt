@@ -1,4 +1,4 @@
-//! Components in boxes: a box takes the steps of what stands in it.
+//! Boxed components. A box takes the steps of its content.
 
 use crate::answers::{Gate, Init, Step};
 use crate::components::{Filter, Listener, Servlet};

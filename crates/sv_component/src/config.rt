@@ -1,15 +1,16 @@
-//! What a component is begun with.
+//! The configuration of a component.
 
 use sv_text::{Listed, Text};
 
-/// A component's name and parameters, as its descriptor gives them (Jakarta Servlet 6.0, sections 2.3.2 and 6.2.1).
+/// The name and the parameters of a component, as its descriptor gives them (Jakarta Servlet 6.0, sections 2.3.2 and
+/// 6.2.1).
 #[derive(Debug, Drop)]
 pub struct Config {
     pub name: Text,
     pub params: Listed<Param>,
 }
 
-/// An initialisation parameter.
+/// An initialization parameter.
 #[derive(Debug, Drop)]
 pub struct Param {
     pub name: Text,
@@ -21,7 +22,7 @@ impl Config {
     ghost use Rattle.std.specs.Option.{option_copied};
     ghost use Rattle.sv_component.specs.Config.{param_of};
 
-    /// The value of the first parameter of that name, `None` where there is none.
+    /// Returns the value of the first parameter with this name, if any.
     pub fn param(&self, name: &str) -> Option<&str>
         ensures { option_copied result ≡ param_of name.now self.now.params }
     {

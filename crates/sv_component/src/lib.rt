@@ -1,4 +1,4 @@
-//! The interfaces of components, what is said of their calls, and how listeners are told what happened.
+//! The interfaces of components, the model of their calls, and the notification of listeners.
 #![tactic(auto)]
 
 mod answers;

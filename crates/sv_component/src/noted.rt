@@ -1,4 +1,4 @@
-//! Answers of components, as the journal keeps them.
+//! Results of component calls, as the journal records them.
 
 ghost use Rattle.std.specs.Prelude.{◌≡◌};
 ghost use Rattle.sv_text.specs.Gives.{GivesAnswer};
@@ -9,7 +9,7 @@ use std::alloc::Global;
 use sv_journal::Answer;
 use sv_text::{NoMemory, Text};
 
-/// The answer to an `init`.
+/// Returns the journal's record of the result of an `init`.
 pub fn init_answer(answer: Init) -> Answer
     ensures { result ≡ init_answer answer }
 {
@@ -21,7 +21,7 @@ pub fn init_answer(answer: Init) -> Answer
     }
 }
 
-/// The answer to a `service`.
+/// Returns the journal's record of the result of a `service`.
 pub fn step_answer(alloc: Global, step: &Step) -> Result<Answer, NoMemory>
     ensures { GivesAnswer result (step_answer step.now) }
 {
@@ -36,7 +36,7 @@ pub fn step_answer(alloc: Global, step: &Step) -> Result<Answer, NoMemory>
     })
 }
 
-/// The answer to a `before`.
+/// Returns the journal's record of the result of a `before`.
 pub fn gate_answer(alloc: Global, gate: &Gate) -> Result<Answer, NoMemory>
     ensures { GivesAnswer result (gate_answer gate.now) }
 {

@@ -1,21 +1,21 @@
-//! How a servlet stands.
+//! The availability of a servlet.
 
 ghost use Rattle.std.specs.Prelude.{◌≡◌};
 ghost use Rattle.sv_component.specs.Standing.{is_gone, standing_now};
 
-/// How a servlet stands (Jakarta Servlet 6.0, section 2.3.3.2).
+/// The availability of a servlet (Jakarta Servlet 6.0, section 2.3.3.2).
 #[derive(Clone, Copy, Debug, PartialEq, Eq)]
 pub enum Standing {
-    /// It is called.
+    /// The servlet is in service.
     Serving,
-    /// It is out of service for good.
+    /// The servlet is out of service for good.
     Gone,
-    /// It is out of service until that moment, in seconds since 1970.
+    /// The servlet is out of service until this time, in seconds since 1970.
     Away(u64),
 }
 
 impl Standing {
-    /// Whether the servlet is out of service for good. It is not called then.
+    /// Returns whether the servlet is out of service for good. It is then not called.
     pub fn is_gone(self) -> bool
         ensures { result ≡ is_gone self }
     {
@@ -26,7 +26,8 @@ impl Standing {
         }
     }
 
-    /// How the servlet stands at a moment, in seconds since 1970: a time away is over at the moment until which it goes.
+    /// Returns the availability at a time, in seconds since 1970. A servlet that was away is back in service at its
+    /// `until` time.
     pub fn at(self, moment: u64) -> Standing
         ensures { result ≡ standing_now moment self }
     {

@@ -1,4 +1,4 @@
-//! Each listener hears an event, in the telling order.
+//! Notifying listeners of an event.
 
 ghost use Rattle.sv_component.specs.Steps.{listening};
 ghost use Rattle.std.specs.Prelude.{◌≡◌, ◌-◌, ◌<◌, length, if◌then◌else◌};
@@ -10,8 +10,8 @@ use std::alloc::Global;
 use sv_event::Event;
 use sv_journal::{Entry, Journal};
 
-/// Has each listener hear the event once, in the telling order (Jakarta Servlet 6.0, sections 11.3.3 and 11.3.4), each hearing followed
-/// by its entry. Where an entry finds no memory the journal breaks, and the listeners are told all the same.
+/// Notifies each listener once, in notification order (Jakarta Servlet 6.0, sections 11.3.3 and 11.3.4), and journals
+/// each notification. If memory for an entry runs out, the journal breaks, and the listeners are still notified.
 pub fn tell<L: Listener>(
     alloc: Global,
     context: &str,
@@ -28,7 +28,7 @@ pub fn tell<L: Listener>(
     }
 }
 
-// Has the listener at the place hear the event.
+// Notifies the listener at an index.
 fn hear<L: Listener>(
     alloc: Global,
     context: &str,
@@ -46,7 +46,7 @@ fn hear<L: Listener>(
     journal.note(Entry::told(alloc, context, place, event));
 }
 
-// The place of the listener that hears when so many of them have heard.
+// Returns the index of the next listener, given the number of listeners already notified.
 fn hearing_place(event: &Event, count: usize, told: usize) -> usize
     requires { told < count }
     ensures { result ≡ (if is_end event.now then count - 1 - told else told) }
@@ -58,7 +58,7 @@ fn hearing_place(event: &Event, count: usize, told: usize) -> usize
     }
 }
 
-// Whether a context, a request or a session ends.
+// Returns whether a context, a request or a session ends.
 fn is_end(event: &Event) -> bool
     ensures { result ≡ is_end event.now }
 {

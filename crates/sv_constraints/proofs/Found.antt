@@ -1,4 +1,4 @@
--- What is found in the covering constraints decides as the table does.
+-- The findings for the covering constraints decide as the table does.
 use Rattle.std.proofs.Common.{◌≡◌, ℕ, ◌+◌, ◌<◌, true, false, List, [], ◌∷◌, ◌++◌, length, take, get_or, append-nil, Option, Some, ap, sym, ◌∙◌}
 use Rattle.std.specs.Prelude.{cond}
 use Rattle.std.proofs.lemmas.List.Elements.{filter_more}
@@ -13,19 +13,19 @@ use Rattle.sv_constraints.specs.declared.constraint.Constraint.{Constraint}
 use Rattle.sv_constraints.specs.declared.findings.Findings.{Findings}
 use Rattle.sv_constraints.specs.declared.rules.Rules.{Rules}
 
--- what is found in constraints and one more
+-- The findings after one more constraint.
 pub found_more : (rules : Rules) (caller : Option Caller) (members : List Constraint) (c : Constraint) → with_one rules caller c (findings_of rules caller members) ≡ findings_of rules caller (members ++ c ∷ [])
 found_more rules caller members c =
     cc (least_number_more members c, least_where_more precludes members c, any_more permits_plain members c, least_where_more is_open members c, least_where_more (admits_caller rules caller) members c)
 
--- the covering constraints among one more
+-- The covering constraints after one more constraint, which covers the request or does not.
 covering_more : (constraints : List Constraint) (pattern method : List ℕ) (i : ℕ) (c : Constraint) → i < length constraints → c ≡ get_or constraints i c → covering (take (i + 1) constraints) (Some pattern) method ≡ covering (take i constraints) (Some pattern) method ++ cond (covers c pattern method) (c ∷ []) []
 covering_more constraints pattern method i c within at_i =
     filter_more (λ constraint. covers constraint pattern method) constraints i c within
     ∙ ap (λ x. covering (take i constraints) (Some pattern) method ++ cond (covers x pattern method) (x ∷ []) []) (sym at_i)
 
 module _ (rules : Rules) (caller : Option Caller) (constraints : List Constraint) (pattern method : List ℕ) (i : ℕ) (c : Constraint) (found : Findings) where
-  -- one more constraint, which covers the request, or does not
+  -- The findings after one more constraint that covers the request, or that does not.
   pub found_covered : i < length constraints → c ≡ get_or constraints i c → covers c pattern method ≡ true → found ≡ findings_of rules caller (covering (take i constraints) (Some pattern) method) → with_one rules caller c found ≡ findings_of rules caller (covering (take (i + 1) constraints) (Some pattern) method)
   found_covered within at_i is_covered is_found =
       ap (with_one rules caller c) is_found
@@ -40,12 +40,12 @@ module _ (rules : Rules) (caller : Option Caller) (constraints : List Constraint
       ∙ ap (λ covered. findings_of rules caller (covering (take i constraints) (Some pattern) method ++ cond covered (c ∷ []) [])) (sym is_uncovered)
       ∙ ap (findings_of rules caller) (sym (covering_more constraints pattern method i c within at_i))
 
--- the table at what is found in constraints is the table at these constraints
+-- The table applied to the findings gives the same as the table applied to the constraints.
 decided_at : (rules : Rules) (caller : Option Caller) (pattern : List ℕ) (members : List Constraint) → decided rules caller (Some pattern) (findings_of rules caller members) ≡ verdict_at rules caller (Some pattern) members
 decided_at rules caller pattern members =
     rw (none_number members, some_where precludes members, some_where is_open members, some_where (admits_caller rules caller) members)
 
--- so what is found in the constraints that cover a request at its best pattern gives the verdict
+-- The findings for the constraints that cover a request at its best pattern give the verdict.
 pub decided_is_verdict : (constraints : List Constraint) (rules : Rules) (method path : List ℕ) (caller : Option Caller) (pattern : List ℕ) (found : Findings) (decision : OwnedDecision) → Some pattern ≡ best_pattern (all_patterns constraints) path → found ≡ findings_of rules caller (covering constraints (Some pattern) method) → decision ≡ decided rules caller (Some pattern) found → decision ≡ verdict constraints rules method path caller
 decided_is_verdict constraints rules method path caller pattern found decision best is_found is_decided =
     is_decided ∙ ap (decided rules caller (Some pattern)) is_found

@@ -1,4 +1,4 @@
--- The least numbers of constraints, and what is found in them.
+-- Least numbers of constraints, and findings.
 use Rattle.std.proofs.Common.{arith, append-nil, ◌≡◌, ℕ, Bool, true, false, List, [], ◌∷◌, ◌++◌, length, refl, ap, ◌∙◌, min, Option, None, Some, ◌==◌, ◌||◌}
 use Rattle.std.specs.Prelude.{map, filter, is_some, is_none, fold, cond}
 use Rattle.std.specs.Bool.{then_some}
@@ -10,7 +10,7 @@ use Rattle.sv_constraints.specs.Findings.{lesser}
 use Rattle.sv_constraints.specs.Verdict.{least_number, least_where}
 use Rattle.sv_constraints.specs.declared.constraint.Constraint.{Constraint}
 
--- the least of numbers and one more
+-- The least of a list of numbers after one more.
 fold_more : (n m : ℕ) (ns : List ℕ) → fold min n (ns ++ m ∷ []) ≡ min (fold min n ns) m
 fold_more n m [] = refl
 fold_more n m (k ∷ ns) = fold_more (min n k) m ns
@@ -23,12 +23,12 @@ lesser_none : (found : Option ℕ) → found ≡ lesser found None
 lesser_none None = refl
 lesser_none (Some n) = refl
 
--- the least number of constraints and one more
+-- The least number after one more constraint.
 pub least_number_more : (members : List Constraint) (c : Constraint) → least_number (members ++ c ∷ []) ≡ lesser (least_number members) (Some c.number)
 least_number_more members c =
     ap (reduce min) (map-append (λ member. member.number) members (c ∷ [])) ∙ least_more (map (λ member. member.number) members) c.number
 
--- the same where only a constraint that passes the test is counted
+-- The least number after one more constraint, which counts only if it passes the test.
 least_filtered : (b : Bool) (members : List Constraint) (c : Constraint) → least_number (members ++ cond b (c ∷ []) []) ≡ lesser (least_number members) (then_some b c.number)
 least_filtered true members c = least_number_more members c
 least_filtered false members c = ap least_number (append-nil members) ∙ lesser_none (least_number members)
@@ -44,7 +44,7 @@ or_nothing a false = refl
 pub any_more : (test : Constraint → Bool) (members : List Constraint) (c : Constraint) → list_any test (members ++ c ∷ []) ≡ (list_any test members || test c)
 any_more test members c = list_any-append test members (c ∷ []) ∙ or_nothing (list_any test members) (test c)
 
--- there is a least number where there is a constraint
+-- A list has a least number if a constraint was added to it, or if it had one before.
 is_some_cons : (b : Bool) (c : Constraint) (members : List Constraint) → is_some (least_number (cond b (c ∷ members) members)) ≡ (b || is_some (least_number members))
 is_some_cons true c members = refl
 is_some_cons false c members = refl

@@ -1,4 +1,4 @@
--- Jakarta Servlet 6.0, section 13.8: what can be decided for a request, as contracts see it, and its text.
+-- The decisions on a request, their values in contracts and their texts (Jakarta Servlet 6.0, section 13.8).
 use Rattle.std.specs.Prelude.{ℕ, List, ◌++◌, codes, unwrap_or}
 use Rattle.std.specs.Option.{option_copied, option_map_or}
 use Rattle.std.specs.Fmt.{decimal}
@@ -11,7 +11,7 @@ use Rattle.sv_constraints.specs.declared.owned_decision.OwnedDecision.{OwnedDeci
 use Rattle.sv_constraints.specs.declared.owned_decision.OwnedDecision.TheVariants.{Open, Login, Denied}
 use Rattle.sv_constraints.specs.declared.owned_decision.OwnedWhy.{OwnedWhy}
 
--- a decision as its reader sees it: a borrowed pattern is its text
+-- The value of a decision in contracts: a borrowed pattern is its text.
 abbrev pub seen_why : Why → OwnedWhy
 seen_why why = record { pattern = option_copied why.pattern; number = why.number; cause = why.cause }
 
@@ -47,6 +47,6 @@ word (Open why) = codes "open"
 word (Login why) = codes "login"
 word (Denied why) = codes "denied"
 
--- the decision's word, a blank, and why
+-- The word of the decision, a blank, and the reason.
 abbrev pub decision_text : OwnedDecision → List ℕ
 decision_text decision = word decision ++ codes " " ++ why_text (why_of decision)

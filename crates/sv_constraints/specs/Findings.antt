@@ -1,4 +1,4 @@
--- What a pass over the constraints finds: the numbers and tests of the verdict's table.
+-- The findings of a pass over the constraints: the numbers and tests that the table of the verdict needs.
 use Rattle.std.specs.Prelude.{ℕ, List, [], ◌∷◌, ◌||◌, not, min, Option, None, Some, is_none, is_some}
 use Rattle.std.specs.Bool.{then_some}
 use Rattle.std.specs.List.{list_any}
@@ -11,7 +11,7 @@ use Rattle.sv_constraints.specs.declared.owned_decision.OwnedDecision.{OwnedDeci
 use Rattle.sv_constraints.specs.declared.owned_decision.OwnedDecision.TheVariants.{Open, Login, Denied}
 use Rattle.sv_constraints.specs.declared.rules.Rules.{Rules}
 
--- what there is to find in the constraints that cover a request
+-- The findings for the constraints that cover a request.
 abbrev pub findings_of : Rules → Option Caller → List Constraint → Findings
 findings_of rules caller members = record {
   covering = least_number members;
@@ -21,13 +21,13 @@ findings_of rules caller members = record {
   admitting = least_where (admits_caller rules caller) members;
 }
 
--- the lesser of two numbers, where there are any
+-- The lesser of two numbers, or the only one present, if any.
 abbrev pub lesser : Option ℕ → Option ℕ → Option ℕ
 lesser None other = other
 lesser (Some number) None = Some number
 lesser (Some number) (Some other) = Some (min number other)
 
--- what there is to find with one more constraint
+-- The findings after one more constraint.
 abbrev pub with_one : Rules → Option Caller → Constraint → Findings → Findings
 with_one rules caller constraint found = record {
   covering = lesser found.covering (Some constraint.number);
@@ -37,7 +37,7 @@ with_one rules caller constraint found = record {
   admitting = lesser found.admitting (then_some (admits_caller rules caller constraint) constraint.number);
 }
 
--- the verdict's table, at what was found
+-- The table of the verdict, applied to findings.
 abbrev pub decided : Rules → Option Caller → Option (List ℕ) → Findings → OwnedDecision
 decided rules caller pattern found = first_case
     ((is_none found.covering, uncovered rules (because pattern None cause.Uncovered))

@@ -1,4 +1,4 @@
--- Jakarta Servlet 6.0, section 13.8: laws of the verdict.
+-- Theorems about the verdict (Jakarta Servlet 6.0, section 13.8).
 use Rattle.std.specs.Prelude.{◌≡◌, ℕ, Bool, true, not, ◌&&◌, ◌==◌, List, [], ◌∷◌, ◌++◌, length, filter, Option, None, Some, is_none}
 use Rattle.std.specs.Bool.{then_some}
 use Rattle.std.specs.List.{list_any}
@@ -13,7 +13,7 @@ use Rattle.sv_constraints.specs.declared.owned_decision.OwnedDecision.{OwnedDeci
 use Rattle.sv_constraints.specs.declared.owned_decision.OwnedDecision.TheVariants.{Open, Login, Denied}
 use Rattle.sv_constraints.specs.declared.rules.Rules.{Rules}
 
--- the eight cases, each with its full condition: no case before it holds, and it does
+-- The eight cases, each with its full condition: it holds, and no earlier case does.
 abbrev pub full_cases : Rules → Option Caller → Option (List ℕ) → List Constraint → List (Bool × OwnedDecision)
 full_cases rules caller pattern members =
     (is_none pattern, Open (because pattern None NoPattern))
@@ -44,13 +44,13 @@ full_cases rules caller pattern members =
     known : Bool
     known = closed && not (is_none caller)
 
--- of the eight cases just one holds, and it gives the verdict
+-- Exactly one of the eight cases holds, and it gives the verdict.
 abbrev pub JustOneCaseHolds : Type 0
 JustOneCaseHolds =
     (rules : Rules) (caller : Option Caller) (pattern : Option (List ℕ)) (members : List Constraint) →
     filter (λ row. row.0) (full_cases rules caller pattern members) ≡ (true, verdict_at rules caller pattern members) ∷ []
 
--- lists of constraints with the same best pattern and the same covering constraints there give the same verdict
+-- Lists of constraints with the same best pattern and the same covering constraints there give the same verdict.
 abbrev pub OnlyTheBestPatternDecides : Type 0
 OnlyTheBestPatternDecides =
     (constraints others : List Constraint) (rules : Rules) (method path : List ℕ) (caller : Option Caller) (pattern : Option (List ℕ)) →
@@ -58,17 +58,17 @@ OnlyTheBestPatternDecides =
     covering constraints pattern method ≡ covering others pattern method →
     verdict constraints rules method path caller ≡ verdict others rules method path caller
 
--- the least number of the constraints that pass a test, of constraints and one more
+-- The least number of the constraints that pass a test, after one more constraint.
 abbrev pub LeastOfOneMore : Type 0
 LeastOfOneMore = (test : Constraint → Bool) (members : List Constraint) (constraint : Constraint) →
     least_where test (members ++ constraint ∷ []) ≡ lesser (least_where test members) (then_some (test constraint) constraint.number)
 
--- what is found in constraints and one more
+-- The findings after one more constraint.
 abbrev pub FindingsOfOneMore : Type 0
 FindingsOfOneMore = (rules : Rules) (caller : Option Caller) (members : List Constraint) (constraint : Constraint) →
     with_one rules caller constraint (findings_of rules caller members) ≡ findings_of rules caller (members ++ constraint ∷ [])
 
--- what is found in the constraints that cover a request at its best pattern gives the verdict
+-- The findings for the constraints that cover a request at its best pattern give the verdict.
 abbrev pub FindingsDecide : Type 0
 FindingsDecide =
     (constraints : List Constraint) (rules : Rules) (method path : List ℕ) (caller : Option Caller) (pattern : List ℕ) →

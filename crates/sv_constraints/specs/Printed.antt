@@ -1,4 +1,4 @@
--- A reason by the parts that are printed.
+-- The reason with the printed parts.
 use Rattle.std.specs.Option.{option_copied}
 use Rattle.sv_constraints.specs.declared.owned_decision.OwnedWhy.{OwnedWhy}
 use Rattle.sv_constraints.specs.declared.printed.PrintedWhy.{PrintedWhy}

@@ -1,4 +1,4 @@
--- Jakarta Servlet 6.0, sections 13.8.1, 13.8.3 and 13.8.4: the verdict on a request, as a table of eight cases.
+-- The verdict on a request, as a table of eight cases (Jakarta Servlet 6.0, sections 13.8.1, 13.8.3 and 13.8.4).
 use Rattle.std.specs.Prelude.{ℕ, Bool, true, false, not, cond, ◌==◌, List, [], ◌∷◌, length, filter, map, min, Option, None, is_none, if◌then◌else◌}
 use Rattle.std.specs.List.{list_any, reduce}
 use Rattle.sv_mapping.specs.BestMatch.{best_pattern}
@@ -17,32 +17,32 @@ use Rattle.sv_constraints.specs.declared.owned_decision.OwnedDecision.TheVariant
 use Rattle.sv_constraints.specs.declared.owned_decision.OwnedWhy.{OwnedWhy}
 use Rattle.sv_constraints.specs.declared.rules.Rules.{Rules}
 
--- the least number of the constraints, if there is one
+-- The least number of the constraints, if there is one.
 abbrev pub least_number : List Constraint → Option ℕ
 least_number members = reduce min (map (λ member. member.number) members)
 
--- the least number of those that pass the test
+-- The least number of the constraints that pass the test, if any.
 abbrev pub least_where : (Constraint → Bool) → List Constraint → Option ℕ
 least_where test members = least_number (filter test members)
 
--- whether there is an authorization constraint, and its list of roles is empty
+-- Whether there is an authorization constraint, and its list of roles is empty.
 abbrev pub names_nobody : Auth → Bool
 names_nobody Absent = false
 names_nobody (Roles names) = length names == 0
 
--- whether there is no authorization constraint
+-- Whether there is no authorization constraint.
 abbrev pub is_absent : Auth → Bool
 is_absent Absent = true
 is_absent (Roles names) = false
 
--- whether a plain connection will do
+-- Whether a plain connection is sufficient.
 abbrev pub allows_plain : Transport → Bool
 allows_plain transport.Absent = true
 allows_plain transport.Plain = true
 allows_plain transport.Integral = false
 allows_plain transport.Confidential = false
 
--- the tests of the table on a constraint
+-- The tests of a constraint in the table.
 abbrev pub precludes : Constraint → Bool
 precludes constraint = names_nobody constraint.auth
 
@@ -55,20 +55,20 @@ is_open constraint = is_absent constraint.auth
 abbrev pub admits_caller : Rules → Option Caller → Constraint → Bool
 admits_caller rules caller constraint = admits rules.declared caller constraint.auth
 
--- the verdict of the first row whose test holds, or else the last verdict
+-- The verdict of the first row whose test holds, or the last verdict if none does.
 abbrev pub first_case : List (Bool × OwnedDecision) → OwnedDecision → OwnedDecision
 first_case [] last = last
 first_case (row ∷ rows) last = cond row.0 row.1 (first_case rows last)
 
--- why, at a best pattern
+-- The reason at a best pattern.
 abbrev pub because : Option (List ℕ) → Option ℕ → Cause → OwnedWhy
 because pattern number cause = record { pattern = pattern; number = number; cause = cause }
 
--- an uncovered request passes, unless such requests are denied
+-- An uncovered request passes, unless such requests are denied.
 abbrev pub uncovered : Rules → OwnedWhy → OwnedDecision
 uncovered rules grounds = if rules.deny_uncovered then Denied grounds else Open grounds
 
--- the table, at the text of the best pattern and the constraints that cover the method there
+-- The table for the text of the best pattern and the constraints that cover the method there.
 abbrev pub cases : Rules → Option Caller → Option (List ℕ) → List Constraint → List (Bool × OwnedDecision)
 cases rules caller pattern members =
     (is_none pattern, Open (because pattern None cause.NoPattern))
@@ -84,7 +84,7 @@ abbrev pub verdict_at : Rules → Option Caller → Option (List ℕ) → List C
 verdict_at rules caller pattern members =
     first_case (cases rules caller pattern members) (Denied (because pattern (least_number members) cause.NoRole))
 
--- the verdict on a request
+-- The verdict on a request.
 abbrev pub verdict : List Constraint → Rules → List ℕ → List ℕ → Option Caller → OwnedDecision
 verdict constraints rules method path caller =
     let pattern = best_pattern (all_patterns constraints) path in verdict_at rules caller pattern (covering constraints pattern method)

@@ -5,18 +5,18 @@ ghost use Rattle.sv_constraints.specs.Decision.{cause_text};
 
 use std::fmt;
 
-/// The cases of the verdict, in their order: the first that holds decides (Jakarta Servlet 6.0, section 13.8).
+/// The cases of the verdict, in order: the first that holds decides (Jakarta Servlet 6.0, section 13.8).
 #[derive(Clone, Copy, Debug, PartialEq, Eq)]
 pub enum Cause {
     /// Open: no pattern matches the path.
     NoPattern = 1,
-    /// Open, or denied where uncovered methods are denied: no constraint covers the method at the best pattern.
+    /// Open, or denied if uncovered methods are denied: no constraint covers the method at the best pattern.
     Uncovered = 2,
     /// Denied: a covering constraint names no roles.
     Precluded = 3,
     /// Denied: no covering constraint allows a plain connection.
     Transport = 4,
-    /// Open: a covering constraint asks for no authorization.
+    /// Open: a covering constraint has no authorization constraint.
     Unauthenticated = 5,
     /// Login: there is no caller.
     NeedsCaller = 6,
@@ -27,7 +27,7 @@ pub enum Cause {
 }
 
 impl Cause {
-    /// The cause's name.
+    /// Returns the name of the cause.
     pub fn name(self) -> &'static str
         ensures { result.now ≡ cause_text self }
     {

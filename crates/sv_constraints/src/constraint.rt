@@ -1,4 +1,4 @@
-//! A security constraint: what it covers, who may pass it, and over which transport.
+//! Security constraints: the requests they cover, the callers they admit and the transport they require.
 
 use sv_mapping::Pattern;
 use sv_text::{Listed, Text};
@@ -7,55 +7,55 @@ use sv_text::{Listed, Text};
 /// (Jakarta Servlet 6.0, section 13.8).
 #[derive(Drop)]
 pub struct Collection {
-    /// The patterns, which are compared with the best pattern by their texts.
+    /// The patterns. They are compared with the best pattern by their texts.
     pub patterns: Listed<Pattern>,
     /// The methods.
     pub methods: Methods,
 }
 
-/// The methods that a collection covers. They are compared with case.
+/// The methods that a collection covers. Names are case-sensitive.
 #[derive(Drop)]
 pub enum Methods {
     /// Every method.
     All,
     /// The listed methods (`http-method`).
     Only(Listed<Text>),
-    /// Every method but the listed ones (`http-method-omission`).
+    /// Every method except the listed ones (`http-method-omission`).
     Except(Listed<Text>),
 }
 
 /// A security constraint (Jakarta Servlet 6.0, section 13.8).
 #[derive(Drop)]
 pub struct Constraint {
-    /// The number by which a decision names the constraint.
+    /// The number of the constraint, used in decisions.
     pub number: u64,
-    /// What the constraint covers: what one of these covers.
+    /// The collections. The constraint covers a request if one of them does.
     pub collections: Listed<Collection>,
-    /// Who may pass.
+    /// The callers that it admits.
     pub auth: Auth,
-    /// The transport that the constraint asks for.
+    /// The transport that it requires.
     pub transport: Transport,
 }
 
 /// The authorization constraint (`auth-constraint`).
 #[derive(Drop)]
 pub enum Auth {
-    /// There is none: everyone may pass, without a login.
+    /// No authorization constraint: everyone may pass, without a login.
     Absent,
-    /// Callers with one of these roles may pass: nobody where the list is empty, callers with any declared role by `*`,
-    /// and every authenticated caller by `**`.
+    /// Callers with one of these roles may pass. An empty list admits nobody, `*` every caller with a declared role,
+    /// and `**` every authenticated caller.
     Roles(Listed<Text>),
 }
 
 /// The user data constraint (`transport-guarantee`).
 #[derive(Clone, Copy, Debug, PartialEq, Eq)]
 pub enum Transport {
-    /// There is none: a plain connection will do.
+    /// No user data constraint: a plain connection is sufficient.
     Absent,
-    /// NONE: a plain connection will do.
+    /// NONE: a plain connection is sufficient.
     Plain,
-    /// INTEGRAL: a plain connection will not do.
+    /// INTEGRAL: a plain connection is not sufficient.
     Integral,
-    /// CONFIDENTIAL: a plain connection will not do.
+    /// CONFIDENTIAL: a plain connection is not sufficient.
     Confidential,
 }

@@ -1,4 +1,4 @@
-//! Which constraints cover a request.
+//! The constraints that cover a request.
 
 ghost use Rattle.std.specs.Prelude.{◌≡◌};
 ghost use Rattle.sv_constraints.specs.Covering.{lists, covers_method, collection_covers, covers};
@@ -7,14 +7,14 @@ use crate::constraint::{Collection, Constraint, Methods};
 use sv_mapping::Pattern;
 use sv_text::Text;
 
-/// Whether the text is among the texts.
+/// Returns whether the text is among the texts.
 pub fn lists(texts: &[Text], text: &str) -> bool
     ensures { result ≡ lists texts.now text.now }
 {
     texts.iter().any(|listed| listed.as_str() == text)
 }
 
-/// Whether a pattern with this text is among the patterns.
+/// Returns whether a pattern with this text is among the patterns.
 fn lists_pattern(patterns: &[Pattern], text: &str) -> bool
     ensures { result ≡ lists patterns.now text.now }
 {
@@ -38,7 +38,7 @@ fn collection_covers(collection: &Collection, pattern: &str, method: &str) -> bo
         && covers_method(&collection.methods, method)
 }
 
-/// Whether a constraint covers the method at the pattern.
+/// Returns whether a constraint covers the method at the pattern.
 pub fn covers(constraint: &Constraint, pattern: &str, method: &str) -> bool
     ensures { result ≡ covers constraint.now pattern.now method.now }
 {

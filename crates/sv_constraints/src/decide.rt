@@ -15,12 +15,12 @@ use crate::rules::Rules;
 use sv_mapping::{Pattern, better};
 use sv_realm::Caller;
 
-/// Decides a request by the combined constraints on the best pattern for its path (Jakarta Servlet 6.0, section 13.8):
-/// those of its constraints that cover the method decide, whatever other patterns match the path.
+/// Decides a request by the combined constraints on the best pattern for its path (Jakarta Servlet 6.0, section 13.8).
+/// The constraints on that pattern that cover the method decide, whatever other patterns match the path.
 ///
-/// The path is any text: it is the path within the context, and is compared as it stands. The constraints are any list
-/// in any order. No memory is taken, and the constraints are gone over twice: for the best pattern, and for those that
-/// cover the method there.
+/// The path is that within the context; it may be any text and is compared unchanged. The constraints may be in any
+/// order. Allocates no memory, and makes two passes over the constraints: one for the best pattern, and one for the
+/// constraints that cover the method there.
 pub fn decide_plain<'a>(
     constraints: &'a [Constraint],
     rules: &Rules,
@@ -41,7 +41,7 @@ pub fn decide_plain<'a>(
     found.decide(pattern, rules, caller)
 }
 
-/// The best pattern for the path among those of all constraints.
+/// Returns the best pattern for the path among those of all constraints.
 fn best_of<'a>(constraints: &'a [Constraint], path: &str) -> Option<&'a Pattern>
     ensures { option_copied result ≡ best_pattern (all_patterns constraints.now) path.now }
 {
@@ -52,7 +52,7 @@ fn best_of<'a>(constraints: &'a [Constraint], path: &str) -> Option<&'a Pattern>
     best
 }
 
-/// The best pattern for the path among the patterns of a constraint and one that was the best of what came before them.
+/// Returns the best pattern for the path among the patterns of a constraint and the best pattern found so far.
 fn better_of<'a>(
     found: Option<&'a Pattern>,
     constraint: &'a Constraint,

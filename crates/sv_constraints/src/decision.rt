@@ -8,23 +8,23 @@ use crate::printed::{PrintedWhy, text_of};
 use std::fmt;
 use sv_mapping::Pattern;
 
-/// What the constraints decide for a request.
+/// The decision of the constraints on a request.
 #[derive(Clone, Copy)]
 pub enum Decision<'a> {
     /// The request may pass.
     Open(Why<'a>),
-    /// The request may not pass without a caller: a login can help.
+    /// The request may not pass without a caller; a login may help.
     Login(Why<'a>),
     /// The request may not pass.
     Denied(Why<'a>),
 }
 
-/// Why a request is decided as it is.
+/// The reason of a decision.
 #[derive(Clone, Copy)]
 pub struct Why<'a> {
-    /// The best pattern for the request's path, none where no pattern matches it.
+    /// The best pattern for the path of the request, or none if no pattern matches it.
     pub pattern: Option<&'a Pattern>,
-    /// The least number of the constraints that decide, none where no constraint covers the request.
+    /// The least number of the constraints that decide, or none if no constraint covers the request.
     pub number: Option<u64>,
     /// The case of the verdict that decides.
     pub cause: Cause,

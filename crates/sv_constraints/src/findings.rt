@@ -1,4 +1,4 @@
-//! What one pass over the constraints finds of those that cover a request.
+//! The findings of one pass over the constraints that cover a request.
 
 ghost use Rattle.std.specs.Prelude.{◌≡◌, [], Option, Some};
 ghost use Rattle.std.specs.Option.{option_copied};
@@ -16,15 +16,15 @@ use crate::rules::Rules;
 use sv_mapping::Pattern;
 use sv_realm::Caller;
 
-/// By which of the covering constraints a request can be decided: the least number of each kind, none where there is no
-/// constraint of that kind.
+/// The least number of each kind of covering constraint, or none if there is no constraint of that kind. These numbers
+/// decide a request.
 #[derive(Clone, Copy)]
 pub struct Findings {
     /// Of all covering constraints.
     pub covering: Option<u64>,
     /// Of those that name no roles.
     pub precluding: Option<u64>,
-    /// Whether there are any for which a plain connection will do.
+    /// Whether a plain connection is sufficient for one of them.
     pub permits_plain: bool,
     /// Of those without an authorization constraint.
     pub unauthenticated: Option<u64>,
@@ -32,7 +32,7 @@ pub struct Findings {
     pub admitting: Option<u64>,
 }
 
-/// Whether nobody may pass.
+/// Returns whether nobody may pass.
 fn names_nobody(auth: &Auth) -> bool
     ensures { result ≡ names_nobody auth.now }
 {
@@ -42,21 +42,21 @@ fn names_nobody(auth: &Auth) -> bool
     }
 }
 
-/// Whether everyone may pass.
+/// Returns whether everyone may pass.
 fn is_absent(auth: &Auth) -> bool
     ensures { result ≡ is_absent auth.now }
 {
     matches!(auth, Auth::Absent)
 }
 
-/// Whether a plain connection will do.
+/// Returns whether a plain connection is sufficient.
 fn allows_plain(transport: Transport) -> bool
     ensures { result ≡ allows_plain transport }
 {
     matches!(transport, Transport::Absent | Transport::Plain)
 }
 
-/// The lesser of two numbers, where there are any.
+/// Returns the lesser of two numbers, or the only one present, if any.
 pub fn lesser(number: Option<u64>, other: Option<u64>) -> Option<u64>
     ensures { result ≡ lesser number other }
 {
@@ -67,7 +67,7 @@ pub fn lesser(number: Option<u64>, other: Option<u64>) -> Option<u64>
     }
 }
 
-/// Why, at the best pattern.
+/// Returns the reason at the best pattern.
 fn because(pattern: &Pattern, number: Option<u64>, cause: Cause) -> Why<'_>
     ensures { seen_why result ≡ because (Some pattern.now) number cause }
 {
@@ -81,7 +81,7 @@ fn because(pattern: &Pattern, number: Option<u64>, cause: Cause) -> Why<'_>
 impl Findings {
     ghost use Rattle.sv_constraints.specs.Findings.{findings_of, with_one, decided};
 
-    /// What there is to find in no constraint.
+    /// Returns the findings for no constraints.
     pub fn none() -> Findings
         ensures { (rules : Rules) (caller : Option Caller) → result ≡ findings_of rules caller [] }
     {
@@ -94,7 +94,7 @@ impl Findings {
         }
     }
 
-    /// What there is to find with one more constraint.
+    /// Returns the findings after one more covering constraint.
     pub fn with(self, constraint: &Constraint, rules: &Rules, caller: Option<&Caller>) -> Findings
         ensures { result ≡ with_one rules.now (option_copied caller.entry) constraint.now self }
     {
@@ -110,7 +110,7 @@ impl Findings {
         }
     }
 
-    /// What there is to find in the constraints that cover the method at the pattern.
+    /// Returns the findings for the constraints that cover the method at the pattern.
     pub fn gather(
         constraints: &[Constraint],
         pattern: &str,
@@ -130,7 +130,7 @@ impl Findings {
         found
     }
 
-    /// The decision of the first case that holds.
+    /// Returns the decision of the first case that holds.
     pub fn decide<'a>(
         &self,
         pattern: &'a Pattern,

@@ -1,24 +1,25 @@
-//! Laws of the verdict, each the contract of a function that does nothing.
+//! Theorems about the verdict, each the contract of a function with an empty body.
 
 ghost use Rattle.sv_constraints.specs.Laws.{FindingsDecide, FindingsOfOneMore, JustOneCaseHolds, LeastOfOneMore, OnlyTheBestPatternDecides};
 
-/// Of the eight cases of the verdict just one holds, and it gives the verdict.
+/// Exactly one of the eight cases of the verdict holds, and it gives the verdict.
 pub fn just_one_case_holds()
     ensures { JustOneCaseHolds }
 {}
 
-/// The verdict depends on the best pattern and the constraints that cover the method there, and on no other constraint.
+/// The verdict depends only on the best pattern and the constraints that cover the method there.
 pub fn only_the_best_pattern_decides()
     ensures { OnlyTheBestPatternDecides }
 {}
 
-/// What there is to find in constraints and one more: the least number of those that pass a test, and all that is found.
+/// The least number of the constraints that pass a test, and all findings, can be computed by adding one constraint at
+/// a time.
 pub fn one_more_is_found()
     ensures least { LeastOfOneMore }
     ensures found { FindingsOfOneMore }
 {}
 
-/// What there is to find in the constraints that cover a request at its best pattern decides as the verdict does.
+/// The findings for the constraints that cover a request at its best pattern give the verdict.
 pub fn findings_decide()
     ensures { FindingsDecide }
 {}

@@ -1,5 +1,5 @@
-//! Combined security constraints: which constraints cover a request, and what they decide for its caller
-//! (Jakarta Servlet 6.0, section 13.8).
+//! Combined security constraints: the constraints that cover a request, and their decision for its caller (Jakarta
+//! Servlet 6.0, section 13.8).
 #![tactic(auto)]
 
 mod cause;

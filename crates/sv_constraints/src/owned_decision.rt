@@ -1,4 +1,4 @@
-//! A decision that borrows nothing.
+//! Decisions that borrow nothing.
 
 ghost use Rattle.std.specs.Prelude.{◌≡◌, Some};
 ghost use Rattle.std.specs.Option.{option_copied};
@@ -12,23 +12,23 @@ use std::alloc::Global;
 use std::fmt;
 use sv_text::{NoMemory, Text};
 
-/// What the constraints decide for a request.
+/// The decision of the constraints on a request.
 #[derive(Debug, Drop)]
 pub enum OwnedDecision {
     /// The request may pass.
     Open(OwnedWhy),
-    /// The request may not pass without a caller: a login can help.
+    /// The request may not pass without a caller; a login may help.
     Login(OwnedWhy),
     /// The request may not pass.
     Denied(OwnedWhy),
 }
 
-/// Why a request is decided as it is. It is printed as `pattern=P constraint=N cause=NAME`, with `-` for none.
+/// The reason of a decision. It is printed as `pattern=P constraint=N cause=NAME`, with `-` for none.
 #[derive(Debug, Drop)]
 pub struct OwnedWhy {
-    /// The text of the best pattern for the request's path, none where no pattern matches it.
+    /// The text of the best pattern for the path of the request, or none if no pattern matches it.
     pub pattern: Option<Text>,
-    /// The least number of the constraints that decide, none where no constraint covers the request.
+    /// The least number of the constraints that decide, or none if no constraint covers the request.
     pub number: Option<u64>,
     /// The case of the verdict that decides.
     pub cause: Cause,
@@ -47,7 +47,7 @@ impl OwnedDecision {
         })
     }
 
-    /// The word that is printed for the decision: `open`, `login` or `denied`.
+    /// Returns the word that is printed for the decision: `open`, `login` or `denied`.
     pub fn word(&self) -> &'static str
         ensures { result.now ≡ word self.now }
     {
@@ -58,7 +58,7 @@ impl OwnedDecision {
         }
     }
 
-    /// Why it is decided so.
+    /// Returns the reason of the decision.
     pub fn why(&self) -> &OwnedWhy
         ensures { result.now ≡ why_of self.now }
     {

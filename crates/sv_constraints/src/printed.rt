@@ -1,4 +1,4 @@
-//! How the reason of a decision is printed, borrowed or not.
+//! Printing the reason of a decision, borrowed or owned.
 
 ghost use Rattle.std.specs.Prelude.{◌≡◌, Some, codes, unwrap_or};
 ghost use Rattle.std.specs.Option.{option_copied, option_map_or};
@@ -10,7 +10,7 @@ use crate::cause::Cause;
 use std::fmt;
 use sv_mapping::Pattern;
 
-/// A reason by its parts, with the text of the pattern.
+/// The parts of a reason, with the pattern as text.
 #[derive(Clone, Copy)]
 pub(crate) struct PrintedWhy<'a> {
     pub(crate) pattern: Option<&'a str>,
@@ -29,14 +29,14 @@ impl fmt::Display for PrintedWhy<'_> {
     }
 }
 
-/// The text of a pattern, where there is one.
+/// Returns the text of a pattern, if any.
 pub(crate) fn text_of(pattern: Option<&Pattern>) -> Option<&str>
     ensures { option_copied result ≡ option_copied pattern.entry }
 {
     Some(pattern?.text())
 }
 
-/// The text, or `-` where there is none.
+/// Returns the text, or `-` if there is none.
 fn text_or_dash(text: Option<&str>) -> &str
     ensures { result.now ≡ unwrap_or (option_copied text.entry) (codes "-") }
 {
@@ -46,7 +46,7 @@ fn text_or_dash(text: Option<&str>) -> &str
     }
 }
 
-/// Prints a number, or `-` where there is none.
+/// Prints a number, or `-` if there is none.
 #[derive(Clone, Copy)]
 struct OrDash(Option<u64>);
 

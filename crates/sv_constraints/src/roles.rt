@@ -1,4 +1,4 @@
-//! How the role names of an authorization constraint are read.
+//! The role names of an authorization constraint.
 
 ghost use Rattle.std.specs.Prelude.{◌≡◌, ◌||◌, Option};
 ghost use Rattle.std.specs.List.{list_any};
@@ -11,13 +11,13 @@ use crate::covering::lists;
 use sv_realm::Caller;
 use sv_text::Text;
 
-/// Stands for every declared role.
+/// The name that means every declared role.
 pub const EVERY_ROLE: &str = "*";
 
-/// Stands for every authenticated caller, whatever their roles.
+/// The name that means every authenticated caller, whatever their roles.
 pub const EVERY_CALLER: &str = "**";
 
-/// Whether the caller's roles hold one that the name stands for.
+/// Returns whether the caller holds a role that the name means.
 fn name_fits(declared: &[Text], name: &str, held: &[Text]) -> bool
     ensures { result ≡ list_any (lists held.now) (roles_named declared.now name.now) }
 {
@@ -30,7 +30,7 @@ fn name_fits(declared: &[Text], name: &str, held: &[Text]) -> bool
     }
 }
 
-/// Whether the caller's roles hold one that the names stand for.
+/// Returns whether the caller holds a role that one of the names means.
 fn names_fit(declared: &[Text], names: &[Text], held: &[Text]) -> bool
     ensures { result ≡ list_any (λ name. list_any (lists held.now) (roles_named declared.now name)) names.now }
 {
@@ -39,14 +39,14 @@ fn names_fit(declared: &[Text], names: &[Text], held: &[Text]) -> bool
         .any(|name| name_fits(declared, name.as_str(), held))
 }
 
-/// Whether the names admit a caller with these roles.
+/// Returns whether the names admit a caller with these roles.
 fn admits_holder(declared: &[Text], names: &[Text], held: &[Text]) -> bool
     ensures { result ≡ admits_holder declared.now names.now held.now }
 {
     lists(names, EVERY_CALLER) || names_fit(declared, names, held)
 }
 
-/// Whether an authorization constraint names roles that admit the caller.
+/// Returns whether an authorization constraint names roles that admit the caller.
 pub fn admits(declared: &[Text], caller: Option<&Caller>, auth: &Auth) -> bool
     ensures { result ≡ admits declared.now (option_copied caller.entry) auth.now }
 {

@@ -1,4 +1,4 @@
--- What runs see of a context, by what its calls do.
+-- A context as runs see it, by the effects of its calls.
 use Rattle.std.proofs.Common.{◌≡◌, ℕ, true, inl, inr, List, [], ◌∷◌, Option, None, Some, Result, Ok, Err, refl, ap, ◌∙◌, length}
 use Rattle.std.specs.Prelude.{IfErr, IfOk}
 use Rattle.sv_admission.specs.Asked.{Asked}
@@ -23,7 +23,7 @@ use Rattle.sv_context.specs.Retirement.{retires_none}
 use Rattle.sv_context.proofs.Journals.{NotesSo, noting_more, runs_note, runs_unnoted}
 
 module _ {S F L : Type 0} (moving : ComponentSteps S F L) where
-  -- what is answered moves the components
+  -- An answer moves the components.
   answered_moves : (asked : Asked) (before after : ContextState S F L) (noted noted' : JournalState) (exchange : exchanges.State) (result : Option (Unit {0}))
       → IsAnswered moving asked before noted exchange result after noted' → IsMoved moving before after
   answered_moves asked before after noted noted' exchange result did = record {
@@ -58,7 +58,7 @@ module _ {S F L : Type 0} (moving : ComponentSteps S F L) where
   handling_moves asked before after noted noted' None (inl did) = uncalled_moves before after did.stays
   handling_moves asked before after noted noted' None (inr did) = answered_moves asked before after noted noted' did.0 None did.1
 
-  -- what an answer notes, and the same from a new journal on
+  -- The entries that an answer logs, and the same answer from a new journal on.
   pub handling_notes : (asked : Asked) (before after : ContextState S F L) (noted noted' : JournalState) (response : Response)
       → GivesResponse moving asked before noted response after noted'
       → (entries : List Entry) × GivesResponse moving asked before new_journal response after (whole entries) × (noted' ≡ noting entries noted)
@@ -82,7 +82,7 @@ module _ {S F L : Type 0} (moving : ComponentSteps S F L) where
         notes.journal did.whole ∙ noting_more entry notes.entries noted,
       )
 
-  -- an expiry moves the components
+  -- An expiry moves the components.
   expiry_runs : (moment : ℕ) (before after : ContextState S F L) (noted noted' : JournalState) (did : Expires moving moment before noted after noted')
       → IsRun moving (world_of before noted) (ends_told did.ended (length before.listeners)) (world_of after noted')
   expiry_runs moment before after noted noted' did =
@@ -96,7 +96,7 @@ module _ {S F L : Type 0} (moving : ComponentSteps S F L) where
     stays = did.stays;
   }
 
-  -- what an expiry notes, and the same from a new journal on
+  -- The entries that an expiry logs, and the same expiry from a new journal on.
   pub expiry_notes : (moment : ℕ) (before after : ContextState S F L) (noted noted' : JournalState) → Expires moving moment before noted after noted'
       → (told : List Entry) × Expires moving moment before new_journal after (whole told) × (noted'.whole ≡ true → noted' ≡ noting told noted)
   expiry_notes moment before after noted noted' did =
@@ -114,7 +114,7 @@ module _ {S F L : Type 0} (moving : ComponentSteps S F L) where
         notes.journal,
       )
 
-  -- a request that was cut short, the same from a new journal on
+  -- An interrupted request, and the same request from a new journal on.
   cut_notes : (asked : Asked) (before after : ContextState S F L) (noted noted' : JournalState) → CutShort moving asked before noted after noted'
       → (entries : List Entry) × CutShort moving asked before new_journal after (whole entries)
   cut_notes asked before after noted noted' (inl ended) = ([], inl record { entry = inl refl; stays = ended.stays })
@@ -140,7 +140,7 @@ module _ {S F L : Type 0} (moving : ComponentSteps S F L) where
   hosted_cuts request before after noted noted' (Ok response) did = tt
   hosted_cuts request before after noted noted' (Err refusal) did = cut_notes (asked_of before request) before after noted noted' did
 
-  -- what a request brings
+  -- The effect of a request.
   pub hosted_handles : (request : Request) (before after : ContextState S F L) (noted noted' : JournalState) (result : Result Response NoMemory)
       → HandlesMessage moving (asked_of before request) before noted (seen result) after noted'
       → IfOk result (λ response. (entries : List Entry)

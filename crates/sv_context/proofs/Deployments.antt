@@ -1,4 +1,4 @@
--- A deployment and its end.
+-- The start and the stop of a deployment.
 use Rattle.std.proofs.Common.{◌≡◌, ℕ, Bool, true, false, List, length, refl, sym, ap, subst, Result, Ok, Err}
 use Rattle.std.specs.Prelude.{MatchBool}
 use Rattle.sv_component.specs.Runs.{Runs}
@@ -25,19 +25,19 @@ use Rattle.sv_context.specs.State.{AreComponentsOf, context_of, in_service, worl
 use Rattle.sv_lifecycle.specs.declared.deployment.Deployment.{Deployment}
 use Rattle.sv_context.proofs.Expiries.{grows_nothing, world_same}
 
--- the start stands
+-- The start succeeds.
 pub deployed_so : {S F L : Type 0} (deployment : Deployment S F L) (started : Result (LiveState S F L) (StartFault S F L)) (live : LiveState S F L)
     (content : Content) (policy : Standing) (users : List User) (store : Store)
     → started ≡ Ok live → content ≡ content_of deployment → policy ≡ declared_policy deployment.descriptor → users ≡ deployment.users → store ≡ no_sessions deployment.descriptor
     → Ok (context_of content policy users live store) ≡ deployed deployment started
 deployed_so deployment started live content policy users store is its_content its_policy its_users its_store = rw (is, its_content, its_policy, its_users, its_store) refl
 
--- the start is refused
+-- The start is refused.
 pub refused_so : {S F L : Type 0} (deployment : Deployment S F L) (started : Result (LiveState S F L) (StartFault S F L)) (fault : StartFault S F L)
     → started ≡ Err fault → Err (record { fault = fault.code; deployment = record deployment { parts = fault.parts } }) ≡ deployed deployment started
 refused_so deployment started fault is = rw is refl
 
--- the components of a start that stands are those that its context declares
+-- The components of a successful start are those that its context declares.
 components_of : {S F L : Type 0} (path : List ℕ) (app : WebApp) (files : List File) (parts : Parts S F L) (live : LiveState S F L) (after : JournalState) (outcome : Outcome)
     → IsResultOf path app parts outcome (Ok live) after → AreComponentsOf (record { context_path = path; app = app; files = files }) live
 components_of path app files parts live after (Started inits) is = record {
@@ -57,7 +57,7 @@ components_so moving deployment started live content before after is its_content
     (subst (λ result. IsResultOf deployment.path deployment.descriptor deployment.parts starts.outcome result after) is starts.is))
 
 module _ {S F L : Type 0} (moving : ComponentSteps S F L) where
-  -- the stop of the started components is that of the context
+  -- The stop of the started components is that of the context.
   pub stopped_so : (content : Content) (policy : Standing) (users : List User) (live : LiveState S F L) (store : Store) (parts : Parts S F L) (noted noted_after : JournalState)
       → AreComponentsOf content live
       → Runs moving (live_world live noted) (stop_calls (length live.parts.listeners.items) (standing.in_service live) store.sessions) (world live.context parts noted_after)
@@ -69,7 +69,7 @@ module _ {S F L : Type 0} (moving : ComponentSteps S F L) where
       (subst (λ path. Runs moving (live_world live noted) (stop_calls (length live.parts.listeners.items) (standing.in_service live) store.sessions) (world path parts noted_after))
       components.context stops)
 
-  -- a deployment whose start began nothing
+  -- A deployment that is refused before any call.
   undone : (deployment : Deployment S F L) (code : StartCode) (journal : JournalState)
       → RefusesUntouched deployment.descriptor deployment.parts code
       → Deploys moving deployment journal (Err (record { fault = code; deployment = deployment })) journal
@@ -83,7 +83,7 @@ module _ {S F L : Type 0} (moving : ComponentSteps S F L) where
     is = refl;
   }
 
-  -- components that are the descriptor's, and want of memory
+  -- The components match the descriptor, but memory ran out.
   pub no_memory_so : (deployment : Deployment S F L) (app : WebApp) (tested : Bool) (code : StartCode) (journal : JournalState)
       → app ≡ deployment.descriptor → MatchBool tested (Fits app deployment.parts) (Fits app deployment.parts → ⊥) → tested ≡ true → code ≡ NoMemory
       → Deploys moving deployment journal (Err (record { fault = code; deployment = deployment })) journal
@@ -92,7 +92,7 @@ module _ {S F L : Type 0} (moving : ComponentSteps S F L) where
       subst (λ code. Deploys moving deployment journal (Err (record { fault = code; deployment = deployment })) journal) (sym its_code)
       (undone deployment NoMemory journal (subst (λ app. Fits app deployment.parts) same fits))
 
-  -- components that are not
+  -- The components do not match the descriptor.
   pub mismatch_so : (deployment : Deployment S F L) (app : WebApp) (tested : Bool) (code : StartCode) (journal : JournalState)
       → app ≡ deployment.descriptor → MatchBool tested (Fits app deployment.parts) (Fits app deployment.parts → ⊥) → tested ≡ false → code ≡ PartsMismatch
       → Deploys moving deployment journal (Err (record { fault = code; deployment = deployment })) journal
@@ -101,7 +101,7 @@ module _ {S F L : Type 0} (moving : ComponentSteps S F L) where
       subst (λ code. Deploys moving deployment journal (Err (record { fault = code; deployment = deployment })) journal) (sym its_code)
       (undone deployment PartsMismatch journal (subst (λ app. Fits app deployment.parts → ⊥) same fits))
 
-  -- what is handed back
+  -- The deployment that is returned.
   pub undeployed_so : (content : Content) (policy : Standing) (users : List User) (live : LiveState S F L) (store : Store) (parts : Parts S F L) (noted noted_after : JournalState)
       (path : List ℕ) (app : WebApp) (files : List File)
       → AreComponentsOf content live → record { context_path = path; app = app; files = files } ≡ content

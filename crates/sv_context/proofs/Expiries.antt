@@ -24,7 +24,7 @@ use Rattle.sv_realm.specs.declared.user.User.{User}
 use Rattle.sv_site.specs.Site.{Content}
 use Rattle.sv_context.specs.State.{AreComponentsOf, AreCounted, ContextState, IsSameDeployment, context_of, world_of}
 
--- contexts of the same parts are the same
+-- Contexts with the same parts are equal.
 same_context : {S F L : Type 0} (one other : ContextState S F L) → one.content ≡ other.content → one.policy ≡ other.policy → one.users ≡ other.users
     → one.servlets ≡ other.servlets → one.filters ≡ other.filters → one.listeners ≡ other.listeners
     → one.initialised ≡ other.initialised → one.standings ≡ other.standings → one.store ≡ other.store → one ≡ other
@@ -42,7 +42,7 @@ same_context one other content policy users servlets filters listeners initialis
     } ≡ other = rw (content, policy, users, servlets, filters, listeners, initialised, standings, store) refl in
     same
 
--- started components of a content, as runs see them
+-- Started components of a content, as runs see them.
 pub world_same : {S F L : Type 0} (content : Content) (policy : Standing) (users : List User) (live : LiveState S F L) (store : Store) (noted : JournalState)
     → AreComponentsOf content live → live_world live noted ≡ world_of (context_of content policy users live store) noted
 world_same content policy users live store noted components =
@@ -64,7 +64,7 @@ components_stay content live live_after components stands = record {
   counts = counts_stay content live live_after components.counts stands.counts;
 }
 
--- the tellings of one more
+-- The notifications of one more session.
 told_more : (ended : List EndedSession) (session : EndedSession) (count : ℕ)
     → ends_told (ended ++ session ∷ []) count ≡ ends_told ended count ++ all_told (end_events session) count
 told_more [] session count = append-nil (all_told (end_events session) count)
@@ -72,7 +72,7 @@ told_more (first ∷ others) session count =
     ap (λ more. all_told (end_events first) count ++ more) (told_more others session count)
     ∙ sym (append_assoc (all_told (end_events first) count) (ends_told others count) (all_told (end_events session) count))
 
--- a session fewer
+-- Removing a session shortens the list.
 shorter_without : {X : Type 0} (t : X → Bool) (xs : List X) (x : X) → find t xs ≡ Some x → length (without_first t xs) < length xs
 shorter_without t [] x h = cc
 shorter_without t (y ∷ ys) x h =
@@ -93,7 +93,7 @@ pub fewer : (moment : ℕ) (store after : Store) (session : EndedSession) → So
 fewer moment store after session ends left =
     subst (λ remaining. length remaining.sessions < length store.sessions) (sym left) (fewer_at store session (expired_number moment store) (sym ends))
 
--- where none ends, all stay
+-- If no session is found, none is removed.
 without_none : {X : Type 0} (t : X → Bool) (xs : List X) → find t xs ≡ None → without_first t xs ≡ xs
 without_none t [] h = refl
 without_none t (y ∷ ys) h =
@@ -115,12 +115,12 @@ module _ {S F L : Type 0} (moving : ComponentSteps S F L) where
   pub grows_nothing : (world : World S F L) → Runs moving world [] world
   grows_nothing world = λ from done ran. subst (λ all. IsRun moving from all world) (sym (append-nil done)) ran
 
-  -- nothing that is told changes nothing
+  -- An empty run changes nothing.
   told_nothing : (before after : World S F L) → Runs moving before [] after → after ≡ before
   unfolding IsRun
   told_nothing before after grows = grows before [] refl
 
-  -- where none has expired
+  -- No session has expired.
   module _ (law : ExpiryEndsWhereNoneHasExpired) (moment : ℕ) (before : ContextState S F L) (noted : JournalState) (fresh : HasNoneExpired moment before.store) where
     pub expires_nothing : Expires moving moment before noted before noted
     expires_nothing = record {
@@ -146,7 +146,7 @@ module _ {S F L : Type 0} (moving : ComponentSteps S F L) where
           ap (λ world. world.journal) same,
         )
 
-  -- what has been done of an expiry, and what completes it
+  -- The progress of an expiry: the sessions that ended, and how the rest completes it.
   pub record SoFar (moment : ℕ) (before : ContextState S F L) (noted : JournalState) (now : ContextState S F L) (noted_now : JournalState) : Type 0 where
     pub ended : List EndedSession
     pub ends : (rest : List EndedSession) (after : Store) → sessions.Expires moment now.store rest after → sessions.Expires moment before.store (ended ++ rest) after
@@ -164,7 +164,7 @@ module _ {S F L : Type 0} (moving : ComponentSteps S F L) where
   }
 
   module _ (moment : ℕ) (before : ContextState S F L) (noted : JournalState) (now : ContextState S F L) (noted_now : JournalState) (so_far : SoFar moment before noted now noted_now) where
-    -- one session more
+    -- One more session ends.
     pub one_more : (session : EndedSession) (after : ContextState S F L) (noted_after : JournalState)
         → Some session ≡ expiring moment now.store → after.store ≡ left_by_expiry moment now.store
         → Runs moving (world_of now noted_now) (all_told (end_events session) (length now.listeners)) (world_of after noted_after)
@@ -193,7 +193,7 @@ module _ {S F L : Type 0} (moving : ComponentSteps S F L) where
       standings = standings ∙ so_far.standings;
     }
 
-    -- no session more
+    -- No more session ends.
     pub all_expired : None ≡ expiring moment now.store → Expires moving moment before noted now noted_now
     all_expired none = record {
       ended = so_far.ended;
@@ -203,7 +203,7 @@ module _ {S F L : Type 0} (moving : ComponentSteps S F L) where
       standings = so_far.standings;
     }
 
-  -- one session more, whose end the listeners of the started components heard
+  -- One more session ends, and the listeners were notified of it.
   pub one_more_told : (moment : ℕ) (before : ContextState S F L) (noted : JournalState) (content : Content) (policy : Standing) (users : List User)
       (live live_after : LiveState S F L) (store store_after : Store) (noted_now noted_after : JournalState)
       → SoFar moment before noted (context_of content policy users live store) noted_now → AreComponentsOf content live

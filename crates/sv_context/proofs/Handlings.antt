@@ -1,4 +1,4 @@
--- What is done with a message, in parts.
+-- Handling a message, in parts.
 use Rattle.std.proofs.Common.{◌≡◌, ℕ, true, inl, inr, List, Option, None, Some, Result, Ok, Err, IfOk, refl, sym, ◌∙◌, ap, ap₂, subst, arith}
 use Rattle.http.specs.StatusCode.{IsStatusCode}
 use Rattle.sv_admission.specs.Admission.{settled_in}
@@ -34,13 +34,13 @@ use Rattle.sv_context.proofs.Expiries.{counts_stay, world_same}
 use Rattle.sv_context.proofs.Journals.{taken}
 use Rattle.sv_context.proofs.Statuses.{answered_code}
 
--- nothing was said yet of an exchange that was begun
+-- The status of an exchange that has just begun is a status code.
 pub begun_code : (message : Message) (canon : Canon) (path : List ℕ) (settings : CookieSettings) (moment : ℕ) (words : ℕ × ℕ) (held : Option HeldSession) (store : Store) (x : exchanges.State)
     → x ≡ begun message canon path settings moment words held store → IsStatusCode x.status
 begun_code message canon path settings moment words held store x began = subst (λ (e : exchanges.State). IsStatusCode e.status) (sym began) (omega arith, omega arith)
 
 module _ {S F L : Type 0} (moving : ComponentSteps S F L) where
-  -- an answer leaves the components of a content
+  -- An answer keeps the components of a content.
   answered_components : (content : Content) (site : Site) (canon : Canon) (event : Option Event) (answer : Answer) (live live' : LiveState S F L) (x x' : exchanges.State)
       (noted noted' : JournalState) (result : Option (Unit {0}))
       → ServedBy moving (Answered site canon event answer) live x noted result live' x' noted' → AreComponentsOf content live → AreComponentsOf content live'
@@ -56,7 +56,7 @@ module _ {S F L : Type 0} (moving : ComponentSteps S F L) where
   components_stay content site canon entry event answer live live' x x' noted noted' result (inr did) components =
       answered_components content site canon event answer live live' x x' (with_entry entry noted) noted' result did components
 
-  -- the message was noted, and its answer begun
+  -- The message was logged, and its answer begun.
   pub noted_so : (site : Site) (canon : Canon) (entry : Entry) (event : Option Event) (answer : Answer) (live live' : LiveState S F L) (x x' : exchanges.State)
       (noted between noted' : JournalState) (result : Option (Unit {0})) → Takes noted entry between → between.whole ≡ true
       → ServedBy moving (Answered site canon event answer) live x between result live' x' noted'
@@ -65,7 +65,7 @@ module _ {S F L : Type 0} (moving : ComponentSteps S F L) where
       inr (subst (λ journal. ServedBy moving (Answered site canon event answer) live x journal result live' x' noted')
       (taken noted between entry noted.whole refl takes is_whole) did)
 
-  -- the status of an answer is a status code
+  -- The status of an answer is a status code.
   pub status_so : (site : Site) (canon : Canon) (entry : Entry) (event : Option Event) (answer : Answer) (live live' : LiveState S F L) (x x' : exchanges.State)
       (noted noted' : JournalState) (response : Response)
       → RespondsNoted moving site canon entry event answer live x noted (Some tt) live' x' noted' → IsStatusCode x.status → response ≡ finished x'
@@ -118,7 +118,7 @@ module _ {S F L : Type 0} (moving : ComponentSteps S F L) where
         };
       }
 
-      -- memory ended it
+      -- Memory ran out.
       pub cut_so : RespondsNoted moving (site_of content) asked.canon admission.entry admission.event admission.answer live x noted None live' x' noted'
           → CutShort moving asked before noted after noted'
       cut_so (inl ended) = inl record {
@@ -127,7 +127,7 @@ module _ {S F L : Type 0} (moving : ComponentSteps S F L) where
       }
       cut_so (inr did) = inr (x', answered_so None did)
 
-      -- there is a response
+      -- There is a response.
       pub answers_so : (response : Response)
           → RespondsNoted moving (site_of content) asked.canon admission.entry admission.event admission.answer live x noted (Some tt) live' x' noted'
           → noted'.whole ≡ true → response ≡ finished x' → store' ≡ x'.store
@@ -141,7 +141,7 @@ module _ {S F L : Type 0} (moving : ComponentSteps S F L) where
         whole = is_whole;
       }
 
-    -- the exchange was begun of the message, and ended
+    -- The exchange of the message was begun and ended.
     module _ (components : AreComponentsOf content live) (is : admission ≡ admitted before asked) (settled : lent ≡ (settled_in content policy users asked store).store)
         (x : exchanges.State) (began : x ≡ begun_with) (live' : LiveState S F L) (store' : Store) (noted noted' : JournalState) where
       pub handled_so : (response : Option Response)
@@ -151,7 +151,7 @@ module _ {S F L : Type 0} (moving : ComponentSteps S F L) where
           answers_so components is settled x began live' ended.0 store' noted noted' response ended.1 ended.4 ended.2 ended.3
       handled_so None ended = cut_so components is settled x began live' ended.0 store' noted noted' ended.1
 
-  -- the status of its response is a status code
+  -- The status of its response is a status code.
   pub ended_code : (site : Site) (canon : Canon) (entry : Entry) (event : Option Event) (answer : Answer) (live live' : LiveState S F L) (x : exchanges.State)
       (store : Store) (noted noted' : JournalState) (result : Result Response NoMemory)
       → EndsExchange moving site canon entry event answer live x noted (seen result) live' store noted' → IsStatusCode x.status

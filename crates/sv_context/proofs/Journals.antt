@@ -1,4 +1,4 @@
--- Runs over one journal and over another.
+-- The same run with two different journals.
 use Rattle.std.proofs.Common.{◌≡◌, ◌⊎◌, Bool, true, false, inl, inr, List, [], ◌∷◌, refl, sym, ap, ap₂, ◌∙◌, subst, append_assoc, append-nil}
 use Rattle.std.specs.Prelude.{cond}
 use Rattle.sv_component.specs.Runs.{IsRun, Moves, OfFilter, OfListener, OfServlet, Record, record_entry}
@@ -9,30 +9,30 @@ use Rattle.sv_journal.specs.declared.entry.Entry.{Entry}
 use Rattle.sv_run.specs.Effect.{noting}
 use Rattle.sv_context.specs.Conduct.{unnoted}
 
--- the components with another journal
+-- The components with another journal.
 abbrev pub over : {S F L : Type 0} → JournalState → World S F L → World S F L
 over journal world = record world { journal = journal }
 
--- a whole journal takes the entry
+-- A whole journal takes the entry.
 pub takes_whole : (journal : JournalState) (entry : Entry) → journal.whole ≡ true → Takes journal entry (with_entry entry journal)
 takes_whole journal entry is_whole =
     subst (λ test. cond test ((with_entry entry journal ≡ with_entry entry journal) ⊎ (with_entry entry journal ≡ broken journal)) (with_entry entry journal ≡ journal))
     (sym is_whole) (inl refl)
 
--- what is whole behind an entry was whole before it, and has it
+-- A journal that is whole after an entry was whole before it, and contains it.
 pub taken : (before after : JournalState) (entry : Entry) (test : Bool) → before.whole ≡ test → cond test ((after ≡ with_entry entry before) ⊎ (after ≡ broken before)) (after ≡ before)
     → after.whole ≡ true → after ≡ with_entry entry before
 taken before after entry true is (inl took) is_whole = took
 taken before after entry true is (inr broke) is_whole = let no : false ≡ true = sym (ap (λ j. j.whole) broke) ∙ is_whole in cc
 taken before after entry false is same is_whole = let no : false ≡ true = sym is ∙ (sym (ap (λ j. j.whole) same) ∙ is_whole) in cc
 
--- a list of entries more, entry by entry
+-- Logging one more entry, ahead of a list.
 pub noting_more : (entry : Entry) (entries : List Entry) (journal : JournalState) → noting entries (with_entry entry journal) ≡ noting (entry ∷ entries) journal
 noting_more entry entries journal =
     ap (λ (all : List Entry). record { entries = all; whole = journal.whole }) (append_assoc journal.entries (entry ∷ []) entries)
 
 module _ {S F L : Type 0} (moving : ComponentSteps S F L) where
-  -- the entry of a record does not depend on the journal
+  -- The entry of a record does not depend on the journal.
   same_entry : (world : World S F L) (journal : JournalState) (made : Record) → record_entry (over journal world) made ≡ record_entry world made
   same_entry world journal (OfServlet place call) = refl
   same_entry world journal (OfFilter place call) = refl
@@ -44,7 +44,7 @@ module _ {S F L : Type 0} (moving : ComponentSteps S F L) where
   moves_over before after (OfFilter place call) journal journal' moves takes = record { component = moves.component; journal = takes; context = moves.context }
   moves_over before after (OfListener place event) journal journal' moves takes = record { component = moves.component; journal = takes; context = moves.context }
 
-  -- what a run noted where its journal stayed whole, and that it notes so in any whole journal
+  -- The entries that a run logs if its journal stays whole. The run logs the same in any whole journal.
   pub record NotesSo (before : World S F L) (records : List Record) (after : World S F L) : Type 0 where
     pub entries : List Entry
     pub journal : after.journal.whole ≡ true → after.journal ≡ noting entries before.journal
@@ -85,7 +85,7 @@ module _ {S F L : Type 0} (moving : ComponentSteps S F L) where
   runs_note before [] after ran = none_noted before after ran
   runs_note before (made ∷ others) after ran = one_noted before ran.0 after made others ran.1 (runs_note ran.0 others after ran.2)
 
-  -- the same run over a journal that takes nothing
+  -- The same run with a journal that records nothing.
   pub runs_unnoted : (before : World S F L) (records : List Record) (after : World S F L) → IsRun moving before records after
       → IsRun moving (over unnoted before) records (over unnoted after)
   unfolding IsRun

@@ -1,4 +1,4 @@
--- What is done to answer a message, in parts.
+-- Answering a message, composed of parts.
 use Rattle.std.specs.Prelude.{OnOk, codes, length, true}
 use Rattle.std.proofs.Common.{◌≡◌, ℕ, Bool, inl, inr, List, [], ◌++◌, Option, None, Some, Result, Ok, Err, refl, sym, ◌∙◌, ap, ap₂, subst}
 use Rattle.sv_admission.specs.declared.answer.Answer.{Answer}
@@ -34,7 +34,7 @@ use Rattle.sv_uri.specs.declared.path.Canon.{Canon}
 use Rattle.sv_message.specs.Phrases.{phrase_of}
 use Rattle.sv_context.specs.Answered.{Answered, Answers, Requested, SendsTo, Tells}
 
--- without a call
+-- The action makes no call.
 abbrev pub IsQuiet : {A : Type 0} → Does A → Type 0
 IsQuiet {A} does = (before : State) (calls : List Record) (after : State) (result : Option A) → does before calls after result → calls ≡ []
 
@@ -62,18 +62,18 @@ quiet_unless : (next : Does (Unit {0})) → IsQuiet next → IsQuiet (unless_com
 quiet_unless next quiet before calls after result done =
     chosen_then before.exchange.committed breaks next before after calls result (λ _ broke. broke.0) (λ _ made. quiet before calls after result made) done
 
--- an error without a page is answered without a call
+-- An error without a page is answered without a call.
 pub quiet_error : (site : Site) (status : ℕ) → IsQuiet (ShowsError site status None)
 quiet_error site status =
     quiet_then (keeps (record { status = status; text = phrase_of status; servlet = None; field = None })) (λ _. unless_committed (Plain status None))
     (λ before calls after result h. h.0) (λ _. quiet_unless (Plain status None) (quiet_plain status))
 
--- where nothing was noted, a whole journal is whole
+-- If nothing was logged, a whole journal is still whole.
 pub whole_stays : (result : Result (Unit {0}) NoMemory) (before after : JournalState) → before.whole ≡ true → after ≡ before → OnOk result (after.whole ≡ true)
 whole_stays (Ok done) before after is_whole same = ap (λ j. j.whole) same ∙ is_whole
 whole_stays (Err refusal) before after is_whole same = tt
 
--- the client is sent elsewhere
+-- The client is redirected.
 module _ (location : List ℕ) (x y : exchanges.State) (said : Result Bool ExchangeFault) (did : changing.Does (SetStatus SEE_OTHER) said x y) (made : Option (Unit {0})) (is : made ≡ made_seen said) where
   stated : Alone (makes (SetStatus SEE_OTHER)) x y made
   stated = subst (Alone (makes (SetStatus SEE_OTHER)) x y) (sym is) (alone_makes (SetStatus SEE_OTHER) x y said did)
@@ -92,7 +92,7 @@ module _ (location : List ℕ) (x y : exchanges.State) (said : Result Bool Excha
       (subst (Alone (makes located) y z) (sym then_is) (alone_makes located y z then_said then_did))
 
 module _ {S F L : Type 0} (moving : ComponentSteps S F L) where
-  -- the listeners hear an event
+  -- The listeners are notified of an event.
   pub by_hearing : (live live' : LiveState S F L) (x : exchanges.State) (noted noted' : JournalState) (event : Event) (result : Result (Unit {0}) NoMemory)
       → Runs moving (live_world live noted) (told event (length live.parts.listeners.items)) (live_world live' noted')
       → StandsAsBefore live live'
@@ -106,7 +106,7 @@ module _ {S F L : Type 0} (moving : ComponentSteps S F L) where
     initialised = stands.initialised;
   }
 
-  -- what is done without a call leaves the journal
+  -- An action without calls leaves the journal unchanged.
   pub journal_stays : {A : Type 0} (does : Does A) (live live' : LiveState S F L) (x x' : exchanges.State) (noted noted' : JournalState) (result : Option A)
       → IsQuiet does → ServedBy moving does live x noted result live' x' noted' → noted' ≡ noted
   unfolding IsRun
@@ -114,9 +114,9 @@ module _ {S F L : Type 0} (moving : ComponentSteps S F L) where
       let none : did.made ≡ [] = quiet _ did.made _ result did.does_so in
       ap (λ w. w.journal) (subst (λ calls. IsRun moving (live_world live noted) calls (live_world live' noted')) none did.runs)
 
-  -- a request, of which the listeners hear
+  -- A request, with the notifications of the listeners.
   module _ (site : Site) (dispatches : Does (Unit {0})) (live live' : LiveState S F L) (x : exchanges.State) (noted noted' : JournalState) (hearing : length live.parts.listeners.items ≡ site.listeners) where
-    -- what stands behind the first hearing
+    -- The rest of the action, after the first notification.
     abbrev Dispatched : Does (Unit {0})
     Dispatched = dispatches >> hears site.listeners RequestDestroyed
 
@@ -146,7 +146,7 @@ module _ {S F L : Type 0} (moving : ComponentSteps S F L) where
           (did.counts.listeners ∙ heard.counts.listeners ∙ hearing) last))
 
   module _ (site : Site) (live live' : LiveState S F L) (x : exchanges.State) (noted noted' : JournalState) where
-    -- what the message did to its session
+    -- The session event of the admission.
     pub tells_none : (event : Option Event) → event ≡ None → ServedBy moving (Tells site event) live x noted (Some tt) live x noted
     tells_none event none =
         subst (λ event. ServedBy moving (Tells site event) live x noted (Some tt) live x noted) (sym none)
@@ -159,7 +159,7 @@ module _ {S F L : Type 0} (moving : ComponentSteps S F L) where
         subst (λ event. ServedBy moving (Tells site event) live x noted result live' x noted') (sym some)
         (subst (λ count. ServedBy moving (hears count its_event) live x noted result live' x noted') hearing heard)
 
-    -- which is heard first
+    -- The listeners are notified of it first.
     pub answered_not : (canon : Canon) (event : Option Event) (answer : Answer)
         → ServedBy moving (Tells site event) live x noted None live' x noted' → ServedBy moving (Answered site canon event answer) live x noted None live' x noted'
     answered_not canon event answer told_it = by_not moving (Tells site event) (λ _. Answers site canon answer) live live' x x noted noted' told_it

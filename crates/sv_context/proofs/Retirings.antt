@@ -1,4 +1,4 @@
--- Which servlets the calls of an answer put out of service for good.
+-- The servlets that an answer's calls put out of service permanently.
 use Rattle.std.specs.Prelude.{codes}
 use Rattle.std.proofs.Common.{◌≡◌, ℕ, zero, suc, Bool, true, false, eqb, List, [], ◌∷◌, ◌++◌, Option, None, Some, refl, sym, ap, ◌∙◌, subst, append-nil, slice_index_or, slice_set, if◌then◌else◌}
 use Rattle.std.specs.List.{list_any}
@@ -39,7 +39,7 @@ use Rattle.sv_tree.specs.Tree.{Tree, service_of}
 use Rattle.sv_tree.specs.declared.limits.TheConstants.{MAX_NESTING}
 use Rattle.sv_uri.specs.declared.path.Canon.{Canon}
 
--- ---- how servlets stand
+-- ---- The states of servlets
 
 same_standing : (standings : List Standing) (place : ℕ) → lifecycle.standing_at standings place ≡ slice_index_or standings place Gone
 same_standing [] zero = refl
@@ -47,7 +47,7 @@ same_standing [] (suc place) = refl
 same_standing (standing ∷ standings) zero = refl
 same_standing (standing ∷ standings) (suc place) = same_standing standings place
 
--- a servlet that serves is not gone
+-- A servlet that serves is not gone.
 serves_now : (moment : ℕ) (standing : Standing) → standing_now moment standing ≡ Serving → is_gone standing ≡ false
 serves_now moment Serving serving = refl
 serves_now moment Gone serving = absurd (cc)
@@ -56,7 +56,7 @@ serves_now moment (Away until) serving = refl
 not_gone : (moment place : ℕ) (standings : List Standing) → standing_now moment (slice_index_or standings place Gone) ≡ Serving → gone_at place standings ≡ false
 not_gone moment place standings serving = ap is_gone (same_standing standings place) ∙ serves_now moment (slice_index_or standings place Gone) serving
 
--- the standing of one servlet changes, where it is there
+-- The state of a servlet that is not gone changes.
 set_there : (standings : List Standing) (place : ℕ) (standing : Standing) → gone_at place standings ≡ false
     → gone_at place (slice_set standings place standing) ≡ is_gone standing
 set_there [] zero standing there = absurd (cc)
@@ -72,7 +72,7 @@ set_other (first ∷ standings) zero (suc other) standing differ = refl
 set_other (first ∷ standings) (suc place) zero standing differ = refl
 set_other (first ∷ standings) (suc place) (suc other) standing differ = set_other standings place other standing (λ same. differ (ap suc same))
 
--- ---- listeners
+-- ---- Listeners
 
 none_called : (place listeners : ℕ) (events : List Event) → calls_of place (all_told listeners events) ≡ []
 none_called place listeners events = all_keep_alone (λ r. calls_of place r ≡ []) (λ at event r h. h) listeners events refl
@@ -80,7 +80,7 @@ none_called place listeners events = all_keep_alone (λ r. calls_of place r ≡ 
 none_destroyed : (listeners : ℕ) (events : List Event) → list_any is_destroy_of_filter (all_told listeners events) ≡ false
 none_destroyed listeners events = all_keep_alone (λ r. list_any is_destroy_of_filter r ≡ false) (λ at event r h. h) listeners events refl
 
--- no servlet is called, and no filter is destroyed
+-- No servlet is called, and no filter is destroyed.
 pub record IsHeard (made : List Record) : Type 0 where
   pub servlets : (place : ℕ) → calls_of place made ≡ []
   pub filters : list_any is_destroy_of_filter made ≡ false
@@ -108,9 +108,9 @@ ends_heard (session ∷ ended) listeners =
       filters = all_keep (λ r. list_any is_destroy_of_filter r ≡ false) (λ at event r h. h) listeners (end_events session) (ends_told ended listeners) rest.filters;
     }
 
--- ---- one call of a servlet that is not gone, with what listeners hear behind it
+-- ---- One call of a servlet that is not gone, and the notifications that follow it
 
--- what becomes of the servlet by its call, and of each other by none
+-- The call affects its own servlet and no other.
 one_call : (before after : List Standing) (place other : ℕ) (call : Call) (behind : List Record) (test : Bool) → eqb other place ≡ test
     → gone_at place before ≡ false → EndsSo false (call ∷ []) (gone_at place after)
     → (¬ (other ≡ place) → gone_at other after ≡ gone_at other before)
@@ -134,7 +134,7 @@ one_retires before after place call behind serving ends same heard = record {
   filters = heard.filters;
 }
 
--- a service leaves the servlet there, with the same standing or with another
+-- A service keeps the servlet, with the same state or another.
 served_same : (before : List Standing) (place turn : ℕ) (step : Step) (x y : Exchange) (behind : List Record) → gone_at place before ≡ false → IsHeard behind
     → Retires before (service_of place turn x step y ∷ behind) before
 served_same before place turn step x y behind serving heard =
@@ -168,7 +168,7 @@ destroyed_once before place serving =
     (λ other differ. set_other before other place Gone differ)
     record { servlets = λ at. refl; filters = refl }
 
--- ---- dispatches
+-- ---- Dispatches
 
 abbrev pub Ends : ℕ → State → List Record → State → Bool → Type 0
 Ends room x r y b = Retires x.standings r y.standings
@@ -213,7 +213,7 @@ module _ (site : Site) where
   trees : (kind : Kind) (canon : Canon) → Keeps site Ends MAX_NESTING (Tree site MAX_NESTING kind canon)
   trees kind canon = tree_keeps site Ends law (within_keeps site Ends law filters) MAX_NESTING kind (opens kind) canon
 
-  -- ---- answers
+  -- ---- Answers
 
   hears_end : (event : Event) → Keeps site Ends MAX_NESTING (hears site.listeners event)
   hears_end event x y r result h =
@@ -248,7 +248,7 @@ module _ (site : Site) where
   answers_end canon (answers.Error status (Some page)) = requested_end (ShowsError site status (Some page)) (error_ends status (Some page))
   answers_end canon (answers.SeeOther location) = sends_end location
 
-  -- whether memory ended the answer or not
+  -- This holds whether memory ran out or not.
   pub answered_retires : (canon : Canon) (event : Option Event) (answer : Answer) (x y : State) (r : List Record) (result : Option (Unit {0}))
       → Answered site canon event answer x r y result → Retires x.standings r y.standings
   answered_retires canon event answer =

@@ -1,4 +1,4 @@
--- The status of an exchange is a status code, whatever is done to answer its request.
+-- The status of an exchange is a status code, however its request is answered.
 use Rattle.std.specs.Prelude.{◌==◌, ◌&&◌, codes, is_some, nat_le, not, if◌then◌else◌}
 use Rattle.std.specs.Option.{option_map_or}
 use Rattle.std.proofs.Common.{◌≡◌, ℕ, ◌≤◌, Bool, true, false, inl, inr, List, [], ◌∷◌, Option, None, Some, Result, Ok, Err, refl, sym, ap, subst, arith}
@@ -34,7 +34,7 @@ use Rattle.sv_uri.specs.declared.path.Canon.{Canon}
 use Rattle.sv_message.specs.Phrases.{phrase_of}
 use Rattle.sv_context.specs.Answered.{Answered, Answers, Requested, Tells}
 
--- a status that can be set is a status code
+-- A status that can be set is a status code.
 settable_code : (status : ℕ) → is_settable status ≡ true → IsStatusCode status
 settable_code status h =
     let ranged = (and_parts _ (not (status == RESET_CONTENT)) (and_parts _ (not (status == NOT_MODIFIED)) h).0).0 in
@@ -50,7 +50,7 @@ stated_code : (test : Bool) (status : ℕ) (x : Exchange) → (test ≡ true →
 stated_code true status x h code = h refl
 stated_code false status x h code = code
 
--- a call that leaves the status
+-- A change of the exchange leaves a status code, whether it is made or refused.
 left_code : (said : Result Bool ExchangeFault) (change : Change) (x : Exchange) → HasCode (changed change x) → HasCode x → HasCode (left_by said change x)
 left_code (Ok true) change x done code = done
 left_code (Ok false) change x done code = code
@@ -102,7 +102,7 @@ begun_code site kinds.Forward canon x code = code
 begun_code site kinds.Include canon x code = code
 begun_code site kinds.Error canon x code = code
 
--- a status code stays one
+-- A status code stays a status code.
 abbrev Coded : ℕ → State → List Record → State → Bool → Type 0
 Coded room x calls y came = HasCode x.exchange → HasCode y.exchange
 
@@ -225,7 +225,7 @@ module _ (site : Site) where
   tells_code None = gives_keeps site Coded law 0 tt
   tells_code (Some event) = hears_code site.listeners event
 
-  -- an answer leaves a status code, where there was one
+  -- An answer leaves a status code if there was one.
   pub answered_code : (canon : Canon) (event : Option Event) (answer : Answer) (x y : State) (calls : List Record) (result : Option (Unit {0}))
       → Answered site canon event answer x calls y result → IsStatusCode x.exchange.status → IsStatusCode y.exchange.status
   answered_code canon event answer x y calls result h =

@@ -12,14 +12,14 @@ use Rattle.sv_live.specs.Standing.{LiveState}
 use Rattle.sv_lifecycle.specs.declared.start_fault.StartFault.{StartFault}
 
 module _ {A B : Type 0} (f : A → B) where
-  -- what is mapped moves from one list behind another
+  -- The next item is mapped, and moves from one list to the end of another.
   pub one_moved : (done all : List B) (item : A) (waiting rest : List A) → waiting ≡ item ∷ rest → done ++ map f waiting ≡ all
       → (done ++ f item ∷ []) ++ map f rest ≡ all
   one_moved done all item waiting rest is so_far =
       append_assoc done (f item ∷ []) (map f rest) ∙ ap (λ items. done ++ map f items) (sym is) ∙ so_far
 
 module _ {A : Type 0} where
-  -- what stays as it is without its first item is empty
+  -- A list that equals itself without its first item is empty.
   pub none_left : (items others : List A) → items ≡ others → others ≡ drop 1 items → items ≡ []
   none_left [] others same rest = refl
   none_left (item ∷ items) others same rest = absurd (omega (arith, ap length (same ∙ rest)))
@@ -31,7 +31,7 @@ module _ {A : Type 0} where
       omega (arith, length-append before (item ∷ []), ap length added, ap length left, fits, grows)
 
 module _ {S F L : Type 0} where
-  -- the path of a context that may have been started
+  -- The path of a context, or another path if it was not started.
   abbrev path_in : List ℕ → Result (ContextState S F L) (DeployFault S F L) → List ℕ
   path_in other (Ok context) = context.content.context_path
   path_in other (Err fault) = other
@@ -42,7 +42,7 @@ module _ {S F L : Type 0} where
   path_started deployment (Err fault) = refl
 
 module _ {S F L : Type 0} (moving : ComponentSteps S F L) where
-  -- one more context starts
+  -- One more context starts.
   pub deploys_next : (front : List (Deployment S F L)) (before between after : JournalState) (contexts : List (ContextState S F L))
       (deployment : Deployment S F L) (context : ContextState S F L)
       → DeploysAll moving front before contexts between
@@ -65,7 +65,7 @@ module _ {S F L : Type 0} (moving : ComponentSteps S F L) where
     ap (λ cs. cs ++ context ∷ []) so_far.5,
   )
 
-  -- one more context stops
+  -- One more context stops.
   pub undeploys_next : (front : List (ContextState S F L)) (before between after : JournalState) (back : List (Deployment S F L))
       (context : ContextState S F L) (deployment : Deployment S F L)
       → UndeploysAll moving front before back between
@@ -88,14 +88,14 @@ module _ {S F L : Type 0} (moving : ComponentSteps S F L) where
     ap (λ ds. ds ++ deployment ∷ []) so_far.5,
   )
 
-  -- as many are handed back as were contexts
+  -- The number of returned deployments is that of the contexts.
   pub back_counts : (contexts : List (ContextState S F L)) (before after : JournalState) (back : List (Deployment S F L))
       → UndeploysAll moving contexts before back after → length back ≡ length contexts
   back_counts [] before after back stops = ap length stops.0
   back_counts (context ∷ contexts) before after back stops =
       ap length stops.5 ∙ ap suc (back_counts contexts stops.2 after stops.1 stops.4)
 
-  -- as many contexts start as there are deployments, at their paths
+  -- As many contexts start as there are deployments, at their paths.
   pub paths_stay : (deployments : List (Deployment S F L)) (before after : JournalState) (contexts : List (ContextState S F L))
       → DeploysAll moving deployments before contexts after
       → map (λ context. context.content.context_path) contexts ≡ paths_of deployments
@@ -111,7 +111,7 @@ module _ {S F L : Type 0} (moving : ComponentSteps S F L) where
   contexts_count (deployment ∷ deployments) before after contexts starts =
       ap length starts.5 ∙ ap suc (contexts_count deployments starts.2 after starts.1 starts.4)
 
--- the path behind those of the deployments before one that failed
+-- The path at the index of the failed deployment is its own.
 pub failed_path : {S F L : Type 0} (front : List (Deployment S F L)) (failed : Deployment S F L) (rest all : List (Deployment S F L))
     (paths : List (List ℕ)) (count : ℕ) → all ≡ front ++ failed ∷ rest → paths ≡ paths_of all → count ≡ length front
     → slice_index_or paths count [] ≡ failed.path
@@ -123,7 +123,7 @@ failed_path {S} {F} {L} front failed rest all paths count are same counts =
     there (first ∷ before) = there before
 
 module _ {S F L : Type 0} (front all waiting rest : List (Deployment S F L)) (next : Deployment S F L) where
-  -- there is room for one more context, and its path is there
+  -- There is capacity for one more context, and its path is in the list.
   pub fits_next : (count room : ℕ) → all ≡ front ++ waiting → waiting ≡ next ∷ rest → count ≡ length front → length all ≤ room → count < room
   fits_next count room are left counts fits =
       omega (arith, ap length are, length-append front waiting, ap length left, counts, fits)

@@ -1,4 +1,4 @@
--- How a context answers a message that was admitted (Jakarta Servlet 6.0, sections 9.4, 10.9, 11.3 and 13.6.3).
+-- The response of a context to an admitted message (Jakarta Servlet 6.0, sections 9.4, 10.9, 11.3 and 13.6.3).
 use Rattle.std.specs.Prelude.{ℕ, List, Option, None, Some, codes}
 use Rattle.sv_admission.specs.declared.answer.Answer.{Answer}
 use Rattle.sv_admission.specs.declared.answer.Answer.TheVariants.{Entered, Page, Error, SeeOther}
@@ -13,21 +13,22 @@ use Rattle.sv_tree.specs.Site.{Site}
 use Rattle.sv_tree.specs.Telling.{hears}
 use Rattle.sv_uri.specs.declared.path.Canon.{Canon}
 
--- the client is sent elsewhere
+-- The client is redirected.
 abbrev pub SendsTo : List ℕ → Does (Unit {0})
 SendsTo location = do
   makes (SetStatus SEE_OTHER)
   makes (SetHeader (codes "location") location)
 
 module _ (site : Site) where
-  -- the listeners hear of a request before its first dispatch and behind its last
+  -- The listeners are notified of a request before its first dispatch and after its last.
   abbrev pub Requested : Does (Unit {0}) → Does (Unit {0})
   Requested dispatches = do
     hears site.listeners RequestInitialized
     dispatches
     hears site.listeners RequestDestroyed
 
-  -- the answer to a message to this path in the context, case by case; without a dispatch the listeners hear of no request
+  -- The response to a message to this path in the context, by its answer. Listeners are only notified of requests that
+  -- are dispatched.
   abbrev pub Answers : Canon → Answer → Does (Unit {0})
   Answers canon Entered = Requested (Served site kinds.Request canon)
   Answers canon (Page page) = Requested (Served site kinds.Forward page)
@@ -35,12 +36,12 @@ module _ (site : Site) where
   Answers canon (Error status (Some page)) = Requested (ShowsError site status (Some page))
   Answers canon (SeeOther location) = SendsTo location
 
-  -- the listeners hear what the message did to its session
+  -- The listeners are notified of the admission's session event, if any.
   abbrev pub Tells : Option Event → Does (Unit {0})
   Tells None = gives tt
   Tells (Some event) = hears site.listeners event
 
-  -- which they hear before it is answered
+  -- This notification comes before the answer.
   abbrev pub Answered : Canon → Option Event → Answer → Does (Unit {0})
   Answered canon event answer = do
     Tells event

@@ -1,4 +1,4 @@
--- What runs of a container see of a context (Jakarta Servlet 6.0, sections 2.3, 3.5, 7.5 and 13.6.3).
+-- A context as runs of a container see it (Jakarta Servlet 6.0, sections 2.3, 3.5, 7.5 and 13.6.3).
 use Rattle.std.specs.Prelude.{List, None, Some}
 use Rattle.sv_admission.specs.Asked.{Asked, asked_by}
 use Rattle.sv_admission.specs.Judged.{post_in}
@@ -16,24 +16,24 @@ use Rattle.sv_context.specs.Handled as handled
 use Rattle.sv_context.specs.Retiring.{Retires}
 use Rattle.sv_context.specs.State.{ContextState, IsSameDeployment, world_of}
 
--- a request as its context receives it
+-- A request as its context receives it.
 abbrev pub asked_of : {S F L : Type 0} → ContextState S F L → Request → Asked
 asked_of context request = asked_by request.message (handled.within context request.canon) request.moment request.words
 
--- a journal that takes nothing
+-- A journal that records nothing.
 abbrev pub unnoted : JournalState
 unnoted = broken new_journal
 
 module _ {S F L : Type 0} (moving : ComponentSteps S F L) where
-  -- some calls move the components, whatever is noted of them, and of these only servlets that are gone behind them are destroyed
+  -- Some calls move the components, whatever the journal records. They only destroy servlets that are gone afterwards.
   pub record IsMoved (before after : ContextState S F L) : Type 0 where
     pub made : List Record
     pub runs : IsRun moving (world_of before unnoted) made (world_of after unnoted)
     pub retires : Retires before.standings made after.standings
     pub stays : IsSameDeployment before after
 
-  -- the caller that a request sends is the user whose name and password stand in its login fields; entries are those that a new journal gains, and of
-  -- a request that is cut short they are lost
+  -- The caller of a request is the user whose name and password are in its login fields. Entries are those that a new
+  -- journal gains; the entries of an interrupted request are lost.
   abbrev pub conduct : Conduct (ContextState S F L)
   conduct = record {
     sessions_of = λ context. context.store;

@@ -21,29 +21,29 @@ use Rattle.sv_context.specs.declared.limits.TheConstants.{SECONDS_OF_MINUTE}
 abbrev pub content_of : {S F L : Type 0} → Deployment S F L → Content
 content_of deployment = record { context_path = deployment.path; app = deployment.descriptor; files = deployment.files }
 
--- the constraints stand as they were deployed
+-- The constraints, as they were deployed.
 abbrev pub declared_policy : WebApp → Standing
 declared_policy app = compiled app.constraints app.rules
 
--- no session yet, and at most as many as the descriptor's version has room for; one lives as long without a request as the descriptor says, which
--- counts in minutes
+-- An empty session store. The descriptor's version limits the number of sessions, and the descriptor gives the timeout
+-- of idle sessions in minutes.
 abbrev pub no_sessions : WebApp → Store
 no_sessions app = empty_store (max_sessions app.version) (app.session.timeout * SECONDS_OF_MINUTE)
 
--- the context whose components were started, or the deployment, whose components are as the calls of the start left them
+-- The context with the started components, or the deployment with the components as the calls of the start left them.
 abbrev pub deployed : {S F L : Type 0} → Deployment S F L → Result (LiveState S F L) (StartFault S F L) → Result (ContextState S F L) (DeployFault S F L)
 deployed deployment (Ok live) =
     Ok (context_of (content_of deployment) (declared_policy deployment.descriptor) deployment.users live (no_sessions deployment.descriptor))
 deployed deployment (Err fault) = Err record { fault = fault.code; deployment = record deployment { parts = fault.parts } }
 
 module _ {S F L : Type 0} (moving : ComponentSteps S F L) where
-  -- the components of a deployment are started
+  -- The components of a deployment are started.
   pub record Deploys (deployment : Deployment S F L) (before : JournalState) (result : Result (ContextState S F L) (DeployFault S F L)) (after : JournalState) : Type 0 where
     pub started : Result (LiveState S F L) (StartFault S F L)
     pub starts : Starts moving deployment.path deployment.descriptor deployment.parts before started after
     pub is : result ≡ deployed deployment started
 
-  -- the context stops, and what it was deployed with is handed back, the components as the calls of the stop left them
+  -- The context stops, and its deployment is returned, with the components as the calls of the stop left them.
   pub record Undeploys (context : ContextState S F L) (before : JournalState) (result : Deployment S F L) (after : JournalState) : Type 0 where
     pub stops : Runs moving
         (world_of context before) (stop_calls (length context.listeners) (in_service context) context.store.sessions) (world result.path result.parts after)

@@ -1,4 +1,4 @@
--- The sessions of a context that have expired end, and the listeners hear of each (Jakarta Servlet 6.0, sections 7.5, 7.7.1 and 11.3.4).
+-- The end of a context's expired sessions, and its notifications (Jakarta Servlet 6.0, sections 7.5, 7.7.1 and 11.3.4).
 use Rattle.std.specs.Prelude.{◌≡◌, ℕ, List, length}
 use Rattle.std.specs.List.{flat_map}
 use Rattle.sv_component.specs.Runs.{Record, Runs}
@@ -9,12 +9,13 @@ use Rattle.sv_session.specs.Runs as sessions
 use Rattle.sv_session.specs.declared.ended_session.EndedSession.{EndedSession}
 use Rattle.sv_context.specs.State.{ContextState, IsSameDeployment, world_of}
 
--- so many listeners hear of each that it has ended, and that its attributes have gone
+-- The notifications of this number of listeners: each session has ended, and its attributes are removed.
 abbrev pub ends_told : List EndedSession → ℕ → List Record
 ends_told ended count = flat_map (λ session. all_told (end_events session) count) ended
 
 module _ {S F L : Type 0} (moving : ComponentSteps S F L) where
-  -- those that have expired at the moment end one after another, each the first by deadline and then number, until none has expired
+  -- The sessions that have expired at the time end one after another, ordered by deadline and then number, until none
+  -- is left.
   pub record Expires (moment : ℕ) (before : ContextState S F L) (noted : JournalState) (after : ContextState S F L) (noted_after : JournalState) : Type 0 where
     pub ended : List EndedSession
     pub ends : sessions.Expires moment before.store ended after.store

@@ -1,7 +1,7 @@
--- A context whose sessions are forgotten.
+-- A context without its sessions.
 use Rattle.sv_context.specs.Deployment.{no_sessions}
 use Rattle.sv_context.specs.State.{ContextState}
 
--- it has no session, as before its first request
+-- The context has no session, as before its first request.
 abbrev pub without_sessions : {S F L : Type 0} → ContextState S F L → ContextState S F L
 without_sessions context = record context { store = no_sessions context.content.app }

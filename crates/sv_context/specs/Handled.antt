@@ -1,4 +1,4 @@
--- What is done with a message in its context (Jakarta Servlet 6.0, sections 3.5, 10.9, 11.3 and 13.6.3).
+-- Handling a message in its context (Jakarta Servlet 6.0, sections 3.5, 10.9, 11.3 and 13.6.3).
 use Rattle.std.specs.Prelude.{◌≡◌, ◌⊎◌, true, List, Option, None, Some}
 use Rattle.sv_admission.specs.Admission.{admission, settled_in}
 use Rattle.sv_admission.specs.Asked.{Asked}
@@ -16,27 +16,27 @@ use Rattle.sv_message.specs.declared.response.Response.{Response}
 use Rattle.sv_context.specs.Answered.{Answered}
 use Rattle.sv_context.specs.State.{ContextState, IsSameDeployment, world_of}
 
--- the path in the context, with the query
+-- The path in the context, with the query.
 abbrev pub within : {S F L : Type 0} → ContextState S F L → Canon → Canon
 within context canon = record canon { path = path_within context.content.context_path canon.path }
 
--- an exchange, with how the servlets of a context stand
+-- An exchange, with the states of the context's servlets.
 abbrev pub state_in : {S F L : Type 0} → ContextState S F L → exchanges.State → State
 state_in context its_exchange = record { exchange = its_exchange; standings = context.standings }
 
 module _ {S F L : Type 0} (context : ContextState S F L) (asked : Asked) where
-  -- what becomes of a message before any component is called
+  -- The admission of a message, before any component is called.
   abbrev pub admitted : Admission
   admitted = admission context.content context.policy context.users asked context.store
 
-  -- its exchange, of which nothing was said yet, over the sessions as the admission left them
+  -- The exchange of the message at its beginning, with the sessions as the admission left them.
   abbrev pub exchange_begun : exchanges.State
   exchange_begun =
       begun asked.message asked.canon context.content.context_path context.content.app.session.cookie asked.moment asked.words admitted.session
       (settled_in context.content context.policy context.users asked context.store).store
 
 module _ {S F L : Type 0} (moving : ComponentSteps S F L) where
-  -- behind its entry these calls were made, which answer the message; there is no result where memory ended them
+  -- The calls that were made after the journal entry answer the message. There is no result if memory ran out.
   pub record IsAnswered (asked : Asked) (before : ContextState S F L) (noted : JournalState) (exchange : exchanges.State) (result : Option (Unit {0})) (after : ContextState S F L) (noted_after : JournalState) : Type 0 where
     pub made : List Record
     pub answers : Answered (site_of before.content) asked.canon (admitted before asked).event (admitted before asked).answer
@@ -44,7 +44,7 @@ module _ {S F L : Type 0} (moving : ComponentSteps S F L) where
     pub runs : IsRun moving (world_of before (with_entry (admitted before asked).entry noted)) made (world_of after noted_after)
     pub stays : IsSameDeployment before after
 
-  -- the message is noted and answered, and the sessions are those that its exchange leaves
+  -- The message is logged and answered, and the sessions are those that its exchange leaves.
   pub record GivesResponse (asked : Asked) (before : ContextState S F L) (noted : JournalState) (response : Response) (after : ContextState S F L) (noted_after : JournalState) : Type 0 where
     pub exchange : exchanges.State
     pub is_answered : IsAnswered asked before noted exchange (Some tt) after noted_after
@@ -52,18 +52,18 @@ module _ {S F L : Type 0} (moving : ComponentSteps S F L) where
     pub store : after.store ≡ exchange.store
     pub whole : noted_after.whole ≡ true
 
-  -- memory ended it before any component was called: nothing but the sessions has changed, and the message may be noted
+  -- Memory ran out before any component was called: only the sessions have changed, and the message may be logged.
   pub record EndsUncalled (asked : Asked) (before : ContextState S F L) (noted : JournalState) (after : ContextState S F L) (noted_after : JournalState) : Type 0 where
     pub entry : (noted_after ≡ noted) ⊎ Takes noted (admitted before asked).entry noted_after
     pub stays : after ≡ record before { store = after.store }
 
-  -- memory ended it, before any component was called or within the answer; nothing is said of the sessions then
+  -- Memory ran out, before any component was called or during the answer. The sessions are then unspecified.
   abbrev pub CutShort : Asked → ContextState S F L → JournalState → ContextState S F L → JournalState → Type 0
   CutShort asked before noted after noted_after =
       EndsUncalled asked before noted after noted_after
       ⊎ ((exchange : exchanges.State) × IsAnswered asked before noted exchange None after noted_after)
 
-  -- the message is answered, or there is no response since memory ended it
+  -- The message is answered, or there is no response because memory ran out.
   abbrev pub HandlesMessage : Asked → ContextState S F L → JournalState → Option Response → ContextState S F L → JournalState → Type 0
   HandlesMessage asked before noted (Some response) after noted_after = GivesResponse asked before noted response after noted_after
   HandlesMessage asked before noted None after noted_after = CutShort asked before noted after noted_after

@@ -1,4 +1,4 @@
--- What holds of every expiry of a context's sessions (Jakarta Servlet 6.0, section 7.5).
+-- Laws of every expiry of a context's sessions (Jakarta Servlet 6.0, section 7.5).
 use Rattle.std.specs.Prelude.{◌≡◌, ℕ}
 use Rattle.sv_component.specs.Steps.{ComponentSteps}
 use Rattle.sv_journal.specs.Journal.{JournalState}
@@ -6,13 +6,13 @@ use Rattle.sv_session.specs.Expiry.{HasNoneExpired}
 use Rattle.sv_context.specs.Expiry.{Expires}
 use Rattle.sv_context.specs.State.{ContextState}
 
--- behind it no session has expired at the moment
+-- After an expiry, no session has expired at its time.
 abbrev pub ExpiryLeavesNone : {S F L : Type 0} → ComponentSteps S F L → Type 0
 ExpiryLeavesNone {S} {F} {L} moving =
     (moment : ℕ) (before after : ContextState S F L) (noted noted_after : JournalState)
     → Expires moving moment before noted after noted_after → HasNoneExpired moment after.store
 
--- where none has expired it can be, and it can only be that nothing changes and nothing is told
+-- If no session has expired, an expiry is possible, and it changes nothing and notifies no listener.
 abbrev pub ExpiryOfNoneIsNothing : {S F L : Type 0} → ComponentSteps S F L → Type 0
 ExpiryOfNoneIsNothing {S} {F} {L} moving =
     (moment : ℕ) (before : ContextState S F L) (noted : JournalState) → HasNoneExpired moment before.store

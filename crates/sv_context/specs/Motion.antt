@@ -1,4 +1,5 @@
--- No calls move nothing, calls behind calls are calls, no call moves a context to another path, and an edit changes the constraints alone.
+-- An empty run moves nothing, joined runs are a run, no run changes a context's path, and an edit only changes the
+-- constraints.
 use Rattle.std.proofs.Common.{[], ◌++◌, refl, ap, ◌∙◌}
 use Rattle.sv_component.proofs.Running.{runs_join}
 use Rattle.sv_component.specs.Runs.{IsRun}
@@ -24,7 +25,7 @@ deployment_then before between after one two = record {
 }
 
 module _ {S F L : Type 0} (moving : ComponentSteps S F L) where
-  -- no calls move nothing
+  -- An empty run moves nothing.
   stands : (context : ContextState S F L) → IsMoved moving context context
   unfolding IsRun
   stands context = record { made = []; runs = refl; retires = retires_none context.standings context.standings refl; stays = same_deployment context }

@@ -1,4 +1,4 @@
--- How far a message that was admitted came.
+-- The progress of an admitted message.
 use Rattle.std.specs.Prelude.{◌≡◌, ◌⊎◌, true, Option, None, Some}
 use Rattle.sv_admission.specs.declared.answer.Answer.{Answer}
 use Rattle.sv_component.specs.Steps.{ComponentSteps}
@@ -16,13 +16,13 @@ use Rattle.sv_message.specs.declared.response.Response.{Response}
 use Rattle.sv_context.specs.Answered.{Answered}
 
 module _ {S F L : Type 0} (moving : ComponentSteps S F L) where
-  -- memory ended it at its entry, or it was noted and answered as far as memory went
+  -- Memory ran out at the journal entry, or the message was logged and answered as far as memory allowed.
   abbrev pub RespondsNoted : Site → Canon → Entry → Option Event → Answer → LiveState S F L → exchanges.State → JournalState → Option (Unit {0}) → LiveState S F L → exchanges.State → JournalState → Type 0
   RespondsNoted site canon entry event answer live exchange noted result live_after exchange_after noted_after =
       (result ≡ None) × (live_after ≡ live) × Takes noted entry noted_after
       ⊎ ServedBy moving (Answered site canon event answer) live exchange (with_entry entry noted) result live_after exchange_after noted_after
 
-  -- the exchange of a message ended so: its response is what was made of it, and the sessions are those that it leaves; or memory ended it
+  -- The end of a message's exchange. The response and the sessions are those of the exchange, or memory ran out.
   abbrev pub EndsExchange : Site → Canon → Entry → Option Event → Answer → LiveState S F L → exchanges.State → JournalState → Option Response → LiveState S F L → Store → JournalState → Type 0
   EndsExchange site canon entry event answer live exchange noted (Some response) live_after store_after noted_after =
       (exchange_after : exchanges.State)

@@ -1,4 +1,4 @@
--- No calls retire nobody, and calls behind calls retire who either retires.
+-- An empty run retires no servlet, and joined runs retire the servlets that either run retires.
 use Rattle.std.proofs.Common.{◌≡◌, Bool, true, false, ◌||◌, List, [], ◌∷◌, ◌++◌, refl, sym, ap, ◌∙◌, subst, append_assoc}
 use Rattle.std.specs.List.{list_any}
 use Rattle.std.proofs.lemmas.List.Concat.{flat_map-append}

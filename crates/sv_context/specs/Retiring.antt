@@ -1,4 +1,5 @@
--- Which components are destroyed while their context is deployed (Jakarta Servlet 6.0, sections 2.3.3.2 and 2.3.4): servlets that are unavailable for good.
+-- The components that are destroyed while their context is deployed: servlets that are permanently unavailable (Jakarta
+-- Servlet 6.0, sections 2.3.3.2 and 2.3.4).
 use Rattle.std.specs.Prelude.{◌≡◌, ℕ, ◌==◌, Bool, true, false, List, [], ◌∷◌, ◌++◌, if◌then◌else◌}
 use Rattle.std.specs.List.{flat_map, list_any}
 use Rattle.sv_component.specs.Call.{Call, Destroyed, Entered, Heard, Inited, Left, Serviced}
@@ -15,13 +16,13 @@ is_destroy (Left before done after) = false
 is_destroy (Heard event) = false
 is_destroy Destroyed = true
 
--- the call of a record, where it is one of the servlet at the place
+-- The call of a record, if it is one of the servlet at this index.
 abbrev pub call_of : ℕ → Record → List Call
 call_of place (OfServlet other call) = if place == other then call ∷ [] else []
 call_of place (OfFilter other call) = []
 call_of place (OfListener other event) = []
 
--- the calls of the servlet at the place, in their order
+-- The calls of the servlet at this index, in their order.
 abbrev pub calls_of : ℕ → List Record → List Call
 calls_of place made = flat_map (call_of place) made
 
@@ -33,14 +34,14 @@ is_destroy_of_filter (OfListener place event) = false
 abbrev pub gone_at : ℕ → List Standing → Bool
 gone_at place standings = is_gone (standing_at standings place)
 
--- the calls of a servlet that was gone or not, and is gone behind them or not: one that is gone is not called; one that becomes gone is destroyed, once
--- and last; one that does not is not destroyed
+-- The calls of a servlet, by whether it is gone before and after them. A servlet that is gone is not called. One that
+-- becomes gone is destroyed by its last call. Any other is not destroyed.
 abbrev pub EndsSo : Bool → List Call → Bool → Type 0
 EndsSo true calls after = (calls ≡ []) × (after ≡ true)
 EndsSo false calls true = (front : List Call) × (calls ≡ front ++ Destroyed ∷ []) × (list_any is_destroy front ≡ false)
 EndsSo false calls false = list_any is_destroy calls ≡ false
 
--- so it is of each servlet, and no filter is destroyed
+-- This holds for each servlet, and no filter is destroyed.
 pub record Retires (before : List Standing) (made : List Record) (after : List Standing) : Type 0 where
   pub servlets : (place : ℕ) → EndsSo (gone_at place before) (calls_of place made) (gone_at place after)
   pub filters : list_any is_destroy_of_filter made ≡ false

@@ -1,4 +1,5 @@
--- Contexts that start and stop one after another, in the order of their list (Jakarta Servlet 6.0, sections 2.3, 6.2.1 and 11.3).
+-- Contexts that start and stop one after another, in the order of their list (Jakarta Servlet 6.0, sections 2.3, 6.2.1
+-- and 11.3).
 use Rattle.std.specs.Prelude.{◌≡◌, ℕ, List, [], ◌∷◌, ◌++◌, map, Ok, Err}
 use Rattle.sv_component.specs.Steps.{ComponentSteps}
 use Rattle.sv_context.specs.Deployment.{Deploys, Undeploys}
@@ -13,7 +14,7 @@ abbrev pub paths_of : {S F L : Type 0} → List (Deployment S F L) → List (Lis
 paths_of deployments = map (λ deployment. deployment.path) deployments
 
 module _ {S F L : Type 0} (moving : ComponentSteps S F L) where
-  -- each deployment becomes a context
+  -- Each deployment becomes a context.
   abbrev pub DeploysAll : List (Deployment S F L) → JournalState → List (ContextState S F L) → JournalState → Type 0
   DeploysAll [] before contexts after = (contexts ≡ []) × (after ≡ before)
   DeploysAll (deployment ∷ deployments) before contexts after =
@@ -21,7 +22,7 @@ module _ {S F L : Type 0} (moving : ComponentSteps S F L) where
       × Deploys moving deployment before (Ok context) between
       × DeploysAll deployments between others after × (contexts ≡ context ∷ others)
 
-  -- what each context was deployed with is handed back
+  -- The deployment of each context is returned.
   abbrev pub UndeploysAll : List (ContextState S F L) → JournalState → List (Deployment S F L) → JournalState → Type 0
   UndeploysAll [] before back after = (back ≡ []) × (after ≡ before)
   UndeploysAll (context ∷ contexts) before back after =
@@ -29,7 +30,7 @@ module _ {S F L : Type 0} (moving : ComponentSteps S F L) where
       × Undeploys moving context before first between
       × UndeploysAll contexts between others after × (back ≡ first ∷ others)
 
-  -- the deployments before one become contexts, that one does not start, and the contexts are undeployed again
+  -- The deployments before one become contexts, that one does not start, and the contexts are undeployed again.
   pub record FailsAll (deployments : List (Deployment S F L)) (before : JournalState) (fault : DeployAllFault S F L) (after : JournalState) : Type 0 where
     pub front : List (Deployment S F L)
     pub failed : Deployment S F L
@@ -47,7 +48,7 @@ module _ {S F L : Type 0} (moving : ComponentSteps S F L) where
     pub context : fault.context ≡ failed.path
     pub back : fault.deployments.items ≡ stopped ++ refusal.deployment ∷ rest
 
-  -- the contexts stop, and their components are handed back
+  -- The contexts stop, and their components are returned.
   pub record GivesBackParts (contexts : List (ContextState S F L)) (before : JournalState) (parts : List (Parts S F L)) (after : JournalState) : Type 0 where
     pub back : List (Deployment S F L)
     pub undeploys : UndeploysAll contexts before back after

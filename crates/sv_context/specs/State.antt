@@ -1,5 +1,5 @@
--- A deployed context as contracts see it: what it was deployed with, its constraints as they stand, its components and how they stand, and its sessions (Jakarta Servlet 6.0,
--- chapters 2, 3 and 7).
+-- A deployed context as contracts see it: its deployment, its current constraints, its components with their states,
+-- and its sessions (Jakarta Servlet 6.0, chapters 2, 3 and 7).
 use Rattle.std.specs.Prelude.{◌≡◌, List, length}
 use Rattle.std.specs.List.{filter}
 use Rattle.sv_component.specs.World.{World}
@@ -14,21 +14,21 @@ use Rattle.sv_session.specs.Store.{Store}
 use Rattle.sv_site.specs.Site.{Content}
 
 pub record ContextState (S F L : Type 0) : Type 0 where
-  -- the context's path, its descriptor and its files
+  -- The context's path, its descriptor and its files.
   pub content : Content
-  -- the constraints as they stand
+  -- The current constraints.
   pub policy : policies.Standing
   pub users : List User
-  -- the components, in the order of the descriptor
+  -- The components, in the order of the descriptor.
   pub servlets : List (Named S)
   pub filters : List (Named F)
   pub listeners : List L
-  -- the components that were initialised, in order, and how the servlets stand
+  -- The components that were initialized, in order, and the states of the servlets.
   pub initialised : List Place
   pub standings : List Standing
   pub store : Store
 
--- a context of its parts
+-- A context, made from its parts.
 abbrev pub context_of : {S F L : Type 0} → Content → policies.Standing → List User → LiveState S F L → Store → ContextState S F L
 context_of its_content its_policy its_users live its_store = record {
   content = its_content;
@@ -42,7 +42,7 @@ context_of its_content its_policy its_users live its_store = record {
   store = its_store;
 }
 
--- the components with the journal, as runs see them
+-- The components with the journal, as runs see them.
 abbrev pub world_of : {S F L : Type 0} → ContextState S F L → JournalState → World S F L
 world_of context its_journal = record {
   context = context.content.context_path;
@@ -52,11 +52,12 @@ world_of context its_journal = record {
   journal = its_journal;
 }
 
--- the components that were initialised and are not gone, in the order of their inits
+-- The components that were initialized and are not gone, in the order of their initialization.
 abbrev pub in_service : {S F L : Type 0} → ContextState S F L → List Place
 in_service context = filter (is_in_service context.standings) context.initialised
 
--- what was deployed stays, and the constraints as they stand, no component comes or goes, and what was initialised was
+-- The deployment and the current constraints stay, no component is added or removed, and the initialized components
+-- stay.
 pub record IsSameDeployment {S F L : Type 0} (before after : ContextState S F L) : Type 0 where
   pub content : after.content ≡ before.content
   pub policy : after.policy ≡ before.policy
@@ -66,13 +67,13 @@ pub record IsSameDeployment {S F L : Type 0} (before after : ContextState S F L)
   pub listeners : length after.listeners ≡ length before.listeners
   pub initialised : after.initialised ≡ before.initialised
 
--- the descriptor declares as many components
+-- The descriptor declares as many components of each kind.
 pub record AreCounted {S F L : Type 0} (content : Content) (live : LiveState S F L) : Type 0 where
   pub servlets : length live.parts.servlets.items ≡ length content.app.servlets
   pub filters : length live.parts.filters.items ≡ length content.app.filters
   pub listeners : length live.parts.listeners.items ≡ length content.app.listeners
 
--- the started components are those of the content: it has their path, and declares as many
+-- The started components are those of the content: they have its path, and it declares as many.
 pub record AreComponentsOf {S F L : Type 0} (content : Content) (live : LiveState S F L) : Type 0 where
   pub context : live.context ≡ content.context_path
   pub counts : AreCounted content live

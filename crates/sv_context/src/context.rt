@@ -8,13 +8,13 @@ use sv_policy::Policy;
 use sv_realm::Realm;
 use sv_session::Sessions;
 
-/// A deployed context: a started web application with its sessions (Jakarta Servlet 6.0, chapters 2, 3 and 7). Contracts see a `ContextState`, which
-/// says nothing of the exchange between two requests.
+/// A deployed context: a started web application with its sessions (Jakarta Servlet 6.0, chapters 2, 3 and 7).
+/// Contracts see a `ContextState`, which leaves out the exchange.
 #[derive(Drop)]
 pub struct Context<S, F, L> {
     pub(crate) responder: Responder<S, F, L>,
     pub(crate) users: Realm,
-    // The current constraints: at first copies of those of the descriptor.
+    // The current constraints, at first copies of the descriptor's.
     pub(crate) policy: Policy,
     pub(crate) sessions: Sessions,
 }
@@ -30,7 +30,7 @@ impl<S, F, L> Model for Context<S, F, L> {
 }
 
 impl<S, F, L> Context<S, F, L> {
-    /// How many sessions of the context live.
+    /// Returns the number of live sessions.
     pub fn session_count(&self) -> usize
         ensures { result ≡ length self.now.store.sessions }
     {

@@ -1,22 +1,22 @@
-//! Why contexts were not deployed.
+//! Faults of deployments.
 
 use sv_lifecycle::{Deployment, StartCode};
 use sv_text::Text;
 
 /// A context that was not deployed.
 pub struct DeployFault<S, F, L> {
-    /// Why it did not start.
+    /// The reason why it did not start.
     pub fault: StartCode,
-    /// All that was handed in, the components as the calls left them.
+    /// The deployment, with the components as the calls left them.
     pub deployment: Deployment<S, F, L>,
 }
 
-/// Contexts that were not deployed: the first of them that does not start ended it.
+/// Contexts that were not deployed, because one of them did not start.
 pub struct DeployAllFault<S, F, L> {
-    /// Why it did not start.
+    /// The reason why it did not start.
     pub code: StartCode,
-    /// Its context path.
+    /// The path of the context that did not start.
     pub context: Text,
-    /// All that was handed in, in its order, the components as the calls left them.
+    /// All deployments in their order, with the components as the calls left them.
     pub deployments: Vec<Deployment<S, F, L>>,
 }

@@ -1,4 +1,4 @@
-//! How a context is deployed and undeployed.
+//! Deploying and undeploying a context.
 
 ghost use Rattle.sv_component.specs.Steps.{steps_of};
 ghost use Rattle.std.specs.Prelude.{◌≡◌, Err, IfOk};
@@ -25,10 +25,11 @@ use sv_site::{ServletPatterns, Site};
 use sv_text::NoMemory;
 
 impl<S: Servlet, F: Filter, L: Listener> Context<S, F, L> {
-    /// Deploys a context: its components are started, and it has no session yet (Jakarta Servlet 6.0, sections 2.3.1, 6.2.1 and 11.3.3).
+    /// Deploys a context: starts its components, with no session yet (Jakarta Servlet 6.0, sections 2.3.1, 6.2.1 and
+    /// 11.3.3).
     ///
     /// # Errors
-    /// [`StartCode`] with all that was handed in. A start that is refused is undone.
+    /// [`DeployFault`] with the reason and the deployment. A start that is refused is undone.
     pub fn deploy(
         alloc: Global,
         deployment: Deployment<S, F, L>,
@@ -42,8 +43,9 @@ impl<S: Servlet, F: Filter, L: Listener> Context<S, F, L> {
         }
     }
 
-    /// Undeploys a context: it stops, and all that it was deployed with is handed back, the components as the calls left them (Jakarta Servlet
-    /// 6.0, sections 2.3.4, 6.2.1 and 11.3.4). Its sessions end in the order of their numbers. A journal that breaks holds nothing up.
+    /// Undeploys a context: stops it and returns its deployment, with the components as the calls left them (Jakarta
+    /// Servlet 6.0, sections 2.3.4, 6.2.1 and 11.3.4). Its sessions end in the order of their numbers. If the journal
+    /// breaks, the stop continues.
     pub fn undeploy(self, alloc: Global, journal: &mut Journal) -> Deployment<S, F, L>
         ensures { Undeploys (steps_of S.servlet_step F.filter_step L.listener_step) self journal.old result journal.new }
     {
@@ -70,7 +72,7 @@ impl<S: Servlet, F: Filter, L: Listener> Context<S, F, L> {
     }
 }
 
-// The patterns of the servlets and the policy of the constraints, compiled.
+// Compiles the patterns of the servlets and the policy of the constraints.
 fn tables_of(alloc: Global, descriptor: &Descriptor) -> Result<(ServletPatterns, Policy), NoMemory>
     ensures tables { IfOk result (λ tables. (tables.0 ≡ mappings_of descriptor.now) × (tables.1 ≡ declared_policy descriptor.now)) }
     ensures well_formed { IsWellFormed descriptor.now }
@@ -81,7 +83,7 @@ fn tables_of(alloc: Global, descriptor: &Descriptor) -> Result<(ServletPatterns,
     Ok((patterns, policy))
 }
 
-// Starts the components of a deployment whose patterns and constraints are compiled.
+// Starts the components of a deployment, given its compiled patterns and constraints.
 fn start<S: Servlet, F: Filter, L: Listener>(
     alloc: Global,
     deployment: Deployment<S, F, L>,
@@ -131,7 +133,8 @@ fn start<S: Servlet, F: Filter, L: Listener>(
     }
 }
 
-// A deployment for whose patterns or constraints there was no memory, so that nothing was started.
+// Refuses a deployment, before anything is started, because there was no memory for its patterns or constraints. If its
+// parts do not match the descriptor, the fault is this mismatch.
 fn without_tables<S: Servlet, F: Filter, L: Listener>(
     deployment: Deployment<S, F, L>,
 ) -> DeployFault<S, F, L>
@@ -145,7 +148,7 @@ fn without_tables<S: Servlet, F: Filter, L: Listener>(
     DeployFault { fault, deployment }
 }
 
-// No sessions yet, for a context of the descriptor.
+// Returns an empty session store for a context of the descriptor.
 pub(crate) fn no_sessions(alloc: Global, descriptor: &Descriptor) -> Sessions
     ensures { result ≡ no_sessions descriptor.now }
 {

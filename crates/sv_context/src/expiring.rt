@@ -1,4 +1,4 @@
-//! How the sessions of a context expire.
+//! Expiring the sessions of a context.
 
 ghost use Rattle.sv_component.specs.Steps.{steps_of};
 ghost use Rattle.sv_policy.specs.Compiled.{Standing};
@@ -16,8 +16,9 @@ use sv_live::Live;
 use sv_session::Sessions;
 
 impl<S: Servlet, F: Filter, L: Listener> Context<S, F, L> {
-    /// Ends the sessions that have expired at a moment, in seconds since 1970, by deadline and then number, and has the listeners hear of each
-    /// (Jakarta Servlet 6.0, sections 7.5 and 11.3.4). A journal that breaks holds nothing up.
+    /// Ends the sessions that have expired at a time, in seconds since 1970, ordered by deadline and then number. The
+    /// listeners are notified of each end (Jakarta Servlet 6.0, sections 7.5 and 11.3.4). If the journal breaks, the
+    /// expiry continues.
     pub fn expire(&mut self, alloc: Global, moment: u64, journal: &mut Journal)
         ensures { Expires (steps_of S.servlet_step F.filter_step L.listener_step) moment self.old journal.old self.new journal.new }
     {
@@ -31,7 +32,7 @@ impl<S: Servlet, F: Filter, L: Listener> Context<S, F, L> {
     }
 }
 
-// Ends the sessions that have expired, and has the listeners of the started components hear of each.
+// Ends the sessions that have expired, and notifies the listeners of each end.
 fn end_expired<S: Servlet, F: Filter, L: Listener>(
     alloc: Global,
     moment: u64,

@@ -1,4 +1,4 @@
-//! How a context forgets its sessions.
+//! Dropping the sessions of a context.
 
 ghost use Rattle.std.specs.Prelude.{◌≡◌};
 ghost use Rattle.sv_context.specs.Forgetting.{without_sessions};
@@ -8,7 +8,7 @@ use crate::deploying::no_sessions;
 use std::alloc::Global;
 
 impl<S, F, L> Context<S, F, L> {
-    /// Forgets all sessions: nobody hears that they end. It takes no memory.
+    /// Drops all sessions, without notifying listeners and without allocating.
     pub fn forget_sessions(&mut self, alloc: Global)
         ensures { self.new ≡ without_sessions self.old }
     {

@@ -1,4 +1,4 @@
-//! How a context handles a message.
+//! Handling a message in a context.
 
 ghost use Rattle.sv_component.specs.Steps.{steps_of};
 ghost use Rattle.std.specs.Prelude.{◌≡◌, IfOk, IsTrue, unwrap_or};
@@ -21,14 +21,16 @@ use sv_text::{NoMemory, Text};
 use sv_uri::path::Canon;
 
 impl<S: Servlet, F: Filter, L: Listener> Context<S, F, L> {
-    /// Handles a message whose target has that canonical path, which the context serves. The moment is in seconds since 1970, and the words are the two
-    /// random ones of the message. The message is admitted, noted, and answered by the servlet or the file of its path, by a page, plainly, or by
-    /// sending the client elsewhere (Jakarta Servlet 6.0, sections 3.5, 10.9, 11.3 and 13.6.3). The sessions that have expired have ended before. Nothing
-    /// is said of the message afterwards, whose parts may be taken.
+    /// Handles a message with this canonical path, which the context must serve. The time is in seconds since 1970, and
+    /// the words are the two random words of the message. The message is admitted, logged, and answered: by the servlet
+    /// or the file of its path, by a page, in plain text, or by a redirect (Jakarta Servlet 6.0, sections 3.5, 10.9,
+    /// 11.3 and 13.6.3). The caller ends expired sessions first. The message is unspecified afterwards, since its parts
+    /// may be moved out.
     ///
     /// # Errors
-    /// `NoMemory` if an allocation fails, a component runs out of memory, or the journal is broken: the calls made so far were made. All that was
-    /// deployed is still there, and the context can be undeployed; nothing is said of its sessions.
+    /// `NoMemory` if an allocation fails, a component runs out of memory, or the journal is broken. Calls that were
+    /// made are not undone. The deployment is still complete, and the context can be undeployed, but its sessions are
+    /// unspecified.
     pub fn handle(
         &mut self,
         alloc: Global,
@@ -91,7 +93,7 @@ fn within(alloc: Global, context_path: &str, canon: &Canon) -> Result<Option<Can
     Ok(Some(Canon { path, query }))
 }
 
-// Returns what was made, or else the other.
+// Returns the first path if there is one, or the other.
 #[inline(always)]
 fn either<'a>(made: &'a Option<Canon>, other: &'a Canon) -> &'a Canon
     ensures { result.now ≡ unwrap_or made.now other.now }

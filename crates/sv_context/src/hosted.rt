@@ -1,4 +1,4 @@
-//! A context as a container has it.
+//! A context as a container uses it.
 
 use crate::context::Context;
 use std::alloc::Global;
@@ -18,7 +18,8 @@ impl<S, F, L> HasContextPath for Context<S, F, L> {
     }
 }
 
-// `handle` and `expire` forward to the public methods of the same names, whose contracts say more than the trait's: they also cover a journal that breaks.
+// `handle` and `expire` forward to the public methods of the same names. The contracts of those are stronger than the
+// trait's: they also cover a journal that breaks.
 impl<S: Servlet, F: Filter, L: Listener> sv_run::Context for Context<S, F, L> {
     ghost use Rattle.sv_component.specs.Steps.{steps_of};
     ghost use Rattle.sv_context.specs.Conduct.{conduct as conduct_by};

@@ -1,9 +1,10 @@
-//! What lets go of deployments.
+//! Dropping deployments.
 
 use sv_component::{Filter, Listener, Servlet};
 use sv_lifecycle::Deployment;
 
-/// Lets go of deployments, with their components as they are. Who calls it drops none of what they hold, and is proved without that.
+/// Drops deployments, with their components as they are. Callers do not drop the contents themselves, and their proofs
+/// need not cover it.
 pub fn let_go<S: Servlet, F: Filter, L: Listener>(deployments: Vec<Deployment<S, F, L>>) {
     drop(deployments);
 }

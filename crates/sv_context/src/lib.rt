@@ -1,5 +1,5 @@
-//! One context: how it is deployed, handles messages, ends its expired sessions, and is undeployed (Jakarta Servlet 6.0); and how several are
-//! deployed and undeployed one after another.
+//! One context: its deployment, message handling, session expiry and undeployment (Jakarta Servlet 6.0). Several
+//! contexts can be deployed and undeployed one after another.
 #![tactic(auto)]
 
 mod context;

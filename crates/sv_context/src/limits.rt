@@ -1,4 +1,4 @@
-//! The numbers of contexts.
+//! The constants of contexts.
 
-/// The seconds of a minute, in which a descriptor counts how long sessions live.
+/// The seconds of a minute. A descriptor gives the session timeout in minutes.
 pub const SECONDS_OF_MINUTE: u32 = 60;

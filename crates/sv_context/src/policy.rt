@@ -1,4 +1,4 @@
-//! What explanations see of a context.
+//! The policy and the users of a context, for explanations.
 
 use crate::context::Context;
 use sv_explain::HasPolicy;

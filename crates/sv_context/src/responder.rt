@@ -1,4 +1,4 @@
-//! How a context answers a request that was admitted.
+//! Answering admitted requests.
 
 ghost use Rattle.sv_component.specs.Steps.{steps_of};
 ghost use Rattle.std.specs.Prelude.{◌≡◌, IfOk, List, OnErr, OnOk, Some, length, true};
@@ -39,7 +39,8 @@ use sv_site::Site;
 use sv_text::NoMemory;
 use sv_uri::path::Canon;
 
-/// What answers the requests of a context: its site, its started components, and the exchange that serves one request after another.
+/// The part of a context that answers requests: its site, its started components, and an exchange that serves one
+/// request after another.
 #[derive(Drop)]
 pub(crate) struct Responder<S, F, L> {
     pub site: Site,
@@ -48,10 +49,10 @@ pub(crate) struct Responder<S, F, L> {
 }
 
 impl<S: Servlet, F: Filter, L: Listener> Responder<S, F, L> {
-    /// Answers a request that was admitted. The sessions are lent to its exchange, and come back in every case.
+    /// Answers an admitted request. The sessions are lent to its exchange, and returned in every case.
     ///
     /// # Errors
-    /// `NoMemory` if memory ended the answer, or the journal broke: the calls made so far were made.
+    /// `NoMemory` if memory runs out or the journal breaks: calls that were made are not undone.
     #[inline(always)]
     pub fn answer(
         &mut self,
@@ -86,7 +87,7 @@ impl<S: Servlet, F: Filter, L: Listener> Responder<S, F, L> {
         }
     }
 
-    // Answers a request whose exchange was begun, and takes the sessions back from it.
+    // Answers a request after its exchange has begun, and reclaims the sessions from the exchange.
     fn answer_begun(
         &mut self,
         alloc: Global,
@@ -112,7 +113,7 @@ impl<S: Servlet, F: Filter, L: Listener> Responder<S, F, L> {
         }
     }
 
-    // Notes a request that was admitted, and answers it.
+    // Logs an admitted request in the journal, and answers it.
     fn respond_noted(
         &mut self,
         alloc: Global,
@@ -137,7 +138,7 @@ impl<S: Servlet, F: Filter, L: Listener> Responder<S, F, L> {
         self.respond(alloc, canon, event, answer, journal)
     }
 
-    // Tells the listeners what the request did to its session, and answers it.
+    // Notifies the listeners of the admission's session event, and answers the request.
     fn respond(
         &mut self,
         alloc: Global,
@@ -159,7 +160,7 @@ impl<S: Servlet, F: Filter, L: Listener> Responder<S, F, L> {
         self.answer_by(alloc, canon, answer, journal)
     }
 
-    // The answer, case by case.
+    // Answers the request, by the kind of the answer.
     fn answer_by(
         &mut self,
         alloc: Global,
@@ -182,7 +183,7 @@ impl<S: Servlet, F: Filter, L: Listener> Responder<S, F, L> {
         }
     }
 
-    // Dispatches a request, and tells the listeners of it.
+    // Dispatches a request, and notifies the listeners before and after.
     #[inline(always)]
     fn request(
         &mut self,
@@ -214,7 +215,7 @@ impl<S: Servlet, F: Filter, L: Listener> Responder<S, F, L> {
         hear(alloc, &mut self.live, &Event::RequestDestroyed, journal)
     }
 
-    // Answers an error by its page, or plainly if there is none.
+    // Answers an error by its page, or in plain text if there is none.
     fn error(
         &mut self,
         alloc: Global,
@@ -243,7 +244,7 @@ impl<S: Servlet, F: Filter, L: Listener> Responder<S, F, L> {
         }
     }
 
-    // Dispatches to an error page, and tells the listeners of it.
+    // Dispatches to an error page, and notifies the listeners before and after.
     fn request_page(
         &mut self,
         alloc: Global,
@@ -306,7 +307,7 @@ fn begin(
     )
 }
 
-// Tells the listeners what the request did to its session.
+// Notifies the listeners of the admission's session event, if any.
 fn tell_first<S: Servlet, F: Filter, L: Listener>(
     alloc: Global,
     live: &mut Live<S, F, L>,
@@ -326,7 +327,7 @@ fn tell_first<S: Servlet, F: Filter, L: Listener>(
     }
 }
 
-// Tells each listener of the event.
+// Notifies each listener of the event.
 fn hear<S: Servlet, F: Filter, L: Listener>(
     alloc: Global,
     live: &mut Live<S, F, L>,
@@ -353,7 +354,7 @@ fn unless_broken(journal: &Journal) -> Result<(), NoMemory>
     }
 }
 
-// Sends the client to another location.
+// Redirects the client to another location.
 fn send_to(exchange: &mut Exchange, location: &str) -> Result<(), NoMemory>
     ensures { Alone (SendsTo location.now) exchange.old exchange.new (seen result) }
 {

@@ -1,4 +1,4 @@
-//! The room that a start takes before its first call.
+//! Memory that is reserved before a start.
 
 ghost use Rattle.std.specs.Prelude.{◌≡◌, IfOk};
 ghost use Rattle.sv_context.specs.Room.{IsReady};
@@ -11,16 +11,16 @@ use sv_lifecycle::Deployment;
 use sv_live::Parts;
 use sv_text::{NoMemory, Text};
 
-/// What the start of several contexts needs memory for, and what their stop needs memory for.
+/// Memory that is reserved for the start of several contexts, and for their stop.
 #[derive(Drop)]
 pub struct Room<S, F, L> {
-    // The context paths, one of which a refusal names.
+    // The context paths. A fault reports one of them.
     pub(crate) paths: Vec<Text>,
     pub(crate) contexts: Vec<Context<S, F, L>>,
     pub(crate) stop: StopRoom<S, F, L>,
 }
 
-/// What the stop of several contexts needs memory for.
+/// Memory that is reserved for the stop of several contexts.
 #[derive(Drop)]
 pub struct StopRoom<S, F, L> {
     pub(crate) back: Vec<Deployment<S, F, L>>,
@@ -28,10 +28,10 @@ pub struct StopRoom<S, F, L> {
 }
 
 impl<S: Servlet, F: Filter, L: Listener> Room<S, F, L> {
-    /// Room for the contexts of the deployments.
+    /// Reserves memory for the contexts of the deployments.
     ///
     /// # Errors
-    /// [`NoMemory`].
+    /// [`NoMemory`] if an allocation fails.
     pub fn for_all(
         alloc: Global,
         deployments: &[Deployment<S, F, L>],
@@ -49,18 +49,18 @@ impl<S: Servlet, F: Filter, L: Listener> Room<S, F, L> {
         })
     }
 
-    /// The context paths, in the order of the deployments.
+    /// Returns the context paths, in the order of the deployments.
     pub fn paths(&self) -> &[Text]
         ensures { result.now ≡ self.now.paths.items }
     {
         self.paths.as_slice()
     }
 
-    /// Lets go of it. Who calls it drops none of what it holds, and is proved without that.
+    /// Drops the room. Callers do not drop the contents themselves, and their proofs need not cover it.
     pub fn let_go(self) {}
 }
 
-// The context paths of the deployments.
+// Copies the context paths of the deployments.
 fn copies_of_paths<S, F, L>(
     alloc: Global,
     deployments: &[Deployment<S, F, L>],

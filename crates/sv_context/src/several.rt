@@ -1,4 +1,4 @@
-//! Contexts that are deployed and undeployed one after another.
+//! Deploying and undeploying contexts one after another.
 
 ghost use Rattle.sv_component.specs.Steps.{steps_of};
 ghost use Rattle.std.specs.Prelude.{◌≡◌, ◌+◌, ◌<◌, ◌≤◌, List, [], ◌∷◌, ◌++◌, Err, Ok, MatchResult, length, map, slice_index_or, vec_capacity};
@@ -21,8 +21,8 @@ use sv_journal::Journal;
 use sv_lifecycle::Deployment;
 use sv_live::Parts;
 
-/// Deploys contexts in the order of their list, with room for them (Jakarta Servlet 6.0, sections 2.3.1, 6.2.1 and 11.3.3). They come with
-/// room for their stop.
+/// Deploys contexts in the order of their list, with memory reserved for them (Jakarta Servlet 6.0, sections 2.3.1,
+/// 6.2.1 and 11.3.3). Returns them with the memory reserved for their stop.
 ///
 /// # Errors
 /// [`DeployAllFault`] of the first that does not start. Those before it are undeployed in the order of the list.
@@ -70,7 +70,7 @@ fn deploy_each<S: Servlet, F: Filter, L: Listener>(
     Ok(())
 }
 
-// Deploys a context behind others, for which there is room.
+// Deploys a context and appends it to the others. The list must have capacity for it.
 fn deploy_next<S: Servlet, F: Filter, L: Listener>(
     alloc: Global,
     deployment: Deployment<S, F, L>,
@@ -94,7 +94,7 @@ fn deploy_next<S: Servlet, F: Filter, L: Listener>(
     }
 }
 
-// Undeploys the contexts before one that did not start, and hands all deployments back.
+// Undeploys the contexts before one that did not start, and returns all deployments.
 fn undo<S: Servlet, F: Filter, L: Listener>(
     alloc: Global,
     fault: DeployFault<S, F, L>,
@@ -128,8 +128,9 @@ fn undo<S: Servlet, F: Filter, L: Listener>(
     }
 }
 
-/// Undeploys contexts in their order, with room for their stop, and hands their components back (Jakarta Servlet 6.0, sections 2.3.4, 6.2.1
-/// and 11.3.4). It takes no memory but the journal's, and no refusal of memory holds it up.
+/// Undeploys contexts in their order, with memory reserved for their stop, and returns their components (Jakarta
+/// Servlet 6.0, sections 2.3.4, 6.2.1 and 11.3.4). It allocates only for the journal, and continues if an allocation
+/// fails.
 pub fn undeploy_all<S: Servlet, F: Filter, L: Listener>(
     alloc: Global,
     contexts: Vec<Context<S, F, L>>,
@@ -149,7 +150,7 @@ pub fn undeploy_all<S: Servlet, F: Filter, L: Listener>(
     Shutdown { parts, journal }
 }
 
-// Undeploys contexts in their order, and adds what they were deployed with to a list that has room for it.
+// Undeploys contexts in their order, and appends their deployments to a list, which must have capacity for them.
 fn undeploy_each<S: Servlet, F: Filter, L: Listener>(
     alloc: Global,
     contexts: Vec<Context<S, F, L>>,
@@ -168,7 +169,7 @@ fn undeploy_each<S: Servlet, F: Filter, L: Listener>(
     }
 }
 
-// Adds the components of deployments to a list that has room for them.
+// Appends the components of deployments to a list, which must have capacity for them.
 fn push_parts<S: Servlet, F: Filter, L: Listener>(
     parts: &mut Vec<Parts<S, F, L>>,
     back: Vec<Deployment<S, F, L>>,
@@ -182,7 +183,8 @@ fn push_parts<S: Servlet, F: Filter, L: Listener>(
     }
 }
 
-// The components of a deployment. All else is let go here, and not in the loop, where each step would tell of it.
+// Returns the components of a deployment. The rest is dropped here and not in the loop, so that the loop's proof need
+// not cover it.
 fn parts_of<S: Servlet, F: Filter, L: Listener>(deployment: Deployment<S, F, L>) -> Parts<S, F, L>
     ensures { result ≡ deployment.parts }
 {

@@ -14,7 +14,7 @@ use Rattle.sv_context_path.proofs.Texts.{below_front}
 use Rattle.sv_context_path.specs.Chosen.{is_chosen}
 use Rattle.sv_mapping.specs.Pattern.{is_at_or_below}
 
--- ---- tests that agree where a third fails
+-- ---- tests that agree if a third fails
 module _ {X : Type 0} (t u v : X → Bool) (same : (x : X) → v x ≡ false → t x ≡ u x) where
   any_same : (xs : List X) → list_any v xs ≡ false → list_any t xs ≡ list_any u xs
   any_same [] none = refl
@@ -50,7 +50,7 @@ any_weaker t u weaker (x ∷ xs) found =
     (λ later. or_right (u x) (list_any u xs) (any_weaker t u weaker xs later))
     (or_cases (t x) (list_any t xs) found)
 
--- what stands at the first place where two tests pass passes the first
+-- The element at the first place where two tests pass passes the first test.
 pub place_passes : {X : Type 0} (first second : X → Bool) (xs : List X) (found : Option ℕ) → found ≡ position (λ x. first x && second x) xs
     → IfSome found (λ place. (x : X) → slice_get xs place ≡ Some x → IsTrue (first x))
 place_passes first second xs None at = tt
@@ -58,12 +58,12 @@ place_passes first second xs (Some place) at = λ x there.
     let passes = (position-Some (λ y. first y && second y) xs place x (sym at)).1 in
     (and_parts _ _ (subst (λ y. (first y && second y) ≡ true) (get_or_from_slice_get xs place x x there) passes)).0
 
--- ---- the place of the context path of a front, none where there is no front
+-- ---- the place of the context path of a front, or none without a front
 abbrev pub chosen_in : List (List ℕ) → Option (List ℕ) → Option ℕ
 chosen_in paths None = None
 chosen_in paths (Some front) = position (is_chosen paths front) paths
 
--- what serves a path is no longer
+-- A context path that serves a path is not longer than it.
 served_length : (context path : List ℕ) → is_at_or_below context path ≡ true → length context ≤ length path
 served_length context path below = omega (arith, ap length (below_front context path below), length-take (length context) path)
 
@@ -84,7 +84,7 @@ module _ (paths : List (List ℕ)) (front : List ℕ) where
       (cases_Bool (is_at_or_below other front)))
       paths
 
-  -- where the front is a context path, it alone is chosen
+  -- If the front is a context path, only this one is chosen.
   only_front : list_any (λ path. bytes_eq path front) paths ≡ true → (context : List ℕ) → is_chosen paths front context ≡ bytes_eq context front
   only_front there context =
       ⊎_elim
@@ -121,7 +121,7 @@ module _ (paths : List (List ℕ)) (front : List ℕ) where
       let there = sym (position_some (λ path. bytes_eq path front) paths) ∙ ap is_some found in
       ap (λ test. position test paths) (λ i context. only_front there context i) ∙ found
 
-  -- where it is none, what serves it serves the front before it
+  -- If it is none, each context path that serves the front serves the front before it.
   module _ (outer : Option (List ℕ)) (up : (context : List ℕ) → is_at_or_below context front ≡ (bytes_eq front context || serves context outer)) where
     serves_outer : (context : List ℕ) → bytes_eq context front ≡ false → is_at_or_below context front ≡ serves context outer
     serves_outer context apart =

@@ -1,4 +1,4 @@
--- The places of context paths, one path after another.
+-- The places of context paths that are added one after another.
 use Rattle.std.proofs.Common.{ℕ, ◌≡◌, ◌+◌, ◌<◌, true, false, cond, List, [], ◌∷◌, ◌++◌, length, Option, Some, None, is_some, sym, refl, ap, ◌∙◌, ⊎_elim, arith}
 use Rattle.std.specs.Option.{option_or}
 use Rattle.std.specs.Str.{bytes_eq}
@@ -20,7 +20,7 @@ module _ (paths : List (List ℕ)) (path : List ℕ) where
   same_path : (wanted : List ℕ) → bytes_eq path wanted ≡ true → path ≡ wanted
   same_path wanted same = (bytes_eq-Decides path wanted).0 same
 
-  -- a path that is there already
+  -- A path that was added before.
   pub place-again : (wanted : List ℕ) → is_some (place_of paths path) ≡ true → place_of (paths ++ path ∷ []) wanted ≡ place_of paths wanted
   place-again wanted there =
       ⊎_elim
@@ -30,7 +30,7 @@ module _ (paths : List (List ℕ)) (path : List ℕ) where
       (apart_more wanted)
       (cases_Bool (bytes_eq path wanted))
 
-  -- one that is not
+  -- A path that was not.
   pub place-more : (wanted : List ℕ) (place : ℕ) (was now : Option ℕ) → place ≡ length paths → is_some (place_of paths path) ≡ false
       → was ≡ place_of paths wanted → now ≡ cond (bytes_eq path wanted) (Some place) was → now ≡ place_of (paths ++ path ∷ []) wanted
   place-more wanted place was now last new before after =
@@ -42,7 +42,7 @@ module _ (paths : List (List ℕ)) (path : List ℕ) where
       (λ apart. after ∙ (cond-false _ _ _ apart ∙ (before ∙ sym (apart_more wanted apart))))
       (cases_Bool (bytes_eq path wanted))
 
-  -- no path is longer than the longest
+  -- No path is longer than the longest.
   pub longest-more : (longest : ℕ) → ((wanted : List ℕ) → longest < length wanted → place_of paths wanted ≡ None)
       → (wanted : List ℕ) → longest < length wanted → length path < length wanted → place_of (paths ++ path ∷ []) wanted ≡ None
   longest-more longest before wanted over longer =

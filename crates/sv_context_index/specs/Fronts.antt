@@ -2,7 +2,7 @@
 use Rattle.std.specs.Prelude.{ℕ, Bool, false, List, Option, None, Some}
 use Rattle.sv_mapping.specs.Pattern.{is_at_or_below}
 
--- the context path is that front or lies above it, where there is one
+-- The context path is this front or lies above it, if there is a front.
 abbrev pub serves : List ℕ → Option (List ℕ) → Bool
 serves context None = false
 serves context (Some front) = is_at_or_below context front

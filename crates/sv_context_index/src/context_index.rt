@@ -1,4 +1,4 @@
-//! Which of several contexts serves a path.
+//! An index of the context paths of several contexts.
 
 ghost use Rattle.std.specs.Prelude.{◌≡◌, ◌<◌, ℕ, List, Some, IfSome, IsTrue, length, position, slice_get};
 ghost use Rattle.sv_context_path.specs.Chosen.{is_chosen};
@@ -10,8 +10,8 @@ use std::alloc::Global;
 use std::marker::Model;
 use sv_text::{Listed, NoMemory, Text};
 
-/// The context paths of several contexts, kept for look-ups, whose price does not grow with the number of contexts. Contracts see the list of
-/// the paths.
+/// The context paths of several contexts, indexed so that the cost of a lookup does not grow with their number.
+/// Contracts see the list of the paths.
 #[derive(Drop)]
 pub struct ContextIndex {
     paths: Listed<Text>,
@@ -30,10 +30,10 @@ impl Model for ContextIndex {
 }
 
 impl ContextIndex {
-    /// Keeps copies of context paths.
+    /// Creates an index with copies of these context paths.
     ///
     /// # Errors
-    /// `NoMemory` where a growth was refused.
+    /// `NoMemory` if an allocation was refused.
     pub fn of(alloc: Global, paths: &[Text]) -> Result<ContextIndex, NoMemory>
         ensures { GivesAnswer result paths.now }
     {
@@ -50,9 +50,9 @@ impl ContextIndex {
         })
     }
 
-    /// The place of the context path of a path: of those that serve it the longest, and of equal ones the first (Jakarta Servlet 6.0, section
-    /// 12.1). None where no context path serves it. It takes no memory. The path is looked up, and each front of it that ends before a slash,
-    /// up to the first that is a context path.
+    /// Returns the place of the context path of a path: the longest that serves it, and the first of equal ones
+    /// (Jakarta Servlet 6.0, section 12.1). Returns `None` if no context path serves it. Allocates no memory. Looks up
+    /// the path and each front of it that ends before a slash, up to the first that is a context path.
     pub fn place(&self, path: &str) -> Option<usize>
         ensures chosen { result ≡ position (is_chosen self.now path.now) self.now }
         ensures bound { IfSome result (λ place. place < length self.now) }

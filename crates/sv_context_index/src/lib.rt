@@ -1,4 +1,4 @@
-//! The places of context paths, kept for look-ups (Jakarta Servlet 6.0, section 12.1).
+//! An index of the places of context paths (Jakarta Servlet 6.0, section 12.1).
 #![tactic(auto)]
 
 mod context_index;

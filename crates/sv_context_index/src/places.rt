@@ -9,7 +9,8 @@ use std::alloc::Global;
 use std::collections::HashMap;
 use sv_text::NoMemory;
 
-/// The places of context paths, of equal ones the first, and the length of the longest: no longer front of a path is looked up.
+/// The places of context paths, of equal ones the first, and the length of the longest in bytes. No longer front of a
+/// path is looked up.
 #[derive(Drop)]
 pub(crate) struct Places {
     places: HashMap<String, usize>,
@@ -17,7 +18,7 @@ pub(crate) struct Places {
 }
 
 impl Places {
-    /// No places.
+    /// Creates an index of no paths.
     pub(crate) fn new(alloc: Global) -> Places
         ensures { ArePlaces result [] }
     {
@@ -27,7 +28,7 @@ impl Places {
         }
     }
 
-    /// Enters the path that stands at the place behind all others.
+    /// Adds the next path. Its place is the number of paths before it.
     pub(crate) fn enter(&mut self, alloc: Global, path: &str, place: usize) -> Result<(), NoMemory>
         ensures { (paths : List (List ℕ)) → ArePlaces self.old paths → place ≡ length paths → OnOk result (ArePlaces self.new (paths ++ path.now ∷ [])) }
     {
@@ -39,7 +40,7 @@ impl Places {
         Ok(())
     }
 
-    /// The place of this path.
+    /// Returns the place of this path, if it was added.
     fn place_of(&self, path: &str) -> Option<usize>
         ensures { (paths : List (List ℕ)) → ArePlaces self.now paths → result ≡ place_of paths path.now }
     {
@@ -49,7 +50,7 @@ impl Places {
         self.places.get(path).copied()
     }
 
-    /// The place of the context path that a path has, from the path itself outwards.
+    /// Returns the place of the context path that serves a path. Searches from the path itself outwards.
     pub(crate) fn chosen(&self, path: &str) -> Option<usize>
         ensures { (paths : List (List ℕ)) → ArePlaces self.now paths → result ≡ position (is_chosen paths path.now) paths }
     {
@@ -64,7 +65,7 @@ impl Places {
     }
 }
 
-// The greater of two lengths.
+// Returns the greater of two lengths.
 fn longer(one: usize, other: usize) -> usize
     ensures one { one ≤ result }
     ensures other { other ≤ result }

@@ -10,7 +10,7 @@ use Rattle.sv_context_path.specs.Chosen.{is_chosen}
 use Rattle.sv_context_path.proofs.Longest.{next_longest}
 
 module _ {C : Type 0} (path_of : C → List ℕ) where
-  -- one context more
+  -- One more context.
   pub longest_more : (contexts : List C) (path : List ℕ) (i : ℕ) (context : C) (longest : ℕ) (taken : Bool)
       → i < length contexts → context ≡ get_or contexts i context → taken ≡ (is_at_or_below (path_of context) path && ltb longest (length (path_of context)))
       → ((len : ℕ) → list_any (λ context. is_at_or_below (path_of context) path && ltb len (length (path_of context))) (take i contexts) ≡ ltb len longest)
@@ -23,7 +23,7 @@ module _ {C : Type 0} (path_of : C → List ℕ) where
   list_any-map test f [] = refl
   list_any-map test f (x ∷ xs) = ap (λ rest. test (f x) || rest) (list_any-map test f xs)
 
-  -- the test of the code is that of the definition, where `longest` is the length of the longest
+  -- If `longest` is the length of the longest context path, the test of the code agrees with that of the definition.
   pub place_by_longest : (contexts : List C) (path : List ℕ) (longest : ℕ)
       → ((len : ℕ) → list_any (λ context. is_at_or_below (path_of context) path && ltb len (length (path_of context))) contexts ≡ ltb len longest)
       → position (λ context. is_at_or_below (path_of context) path && not (ltb (length (path_of context)) longest)) contexts

@@ -1,4 +1,4 @@
--- The longest context path that leads to a path.
+-- The longest context path that serves a path.
 use Rattle.std.proofs.Common.{◌≡◌, ℕ, Bool, true, false, cond, ◌&&◌, ◌||◌, not, List, [], ◌∷◌, length, take, ltb, refl, sym, ◌∙◌, ap, arith, inl, inr}
 use Rattle.std.specs.List.{Contains, list_any}
 use Rattle.std.proofs.lemmas.Bool.Decides.{nat_tests}
@@ -9,7 +9,7 @@ use Rattle.sv_mapping.specs.Pattern.{is_at_or_below}
 use Rattle.sv_context_path.specs.Chosen.{is_chosen}
 use Rattle.sv_context_path.proofs.Texts.{below_front}
 
--- no context path of the list that leads to the path is longer than a chosen one
+-- No context path of the list that serves the path is longer than a chosen one.
 not_longer : (contexts : List (List ℕ)) (path a b : List ℕ) → Contains contexts b → is_at_or_below b path ≡ true → is_chosen contexts path a ≡ true → ltb (length a) (length b) ≡ false
 not_longer contexts path a b member serves chosen =
     elim (cases_Bool (ltb (length a) (length b))) [
@@ -38,7 +38,7 @@ pub next_longest : (len longest other : ℕ) (serves : Bool)
 next_longest len longest other true = longer_of_two len longest other
 next_longest len longest other false = or-false (ltb len longest)
 
--- ---- there is a chosen one where one serves
+-- ---- if one serves, one is chosen
 weaken : {X : Type 0} (t u : X → Bool) → ((x : X) → t x ≡ true → u x ≡ true) → (xs : List X) → list_any t xs ≡ true → list_any u xs ≡ true
 weaken t u weaker [] h = cc
 weaken t u weaker (x ∷ xs) h = elim (or_cases (t x) (list_any t xs) h) [ inl e ↦ or_left _ _ (weaker x e) | inr e ↦ or_right _ _ (weaken t u weaker xs e) ]
@@ -60,7 +60,7 @@ module _ (path : List ℕ) where
   abbrev reaches : ℕ → List ℕ → Bool
   reaches longest context = serves context && not (ltb (length context) longest)
 
-  -- the front context, and the length of the longest behind it
+  -- The first context, and the length of the longest after it.
   attained_at : (context : List ℕ) (rest : List (List ℕ)) (longest : ℕ) (here longer : Bool) → here ≡ serves context → longer ≡ ltb longest (length context)
       → (list_any serves rest ≡ true → list_any (reaches longest) rest ≡ true) → (ltb (length context) longest ≡ true → list_any serves rest ≡ true)
       → (here || list_any serves rest) ≡ true

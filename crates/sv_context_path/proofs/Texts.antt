@@ -1,4 +1,4 @@
--- What a path is that begins with a context path.
+-- Paths that begin with a context path.
 use Rattle.std.proofs.Common.{◌≡◌, ℕ, true, false, List, [], ◌∷◌, ◌++◌, length, take, drop, eqb, refl, sym, ◌∙◌, ap, append_assoc, append-nil, inl, inr}
 use Rattle.std.specs.List.{starts_with}
 use Rattle.std.specs.Str.{bytes_eq}
@@ -19,7 +19,7 @@ below_none context path none =
     or_from _ _ (false_from_ne_true _ (λ same. none [] (same_bytes path context same ∙ sym (append-nil context))))
     (starts_not path (context ++ 47 ∷ []) (λ rest k. none (47 ∷ rest) (k ∙ append_assoc context (47 ∷ []) rest)))
 
--- the context path is the front of the path
+-- The context path is a front of the path.
 pub below_front : (context path : List ℕ) → is_at_or_below context path ≡ true → take (length context) path ≡ context
 below_front context path h =
     elim (or_cases _ _ h) [

@@ -3,17 +3,17 @@ use Rattle.std.specs.Prelude.{◌≡◌, ℕ, Bool, ◌&&◌, not, nat_lt, List,
 use Rattle.std.specs.List.{list_any}
 use Rattle.sv_mapping.specs.Pattern.{is_at_or_below}
 
--- the path is the context path or lies below it, and so it is with no longer context path of the list
+-- The path is the context path or lies below it, and this holds for no longer context path of the list.
 abbrev pub is_chosen : List (List ℕ) → List ℕ → List ℕ → Bool
 is_chosen contexts path context =
     is_at_or_below context path && not (list_any (λ other. is_at_or_below other path && nat_lt (length context) (length other)) contexts)
 
--- the chosen context paths of a list are equal
+-- The chosen context paths of a list are equal.
 abbrev pub IsUnique : Type 0
 IsUnique = (contexts : List (List ℕ)) (path a b : List ℕ) → Contains contexts a → Contains contexts b
     → IsTrue (is_chosen contexts path a) → IsTrue (is_chosen contexts path b) → a ≡ b
 
--- there is a chosen one exactly where some context path is the path or lies above it
+-- Some context path is chosen exactly if some context path is the path or lies above it.
 abbrev pub IsFoundWhereServed : Type 0
 IsFoundWhereServed = (contexts : List (List ℕ)) (path : List ℕ)
     → list_any (is_chosen contexts path) contexts ≡ list_any (λ context. is_at_or_below context path) contexts

@@ -7,17 +7,18 @@ ghost use Rattle.sv_context_path.specs.Chosen.{is_chosen};
 
 use sv_mapping::is_at_or_below;
 
-/// What is served at a context path.
+/// An item with a context path.
 pub trait HasContextPath {
     ghost path_of: { Self → List ℕ };
 
-    /// The context path: empty for the root context, and else a path that begins with `/` and does not end in one.
+    /// Returns the context path: empty for the root context, otherwise a path that begins with `/` and does not end in
+    /// one.
     fn context_path(&self) -> &str
         ensures { result.now ≡ path_of self.now };
 }
 
-/// The place of the context of a path: of those whose context paths serve it the one with the longest, and of equal ones the first
-/// (Jakarta Servlet 6.0, section 12.1). None where no context path serves it.
+/// Returns the place of the context of a path: the one with the longest context path that serves it, and the first of
+/// equal ones (Jakarta Servlet 6.0, section 12.1). Returns `None` if no context path serves it.
 pub fn context_place<C: HasContextPath>(contexts: &[C], path: &str) -> Option<usize>
     ensures chosen { result ≡ position (λ context. is_chosen (map C.path_of contexts.now) path.now (C.path_of context)) contexts.now }
     ensures bound { IfSome result (λ place. place < length contexts.now) }
@@ -26,7 +27,7 @@ pub fn context_place<C: HasContextPath>(contexts: &[C], path: &str) -> Option<us
     first_as_long(contexts, longest_path(contexts, path), path)
 }
 
-/// The place of the first context whose context path serves the path and has at least this length.
+/// Returns the place of the first context whose context path serves the path and has at least this length in bytes.
 fn first_as_long<C: HasContextPath>(contexts: &[C], len: usize, path: &str) -> Option<usize>
     ensures place { result ≡ position (λ context. is_at_or_below (C.path_of context) path.now && not (nat_lt (length (C.path_of context)) len)) contexts.now }
     ensures bound { IfSome result (λ place. place < length contexts.now) }
@@ -36,7 +37,7 @@ fn first_as_long<C: HasContextPath>(contexts: &[C], len: usize, path: &str) -> O
         .position(|context| is_as_long(context, len, path))
 }
 
-/// The length of the longest context path that serves the path, 0 where none does.
+/// Returns the length in bytes of the longest context path that serves the path, or 0 if none does.
 fn longest_path<C: HasContextPath>(contexts: &[C], path: &str) -> usize
     ensures { (len : ℕ) → list_any (λ context. is_at_or_below (C.path_of context) path.now && nat_lt len (length (C.path_of context))) contexts.now ≡ nat_lt len result }
 {

@@ -1,5 +1,5 @@
-//! The context of a path, the path within its context, and the folders that no client reaches (Jakarta Servlet 6.0, sections 3.5, 10.5 and
-//! 12.1).
+//! The context of a path, the path within its context, and the folders that no client reaches (Jakarta Servlet 6.0,
+//! sections 3.5, 10.5, 10.6 and 12.1).
 #![tactic(auto)]
 
 mod chosen;

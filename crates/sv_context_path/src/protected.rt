@@ -5,8 +5,8 @@ ghost use Rattle.std.specs.List.{after_first, before_first};
 ghost use Rattle.sv_mapping.specs.Pattern.{is_slash};
 ghost use Rattle.sv_context_path.specs.Protected.{is_protected};
 
-/// Whether the first segment of a path within a context names a folder that is served to no client, in letters of either
-/// case.
+/// Returns whether the first segment of a path within a context names a folder that is never served to clients, in
+/// letters of either case.
 #[inline(always)]
 pub fn is_protected(path: &str) -> bool
     ensures { result ≡ is_protected path.now }
@@ -15,7 +15,7 @@ pub fn is_protected(path: &str) -> bool
     folder.eq_ignore_ascii_case("WEB-INF") || folder.eq_ignore_ascii_case("META-INF")
 }
 
-/// What stands after the first slash, and nothing where there is none.
+/// Returns the text after the first slash, or nothing if there is none.
 fn after_slash(text: &str) -> &str
     ensures { result.now ≡ after_first is_slash text.now }
 {
@@ -25,7 +25,7 @@ fn after_slash(text: &str) -> &str
     }
 }
 
-/// What stands before the first slash, and all where there is none.
+/// Returns the text before the first slash, or all if there is none.
 fn before_slash(text: &str) -> &str
     ensures { result.now ≡ before_first is_slash text.now }
 {

@@ -1,4 +1,4 @@
--- The first that a function gives, along the fields and along the pieces of one.
+-- The first result of a function over the fields, and over the pieces of a field.
 use Rattle.std.proofs.Common.{◌≡◌, ℕ, zero, suc, ◌+◌, ◌<◌, true, false, inl, inr, List, [], ◌∷◌, ◌++◌, length, drop, get_or, Option, Some, None, refl, sym, ◌∙◌, ap, subst, arith}
 use Rattle.std.specs.List.{fold, cons_option, filter_map}
 use Rattle.std.specs.Option.{option_or, option_and_then}
@@ -22,7 +22,7 @@ or_none : {B : Type 0} (a : Option B) → option_or a None ≡ a
 or_none None = refl
 or_none (Some x) = refl
 
--- a fold that keeps what was found gives the first
+-- A fold that keeps the first result returns it.
 pub first_by_fold : {A C B : Type 0} (give : C → Option B) (read : A → Option C) (found : Option B) (xs : List A)
     → fold (λ before x. option_or before (option_and_then give (read x))) found xs ≡ option_or found (first_given give (filter_map read xs))
 first_by_fold give read found [] = sym (or_none found)
@@ -34,7 +34,7 @@ first_by_fold {C = C} give read found (x ∷ xs) = by_case (read x) (first_by_fo
   by_case None rest = rest ∙ or_or found None (first_given give (filter_map read xs))
   by_case (Some y) rest = rest ∙ or_or found (give y) (first_given give (filter_map read xs))
 
--- the fields hold what the first of them does, or else the others
+-- The session of a list of fields is that of the first field, or otherwise that of the others.
 module _ (name : List ℕ) (store : Store) where
   pub held_one : (field : Field) → is_named (codes "cookie") field ≡ true → held name (field ∷ []) store ≡ first_given (λ value. number_of value store) (values_in name field.value.bytes)
   held_one field named = rw named (first_both (λ value. number_of value store) (values_in name field.value.bytes) [] ∙ or_none (first_given (λ value. number_of value store) (values_in name field.value.bytes)))
@@ -49,7 +49,7 @@ module _ (name : List ℕ) (store : Store) where
     | inr other ↦ rw other refl
   ]
 
-  -- along the fields from a place on
+  -- The session of the fields from an index on.
   held_at : (fields : List Field) (i : ℕ) (field : Field) → i < length fields → field ≡ get_or fields i field
       → held name (drop i fields) store ≡ option_or (held name (field ∷ []) store) (held name (drop (suc i) fields) store)
   held_at [] i field inside at = absurd (omega arith)

@@ -1,12 +1,12 @@
-//! One cookie of a request.
+//! A single cookie of a request.
 
 ghost use Rattle.std.specs.Prelude.{◌≡◌, ◌==◌, ◌<◌, IfSome, length, position};
 ghost use Rattle.std.specs.Option.{option_copied};
 ghost use Rattle.std.specs.Str.{byte};
 ghost use Rattle.sv_cookies.specs.Cookies.{behind_name, value_of};
 
-/// The value of the cookie that a text without blanks around it is, where the cookie has that name. The text is cut at its first `=`; quotes belong to
-/// the value, and names are compared with case.
+/// Returns the value of a cookie, if the cookie has this name. The text is a cookie without surrounding blanks, and is
+/// cut at its first `=`. Quotes belong to the value, and names are case-sensitive.
 pub fn value_of<'a>(name: &str, text: &'a [u8]) -> Option<&'a [u8]>
     ensures { option_copied result ≡ value_of name.now text.now }
 {
@@ -14,7 +14,7 @@ pub fn value_of<'a>(name: &str, text: &'a [u8]) -> Option<&'a [u8]>
     behind_name(name, text, place)
 }
 
-/// The place of the first `=`.
+/// Returns the index of the first `=`.
 fn first_equals(text: &[u8]) -> Option<usize>
     ensures place { result ≡ position (λ b. b == byte "=") text.now }
     ensures bound { IfSome result (λ place. place < length text.now) }
@@ -22,7 +22,7 @@ fn first_equals(text: &[u8]) -> Option<usize>
     text.iter().position(|b| *b == b'=')
 }
 
-/// What stands behind a place of the text, where the name stands before it.
+/// Returns the text after an index, if the text before it is the name.
 #[tactic(auto, using(std::proofs::lemmas::List::take_rest))]
 fn behind_name<'a>(name: &str, text: &'a [u8], place: usize) -> Option<&'a [u8]>
     requires { place < length text.now }

@@ -1,4 +1,4 @@
-//! The session that a request holds.
+//! The session of a request.
 
 ghost use Rattle.std.specs.Prelude.{◌≡◌, [], ◌∷◌};
 ghost use Rattle.std.specs.Option.{option_and_then, option_or};
@@ -11,11 +11,12 @@ use crate::cookie::value_of;
 use sv_head::{Field, trim_blanks};
 use sv_session::Sessions;
 
-/// The number of the session that a request holds: of the values of its cookies of that name, the first that is the id of a session that lives
-/// (Jakarta Servlet 6.0, section 7.1.1).
+/// Returns the number of the session of a request, if any: that of the first cookie with this name whose value is the
+/// id of a live session (Jakarta Servlet 6.0, section 7.1.1).
 ///
-/// Cookie fields are taken in order and split at `;`; each piece is trimmed of spaces and tabs and cut at its first `=`, and one without `=` is no
-/// cookie. Names are compared with case; a value is not trimmed again, and quotes belong to it. A session of another context is none of these.
+/// Cookie fields are read in order and split at `;`. Each piece is trimmed of spaces and tabs and cut at its first `=`;
+/// a piece without `=` is not a cookie. Names are case-sensitive. Values are not trimmed again, and quotes belong to
+/// them. Only ids in `sessions` count, so those of other contexts do not.
 pub fn held(fields: &[Field], name: &str, sessions: &Sessions) -> Option<u64>
     ensures { result ≡ held name.now fields.now sessions.now }
 {
@@ -27,7 +28,7 @@ pub fn held(fields: &[Field], name: &str, sessions: &Sessions) -> Option<u64>
     None
 }
 
-/// The number of the session that a field holds, which may be no Cookie field.
+/// Returns the number of the session that a field names, or none if it is not a Cookie field.
 fn held_by_field(field: &Field, name: &str, sessions: &Sessions) -> Option<u64>
     ensures { result ≡ held name.now (field.now ∷ []) sessions.now }
 {
@@ -37,7 +38,7 @@ fn held_by_field(field: &Field, name: &str, sessions: &Sessions) -> Option<u64>
     held_by_value(field.value.as_bytes(), name, sessions)
 }
 
-/// The number of the session that a Cookie field's value holds.
+/// Returns the number of the session that the value of a Cookie field names.
 fn held_by_value(value: &[u8], name: &str, sessions: &Sessions) -> Option<u64>
     ensures { result ≡ first_given (λ value. number_of value sessions.now) (values_in name.now value.now) }
 {
@@ -47,7 +48,7 @@ fn held_by_value(value: &[u8], name: &str, sessions: &Sessions) -> Option<u64>
     )
 }
 
-/// The session that was found, or else the one that a piece of a Cookie field's value holds.
+/// Returns the session found before, or otherwise the one that a piece of a Cookie field names.
 fn held_first(found: Option<u64>, piece: &[u8], name: &str, sessions: &Sessions) -> Option<u64>
     ensures { result ≡ option_or found (option_and_then (λ value. number_of value sessions.now) (value_of name.now (trim_ows piece.now))) }
 {

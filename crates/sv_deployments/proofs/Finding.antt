@@ -1,4 +1,4 @@
--- What a server configures, from what its parts find.
+-- The configuration of a server, from the results of its parts.
 use Rattle.std.proofs.Common.{◌≡◌, ℕ, List, [], ◌∷◌, map, Option, Some, None, MatchOption, Result, Ok, Err, IsErrAnd, refl, ap}
 use Rattle.sv_settings.specs.declared.server.Server.{Server}
 use Rattle.sv_program.specs.CommandFault.{command_fault}
@@ -33,7 +33,7 @@ module _ {S : Type 0} (gives_text : Giving S) (gives_files : FolderGiving S) (co
           let failed : server_in config h.0 ≡ Err f = h.2 in
           (Err f, (h.0, [], (after, rw failed refl, (after, h.1, refl), refl), rw failed refl), refl)
 
-  -- the files were read one after another
+  -- the files were read in order
   are_given : (file : Option (List ℕ)) (server : Server) (texts : List ContextTexts) (found : List FoundContext) (a b c d : S)
       → gives_text a config file b → server_in config file ≡ Ok server
       → ReadsContexts gives_text config server.contexts b texts c → ReadsFolders gives_files config texts c found d
@@ -42,7 +42,7 @@ module _ {S : Type 0} (gives_text : Giving S) (gives_files : FolderGiving S) (co
       let same : map (λ context. context.texts) found ≡ texts = walked.0 in
       (c, rw (is_server, contexts_kept, same) read.0, rw same (b, gave, read.1), walked.1)
 
-  -- a fault of a context ends it
+  -- a fault of a context ends the reading
   pub fault_ends : (fault : CommandFault) (result : Result declared.Configuration CommandFault) (server : Server) (texts : List ContextTexts) (found : List FoundContext) (a b c d : S)
       → ReadsServer gives_text config a (Ok server) b
       → ReadsContexts gives_text config server.contexts b texts c → ReadsFolders gives_files config texts c found d
@@ -60,7 +60,7 @@ module _ {S : Type 0} (gives_text : Giving S) (gives_files : FolderGiving S) (co
           let is_fault : each deployment_of found ≡ Err f = h in
           (Err f, (first.0, found, are_given first.0 server texts found a b c d first.1 is_server read walked, rw (is_server, is_fault) refl), refl)
 
-  -- without a fault it is what was read
+  -- without a fault, the configuration is the one that was read
   pub is_configured : (given : declared.Configuration) (server : Server) (texts : List ContextTexts) (found : List FoundContext) (made : List Deployed) (a b c d : S)
       → ReadsServer gives_text config a (Ok server) b
       → ReadsContexts gives_text config server.contexts b texts c → ReadsFolders gives_files config texts c found d

@@ -1,4 +1,4 @@
--- Readings of folders behind one another.
+-- Readings of folders in sequence.
 use Rattle.std.proofs.Common.{◌≡◌, ℕ, List, [], ◌∷◌, ◌++◌, flat_map, append-nil, subst}
 use Rattle.std.proofs.lemmas.Grind.{flat_map-append}
 use Rattle.sv_deployments.specs.Folders.{AreFound, FolderGiving, FolderReading, context_readings}

@@ -1,4 +1,4 @@
--- A context's deployment by its readings, in their turn.
+-- The deployment of a context, from its readings in order.
 use Rattle.std.proofs.Common.{◌≡◌, List, Option, Ok, Err, refl}
 use Rattle.sv_text.specs.Steps.{◌>>=◌}
 use Rattle.sv_application.specs.Results.{both}
@@ -16,7 +16,7 @@ in_turn (Ok a) (Ok b) (Err fault) next = refl
 in_turn (Ok a) (Err fault) last next = refl
 in_turn (Err fault) other last next = refl
 
--- the components are made of what was read
+-- the deployment consists of the readings and the components made from them
 pub as_read : (texts : ContextTexts) (found : Option (List File))
     → deployment_for texts found ≡ (read_of texts found >>= λ read. components_in read.0.0 >>= λ parts.
     Ok (record { path = texts.context.path; descriptor = read.0.0; files = read.1; users = read.0.1; parts = parts }))
@@ -24,12 +24,12 @@ as_read texts found =
     in_turn (descriptor_in texts) (users_in texts) (files_in texts.context found) (λ descriptor users files. components_in descriptor >>= λ parts.
     Ok (record { path = texts.context.path; descriptor = descriptor; files = files; users = users; parts = parts }))
 
--- beside what was read, a fault is one of the other
+-- if the first part was read, a fault is one of the other part
 pub fault_beside : {A B : Type 0} (read : A) (other : Step B) (fault : CommandFault) → Err fault ≡ both (Ok read) other → other ≡ Err fault
 fault_beside read (Ok b) fault same = cc
 fault_beside read (Err f) fault same = cc
 
--- beside what was read, what is given is that and the other
+-- if the first part was read, the result is that part and the other
 pub given_beside : {A B : Type 0} (read : A) (other : Step B) (pair : A × B) → Ok pair ≡ both (Ok read) other → (pair.0 ≡ read) × (other ≡ Ok pair.1)
 given_beside read (Ok b) pair same = let is : pair ≡ (read, b) = cc in rw is (refl, refl)
 given_beside read (Err f) pair same = cc

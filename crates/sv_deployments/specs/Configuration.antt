@@ -1,4 +1,4 @@
--- What a server file configures, by the files and the folders that a store gives.
+-- The configuration in a server file, from the files and folders that a store gives.
 use Rattle.std.specs.Prelude.{◌≡◌, ℕ, List, map, flat_map, Option, Result, Ok}
 use Rattle.sv_text.specs.Gives.{Gives}
 use Rattle.sv_text.specs.Steps.{◌>>=◌}
@@ -13,7 +13,7 @@ use Rattle.sv_deployments.specs.Folders.{AreFound, FolderGiving, context_reading
 use Rattle.sv_deployments.specs.declared.configuration.Configuration as declared
 use Rattle.sv_deployments.specs.declared.folders.FoundContext.{FoundContext}
 
--- the port, the seed, and what each context is deployed with
+-- the port, the seed, and the deployment of each context
 pub record Configured : Type 0 where
   pub port : ℕ
   pub seed : List ℕ
@@ -22,15 +22,15 @@ pub record Configured : Type 0 where
 abbrev pub configured : declared.Configuration → Configured
 configured given = record { port = given.port; seed = given.seed; deployments = map deployment given.deployments.items }
 
--- what a server file with this text, if it could be read, configures for contexts for which these were found
+-- the configuration of a server file with this text, if it could be read, and of contexts with these files
 abbrev pub configuration_for : List ℕ → Option (List ℕ) → List FoundContext → Step Configured
 configuration_for config file found = do
   server ← server_in config file
   its_deployments ← each deployment_of found
   Ok (record { port = server.port; seed = server.seed; deployments = its_deployments })
 
--- the store gave the server file, then the texts of its contexts' files, and then the files of their folders, none where the server file is not one
--- of its format
+-- the store gave the server file, then the texts of its contexts' files, then the files of their folders; a server file
+-- with a fault has no contexts
 abbrev pub AreGiven : {S : Type 0} → Giving S → FolderGiving S → List ℕ → Option (List ℕ) → List FoundContext → S → S → Type 0
 AreGiven {S} gives_text gives_files config file found before after =
     (between : S)
@@ -38,14 +38,14 @@ AreGiven {S} gives_text gives_files config file found before after =
     × AreRead gives_text before (readings config file (map (λ context. context.texts) found)) between
     × AreFound gives_files between (flat_map (context_readings config) found) after
 
--- the configuration by what the store gives
+-- the configuration, from the files and folders that the store gives
 abbrev pub IsConfiguration : {S : Type 0} → Giving S → FolderGiving S → List ℕ → Step Configured → S → S → Type 0
 IsConfiguration gives_text gives_files config configuration before after =
     (file : Option (List ℕ)) × (found : List FoundContext)
     × AreGiven gives_text gives_files config file found before after
     × (configuration ≡ configuration_for config file found)
 
--- the configuration is found, unless memory ran out
+-- the result is the configuration or its fault, unless memory ran out
 abbrev pub FindsConfiguration : {S : Type 0} → Giving S → FolderGiving S → List ℕ → Result declared.Configuration CommandFault → S → S → Type 0
 FindsConfiguration gives_text gives_files config result before after =
     UnlessNoMemory result ((configuration : Step Configured)

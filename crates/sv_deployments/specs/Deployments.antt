@@ -1,4 +1,4 @@
--- What the contexts of a server are deployed with.
+-- The deployments of a server's contexts.
 use Rattle.std.specs.Prelude.{ℕ, List, map, Option, Ok, Err}
 use Rattle.sv_text.specs.Steps.{◌>>=◌}
 use Rattle.sv_application.specs.Parts.{Components, Made, components, components_of}
@@ -16,7 +16,7 @@ use Rattle.sv_program.specs.declared.configuration.ContextTexts.{ContextTexts}
 use Rattle.sv_deployments.specs.Files.{files_in}
 use Rattle.sv_deployments.specs.declared.folders.FoundContext.{FoundContext}
 
--- what a context is deployed with, its components as lists
+-- the deployment of a context, with its components as lists
 pub record Deployed : Type 0 where
   pub path : List ℕ
   pub descriptor : WebApp
@@ -39,7 +39,7 @@ deployment given = record {
 abbrev pub deployments : List ProgramDeployment → List Deployed
 deployments = map deployment
 
--- the components, or the fault of the class that the program does not have
+-- the components, or the fault of a class that the program does not have
 abbrev pub known : Made Components → Step Components
 known (Ok made) = Ok made
 known (Err class) = Err (fault.Class class)
@@ -47,11 +47,12 @@ known (Err class) = Err (fault.Class class)
 abbrev pub components_in : WebApp → Step Components
 components_in app = known (components_of app)
 
--- its descriptor and its users, and its files, or the first fault of these
+-- the descriptor, users and files of a context, or the first fault among them
 abbrev pub read_of : ContextTexts → Option (List File) → Step ((WebApp × List User) × List File)
 read_of texts found = both (both (descriptor_in texts) (users_in texts)) (files_in texts.context found)
 
--- what a context with these texts and these files is deployed with: its faults are found in the order of its descriptor, users, files and classes
+-- the deployment of a context with these texts and files; faults are found in the order descriptor, users, files and
+-- classes
 abbrev pub deployment_for : ContextTexts → Option (List File) → Step Deployed
 deployment_for texts found = do
   its_descriptor ← descriptor_in texts

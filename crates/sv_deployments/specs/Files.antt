@@ -1,4 +1,4 @@
--- The static files of a context, by what its folder holds.
+-- The static files of a context, from the contents of its folder.
 use Rattle.std.specs.Prelude.{ℕ, List, [], ◌∷◌, Option, Ok}
 use Rattle.std.specs.Option.{ok_or}
 use Rattle.sv_text.specs.Steps.{◌>>=◌}
@@ -9,7 +9,7 @@ use Rattle.sv_program.specs.Configuration.{Step}
 use Rattle.sv_program.specs.declared.command_fault.CommandFault.TheVariants as fault
 use Rattle.sv_application.specs.Files.{told}
 
--- the files in the folder of this name, none where there is no name
+-- the files in the folder of this name; none if the name is empty
 abbrev pub listed_files : List ℕ → Option (List File) → Step (List File)
 listed_files [] files = Ok []
 listed_files (first ∷ rest) files = ok_or files (fault.File (first ∷ rest))

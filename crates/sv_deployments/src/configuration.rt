@@ -1,4 +1,4 @@
-//! A server's port and seed, and what it deploys.
+//! The port, the seed and the deployments of a server.
 
 ghost use Rattle.std.specs.Prelude.{◌≡◌, length, IfOk};
 ghost use Rattle.sv_deployments.specs.Configuration as spec;
@@ -11,25 +11,25 @@ use sv_program::{CommandFault, FileStore, read_contexts, read_server_file};
 use sv_settings::Server;
 use sv_text::Bytes;
 
-/// What a server file configures.
+/// The configuration in a server file.
 #[derive(Drop)]
 pub struct Configuration {
-    /// The port, 0 for any that is free.
+    /// The port, or 0 for any free port.
     pub port: u16,
     /// The seed of random words, 32 bytes.
     pub seed: Bytes,
-    /// What each context is deployed with, in the order of the file.
+    /// The deployments of the contexts, in the order of the file.
     pub deployments: Vec<ProgramDeployment>,
 }
 
-/// Reads the server file of this name, then of each of its contexts the descriptor and the users file, and then the folders of their static files.
-/// The names in the server file are taken from its folder.
+/// Reads the server file of this name, then the descriptor and the users file of each of its contexts, and then the
+/// folders of their static files. Names in the server file are relative to its folder.
 ///
 /// # Errors
-/// The first fault: [`CommandFault::File`] or [`CommandFault::Server`] for the server file; then of each context in turn that of its descriptor
-/// ([`CommandFault::File`], [`CommandFault::Descriptor`]), its users ([`CommandFault::File`], [`CommandFault::Users`]), its static files
-/// ([`CommandFault::File`] with the name of their folder, [`CommandFault::Files`]) and its classes ([`CommandFault::Class`]); or
-/// [`CommandFault::NoMemory`].
+/// The first fault: [`CommandFault::File`] or [`CommandFault::Server`] for the server file. Then, for each context in
+/// order, the fault of its descriptor ([`CommandFault::File`], [`CommandFault::Descriptor`]), its users
+/// ([`CommandFault::File`], [`CommandFault::Users`]), its static files ([`CommandFault::File`] with the name of their
+/// folder, [`CommandFault::Files`]) or its classes ([`CommandFault::Class`]). Or [`CommandFault::NoMemory`].
 pub fn read_deployments<S: FileStore + FolderStore>(
     alloc: Global,
     store: &mut S,

@@ -1,4 +1,4 @@
-//! What each context of a server is deployed with.
+//! The deployments of a server's contexts.
 
 ghost use Rattle.sv_text.specs.Gives.{Gives};
 ghost use Rattle.sv_application.specs.Parts.{components, seen};
@@ -21,13 +21,14 @@ use sv_realm::Realm;
 use sv_settings::ContextEntry;
 use sv_text::{Listed, Text};
 
-/// What a context is deployed with whose components are of the program's own classes.
+/// The deployment of a context whose components are of the program's own classes.
 pub type ProgramDeployment = Deployment<ProgramServlet, ProgramFilter, ProgramListener>;
 
-/// What the contexts are deployed with, in their order.
+/// Creates the deployments of the contexts, in order.
 ///
 /// # Errors
-/// The first fault, of each context in turn that of its descriptor, its users, its files and its classes; or [`CommandFault::NoMemory`].
+/// The first fault, for each context in order of its descriptor, its users, its files and its classes; or
+/// [`CommandFault::NoMemory`].
 pub(crate) fn deployments_in(
     alloc: Global,
     contexts: Listed<FoundContext>,
@@ -48,7 +49,7 @@ fn deployment_in(alloc: Global, context: FoundContext) -> Result<ProgramDeployme
     deployment_for(alloc, &texts, files)
 }
 
-// What a context with these texts and these files is deployed with.
+// Creates the deployment of a context with these texts and files.
 fn deployment_for(
     alloc: Global,
     texts: &ContextTexts,
@@ -59,7 +60,7 @@ fn deployment_for(
     let path = Text::copy_of(alloc, texts.context.path.as_str())?;
     let read = read(alloc, texts, files)?;
     let parts = parts_in(alloc, &read.0.0);
-    // Joined by a general function, so that what was read does not live where the components may fail.
+    // A generic function combines them, so that no read value is live where the components may fail.
     let (((descriptor, users), files), parts) = both(Ok(read), parts)?;
     Ok(Deployment {
         path,
@@ -70,7 +71,7 @@ fn deployment_for(
     })
 }
 
-// What is read of a context with these texts and these files: its descriptor and its users, and its files.
+// Reads the descriptor, the users and the files of a context from these texts and files.
 fn read(
     alloc: Global,
     texts: &ContextTexts,
@@ -82,7 +83,7 @@ fn read(
     both(configured, files_in(alloc, &texts.context, files))
 }
 
-// The static files of a context.
+// Returns the static files of a context.
 fn files_in(
     alloc: Global,
     context: &ContextEntry,
@@ -94,7 +95,7 @@ fn files_in(
     files_of(alloc, context.path.as_str(), files)
 }
 
-// The files in the folder of that name, none where there is no name.
+// Returns the files in the folder of this name, or none if the name is empty.
 fn listed_files(
     alloc: Global,
     name: &str,
@@ -111,7 +112,7 @@ fn listed_files(
     }
 }
 
-// The components of a context.
+// Creates the components of a context.
 fn parts_in(
     alloc: Global,
     descriptor: &Descriptor,

@@ -1,4 +1,4 @@
-//! The folders of the operating system. What they hold is known to no contract, but how much of it is taken is.
+//! The folders of the operating system. No contract describes their contents, only how much of them is read.
 
 ghost use Rattle.std.specs.Prelude.{◌≡◌, ◌+◌, ◌≤◌, IfOk, IfSome, length, nat_lt};
 ghost use Rattle.sv_files.specs.declared.limits.TheConstants.{MAX_FILES};
@@ -19,7 +19,7 @@ impl<F: Files + AllocGlobal + Clone + Drop> FolderStore for Disk<'_, F> {
     }
 }
 
-// The files in the folder of this name, up to the first too many.
+// Reads the files in the folder of this name, up to the first one over the limit.
 fn read_folder<F: Files + AllocGlobal + Clone + Drop>(
     alloc: Global,
     files: &F,
@@ -39,11 +39,12 @@ fn read_folder<F: Files + AllocGlobal + Clone + Drop>(
     }
 }
 
-/// A walk through a folder and those below it, which ends at the first file too many. Paths are from the folder on; its own is empty.
+/// A walk through a folder and the folders below it, which ends at the first file over the limit. Paths are relative to
+/// the folder; its own path is empty.
 #[derive(Drop)]
 struct Walk<'a> {
     folder: &'a str,
-    /// The paths of folders that are yet to be read.
+    /// The paths of the folders that remain to be read.
     waiting: Vec<String>,
     files: Vec<File>,
 }
@@ -70,7 +71,7 @@ impl Walk<'_> {
         Err(io::Error::from(ErrorKind::Other))
     }
 
-    // Reads the entries of the folder of this path, up to the first file too many.
+    // Reads the entries of the folder at this path, up to the first file over the limit.
     fn read_entries<F: Files + AllocGlobal + Clone + Drop>(
         &mut self,
         alloc: Global,
@@ -98,7 +99,7 @@ impl Walk<'_> {
         self.files.len() > MAX_FILES
     }
 
-    // Takes an entry of this path: a folder is to be read, and a regular file is read.
+    // Handles the entry at this path: a folder is queued, and a regular file is read. Any other entry is an error.
     fn take<F: Files + AllocGlobal + Clone + Drop>(
         &mut self,
         alloc: Global,
@@ -126,7 +127,7 @@ impl Walk<'_> {
     }
 }
 
-// The bytes of a file, and not many more of them than it may have.
+// Reads the bytes of a file, at most one more than it may have.
 fn read_bytes<F: Files + AllocGlobal + Clone + Drop>(
     alloc: Global,
     files: &F,

@@ -1,4 +1,4 @@
-//! The folders of the contexts of a server, as a store gives them.
+//! The folders of a server's contexts, read from a store.
 
 ghost use Rattle.std.specs.Prelude.{IfOk};
 ghost use Rattle.sv_deployments.specs.Folders.{ReadsFolder, ReadsFolders};
@@ -10,16 +10,16 @@ use sv_files::File;
 use sv_program::ContextTexts;
 use sv_text::{Listed, NoMemory};
 
-/// A context of a server file, with all that the store gave for it.
+/// A context of a server file, with everything that the store gave for it.
 #[derive(Drop)]
 pub(crate) struct FoundContext {
     /// The context and the texts of its files.
     pub(crate) texts: ContextTexts,
-    /// Its static files, none where their folder is not to be had. They are not looked at where the context names no folder.
+    /// Its static files, or none if their folder is not available. They are ignored if the context names no folder.
     pub(crate) files: Option<Listed<File>>,
 }
 
-/// Reads the folders of the contexts of the server file `config` in their order, each where the context names one.
+/// Reads the folder of each context of the server file `config` that names one, in order.
 pub(crate) fn read_folders<S: FolderStore>(
     alloc: Global,
     store: &mut S,
@@ -36,7 +36,8 @@ pub(crate) fn read_folders<S: FolderStore>(
     Ok(Listed::from_vec(found))
 }
 
-// The files of a folder that the server file `config` names: its name is taken from the folder of the server file. An empty name is none.
+// Reads a folder that the server file `config` names. The name is relative to the folder of the server file. An empty
+// name means no folder.
 fn read_folder<S: FolderStore>(
     alloc: Global,
     store: &mut S,

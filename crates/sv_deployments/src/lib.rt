@@ -1,4 +1,4 @@
-//! What a server deploys, read of its configuration files and of the folders of its static files.
+//! The deployments of a server, read from its configuration files and the folders of its static files.
 #![tactic(auto)]
 
 mod configuration;

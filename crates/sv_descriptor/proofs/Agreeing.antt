@@ -17,7 +17,7 @@ use Rattle.sv_descriptor.specs.WellFormed.{IsWellFormed}
 use Rattle.sv_descriptor.specs.declared.web_app.WebApp.{WebApp}
 use Rattle.sv_descriptor.proofs.Elements.{HasElements, web_app-Ok}
 
--- what holds of the elements together
+-- The properties of all elements together.
 record Agrees (app : WebApp) : Type 0 where
   servlets_differ : repeats (servlet_names app) ≡ false
   filters_differ : repeats (filter_names app) ≡ false

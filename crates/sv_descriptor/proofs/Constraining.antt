@@ -1,4 +1,4 @@
--- What holds of the constraints of a descriptor that was read.
+-- Properties of the constraints of a descriptor that was read.
 use Rattle.std.proofs.Common.{◌≡◌, ℕ, zero, suc, ◌+◌, ◌-◌, ◌<◌, ◌≤◌, Bool, codes, List, [], ◌∷◌, length, Option, Some, None, Ok, refl, ap, arith, length-append, get_or}
 use Rattle.std.specs.Prelude.{is_some, not}
 use Rattle.std.specs.List.{All, flat_map}
@@ -28,7 +28,7 @@ use Rattle.sv_descriptor.specs.declared.limits.TheConstants.{MAX_PATTERNS_OF_CON
 abbrev FewMethods : Collection → Type 0
 FewMethods c = length (named_methods c.methods) ≤ MAX_LIST_ITEMS
 
--- the methods of a collection
+-- The methods of a collection.
 covered-short : (listed omitted : Option (List (List ℕ))) → IfSome listed (λ l. length l ≤ MAX_LIST_ITEMS) → IfSome omitted (λ l. length l ≤ MAX_LIST_ITEMS)
     → length (named_methods (covered_methods listed omitted)) ≤ MAX_LIST_ITEMS
 covered-short (Some l) omitted h g = h
@@ -43,7 +43,7 @@ omitted-short beside key value found e =
     bind-Ok (list_items 0 MAX_LIST_ITEMS is_text key value) _ _ e (λ _ _ e1.
     bind-Ok (check (not beside) BothMethodLists key) _ _ e1 (λ _ _ e2. methods-short key value found e2))
 
--- a collection of a room
+-- A collection with at most `room` patterns.
 record IsCollection (room : ℕ) (c : Collection) : Type 0 where
   patterns : length c.patterns ≤ room
   methods : FewMethods c
@@ -66,7 +66,7 @@ collection_table-Ok : (room : ℕ) → Yields (IsCollection room) (collection_ta
 unfolding collection_table
 collection_table-Ok room = table_of-yields (IsCollection room) (collection room) (collection-Ok room)
 
--- collections that share a room
+-- Collections with at most `room` patterns in all.
 record AreCollections (room n : ℕ) (found : List Collection) : Type 0 where
   count : length found ≡ n
   patterns : length (flat_map (λ c. c.patterns) found) ≤ room
@@ -85,7 +85,7 @@ collections_within-Ok room key (value ∷ rest) found e =
       methods = All-cons FewMethods c others one.methods all.methods;
     })))
 
--- the collections of a constraint
+-- The collections of a constraint.
 record AreFew (found : List Collection) : Type 0 where
   short : length found ≤ MAX_LIST_ITEMS
   patterns : length (flat_map (λ c. c.patterns) found) ≤ MAX_PATTERNS_OF_CONSTRAINT
@@ -122,7 +122,7 @@ constraint-Ok members c e =
           (table_of-yields _ auth_constraint auth_constraint-Ok) (codes "auth-constraint") members its_auth auth_read;
     })))))
 
--- the same constraints with numbers
+-- Numbering changes only the numbers of constraints.
 length-numbered : (n : ℕ) (found : List Constraint) → length (numbered n found) ≡ length found
 length-numbered n [] = refl
 length-numbered n (c ∷ rest) = ap suc (length-numbered (n + 1) rest)
@@ -139,7 +139,7 @@ All-numbered n (c ∷ rest) h =
     All-cons HasFewItems _ (numbered (n + 1) rest) (record { collections = few.collections; patterns = few.patterns; methods = few.methods; roles = few.roles })
     (All-numbered (n + 1) rest (λ i d l. h (suc i) d (omega arith)))
 
--- the constraints of a descriptor
+-- The constraints of a descriptor.
 pub record AreConstraints (found : List Constraint) : Type 0 where
   pub short : length found ≤ MAX_LIST_ITEMS
   pub numbered : AreNumbered found

@@ -1,4 +1,4 @@
--- What holds of the elements of a descriptor that were read one by one.
+-- Properties of the elements of a descriptor, each read independently.
 use Rattle.std.proofs.Common.{◌≡◌, ℕ, ◌≤◌, Bool, false, true, codes, List, [], length, Ok, arith}
 use Rattle.std.specs.Prelude.{IfSome}
 use Rattle.sv_schema.proofs.Yields.{IsListOf, bind-Ok, holds-Ok, table_of-yields, list_of-yields, optional-Ok, optional_or-Ok}
@@ -34,7 +34,7 @@ use Rattle.sv_descriptor.specs.declared.web_app.WebApp.{WebApp}
 use Rattle.sv_descriptor.proofs.Constraining.{AreConstraints, constraints-yields}
 use Rattle.sv_descriptor.proofs.Entries.{HasPages, HasSessions, error_page-Ok, filter_mapping-Ok, login_config-Ok, security_role-Ok, servlet-Ok, servlet_mapping-Ok, session_config-Ok, standard-Ok, welcome_file_list-Ok}
 
--- a list of tables at a key that may be missing
+-- A list of tables at an optional key.
 tables-Ok : {A : Type 0} (P : A → Type 0) (reads : Members → Reads A) → ((members : Members) (a : A) → reads members ≡ Ok a → P a)
     → (key : List ℕ) (members : Members) (found : List A) → optional_or [] (tables reads) key members ≡ Ok found → IsListOf P MAX_LIST_ITEMS found
 tables-Ok P reads h key members found e =
@@ -44,7 +44,7 @@ tables-Ok P reads h key members found e =
 abbrev Any : {A : Type 0} → A → Type 0
 Any a = Unit {0}
 
--- what holds of the components one by one
+-- The properties of each component.
 record HasComponents (c : Components) : Type 0 where
   servlets : IsListOf (λ s. is_reserved_servlet s.servlet_name ≡ false) MAX_LIST_ITEMS c.servlets
   servlet_mappings : IsListOf (λ m. length m.url_patterns ≤ MAX_LIST_ITEMS) MAX_LIST_ITEMS c.servlet_mappings
@@ -67,7 +67,7 @@ components-Ok members c e =
       listeners = (tables-Ok Any listener (λ _ _ _. tt) (codes "listener") members a5 r5).short;
     }))))))
 
--- what holds of the pages one by one
+-- The properties of the pages.
 record HasPlaces (p : Pages) : Type 0 where
   welcome_files : length p.welcome_files ≤ MAX_LIST_ITEMS
   error_pages : IsListOf (λ page. is_location page.location ≡ true) MAX_LIST_ITEMS p.error_pages
@@ -82,7 +82,7 @@ pages-Ok members p e =
       error_pages = tables-Ok _ error_page error_page-Ok (codes "error-page") members a2 r2;
     })))
 
--- what holds of the constraints, roles and login one by one
+-- The properties of the constraints, roles and login.
 record IsSecure (s : Security) : Type 0 where
   constraints : AreConstraints s.constraints
   roles : IsListOf (λ role. is_reserved_role role ≡ false) MAX_LIST_ITEMS s.rules.declared
@@ -105,7 +105,7 @@ session-Ok its_version members config e =
     optional_or-Ok HasSessions default_session (table_of (session_config its_version)) (record { timeout = omega arith; cookie = standard-Ok })
     (table_of-yields HasSessions (session_config its_version) (session_config-Ok its_version)) (codes "session-config") members config e
 
--- what holds of the elements one by one
+-- The properties of each element.
 pub record HasElements (app : WebApp) : Type 0 where
   pub servlets : IsListOf (λ s. is_reserved_servlet s.servlet_name ≡ false) MAX_LIST_ITEMS app.servlets
   pub servlet_mappings : IsListOf (λ m. length m.url_patterns ≤ MAX_LIST_ITEMS) MAX_LIST_ITEMS app.servlet_mappings

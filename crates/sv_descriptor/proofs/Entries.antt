@@ -1,4 +1,4 @@
--- What holds of each entry of a descriptor that was read.
+-- Properties of each entry of a descriptor that was read.
 use Rattle.std.proofs.Common.{◌≡◌, ℕ, ℤ, pos, negsuc, ◌≤◌, Bool, true, false, codes, List, [], ◌∷◌, length, Option, None, Some, Ok, refl, subst, arith}
 use Rattle.std.specs.Prelude.{◌||◌, if◌then◌else◌, int_lt, IfSome}
 use Rattle.std.proofs.lemmas.Bool.Decides.{nat_tests}
@@ -36,23 +36,23 @@ use Rattle.sv_descriptor.specs.declared.servlet.ServletMapping.{ServletMapping}
 use Rattle.sv_descriptor.specs.declared.session.SessionConfig.{SessionConfig}
 use Rattle.sv_descriptor.specs.declared.version.Version.{Version}
 
--- a list at a key that may be missing
+-- A list at an optional key.
 texts-short : {A : Type 0} (reads : List ℕ → List ℕ → Reads A) (key : List ℕ) (members : Members) (found : List A)
     → optional_or [] (list_of_texts 0 MAX_LIST_ITEMS reads) key members ≡ Ok found → length found ≤ MAX_LIST_ITEMS
 texts-short reads key members found e =
     optional_or-Ok (λ found. length found ≤ MAX_LIST_ITEMS) [] (list_of_texts 0 MAX_LIST_ITEMS reads) (omega arith) (list_of-short 0 MAX_LIST_ITEMS is_text (text_of reads)) key members found e
 
--- a text that is read where a test holds is one for which it holds
+-- A text that is read only if a test holds passes the test.
 accepted : (holds : Bool) (code : FaultCode) (key text a : List ℕ) → (if holds then Ok text else refuse code key) ≡ Ok a → (holds ≡ true) × (text ≡ a)
 accepted true code key text a h = (refl, cc)
 accepted false code key text a h = cc
 
--- a text that is refused where a test holds, and else read as a name
+-- A text that is refused if a test holds, and otherwise read as a name.
 free : (reserved : Bool) (code : FaultCode) (key text a : List ℕ) → (if reserved then refuse code key else name key text) ≡ Ok a → (reserved ≡ false) × (text ≡ a)
 free true code key text a h = cc
 free false code key text a h = (refl, (accepted _ BadValue key text a h).1)
 
--- servlets
+-- servlets.
 pub servlet-Ok : (members : Members) (s : ServletEntry) → servlet members ≡ Ok s → is_reserved_servlet s.servlet_name ≡ false
 servlet-Ok members s e =
     bind-Ok (element_keys (codes "servlet-name" ∷ codes "servlet-class" ∷ codes "load-on-startup" ∷ codes "init-param" ∷ []) members) _ _ e (λ _ _ e1.
@@ -73,7 +73,7 @@ servlet_mapping-Ok members m e =
     holds-Ok (λ m. length m.url_patterns ≤ MAX_LIST_ITEMS) _ m e3
     (required-Ok (λ found. length found ≤ MAX_LIST_ITEMS) (patterns 1 MAX_LIST_ITEMS) (list_of-short 1 MAX_LIST_ITEMS is_text (text_of pattern)) (codes "url-pattern") members found read))))
 
--- filters
+-- filters.
 pub filter_mapping-Ok : (members : Members) (m : FilterMapping) → filter_mapping members ≡ Ok m → HasShortLists m
 filter_mapping-Ok members m e =
     bind-Ok (element_keys (codes "filter-name" ∷ codes "url-pattern" ∷ codes "servlet-name" ∷ codes "dispatcher" ∷ []) members) _ _ e (λ _ _ e1.
@@ -88,7 +88,7 @@ filter_mapping-Ok members m e =
       dispatchers = texts-short dispatcher (codes "dispatcher") members a3 r3;
     })))))))
 
--- roles
+-- roles.
 pub security_role-Ok : (members : Members) (role : List ℕ) → security_role members ≡ Ok role → is_reserved_role role ≡ false
 security_role-Ok members role e =
     bind-Ok (element_keys (codes "role-name" ∷ []) members) _ _ e (λ _ _ e1.
@@ -96,7 +96,7 @@ security_role-Ok members role e =
     (text_of-yields _ role_name (λ key text a h. let (f, t) = free (is_reserved_role text) ReservedRole key text a h in subst (λ t. is_reserved_role t ≡ false) t f))
     (codes "role-name") members role e1)
 
--- pages
+-- pages.
 page-Ok : (key : List ℕ) (members : Members) (page : List ℕ) → required (text_of location) key members ≡ Ok page → is_location page ≡ true
 page-Ok key members page e =
     required-Ok (λ t. is_location t ≡ true) (text_of location)
@@ -118,7 +118,7 @@ welcome_file_list-Ok members files e =
     required-Ok (λ found. length found ≤ MAX_LIST_ITEMS) (list_of_texts 0 MAX_LIST_ITEMS welcome_file)
     (list_of-short 0 MAX_LIST_ITEMS is_text (text_of welcome_file)) (codes "welcome-file") members files e1)
 
--- both pages of a login have paths
+-- Both pages of a login have canonical paths.
 pub record HasPages (login : FormLogin) : Type 0 where
   pub login_page : is_location login.login_page ≡ true
   pub error_page : is_location login.error_page ≡ true
@@ -139,7 +139,7 @@ login_config-Ok members login e =
     bind-Ok (required (text_of auth_method) (codes "auth-method") members) _ _ e1 (λ _ _ e2.
     required-Ok HasPages (table_of form_login_config) (table_of-yields HasPages form_login_config form_login_config-Ok) (codes "form-login-config") members login e2))
 
--- sessions
+-- sessions.
 bounded : (long : Bool) (key : List ℕ) (n : ℤ) (a : ℕ) → int_lt (pos MAX_SESSION_TIMEOUT) n ≡ long → (if long then refuse BadTimeout key else Ok (minutes n)) ≡ Ok a → a ≤ MAX_SESSION_TIMEOUT
 bounded true key n a l h = cc
 bounded false key (pos n) a l h =
@@ -148,7 +148,7 @@ bounded false key (pos n) a l h =
     subst (λ t. t ≤ MAX_SESSION_TIMEOUT) same short
 bounded false key (negsuc n) a l h = let same : 0 ≡ a = cc in omega arith
 
--- the cookie of sessions
+-- The session cookie.
 aged : (low high : Bool) (key : List ℕ) (n : ℤ) (a : Option ℕ) → int_lt n (negsuc 0) ≡ low → int_lt (pos MAX_COOKIE_AGE) n ≡ high
     → (if low || high then refuse BadValue key else Ok (age_of n)) ≡ Ok a → IfSome a (λ seconds. seconds ≤ MAX_COOKIE_AGE)
 aged true high key n a l g h = cc
@@ -187,7 +187,7 @@ cookie_config-Ok members settings e =
           (codes "max-age") members its_age read;
     }))))))
 
--- what holds of the sessions
+-- The properties of the session configuration.
 pub record HasSessions (config : SessionConfig) : Type 0 where
   pub timeout : config.timeout ≤ MAX_SESSION_TIMEOUT
   pub cookie : CanBeSet config.cookie

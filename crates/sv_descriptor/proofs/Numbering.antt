@@ -1,4 +1,4 @@
--- Constraints that are numbered one after another.
+-- Constraints numbered one after another.
 use Rattle.std.proofs.Common.{◌≡◌, ℕ, zero, suc, ◌+◌, ◌<◌, List, [], ◌∷◌, ◌++◌, length, take, drop, get_or, sym, ap, ◌∙◌, subst, arith, add-one, zero-add}
 use Rattle.std.specs.Prelude.{slice_set}
 use Rattle.sv_constraints.specs.declared.constraint.Constraint.{Constraint}
@@ -15,7 +15,7 @@ numbered-set n (suc i) (c ∷ rest) d l =
     ap (λ others. record c { number = n } ∷ others)
     (ap (λ m. slice_set cur i (record (get_or cur i d) { number = m })) same ∙ numbered-set (n + 1) i rest d (omega arith))
 
--- the constraint at a place gets its number, and those before it have theirs
+-- One more constraint gets its number; those before it have theirs.
 pub numbered-next : (found so_far : List Constraint) (i : ℕ) (d : Constraint) → i < length found → so_far ≡ numbered 1 (take i found) ++ drop i found
     → slice_set so_far i (record (get_or so_far i d) { number = i + 1 }) ≡ numbered 1 (take (i + 1) found) ++ drop (i + 1) found
 numbered-next found so_far i d l e =

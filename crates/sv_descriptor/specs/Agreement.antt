@@ -1,4 +1,4 @@
--- What the elements of a deployment descriptor say of one another (Jakarta Servlet 6.0 sections 12.2 and 14.4).
+-- Agreement among the elements of a deployment descriptor (Jakarta Servlet 6.0 sections 12.2 and 14.4).
 use Rattle.std.specs.Prelude.{ℕ, Bool, not, ◌||◌, List, map, codes}
 use Rattle.std.specs.List.{list_all, flat_map}
 use Rattle.sv_text.specs.Steps.{◌>>◌}
@@ -15,11 +15,11 @@ servlet_names app = map (λ servlet. servlet.servlet_name) app.servlets
 abbrev pub filter_names : WebApp → List (List ℕ)
 filter_names app = map (λ filter. filter.filter_name) app.filters
 
--- the servlets, the file servlet and all servlets at once
+-- The declared servlets and the reserved names.
 abbrev pub is_known_servlet : WebApp → List ℕ → Bool
 is_known_servlet app name = is_reserved_servlet name || is_among (servlet_names app) name
 
--- the patterns of all servlet mappings
+-- The patterns of all servlet mappings.
 abbrev pub servlet_patterns : WebApp → List (List ℕ)
 servlet_patterns app = flat_map (λ mapping. mapping.url_patterns) app.servlet_mappings
 

@@ -17,7 +17,7 @@ use Rattle.sv_descriptor.specs.Ignored.{element_keys, ignored_text}
 use Rattle.sv_descriptor.specs.Pattern.{patterns}
 use Rattle.sv_descriptor.specs.declared.limits.TheConstants.{MAX_METHOD_BYTES, MAX_PATTERNS_OF_CONSTRAINT}
 
--- a token (RFC 9110 section 5.6.2)
+-- A token (RFC 9110 section 5.6.2).
 unfoldable pub is_method_name : List ℕ → Bool
 is_method_name text = is_within 1 MAX_METHOD_BYTES text && list_all is_token_byte text
 
@@ -27,7 +27,7 @@ method key text = if is_method_name text then Ok text else refuse BadValue key
 abbrev pub methods : Reader (List (List ℕ))
 methods = list_of_texts 1 MAX_LIST_ITEMS method
 
--- a list of omitted methods, which no list of methods may stand beside
+-- A list of omitted methods, which excludes a list of methods.
 abbrev pub omitted_methods : Bool → Reader (List (List ℕ))
 omitted_methods beside key value = do
   list_items 0 MAX_LIST_ITEMS is_text key value
@@ -39,7 +39,7 @@ covered_methods (Some listed) omitted = Only listed
 covered_methods None (Some omitted) = Except omitted
 covered_methods None None = All
 
--- a collection of at most so many patterns
+-- A collection with at most `room` patterns.
 abbrev pub collection : ℕ → Members → Reads Collection
 collection room table = do
   element_keys (codes "web-resource-name" ∷ codes "url-pattern" ∷ codes "http-method" ∷ codes "http-method-omission" ∷ []) table
@@ -49,11 +49,11 @@ collection room table = do
   omitted ← optional (omitted_methods (is_some listed)) (codes "http-method-omission") table
   Ok (record { patterns = its_patterns; methods = covered_methods listed omitted })
 
--- the table of a collection of at most so many patterns
+-- The table of a collection with at most `room` patterns.
 unfoldable pub collection_table : ℕ → Reader Collection
 collection_table room = table_of (collection room)
 
--- collections that together have at most so many patterns
+-- Collections with at most `room` patterns in all.
 abbrev pub collections_within : ℕ → List ℕ → List Data → Reads (List Collection)
 collections_within room key [] = Ok []
 collections_within room key (value ∷ rest) = do

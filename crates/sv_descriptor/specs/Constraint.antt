@@ -36,7 +36,7 @@ user_data_constraint table = do
   element_keys (codes "transport-guarantee" ∷ []) table
   required (text_of transport_guarantee) (codes "transport-guarantee") table
 
--- a constraint that is not numbered yet has the number 0
+-- A constraint has the number 0 until all are numbered.
 abbrev pub constraint : Members → Reads Constraint
 constraint table = do
   element_keys (codes "web-resource-collection" ∷ codes "auth-constraint" ∷ codes "user-data-constraint" ∷ []) table
@@ -45,7 +45,7 @@ constraint table = do
   its_transport ← optional_or transport.Absent (table_of user_data_constraint) (codes "user-data-constraint") table
   Ok (record { number = 0; collections = its_collections; auth = its_auth; transport = its_transport })
 
--- constraints, numbered in their order
+-- The constraints, numbered in order.
 abbrev pub numbered : ℕ → List Constraint → List Constraint
 numbered number [] = []
 numbered number (c ∷ rest) = record c { number = number } ∷ numbered (number + 1) rest

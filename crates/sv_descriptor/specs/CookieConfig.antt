@@ -1,4 +1,5 @@
--- Jakarta Servlet 6.0 section 7.1.1 and section 14.4 (cookie-config); RFC 6265 section 4.1: how the session cookie is set.
+-- Jakarta Servlet 6.0 section 7.1.1 and section 14.4 (cookie-config); RFC 6265 section 4.1: the configuration of the
+-- session cookie.
 use Rattle.std.specs.Prelude.{ℕ, ℤ, pos, negsuc, int_lt, Bool, true, not, ◌&&◌, ◌||◌, ◌==◌, nat_le, nat_eq, List, [], ◌∷◌, codes, if◌then◌else◌, Option, None, Some, Ok}
 use Rattle.std.specs.List.{list_all, starts_with}
 use Rattle.std.specs.Str.{byte}
@@ -15,11 +16,11 @@ use Rattle.sv_message.specs.declared.cookie_settings.CookieSettings.{CookieSetti
 use Rattle.sv_descriptor.specs.Ignored.{element_keys}
 use Rattle.sv_descriptor.specs.declared.limits.TheConstants.{MAX_COOKIE_AGE, MAX_COOKIE_PATH_BYTES}
 
--- a token
+-- A token.
 unfoldable pub is_cookie_name : List ℕ → Bool
 is_cookie_name text = is_within 1 MAX_NAME_BYTES text && list_all is_token_byte text
 
--- printable bytes, without the one that ends an attribute
+-- Printable ASCII bytes, except the one that ends an attribute.
 abbrev pub is_path_byte : ℕ → Bool
 is_path_byte b = nat_le 32 b && nat_le b 126 && not (b == byte ";")
 
@@ -32,7 +33,7 @@ cookie_name key text = if is_cookie_name text then Ok text else refuse BadValue 
 abbrev pub cookie_path : List ℕ → List ℕ → Reads (List ℕ)
 cookie_path key text = if is_cookie_path text then Ok text else refuse BadValue key
 
--- a cookie without an age is kept until the client ends, which is written as -1
+-- The lifetime of a cookie. With -1, it has none and lasts until the client ends.
 abbrev pub age_of : ℤ → Option ℕ
 age_of (pos n) = Some n
 age_of (negsuc n) = None
@@ -41,7 +42,7 @@ abbrev pub max_age : List ℕ → ℤ → Reads (Option ℕ)
 max_age key number =
     if int_lt number (negsuc 0) || int_lt (pos MAX_COOKIE_AGE) number then refuse BadValue key else Ok (age_of number)
 
--- what is not written is as where there is no such table
+-- Missing keys have their default values.
 abbrev pub cookie_config : Members → Reads CookieSettings
 cookie_config table = do
   element_keys (codes "name" ∷ codes "path" ∷ codes "http-only" ∷ codes "max-age" ∷ []) table

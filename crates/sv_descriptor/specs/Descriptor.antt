@@ -8,13 +8,13 @@ use Rattle.sv_descriptor.specs.Agreement.{elements_agree}
 use Rattle.sv_descriptor.specs.WebApp.{web_app}
 use Rattle.sv_descriptor.specs.declared.web_app.WebApp.{WebApp}
 
--- the elements that a table is: each by itself, and then all together
+-- The elements of a table: each is read independently, and then all are checked together.
 abbrev pub descriptor : Members → Reads WebApp
 descriptor table = do
   elements ← web_app table
   elements_agree elements
   Ok elements
 
--- the elements that a text is
+-- The elements of a text.
 unfoldable pub descriptor_of : List ℕ → Reads WebApp
 descriptor_of = document descriptor

@@ -13,7 +13,7 @@ use Rattle.sv_descriptor.specs.declared.error_page.PageFor.{PageFor}
 use Rattle.sv_descriptor.specs.declared.error_page.PageFor.TheVariants.{Status, Exception, Any}
 use Rattle.sv_descriptor.specs.declared.limits.TheConstants.{MIN_ERROR_CODE, MAX_ERROR_CODE}
 
--- a page is for a status, for an exception or for all that has no other page
+-- A page is for a status, for an exception, or for all errors that have no other page.
 abbrev pub page_for : Option ℕ → Option (List ℕ) → Reads PageFor
 page_for None None = Ok Any
 page_for (Some status) None = Ok (Status status)

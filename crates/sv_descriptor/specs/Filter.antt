@@ -33,7 +33,7 @@ dispatcher key text =
     else if bytes_eq text (codes "ERROR") then Ok Error
     else refuse BadValue key
 
--- a filter mapping of that filter
+-- The mapping of the filter of this name.
 abbrev pub filter_mapping_of : List ℕ → Members → Reads FilterMapping
 filter_mapping_of its_name table = do
   its_patterns ← optional_or [] (patterns 0 MAX_LIST_ITEMS) (codes "url-pattern") table

@@ -1,14 +1,14 @@
--- Pages within a context: texts that have a canonical path (Jakarta Servlet 6.0 section 3.5.2).
+-- Locations of pages within a context: texts that have a canonical path (Jakarta Servlet 6.0 section 3.5.2).
 use Rattle.std.specs.Prelude.{ℕ, Bool, List, if◌then◌else◌, Option, Some, None, Ok, is_ok}
 use Rattle.sv_uri.specs.Canonical.{canonical}
 use Rattle.sv_schema.specs.Fault.{Reads, refuse}
 use Rattle.sv_schema.specs.declared.fault.FaultCode.TheVariants.{BadValue}
 
--- a page: a text that has a canonical path, with or without a query
+-- The text has a canonical path, with or without a query.
 unfoldable pub is_location : List ℕ → Bool
 is_location text = is_ok (canonical text)
 
--- the location that a text is
+-- The location that a text describes, if any.
 abbrev pub parsed : List ℕ → Option (List ℕ)
 parsed text = if is_location text then Some text else None
 

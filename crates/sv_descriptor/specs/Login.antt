@@ -11,7 +11,7 @@ use Rattle.sv_descriptor.specs.Ignored.{element_keys}
 use Rattle.sv_descriptor.specs.Location.{location}
 use Rattle.sv_descriptor.specs.declared.login.FormLogin.{FormLogin}
 
--- the one method of authentication
+-- The only authentication method.
 abbrev pub auth_method : List ℕ → List ℕ → Reads (Unit {0})
 auth_method key text = if bytes_eq text (codes "FORM") then Ok tt else refuse BadValue key
 

@@ -9,7 +9,7 @@ use Rattle.sv_schema.specs.Value.{name, text_of}
 use Rattle.sv_schema.specs.declared.fault.FaultCode.TheVariants.{ReservedRole}
 use Rattle.sv_descriptor.specs.Ignored.{element_keys}
 
--- the names that stand for all declared roles and for every authenticated caller (section 13.8)
+-- The reserved names: `*` for all declared roles and `**` for every authenticated caller (section 13.8).
 unfoldable pub is_reserved_role : List ℕ → Bool
 is_reserved_role text = bytes_eq text (codes "*") || bytes_eq text (codes "**")
 

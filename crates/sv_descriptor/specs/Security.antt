@@ -11,7 +11,7 @@ use Rattle.sv_descriptor.specs.Role.{security_role}
 use Rattle.sv_descriptor.specs.Tables.{tables}
 use Rattle.sv_descriptor.specs.declared.security.Security.{Security}
 
--- the constraints, the roles and the login, beside whether uncovered requests are denied
+-- The constraints, roles and login, and whether uncovered requests are denied.
 abbrev pub security : Bool → Members → Reads Security
 security deny table = do
   its_constraints ← optional_or [] constraints (codes "security-constraint") table

@@ -14,14 +14,14 @@ use Rattle.sv_descriptor.specs.Pattern.{patterns}
 use Rattle.sv_descriptor.specs.declared.servlet.ServletEntry.{ServletEntry}
 use Rattle.sv_descriptor.specs.declared.servlet.ServletMapping.{ServletMapping}
 
--- the names that stand for the file servlet and for every servlet
+-- The reserved names: `default` for the file servlet and `*` for every servlet.
 unfoldable pub is_reserved_servlet : List ℕ → Bool
 is_reserved_servlet text = bytes_eq text (codes "default") || bytes_eq text (codes "*")
 
 abbrev pub servlet_name : List ℕ → List ℕ → Reads (List ℕ)
 servlet_name key text = if is_reserved_servlet text then refuse BadValue key else name key text
 
--- a whole number of 32 bits
+-- A signed whole number of 32 bits.
 abbrev pub startup_order : List ℕ → ℤ → Reads ℤ
 startup_order key number = if int_lt number (negsuc 2147483647) || int_lt (pos 2147483647) number then refuse BadValue key else Ok number
 

@@ -1,4 +1,5 @@
--- Jakarta Servlet 6.0 section 14.4 (session-config), section 7.1.1 (session cookies) and section 7.5 (session timeouts).
+-- Jakarta Servlet 6.0 section 14.4 (session-config), section 7.1.1 (session cookies) and section 7.5 (session
+-- timeouts).
 use Rattle.std.specs.Prelude.{ℕ, ℤ, pos, negsuc, int_lt, List, [], ◌∷◌, codes, if◌then◌else◌, Ok}
 use Rattle.toml.specs.Data.{Members}
 use Rattle.sv_text.specs.Steps.{◌>>=◌, ◌>>◌}
@@ -14,7 +15,7 @@ use Rattle.sv_descriptor.specs.declared.session.SessionConfig.{SessionConfig}
 use Rattle.sv_descriptor.specs.declared.version.Version.{Version}
 use Rattle.sv_descriptor.specs.declared.version.Version.TheVariants.{One, Two}
 
--- sessions without an end, written as 0 or less, have 0 minutes
+-- The timeout in minutes. Sessions that never expire, written as 0 or less, have 0 minutes.
 abbrev pub minutes : ℤ → ℕ
 minutes (pos n) = n
 minutes (negsuc n) = 0
@@ -22,7 +23,7 @@ minutes (negsuc n) = 0
 abbrev pub session_timeout : List ℕ → ℤ → Reads ℕ
 session_timeout key number = if int_lt (pos MAX_SESSION_TIMEOUT) number then refuse BadTimeout key else Ok (minutes number)
 
--- the first version knows no settings of the cookie
+-- Version 1 has no cookie configuration.
 abbrev pub session_keys : Version → List (List ℕ)
 session_keys One = codes "session-timeout" ∷ []
 session_keys Two = codes "session-timeout" ∷ codes "cookie-config" ∷ []
@@ -37,6 +38,6 @@ session_config its_version table = do
 abbrev pub default_session : SessionConfig
 default_session = record { timeout = DEFAULT_SESSION_TIMEOUT; cookie = standard_settings }
 
--- how the sessions of a table are kept
+-- The session configuration of a table.
 abbrev pub session : Version → Members → Reads SessionConfig
 session its_version = optional_or default_session (table_of (session_config its_version)) (codes "session-config")

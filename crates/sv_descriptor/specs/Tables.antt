@@ -1,4 +1,4 @@
--- Elements that a deployment descriptor may have many of (Jakarta Servlet 6.0 section 14.4).
+-- Elements that may occur many times in a deployment descriptor (Jakarta Servlet 6.0 section 14.4).
 use Rattle.std.specs.Prelude.{List}
 use Rattle.toml.specs.Data.{Members}
 use Rattle.sv_schema.specs.Fault.{Reads}
@@ -6,6 +6,6 @@ use Rattle.sv_schema.specs.ListOf.{list_of_tables}
 use Rattle.sv_schema.specs.Value.{Reader}
 use Rattle.sv_schema.specs.declared.limits.TheConstants.{MAX_LIST_ITEMS}
 
--- a list of tables
+-- A list of tables.
 abbrev pub tables : {A : Type 0} → (Members → Reads A) → Reader (List A)
 tables reads = list_of_tables 0 MAX_LIST_ITEMS reads

@@ -9,18 +9,18 @@ use Rattle.sv_descriptor.specs.declared.limits.TheConstants.{MAX_SESSIONS_OF_VER
 use Rattle.sv_descriptor.specs.declared.version.Version.{Version}
 use Rattle.sv_descriptor.specs.declared.version.Version.TheVariants.{One, Two}
 
--- the version of a number; the first where none is written
+-- The version of a number. The default is version 1.
 abbrev pub numbered : Option ℕ → Version
 numbered None = One
 numbered (Some number) = if number == 2 then Two else One
 
--- the version of a table
+-- The version of a table.
 abbrev pub version : Members → Reads Version
 version table = do
   number ← optional (whole_of (number_between 1 2)) (codes "version") table
   Ok (numbered number)
 
--- how many sessions there may be at a time
+-- The maximum number of live sessions.
 abbrev pub max_sessions : Version → ℕ
 max_sessions One = MAX_SESSIONS_OF_VERSION_1
 max_sessions Two = MAX_SESSIONS_OF_VERSION_2

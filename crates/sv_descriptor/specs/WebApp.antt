@@ -24,7 +24,7 @@ top_keys =
     ∷ codes "listener" ∷ codes "session-config" ∷ codes "welcome-file-list" ∷ codes "error-page" ∷ codes "security-constraint"
     ∷ codes "security-role" ∷ codes "login-config" ∷ []
 
--- the elements, one beside another
+-- The elements, combined into one value.
 abbrev pub assembled : Version → Components → SessionConfig → Pages → Security → WebApp
 assembled its_version its_components its_session its_pages its_security = record {
   version = its_version;
@@ -41,7 +41,7 @@ assembled its_version its_components its_session its_pages its_security = record
   login = its_security.login;
 }
 
--- the elements, where those in front of the sessions have been read
+-- The elements, after the components have been read.
 abbrev pub behind_components : Version → Bool → Components → Members → Reads WebApp
 behind_components its_version deny its_components table = do
   its_session ← session its_version table
@@ -49,7 +49,7 @@ behind_components its_version deny its_components table = do
   its_security ← security deny table
   Ok (assembled its_version its_components its_session its_pages its_security)
 
--- the elements, in their order
+-- The elements, read in their order.
 abbrev pub web_app : Members → Reads WebApp
 web_app table = do
   element_keys top_keys table

@@ -11,7 +11,7 @@ use Rattle.sv_schema.specs.declared.fault.FaultCode.TheVariants.{BadValue}
 use Rattle.sv_schema.specs.declared.limits.TheConstants.{MAX_LIST_ITEMS}
 use Rattle.sv_descriptor.specs.Ignored.{element_keys}
 
--- a partial path has no slash at either end, and is not empty
+-- A partial path has no slash at either end, and is not empty.
 unfoldable pub is_no_partial_path : List ℕ → Bool
 is_no_partial_path text = bytes_eq text [] || (starts_with nat_eq text (codes "/") || ends_with nat_eq text (codes "/"))
 

@@ -1,4 +1,4 @@
--- A well-formed descriptor: what all above may rest on (Jakarta Servlet 6.0 sections 12.2, 13.8 and 14.4).
+-- A well-formed descriptor (Jakarta Servlet 6.0 sections 12.2, 13.8 and 14.4).
 use Rattle.std.specs.Prelude.{◌≡◌, ℕ, ◌+◌, ◌<◌, ◌≤◌, false, true, List, [], length, slice_index_or, IfSome}
 use Rattle.std.specs.List.{All, Contains}
 use Rattle.sv_constraints.specs.Covering.{patterns_in}
@@ -19,35 +19,35 @@ use Rattle.sv_descriptor.specs.declared.filter.FilterMapping.{FilterMapping}
 use Rattle.sv_descriptor.specs.declared.limits.TheConstants.{MAX_COOKIE_AGE, MAX_PATTERNS_OF_CONSTRAINT, MAX_SESSION_TIMEOUT}
 use Rattle.sv_descriptor.specs.declared.web_app.WebApp.{WebApp}
 
--- a list is within the limit of lists
+-- The length of a list is within the common limit.
 abbrev pub IsShort : {A : Type 0} → List A → Type 0
 IsShort list = length list ≤ MAX_LIST_ITEMS
 
--- no list of a filter mapping is too long
+-- The lists of a filter mapping are within the common limit.
 pub record HasShortLists (mapping : FilterMapping) : Type 0 where
   pub url_patterns : IsShort mapping.url_patterns
   pub servlet_names : IsShort mapping.servlet_names
   pub dispatchers : IsShort mapping.dispatchers
 
--- the methods that a collection names
+-- The methods that a collection names.
 abbrev pub named_methods : Methods → List (List ℕ)
 named_methods methods.All = []
 named_methods (methods.Only listed) = listed
 named_methods (methods.Except omitted) = omitted
 
--- the roles that a constraint names
+-- The roles that a constraint names.
 abbrev pub named_roles : Auth → List (List ℕ)
 named_roles auth.Absent = []
 named_roles (auth.Roles roles) = roles
 
--- no list of a constraint is too long, and its collections have few patterns together
+-- The lists of a constraint are within the common limit, and its patterns within that of a constraint.
 pub record HasFewItems (constraint : Constraint) : Type 0 where
   pub collections : IsShort constraint.collections
   pub patterns : length (patterns_in constraint) ≤ MAX_PATTERNS_OF_CONSTRAINT
   pub methods : All (λ collection. IsShort (named_methods collection.methods)) constraint.collections
   pub roles : IsShort (named_roles constraint.auth)
 
--- no list of the elements is too long
+-- The lists of all elements are within their limits.
 pub record AllListsAreShort (app : WebApp) : Type 0 where
   pub servlets : IsShort app.servlets
   pub servlet_mappings : IsShort app.servlet_mappings
@@ -62,11 +62,11 @@ pub record AllListsAreShort (app : WebApp) : Type 0 where
   pub lists_of_constraints : All HasFewItems app.constraints
   pub roles : IsShort app.rules.declared
 
--- constraints have the numbers 1, 2, .. in their order
+-- The constraints are numbered 1, 2, .. in order.
 abbrev pub AreNumbered : List Constraint → Type 0
 AreNumbered constraints = (i : ℕ) (d : Constraint) → i < length constraints → (slice_index_or constraints i d).number ≡ i + 1
 
--- a cookie can be set so: its name and its path end no part of the line, and its age has few digits
+-- Valid cookie settings: the name and the path cannot end an attribute, and the lifetime is bounded.
 pub record CanBeSet (settings : CookieSettings) : Type 0 where
   pub name : is_cookie_name settings.name ≡ true
   pub path : IfSome settings.path (λ path. is_cookie_path path ≡ true)

@@ -1,4 +1,4 @@
-//! What the elements of a descriptor say of one another.
+//! Agreement among the elements of a descriptor.
 
 ghost use Rattle.std.specs.Prelude.{◌≡◌, ◌||◌, ◌++◌, IfOk, OnOk};
 ghost use Rattle.std.specs.List.{flat_map, list_all};
@@ -17,12 +17,12 @@ use sv_mapping::Pattern;
 use sv_schema::{FaultCode, Names, ReadFault, distinct_names, refuse, repeats};
 use sv_text::{NoMemory, Text};
 
-/// Sees that the elements of a descriptor fit one another.
+/// Checks that the elements of a descriptor agree with one another.
 ///
 /// # Errors
 /// In this order: [`FaultCode::DuplicateName`] for servlets, filters and roles, [`FaultCode::UnknownServlet`] and
-/// [`FaultCode::DuplicatePattern`] for servlet mappings, [`FaultCode::UnknownFilter`] and [`FaultCode::UnknownServlet`] for
-/// filter mappings; or [`ReadFault::NoMemory`].
+/// [`FaultCode::DuplicatePattern`] for servlet mappings, [`FaultCode::UnknownFilter`] and [`FaultCode::UnknownServlet`]
+/// for filter mappings; or [`ReadFault::NoMemory`].
 pub fn check_agreement(alloc: Global, web_app: &WebApp) -> Result<(), ReadFault>
     ensures { Gives fault result (spec.elements_agree web_app.now) }
 {

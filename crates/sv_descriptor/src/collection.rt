@@ -81,7 +81,7 @@ fn read_collection(
     TableOf(CollectionTable { room }).read(alloc, key, value)
 }
 
-/// How many patterns there may be beside those of a collection.
+/// Returns the number of patterns left after those of a collection.
 fn room_beside(room: usize, collection: &Collection) -> usize
     ensures { result ≡ room - length collection.now.patterns }
 {
@@ -91,7 +91,7 @@ fn room_beside(room: usize, collection: &Collection) -> usize
 /// The table of a collection.
 #[derive(Clone, Copy)]
 struct CollectionTable {
-    /// How many patterns the collection may have.
+    /// The number of patterns that the collection may have.
     room: usize,
 }
 
@@ -127,7 +127,7 @@ impl TableSchema for CollectionTable {
     }
 }
 
-/// The methods that a collection covers: the listed ones, or all but the omitted ones, or all.
+/// Returns the methods that a collection covers: those listed, all except those omitted, or all.
 fn covered_methods(listed: Option<Listed<Text>>, omitted: Option<Listed<Text>>) -> Methods
     ensures { result ≡ spec.covered_methods listed omitted }
 {
@@ -150,7 +150,7 @@ const METHODS: ListOf<TextOf<Method>> = ListOf {
 /// A list of omitted methods.
 #[derive(Clone, Copy)]
 struct OmittedMethods {
-    /// Whether the collection has a list of methods too, beside which there may be none of omitted ones.
+    /// Whether the collection also has a list of methods. A collection may not have both lists.
     beside_methods: bool,
 }
 
@@ -198,7 +198,7 @@ fn is_method_name(text: &str) -> bool
     is_within(text, 1, MAX_METHOD_BYTES) && is_token_text(text)
 }
 
-/// Whether each byte of a text is one of a token (RFC 9110 section 5.6.2).
+/// Returns whether each byte of a text is a token byte (RFC 9110 section 5.6.2).
 pub fn is_token_text(text: &str) -> bool
     ensures { result ≡ list_all is_token_byte text.now }
 {

@@ -14,16 +14,16 @@ use sv_schema::ReadFault;
 use sv_text::Listed;
 use toml::Table;
 
-/// The components of a descriptor, and what they are for.
+/// The components of a descriptor and their mappings.
 #[derive(Drop)]
 pub struct Components {
     /// The servlets.
     pub servlets: Listed<ServletEntry>,
-    /// The patterns of servlets.
+    /// The URL patterns of the servlets.
     pub servlet_mappings: Listed<ServletMapping>,
     /// The filters.
     pub filters: Listed<FilterEntry>,
-    /// The requests that pass filters.
+    /// The requests to which the filters apply.
     pub filter_mappings: Listed<FilterMapping>,
     /// The listeners.
     pub listeners: Listed<ListenerEntry>,

@@ -15,7 +15,7 @@ use sv_schema::{
 use sv_text::Listed;
 use toml::{Table, Value};
 
-/// The list of constraints, which are numbered from 1.
+/// The list of constraints, numbered from 1.
 #[derive(Clone, Copy)]
 pub struct Constraints;
 
@@ -41,7 +41,7 @@ impl Schema for Constraints {
     }
 }
 
-/// The list of constraints, none of which has its number.
+/// The list of constraints before they are numbered.
 const UNNUMBERED: ListOf<TableOf<ConstraintTable>> = ListOf {
     least: 0,
     most: MAX_LIST_ITEMS,
@@ -65,7 +65,7 @@ fn number_each(constraints: &mut [Constraint])
     }
 }
 
-/// The table of a constraint, which has the number 0 until all are numbered.
+/// The table of a constraint. Its number is 0 until all are numbered.
 #[derive(Clone, Copy)]
 struct ConstraintTable;
 

@@ -1,4 +1,4 @@
-//! How the session cookie of a context is set.
+//! The configuration of the session cookie.
 
 ghost use Rattle.std.specs.Prelude.{◌≡◌};
 ghost use Rattle.std.specs.List.{list_all};
@@ -61,7 +61,7 @@ fn is_cookie_name(text: &str) -> bool
     is_within(text, 1, MAX_NAME_BYTES) && is_token_text(text)
 }
 
-/// The path below which a cookie is sent back.
+/// The path of a cookie: the cookie is sent only with requests at or below it.
 #[derive(Clone, Copy)]
 struct CookiePath;
 
@@ -97,7 +97,7 @@ fn is_path_byte(byte: u8) -> bool
     32 <= byte && byte <= 126 && byte != b';'
 }
 
-/// The seconds that a cookie is kept.
+/// The lifetime of a cookie, in seconds. With -1, it lasts until the client ends.
 #[derive(Clone, Copy)]
 struct MaxAge;
 

@@ -13,7 +13,7 @@ use std::marker::Model;
 use sv_schema::{ReadFault, TableSchema, read_document};
 use toml::Table;
 
-/// A deployment descriptor: elements that are well-formed. Contracts see the elements.
+/// A well-formed deployment descriptor. Contracts see its elements.
 #[derive(Drop)]
 pub struct Descriptor {
     web_app: WebApp,
@@ -31,7 +31,7 @@ impl Model for Descriptor {
 }
 
 impl Descriptor {
-    /// The elements, which are well-formed.
+    /// Returns the elements, which are well-formed.
     pub fn web_app(&self) -> &WebApp
         ensures value { result.now ≡ self.now }
         ensures well_formed { IsWellFormed self.now }
@@ -39,7 +39,7 @@ impl Descriptor {
         &self.web_app
     }
 
-    /// Gives the elements up, without taking memory.
+    /// Converts the descriptor to its elements. Takes no memory.
     pub fn into_web_app(self) -> WebApp
         ensures value { result ≡ self }
         ensures well_formed { IsWellFormed result }

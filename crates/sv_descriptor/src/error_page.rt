@@ -15,23 +15,23 @@ use sv_schema::{
 use sv_text::Text;
 use toml::Table;
 
-/// A page for errors (`error-page`).
+/// An error page (`error-page`).
 #[derive(Drop)]
 pub struct ErrorPage {
-    /// The errors that the page is for.
+    /// The errors that the page handles.
     pub page_for: PageFor,
     /// The page's path within the context, with or without a query.
     pub location: Location,
 }
 
-/// The errors that a page is for.
+/// The errors that a page handles.
 #[derive(Drop)]
 pub enum PageFor {
-    /// Those with this status, from 400 to 599 (`error-code`).
+    /// Errors with this status, from 400 to 599 (`error-code`).
     Status(u16),
-    /// The faults of this kind (`exception-type`).
+    /// Faults of this kind (`exception-type`).
     Exception(Text),
-    /// Those that have no other page.
+    /// All errors that have no other page.
     Any,
 }
 

@@ -36,16 +36,16 @@ impl Named for FilterEntry {
     }
 }
 
-/// The requests that pass a filter (`filter-mapping`): those that one of the patterns or one of the names matches.
+/// The requests to which a filter applies (`filter-mapping`): those that match one of the patterns or servlet names.
 #[derive(Drop)]
 pub struct FilterMapping {
     /// The filter's name.
     pub filter_name: Text,
-    /// The patterns of paths.
+    /// The URL patterns.
     pub url_patterns: Listed<Pattern>,
-    /// The names of servlets, `*` for every servlet and `default` for the file servlet.
+    /// The names of servlets. `*` means every servlet, and `default` the file servlet.
     pub servlet_names: Listed<Text>,
-    /// The kinds of dispatches. An empty list is for [`Kind::Request`] alone.
+    /// The kinds of dispatches. An empty list means only [`Kind::Request`].
     pub dispatchers: Listed<Kind>,
 }
 
@@ -118,7 +118,7 @@ fn read_lists(alloc: Global, table: &Table, filter_name: Text) -> Result<FilterM
     })
 }
 
-/// The name of a kind of dispatches.
+/// The name of a dispatch kind.
 #[derive(Clone, Copy)]
 struct Dispatcher;
 

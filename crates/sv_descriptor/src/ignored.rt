@@ -1,4 +1,4 @@
-//! The elements of a descriptor that mean nothing to a container.
+//! Keys and texts of a descriptor that the container ignores.
 
 ghost use Rattle.sv_text.specs.Gives.{Gives};
 ghost use Rattle.toml.specs.View.{table_view};
@@ -10,14 +10,14 @@ use std::alloc::Global;
 use sv_schema::{ReadFault, TextSchema, only_keys};
 use toml::Table;
 
-/// Sees that an element of a descriptor has no keys but those that are known, and those that every element may have.
+/// Checks that an element has only known keys, `description` and `display-name`. Any element may have the last two.
 pub fn element_keys(alloc: Global, known: &[&str], table: &Table) -> Result<(), ReadFault>
     ensures { Gives fault result (spec.element_keys (texts known.now) (table_view table.now)) }
 {
     only_keys(alloc, known, &["description", "display-name"], table)
 }
 
-/// A text that means nothing to a container.
+/// A text that the container ignores.
 #[derive(Clone, Copy)]
 pub struct IgnoredText;
 

@@ -1,4 +1,4 @@
-//! The limits in numbers, each the contract of a function that does nothing.
+//! The limits as numbers, each the contract of a function with an empty body.
 
 ghost use Rattle.std.specs.Prelude.{◌≡◌};
 
@@ -8,9 +8,10 @@ use crate::limits::{
     MAX_SESSIONS_OF_VERSION_2, MIN_ERROR_CODE,
 };
 
-/// A session lives 30 minutes where a descriptor does not say, and else at most 525,600; there are at most 1,000 at a time with version 1 and
-/// 100,000 with version 2; the path of a cookie has at most 1,024 bytes, and it is kept for at most 2,147,483,647 seconds; the statuses of errors
-/// are 400 to 599; a method has at most 15 bytes, and the collections of a constraint have at most 64 patterns.
+/// The session timeout is 30 minutes by default and at most 525,600. A context has at most 1,000 live sessions with
+/// version 1, and 100,000 with version 2. The path of a cookie has at most 1,024 bytes, and its lifetime is at most
+/// 2,147,483,647 seconds. Error statuses are 400 to 599. A method has at most 15 bytes. The collections of a constraint
+/// have at most 64 patterns.
 pub fn limits_of_the_descriptor()
     ensures default_timeout { DEFAULT_SESSION_TIMEOUT ≡ 30 }
     ensures greatest_timeout { MAX_SESSION_TIMEOUT ≡ 525600 }

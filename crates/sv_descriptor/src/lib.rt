@@ -1,5 +1,5 @@
-//! The deployment descriptor, read from TOML: the first fault in the format's order, or elements that are well-formed
-//! (Jakarta Servlet 6.0 chapter 14).
+//! The deployment descriptor, read from TOML: the result is a set of well-formed elements, or the first fault in the
+//! format's order (Jakarta Servlet 6.0 chapter 14).
 #![tactic(auto)]
 
 mod agreement;

@@ -1,4 +1,4 @@
-//! Pages within a context.
+//! Locations of pages within a context.
 
 ghost use Rattle.std.specs.Prelude.{◌≡◌, IsTrue};
 ghost use Rattle.sv_text.specs.Gives.{GivesAnswer};
@@ -12,8 +12,8 @@ use sv_text::{NoMemory, Text};
 use sv_uri::canon;
 use sv_uri::fault::CanonFault;
 
-/// The place of a page within a context: a text that begins with `/` and has a canonical path, with or without a query
-/// (Jakarta Servlet 6.0 section 3.5.2). Contracts see the text.
+/// The location of a page within a context: a text that begins with `/` and has a canonical path, with or without a
+/// query (Jakarta Servlet 6.0 section 3.5.2). Contracts see the text.
 #[derive(Drop)]
 pub struct Location {
     text: Text,
@@ -31,7 +31,7 @@ impl Model for Location {
 }
 
 impl Location {
-    /// Reads a location, `None` where the text has no canonical path.
+    /// Parses a location. Returns `None` if the text has no canonical path.
     pub fn parse(alloc: Global, text: &str) -> Result<Option<Location>, NoMemory>
         ensures { GivesAnswer result (spec.parsed text.now) }
     {
@@ -43,7 +43,7 @@ impl Location {
         }))
     }
 
-    /// The text that the location was read from.
+    /// Returns the text that was parsed.
     pub fn text(&self) -> &str
         ensures value { result.now ≡ self.now }
         ensures canonical { IsTrue (spec.is_location result.now) }

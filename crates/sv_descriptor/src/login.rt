@@ -1,4 +1,4 @@
-//! The login of callers.
+//! The login configuration.
 
 ghost use Rattle.sv_descriptor.specs.Login as spec;
 
@@ -13,7 +13,7 @@ use toml::Table;
 pub struct FormLogin {
     /// The path of the page with the login form, within the context.
     pub login_page: Location,
-    /// The path of the page for a login that failed, within the context.
+    /// The path of the page for a failed login, within the context.
     pub error_page: Location,
 }
 
@@ -51,7 +51,7 @@ impl TableSchema for FormLoginTable {
     }
 }
 
-/// The name of the one method of authentication.
+/// The name of the only authentication method, `FORM`.
 #[derive(Clone, Copy)]
 struct AuthMethod;
 

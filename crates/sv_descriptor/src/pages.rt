@@ -13,12 +13,12 @@ use sv_schema::{ReadFault, TableOf, list_or_empty};
 use sv_text::{Listed, Text};
 use toml::Table;
 
-/// The pages that are answered in the place of folders and of errors.
+/// Welcome files and error pages.
 #[derive(Drop)]
 pub struct Pages {
     /// The partial paths of welcome files.
     pub welcome_files: Listed<Text>,
-    /// The pages for errors.
+    /// The error pages.
     pub error_pages: Listed<ErrorPage>,
 }
 

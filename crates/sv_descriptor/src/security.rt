@@ -1,4 +1,4 @@
-//! The security constraints of a descriptor, its roles and its login.
+//! The security constraints, roles and login of a descriptor.
 
 ghost use Rattle.sv_text.specs.Gives.{Gives};
 ghost use Rattle.toml.specs.View.{table_view};
@@ -15,18 +15,19 @@ use sv_schema::{ReadFault, TableOf, list_or_empty, optional};
 use sv_text::Listed;
 use toml::Table;
 
-/// Who may do what.
+/// The security constraints, roles and login.
 #[derive(Drop)]
 pub struct Security {
     /// The security constraints, numbered from 1.
     pub constraints: Listed<Constraint>,
     /// The declared roles, and whether requests that no constraint covers are denied.
     pub rules: Rules,
-    /// The login of callers, none where callers cannot log in.
+    /// The login configuration; none if callers cannot log in.
     pub login: Option<FormLogin>,
 }
 
-/// Reads the constraints of a descriptor, its roles and its login, beside what it says of requests that no constraint covers.
+/// Reads the constraints, roles and login of a descriptor. If `deny_uncovered`, its rules deny requests that no
+/// constraint covers.
 ///
 /// # Errors
 /// The first fault in the order of the elements, or [`ReadFault::NoMemory`].

@@ -22,7 +22,7 @@ pub struct ServletEntry {
     pub servlet_name: Text,
     /// The name of the servlet's class.
     pub servlet_class: Text,
-    /// Where the servlet stands in the order of initialisation.
+    /// The position of the servlet in the order of initialization.
     pub load_on_startup: Option<i32>,
     /// The servlet's parameters, in the order of their names' bytes.
     pub init_params: Listed<InitParam>,
@@ -36,7 +36,7 @@ impl Named for ServletEntry {
     }
 }
 
-/// Patterns whose paths a servlet serves (`servlet-mapping`).
+/// The patterns of the paths that a servlet serves (`servlet-mapping`).
 #[derive(Drop)]
 pub struct ServletMapping {
     /// The servlet's name.
@@ -111,7 +111,7 @@ impl TextSchema for ServletName {
     }
 }
 
-/// Whether a name stands for the file servlet or for every servlet.
+/// Returns whether a name is reserved: `default` for the file servlet, `*` for every servlet.
 #[tactic(auto, unfolding(crate::specs::Servlet::is_reserved_servlet))]
 pub fn is_reserved_servlet(name: &str) -> bool
     ensures { result ≡ spec.is_reserved_servlet name.now }
@@ -119,7 +119,7 @@ pub fn is_reserved_servlet(name: &str) -> bool
     name == "default" || name == "*"
 }
 
-/// A place in the order of initialisation.
+/// A position in the order of initialization.
 #[derive(Clone, Copy)]
 struct StartupOrder;
 

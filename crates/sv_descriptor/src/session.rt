@@ -1,4 +1,4 @@
-//! The sessions of a context.
+//! The session configuration of a context.
 
 ghost use Rattle.sv_text.specs.Gives.{Gives, GivesAnswer};
 ghost use Rattle.toml.specs.View.{table_view};
@@ -18,16 +18,16 @@ use sv_schema::{
 use sv_text::NoMemory;
 use toml::Table;
 
-/// How the sessions of a context are kept (`session-config`, Jakarta Servlet 6.0 sections 7.1.1 and 7.5).
+/// The session configuration of a context (`session-config`, Jakarta Servlet 6.0 sections 7.1.1 and 7.5).
 #[derive(Drop)]
 pub struct SessionConfig {
-    /// How many minutes a session lives without a request, 0 for ever.
+    /// The session timeout in minutes. With 0, sessions never expire.
     pub timeout: u32,
-    /// How the session cookie is set.
+    /// The configuration of the session cookie.
     pub cookie: CookieSettings,
 }
 
-/// Reads how the sessions of a context are kept.
+/// Reads the session configuration of a context.
 ///
 /// # Errors
 /// The first fault of the table, or [`ReadFault::NoMemory`].
@@ -43,7 +43,7 @@ pub fn read_session(
     optional_or(alloc, table, "session-config", &session, default)
 }
 
-/// How sessions are kept where a descriptor does not say.
+/// Returns the session configuration of a descriptor that sets none.
 fn default_session(alloc: Global) -> Result<SessionConfig, NoMemory>
     ensures { GivesAnswer result spec.default_session }
 {
@@ -53,10 +53,10 @@ fn default_session(alloc: Global) -> Result<SessionConfig, NoMemory>
     })
 }
 
-/// The table of a context's sessions.
+/// The table of the session configuration.
 #[derive(Clone, Copy)]
 struct SessionTable {
-    /// The version of the descriptor, in which the table stands.
+    /// The version of the descriptor.
     version: Version,
 }
 
@@ -79,7 +79,7 @@ impl TableSchema for SessionTable {
     }
 }
 
-/// Sees that the table has no keys but those of the version.
+/// Checks that the table has only the keys of the version.
 fn session_keys(alloc: Global, version: Version, table: &Table) -> Result<(), ReadFault>
     ensures { Gives fault result (element_keys (spec.session_keys version) (table_view table.now)) }
 {
@@ -89,7 +89,7 @@ fn session_keys(alloc: Global, version: Version, table: &Table) -> Result<(), Re
     }
 }
 
-/// The minutes that a session lives without a request.
+/// The session timeout, in minutes. 0 or less means that sessions never expire.
 #[derive(Clone, Copy)]
 struct SessionTimeout;
 

@@ -1,4 +1,4 @@
-//! Elements that a descriptor may have many of.
+//! Elements that may occur many times in a descriptor.
 
 ghost use Rattle.std.specs.Prelude.{[]};
 ghost use Rattle.sv_text.specs.Gives.{Gives};
@@ -12,7 +12,7 @@ use sv_schema::{ListOf, MAX_LIST_ITEMS, ReadFault, TableOf, TableSchema, list_or
 use sv_text::Listed;
 use toml::Table;
 
-/// Reads the list of tables at a key that may be missing.
+/// Reads the list of tables at an optional key.
 ///
 /// # Errors
 /// The first fault of the list, or [`ReadFault::NoMemory`].

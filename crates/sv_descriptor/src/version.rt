@@ -14,14 +14,14 @@ use toml::Table;
 /// A version of the descriptor's format.
 #[derive(Clone, Copy, Debug, PartialEq, Eq)]
 pub enum Version {
-    /// The first, which a descriptor without a version has.
+    /// Version 1, which is the default.
     One = 1,
-    /// The second, in which the session cookie is set.
+    /// Version 2, which can configure the session cookie.
     Two = 2,
 }
 
 impl Version {
-    /// How many sessions a context of such a descriptor may have at a time.
+    /// Returns the maximum number of live sessions of a context whose descriptor has this version.
     pub fn max_sessions(self) -> usize
         ensures { result ≡ spec.max_sessions self }
     {

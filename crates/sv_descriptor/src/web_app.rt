@@ -1,4 +1,4 @@
-//! The elements of a deployment descriptor, each read by itself.
+//! The elements of a deployment descriptor, each read independently.
 
 ghost use Rattle.std.specs.Prelude.{◌≡◌};
 ghost use Rattle.sv_text.specs.Gives.{Gives};
@@ -23,36 +23,37 @@ use sv_schema::{ReadFault, Truth, optional_or};
 use sv_text::{Listed, Text};
 use toml::Table;
 
-/// The elements of a deployment descriptor (`web-app`, Jakarta Servlet 6.0 section 14.4). All lists are in the order of the file.
+/// The elements of a deployment descriptor (`web-app`, Jakarta Servlet 6.0 section 14.4). Its lists are in the order of
+/// the file.
 #[derive(Drop)]
 pub struct WebApp {
     /// The version of the descriptor's format.
     pub version: Version,
     /// The servlets.
     pub servlets: Listed<ServletEntry>,
-    /// The patterns of servlets.
+    /// The URL patterns of the servlets.
     pub servlet_mappings: Listed<ServletMapping>,
     /// The filters.
     pub filters: Listed<FilterEntry>,
-    /// The requests that pass filters.
+    /// The requests to which the filters apply.
     pub filter_mappings: Listed<FilterMapping>,
     /// The listeners.
     pub listeners: Listed<ListenerEntry>,
-    /// The sessions.
+    /// The session configuration.
     pub session: SessionConfig,
     /// The partial paths of welcome files.
     pub welcome_files: Listed<Text>,
-    /// The pages for errors.
+    /// The error pages.
     pub error_pages: Listed<ErrorPage>,
     /// The security constraints, numbered from 1.
     pub constraints: Listed<Constraint>,
     /// The declared roles, none of them `*` or `**`, and whether requests that no constraint covers are denied.
     pub rules: Rules,
-    /// The login of callers, none where callers cannot log in.
+    /// The login configuration; none if callers cannot log in.
     pub login: Option<FormLogin>,
 }
 
-/// Reads the elements of a descriptor, and sees nothing of what they say of one another.
+/// Reads the elements of a descriptor, without checking that they agree with one another.
 ///
 /// # Errors
 /// The first fault in the order of the elements, or [`ReadFault::NoMemory`].
@@ -81,7 +82,7 @@ pub fn read_web_app(alloc: Global, table: &Table) -> Result<WebApp, ReadFault>
     read_behind_components(alloc, table, version, deny_uncovered, components)
 }
 
-/// Reads what stands behind the components.
+/// Reads the elements after the components.
 fn read_behind_components(
     alloc: Global,
     table: &Table,
@@ -97,7 +98,7 @@ fn read_behind_components(
     Ok(assembled(version, components, session, pages, security))
 }
 
-/// The elements, one beside another.
+/// Combines the elements into one value.
 fn assembled(
     version: Version,
     components: Components,

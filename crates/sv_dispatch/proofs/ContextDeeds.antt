@@ -1,4 +1,4 @@
--- What is done over a started context, in parts.
+-- Actions over a started context, composed of parts.
 use Rattle.std.proofs.Common.{◌≡◌, inl, inr, ℕ, Bool, true, false, List, [], ◌++◌, Option, None, Some, Result, Ok, Err, refl, sym, ◌∙◌, subst}
 use Rattle.std.specs.Prelude.{OnOk}
 use Rattle.sv_component.proofs.Running.{runs_join}
@@ -25,17 +25,17 @@ use Rattle.sv_message.specs.Phrases.{phrase_of}
 use Rattle.sv_exchange.specs.Keeping.{broken_off}
 use Rattle.sv_dispatch.proofs.ExchangeDeeds.{alone_not, unless_broken, unless_so}
 
--- what holds anyway holds where there is a result
+-- A fact that always holds also holds on success.
 pub on_ok : {A E P : Type 0} (result : Result A E) → P → OnOk result P
 on_ok (Ok value) holds = holds
 on_ok (Err refusal) holds = tt
 
 module _ {S F L A : Type 0} (live live' : LiveState S F L) (x x' : exchanges.State) (noted noted' : JournalState) where
-  -- what is refused gives no result of another kind either
+  -- A refusal is also a refusal with any other type of result.
   pub refused_too : {B : Type 0} → Refused {A = A} live x noted None live' x' noted' → Refused {A = B} live x noted None live' x' noted'
   refused_too refused = record { result_is = refl; live_is = refused.live_is; exchange_is = refused.exchange_is; noted_is = refused.noted_is }
 
-  -- what is refused has no result
+  -- A refusal has no result.
   pub not_refused : {P : Type 0} (value : A) → Refused live x noted (Some value) live' x' noted' → P
   not_refused value refused = none (refused.result_is)
     where
@@ -43,7 +43,7 @@ module _ {S F L A : Type 0} (live live' : LiveState S F L) (x x' : exchanges.Sta
       none e = cc
 
 module _ {S F L : Type 0} (moving : ComponentSteps S F L) where
-  -- the dispatch is what it says
+  -- A dispatch is an action that serves the request.
   pub by_dispatch : (site : Site) (kind : Kind) (canon : Canon) (live : LiveState S F L) (x : exchanges.State) (noted : JournalState) (result : Option Finished)
       (live' : LiveState S F L) (x' : exchanges.State) (noted' : JournalState)
       → Dispatched moving site kind canon live x noted result live' x' noted'
@@ -105,7 +105,7 @@ module _ {S F L : Type 0} (moving : ComponentSteps S F L) where
       initialised = one.initialised;
     }
 
-  -- by what was done, this was done too
+  -- Calls that do one action also do any action that it implies.
   pub by_so : {A B : Type 0} (one : Does A) (other : Does B) (live live' : LiveState S F L) (x x' : exchanges.State) (noted noted' : JournalState) (result : Option A) (value : Option B)
       → ((made : List Record) → one (state_of live x) made (state_of live' x') result → other (state_of live x) made (state_of live' x') value)
       → ServedBy moving one live x noted result live' x' noted' → ServedBy moving other live x noted value live' x' noted'
@@ -120,7 +120,7 @@ module _ {S F L : Type 0} (moving : ComponentSteps S F L) where
 
   module _ (site : Site) (live live' : LiveState S F L) (noted noted' : JournalState) where
     module _ (status : ℕ) (field : Option KeptField) (page : Canon) (x y : exchanges.State) where
-      -- what stands behind what was said is taken back
+      -- The rest of the action, after the response is reset.
       abbrev Paged : Does (Unit {0})
       Paged = Tree site MAX_NESTING kinds.Error page >>= Shown status field
 
@@ -148,7 +148,7 @@ module _ {S F L : Type 0} (moving : ComponentSteps S F L) where
             (by_dispatch site kinds.Error page live y noted (Some finished) live' z noted' did)
             (by_alone (Shown status field finished) live' z w noted' result shown))
 
-    -- what is answered to an error that was kept
+    -- The response to a stored error.
     module _ (status : ℕ) (kind : Option (List ℕ)) (x y : exchanges.State) (test : Bool) (is : test ≡ x.committed) where
       pub kept_broken : test ≡ true → y ≡ broken_off x → ServedBy moving (Shows site status kind) live x noted (Some tt) live y noted
       kept_broken committed broke = by_alone (Shows site status kind) live x y noted (Some tt)
@@ -179,7 +179,7 @@ module _ {S F L : Type 0} (moving : ComponentSteps S F L) where
             is_joined = refl;
           })) did
 
-    -- an error that no dispatch brought up
+    -- An error that no dispatch raised.
     module _ (status : ℕ) (page : Option Canon) (kept : KeptError) (x y : exchanges.State)
         (is : kept ≡ record { status = status; text = phrase_of status; servlet = None; field = None }) where
       pub error_not : Alone (keeps kept) x y None → ServedBy moving (ShowsError site status page) live x noted None live y noted
@@ -188,7 +188,7 @@ module _ {S F L : Type 0} (moving : ComponentSteps S F L) where
           (subst (λ kept. Alone (keeps kept >> unless_committed (Pages site status None page)) x y None) is
           (alone_not (keeps kept) (λ _. unless_committed (Pages site status None page)) x y did))
 
-      -- what follows once it is kept
+      -- The rest of the action, after the error is stored.
       error_on : (z : exchanges.State) (result : Option (Unit {0})) → Alone (keeps kept) x y (Some tt)
           → ServedBy moving (unless_committed (Pages site status None page)) live y noted result live' z noted'
           → ServedBy moving (ShowsError site status page) live x noted result live' z noted'
@@ -205,7 +205,7 @@ module _ {S F L : Type 0} (moving : ComponentSteps S F L) where
           (by_so (Pages site status None page) (unless_committed (Pages site status None page)) live live' y z noted noted' result result
           (λ made h. subst (λ test. choose test breaks (Pages site status None page) (state_of live y) made (state_of live' z) result) (sym free ∙ same) h) did)
 
-    -- such an error of a committed answer
+    -- The same error, if the response is committed.
     pub error_broken : (status : ℕ) (page : Option Canon) (kept : KeptError) (x y z : exchanges.State)
         → kept ≡ record { status = status; text = phrase_of status; servlet = None; field = None } → (test : Bool) → test ≡ y.committed → test ≡ true
         → Alone (keeps kept) x y (Some tt) → z ≡ broken_off y → ServedBy moving (ShowsError site status page) live x noted (Some tt) live z noted
@@ -216,7 +216,7 @@ module _ {S F L : Type 0} (moving : ComponentSteps S F L) where
         (by_alone (unless_committed (Pages site status None page)) live y z noted (Some tt)
         (unless_broken (Pages site status None page) y z test same committed broke)))
 
-    -- a request
+    -- A request.
     module _ (kind : Kind) (canon : Canon) (x y : exchanges.State) where
       pub serve_not : Dispatched moving site kind canon live x noted None live' y noted' → ServedBy moving (Served site kind canon) live x noted None live' y noted'
       serve_not did = by_not (Tree site MAX_NESTING kind canon) (Settled site) live live' x y noted noted' (by_dispatch site kind canon live x noted None live' y noted' did)

@@ -1,4 +1,4 @@
--- What a machine did in parts, it did.
+-- Actions of a machine, composed of parts.
 use Rattle.std.proofs.Common.{◌≡◌, inl, inr, Bool, true, false, List, [], ◌++◌, Option, None, Some, Result, Ok, Err, refl, sym, ap, ◌∙◌, subst, append_assoc, append-nil}
 use Rattle.sv_component.specs.Runs.{Record}
 use Rattle.sv_dispatch.specs.Did.{Did, Frame, lasting, seen, staying}
@@ -11,7 +11,7 @@ module _ {M : Type 0} (state : M → State) (frame : M → Frame) (ran : M → L
   abbrev pub Makes : {A : Type 0} → Does A → M → M → Option A → Type 0
   Makes does before after result = Did state frame ran does before after result
 
-  -- by what was done, this was done too
+  -- Calls that do one action also do any action that it implies.
   pub did_so : {A : Type 0} (one other : Does A) (a b : M) (result : Option A)
       → ((made : List Record) → one (state a) made (state b) result → other (state a) made (state b) result)
       → Makes one a b result → Makes other a b result
@@ -43,11 +43,11 @@ module _ {M : Type 0} (state : M → State) (frame : M → Frame) (ran : M → L
   pub did_refuse : {A : Type 0} (a : M) → Makes (refuses {A = A}) a a None
   did_refuse {A} a = did_none (refuses {A = A}) a None (refl, refl, refl)
 
-  -- memory was wanted, and there
+  -- An allocation that succeeds.
   pub did_want : {B : Type 0} (next : Does B) (a b : M) (result : Option B) → Makes next a b result → Makes (wants_memory >>= λ _. next) a b result
   did_want next a b result did = did_then wants_memory (λ _. next) a a b tt result (did_none wants_memory a (Some tt) (refl, refl)) did
 
-  -- memory was wanted, and refused
+  -- An allocation that fails.
   pub did_lack : {B : Type 0} (next : Does B) (a : M) → Makes (wants_memory >>= λ _. next) a a None
   did_lack next a = did_not wants_memory (λ _. next) a a (did_none wants_memory a None (refl, refl))
 
@@ -64,7 +64,7 @@ module _ {M : Type 0} (state : M → State) (frame : M → Frame) (ran : M → L
   did_other test first other a b result e did =
       did_so other (choose test first other) a b result (λ made h. subst (λ test. choose test first other (state a) made (state b) result) (sym e) h) did
 
-  -- the same of a value that is equal
+  -- The same action for an equal value.
   pub did_by : {A X : Type 0} (family : X → Does A) (x y : X) (a b : M) (result : Option A) → x ≡ y → Makes (family x) a b result → Makes (family y) a b result
   did_by family x y a b result e did = did_so (family x) (family y) a b result (λ made h. subst (λ x. family x (state a) made (state b) result) e h) did
 

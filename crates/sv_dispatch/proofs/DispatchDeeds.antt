@@ -1,4 +1,4 @@
--- Dispatches, made in parts.
+-- Dispatches, composed of parts.
 use Rattle.std.proofs.Common.{◌≡◌, ℕ, suc, Bool, true, false, List, [], take, reverse, Option, None, Some, Result, Ok, Err, refl, sym, ap, ◌∙◌, subst, if◌then◌else◌}
 use Rattle.sv_component.specs.Runs.{Record}
 use Rattle.sv_component.specs.declared.answers.Step.{Step}
@@ -27,7 +27,7 @@ use Rattle.sv_dispatch.proofs.Deeds.{Makes, did_by, did_give, did_lack, did_last
 
 module _ {M : Type 0} (state : M → State) (frame : M → Frame) (ran : M → List Record → M → Type 0) (site : Site) (room : ℕ) where
   module _ (kind : Kind) (canon : Canon) where
-    -- what stands behind the beginning of a dispatch
+    -- The end of a dispatch, which gives its result.
     abbrev Ending : Finished → Does Finished
     Ending finished = leaves >> gives finished
 
@@ -114,7 +114,7 @@ module _ {M : Type 0} (state : M → State) (frame : M → Frame) (ran : M → L
               (did_then state frame ran (tree.Responds site room (Tree site room) resource kind canon ended) (λ result. Afters site.listeners reached.passed >> gives result) b c d finished result responds afters))
 
           module _ (hear : site.listeners ≡ (frame a).listeners) where
-            -- the filters are called once more, as the site has it
+            -- The filters are called once more, with the site's number of listeners.
             closed : (result : Option (Unit {0})) → Makes state frame ran (Afters (frame c).listeners (reverse (take count chain))) c d result
                 → Makes state frame ran (Afters site.listeners (reverse (take count chain))) c d result
             closed result afters =

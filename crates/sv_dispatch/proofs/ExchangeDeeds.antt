@@ -1,4 +1,4 @@
--- What is done with an exchange alone, in parts.
+-- Actions that only affect an exchange, composed of parts.
 use Rattle.std.specs.Prelude.{codes}
 use Rattle.std.proofs.Common.{◌≡◌, inl, inr, ℕ, Bool, true, false, List, [], Option, None, Some, Result, Ok, refl, sym, ap, ◌∙◌, subst}
 use Rattle.sv_dispatch.specs.Did.{seen}
@@ -24,16 +24,16 @@ alone_then first next x y z value result one two standings =
 pub alone_not : {A B : Type 0} (first : does.Does A) (next : A → does.Does B) (x y : exchanges.State) → Alone first x y None → Alone (first >>= next) x y None
 alone_not first next x y one standings = inr (one standings, refl)
 
--- a changing call
+-- A change of the exchange.
 pub alone_makes : (change : Change) (x y : exchanges.State) (said : Result Bool ExchangeFault) → Does change said x y → Alone (makes change) x y (made_seen said)
 alone_makes change x y said did standings = makes_so change x y standings said did
 
--- a changing call, by what came of it
+-- A change of the exchange, by its result.
 made_so : (change : Change) (x y : exchanges.State) (said : Result Bool ExchangeFault) (made : Option (Unit {0})) → Does change said x y → made ≡ made_seen said
     → Alone (makes change) x y made
 made_so change x y said made did is = subst (Alone (makes change) x y) (sym is) (alone_makes change x y said did)
 
--- what was said is taken back, with the status and the field of an error
+-- The response is reset, with the status and the header field of an error.
 pub resets_so : (status : ℕ) (field : Option KeptField) (x w y z : exchanges.State) (said : Result Bool ExchangeFault) (made : Result (Unit {0}) NoMemory) (result : Option (Unit {0}))
     → w ≡ reset x → Does (SetStatus status) said w y → seen made ≡ made_seen said → made ≡ Ok tt → Alone (sets field) y z result
     → Alone (Resets status field) x z result
@@ -41,13 +41,13 @@ resets_so status field x w y z said made result emptied did is ok rest =
     alone_then (becomes (on_exchange reset)) (λ _. makes (SetStatus status) >> sets field) x w z tt result (λ standings. (refl, ap (at standings) emptied, refl))
     (alone_then (makes (SetStatus status)) (λ _. sets field) w y z tt result (made_so (SetStatus status) w y said (Some tt) did (ap seen (sym ok) ∙ is)) rest)
 
--- an answer that is not committed
+-- A response that is not committed.
 pub unless_so : (does : does.Does (Unit {0})) (x y : exchanges.State) (test : Bool) (result : Option (Unit {0})) → test ≡ x.committed → test ≡ false
     → Alone does x y result → Alone (unless_committed does) x y result
 unless_so does x y test result is free did standings =
     subst (λ test. choose test breaks does (at standings x) [] (at standings y) result) (sym free ∙ is) (did standings)
 
--- a plain answer
+-- A plain text response.
 module _ (status : ℕ) (field : Option KeptField) (x y : exchanges.State) where
   abbrev Typed : Change
   Typed = SetHeader (codes "content-type") (codes "text/plain")
@@ -69,7 +69,7 @@ module _ (status : ℕ) (field : Option KeptField) (x y : exchanges.State) where
         alone_then (Resets status field) (λ _. makes Typed >> makes Written) x y w tt result resets
         (alone_then (makes Typed) (λ _. makes Written) y z w tt result (made_so Typed y z said (Some tt) typed is) did)
 
-    -- there was no memory for the text
+    -- There was no memory for the text.
     pub plain_unwritten : Some tt ≡ made_seen said → Alone (Plain status field) x z None
     plain_unwritten is = plain_on z None is (λ standings. (refl, inr (refl, refl)))
 
@@ -78,13 +78,13 @@ module _ (status : ℕ) (field : Option KeptField) (x y : exchanges.State) where
     plain_so bytes w answered result is text did made =
         plain_on w result is (made_so Written z w answered result (subst (λ bytes. Does (Write bytes) answered z w) text did) made)
 
--- a committed answer breaks off
+-- A committed response is truncated.
 pub unless_broken : (does : does.Does (Unit {0})) (x y : exchanges.State) (test : Bool) → test ≡ x.committed → test ≡ true → y ≡ keeping.broken_off x
     → Alone (unless_committed does) x y (Some tt)
 unless_broken does x y test is committed broke standings =
     subst (λ test. choose test breaks does (at standings x) [] (at standings y) (Some tt)) (sym committed ∙ is) (refl, ap (at standings) broke, refl)
 
--- an error is kept
+-- An error is stored.
 pub keeps_so : (kept : KeptError) (x y : exchanges.State) → y ≡ keeping.with_kept kept x → Alone (keeps kept) x y (Some tt)
 keeps_so kept x y is standings = (refl, inl (ap (at standings) is, refl))
 

@@ -1,4 +1,4 @@
--- Answers of the file servlet, made in parts.
+-- Responses of the file servlet, composed of parts.
 use Rattle.std.proofs.Common.{◌≡◌, inl, inr, ℕ, Bool, true, false, List, [], ◌++◌, Option, None, Some, refl, sym, ap, ◌∙◌, subst, append_assoc}
 use Rattle.std.specs.Prelude.{codes, length}
 use Rattle.sv_component.specs.Runs.{Record}
@@ -18,7 +18,7 @@ use Rattle.sv_tree.specs.declared.limits.TheConstants.{FOUND}
 use Rattle.sv_dispatch.proofs.Deeds.{Makes, did_give, did_not, did_then}
 
 module _ {M : Type 0} (state : M → State) (frame : M → Frame) (ran : M → List Record → M → Type 0) (site : Site) where
-  -- what is sent behind the type
+  -- The rest of the action, after the content type is set.
   abbrev Body : List ℕ → Does Finished
   Body bytes = sees λ state. choose (has_room (length bytes) state.exchange) (makes (Write bytes) >> gives Done) (faults site Files TooLarge)
 
@@ -70,7 +70,7 @@ module _ {M : Type 0} (state : M → State) (frame : M → Frame) (ran : M → L
       absurd_none : {P : Type 0} → None ≡ Some false → P
       absurd_none e = cc
 
-  -- nothing was written where the body cannot take it
+  -- Nothing is written if the body has no room for the bytes.
   untaken : (room : Bool) (bytes : List ℕ) (x y : State) (made : List Record) → choose room (makes (Write bytes) >> gives true) (gives false) x made y (Some false)
       → (room ≡ false) × (made ≡ []) × (y ≡ x)
   untaken true bytes x y made h = not_written bytes x y made h

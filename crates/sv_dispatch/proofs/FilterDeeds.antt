@@ -1,4 +1,4 @@
--- Chains of filters, called in parts.
+-- Calls of filter chains, composed of parts.
 use Rattle.std.proofs.Common.{◌≡◌, ℕ, suc, ◌<◌, Bool, true, false, List, [], ◌∷◌, length, drop, take, reverse, get_or, drop-cons, Option, None, Some, sym, ap, ◌∙◌}
 use Rattle.std.proofs.Math.Seq.{take-suc}
 use Rattle.std.proofs.lemmas.List.{reverse-append}
@@ -58,7 +58,7 @@ module _ {M : Type 0} (state : M → State) (frame : M → Frame) (ran : M → L
         (did_end Passed (faults site resource DispatchLimit) a b result did))
 
     module _ (a b : M) (hear : site.listeners ≡ (frame a).listeners) (free : is_full (state a) ≡ false) (count : Makes state frame ran (becomes counted) a b (Some tt)) where
-      -- the call, as the site has it
+      -- The call, with the site's number of listeners.
       asked : (c : M) (result : Option Gate) → Makes state frame ran (asks (frame b).listeners (before_of (get_or chain place 0))) b c result
           → Makes state frame ran (asks site.listeners (before_of (get_or chain place 0))) b c result
       asked c result call =

@@ -1,4 +1,4 @@
--- What has no phrase.
+-- Numbers without a reason phrase.
 use Rattle.std.proofs.Common.{◌≡◌, ℕ, List, [], Option, Some, inl, inr, sym, ap, subst, refl, if◌then◌else◌, lit≤, ◌∙◌}
 use Rattle.std.specs.Prelude.{◌==◌, unwrap_or}
 use Rattle.std.proofs.lemmas.Bool.{cond-false}
@@ -6,7 +6,7 @@ use Rattle.std.proofs.lemmas.Bool.Decides.{eqb_tells}
 use Rattle.http.specs.StatusCode.{IsStatusCode}
 use Rattle.sv_message.specs.Phrases.{phrase_of}
 
--- one of the statuses that have a phrase is not that status
+-- A number that is no status differs from each status that has a phrase.
 apart : (status code : ℕ) → (IsStatusCode status → ⊥) → IsStatusCode code → (phrase : List ℕ) (others : Option (List ℕ)) → unwrap_or others [] ≡ []
     → unwrap_or (if status == code then Some phrase else others) [] ≡ []
 apart status code none is phrase others rest = elim (eqb_tells status code) [
@@ -17,7 +17,7 @@ apart status code none is phrase others rest = elim (eqb_tells status code) [
     absurd : {P : Type 0} → ⊥ → P
     absurd e = elim e [ ]
 
--- a number that is no status has no phrase
+-- A number that is no status has no phrase.
 pub no_phrase : (status : ℕ) → (IsStatusCode status → ⊥) → [] ≡ phrase_of status
 unfolding phrase_of
 no_phrase status none = sym (

@@ -1,4 +1,4 @@
--- Steps of a started context with its exchange, as a machine makes them.
+-- The steps of a machine on a started context with its exchange.
 use Rattle.std.proofs.Common.{◌≡◌, ◌⊎◌, inl, inr, ℕ, Bool, true, false, List, [], ◌∷◌, ◌++◌, length, Option, None, Some, Result, Ok, Err, refl, sym, ap, ap₂, ◌∙◌, subst, if◌then◌else◌, append_assoc}
 use Rattle.std.proofs.lemmas.Option.{unwrap_or-slice_get}
 use Rattle.std.specs.Prelude.{is_ok, slice_index_or, OnErr, OnOk}
@@ -37,17 +37,17 @@ use Rattle.sv_tree.specs.State.{State, on_exchange, with_exchange}
 use Rattle.sv_tree.specs.Telling.{all_told}
 use Rattle.sv_tree.specs.Tree.{service_of}
 
--- the standings with an exchange
+-- The state with these standings and this exchange.
 abbrev pub at : List Standing → exchanges.State → State
 at its_standings its_exchange = record { exchange = its_exchange; standings = its_standings }
 
--- an exchange changed, or nothing did
+-- The exchange is changed, or nothing is.
 pub tried : {E : Type 0} (change : exchanges.State → exchanges.State) (x y : exchanges.State) (standings : List Standing) (result : Result (Unit {0}) E)
     → OnOk result (y ≡ change x) → OnErr result (y ≡ x) → tries (on_exchange change) (at standings x) [] (at standings y) (seen result)
 tried change x y standings (Ok done) so not = (refl, inl (ap (at standings) so, refl))
 tried change x y standings (Err refusal) so not = (refl, inr (ap (at standings) not, refl))
 
--- a changing call of the container's own
+-- A change of the exchange by the container itself.
 module _ (change : Change) (x y : exchanges.State) (standings : List Standing) where
   answered_so : (said : Result Bool ExchangeFault) → (answer change x ≡ said) → y ≡ left_by said change x
       → makes change (at standings x) [] (at standings y) (Some tt)
@@ -71,7 +71,7 @@ has_not : (room : Bool) (fault : ExchangeFault) → (if room then Ok true else E
 has_not true fault e = cc
 has_not false fault e = refl
 
--- bytes are written where the body can take them
+-- Bytes are written if the body has room for them.
 module _ (bytes : List ℕ) (x y : exchanges.State) (standings : List Standing) where
   abbrev Written : does.Does Bool
   Written = makes (Write bytes) >> gives true
@@ -99,7 +99,7 @@ module _ (bytes : List ℕ) (x y : exchanges.State) (standings : List Standing) 
   offered (Err faults.BadHeader) h = refused_so faults.BadHeader h.0 h.1
   offered (Err faults.TooLarge) h = refused_so faults.TooLarge h.0 h.1
 
--- the answer of a component, unless memory was wanted for it or for its entry
+-- The result of a component, unless memory ran out for it or for its entry.
 gate_ends : (whole : Bool) (gate result : Gate) → result ≡ (if whole then gate else gates.NoMemory) → (gate_seen result ≡ Some gate) ⊎ (gate_seen result ≡ None)
 gate_ends false gate result e = inr (ap gate_seen e)
 gate_ends true gates.Pass result e = inl (ap gate_seen e)
@@ -152,7 +152,7 @@ same_frame live exchange journal path path' count count' others others' hearing 
     (ap₂ (λ frame filters. frame filters)
     (ap₂ (frame_of live exchange journal) paths counts) filters) listeners) places) wholes
 
--- a context of which nothing but standings changed, with its journal
+-- A context with its journal, if only the servlets' states changed.
 module _ {S F L : Type 0} (live exchange journal : GName) (before after : LiveState S F L) (same_context : after.context ≡ before.context)
     (same_counts : HasSameCounts before.parts after.parts) (same_initialised : after.initialised ≡ before.initialised) where
   frame_by : (was is : Bool) → is ≡ was
@@ -163,7 +163,7 @@ module _ {S F L : Type 0} (live exchange journal : GName) (before after : LiveSt
       (length before.parts.filters.items) (length after.parts.filters.items) (length before.parts.listeners.items) (length after.parts.listeners.items)
       before.initialised after.initialised was is same_context same_counts.servlets same_counts.filters same_counts.listeners same_initialised same
 
-  -- what stands stays, and the journal is whole unless memory ended it
+  -- The frame stays, and the journal is whole unless memory ran out.
   pub framed : {A : Type 0} (was is : Bool) (said result : Option A) → (is ≡ true → was ≡ true) → result ≡ (if is then said else None)
       → staying result (frame_of live exchange journal after.context (length after.parts.servlets.items) (length after.parts.filters.items) (length after.parts.listeners.items) after.initialised is)
       ≡ staying result (frame_of live exchange journal before.context (length before.parts.servlets.items) (length before.parts.filters.items) (length before.parts.listeners.items) before.initialised was)
@@ -183,27 +183,27 @@ stands_then before between after one two = record {
   };
 }
 
--- how a servlet stands, by either reading
+-- The state of a servlet, by both definitions.
 pub stands_at : (standings : List Standing) (place : ℕ) → standing_at standings place ≡ slice_index_or standings place Gone
 stands_at standings place = unwrap_or-slice_get standings place Gone
 
 pub here_by_place : (standings : List Standing) (place : ℕ) → is_gone (slice_index_or standings place Gone) ≡ false → is_gone (standing_at standings place) ≡ false
 here_by_place standings place here = ap is_gone (stands_at standings place) ∙ here
 
--- an answer, unless the journal broke behind it
+-- A result, unless the journal broke afterwards.
 whole_ends : {A : Type 0} (whole : Bool) (given : Option A) (value : A) (result : Option A) → result ≡ (if whole then given else None)
     → (given ≡ Some value) ⊎ (given ≡ None) → (result ≡ Some value) ⊎ (result ≡ None)
 whole_ends false given value result e ends = inr e
 whole_ends true given value result e ends = ends_by given result value e ends
 
 module _ {S F L : Type 0} (moving : ComponentSteps S F L) where
-  -- a journal that is whole was whole before
+  -- A journal that is whole was whole before.
   pub was_whole : (before after : World S F L) (records : List Record) → Runs moving before records after → after.journal.whole ≡ true → before.journal.whole ≡ true
   was_whole before after records grows whole = ((run_gains moving before after records (runs_grown moving before after records grows)).all whole).0
 
--- a call, and what is told behind it
+-- A call and the notifications that follow it.
 module _ {S F L : Type 0} (moving : ComponentSteps S F L) (live live' live'' : LiveState S F L) (noted noted' noted'' : JournalState) (x x' x'' : exchanges.State) where
-  -- the calls that were made
+  -- The calls that were made.
   abbrev pub Noted : Record → Type 0
   Noted call = Runs moving (live_world live noted) (call ∷ all_told (length live.parts.listeners.items) x'.events) (live_world live'' noted'')
 
@@ -260,12 +260,12 @@ module _ {S F L : Type 0} (moving : ComponentSteps S F L) (live live' live'' : L
           (ends_by (step_seen given) said served.step is (step_ends noted'.whole served.step given served.answers));
     }
 
--- a result is there or not
+-- There is a result or none.
 pub there_or_not : {E : Type 0} (result : Result (Unit {0}) E) → (seen result ≡ Some tt) ⊎ (seen result ≡ None)
 there_or_not (Ok done) = inl refl
 there_or_not (Err refusal) = inr refl
 
--- it is there where the journal is whole
+-- There is a result exactly if the journal is whole.
 pub there_if : {E : Type 0} (result : Result (Unit {0}) E) (whole : Bool) → is_ok result ≡ whole → seen result ≡ (if whole then Some tt else None)
 there_if (Ok done) true e = refl
 there_if (Ok done) false e = cc

@@ -1,4 +1,4 @@
--- Events that are told one after another.
+-- Notifications of events, one after another.
 use Rattle.std.proofs.Common.{◌≡◌, ℕ, List, [], ◌∷◌, ◌++◌, drop, None, Some, refl, ap, ◌∙◌, sym}
 use Rattle.std.specs.Prelude.{slice_get}
 use Rattle.sv_exchange.specs.State as exchanges
@@ -16,7 +16,7 @@ none_of [] e = refl
 none_of (other ∷ events) e = cc
 
 module _ (x y : exchanges.State) (left : y ≡ record x { events = drop 1 x.events }) where
-  -- the oldest event was taken
+  -- The oldest event was taken.
   pub taken : (listeners : ℕ) (event : Event) → Some event ≡ slice_get x.events 0
       → all_told listeners x.events ≡ told event listeners ++ all_told listeners y.events
   taken listeners event oldest =
@@ -26,7 +26,7 @@ module _ (x y : exchanges.State) (left : y ≡ record x { events = drop 1 x.even
   pub still_without : (start : exchanges.State) → without_events x ≡ without_events start → without_events y ≡ without_events start
   still_without start told = ap without_events left ∙ told
 
-  -- there is none left
+  -- No event is left.
   pub none_told : (listeners : ℕ) → None ≡ slice_get x.events 0 → all_told listeners x.events ≡ []
   none_told listeners none = ap (all_told listeners) (none_of x.events none)
 

@@ -1,4 +1,4 @@
--- Turns of a servlet, made in parts and one after another.
+-- Turns of a servlet, composed of parts and made one after another.
 use Rattle.std.proofs.Common.{◌≡◌, inl, inr, ℕ, suc, ◌+◌, ◌-◌, ◌<◌, ◌≤◌, true, false, List, [], ◌++◌, Option, None, Some, Result, refl, sym, ap, ◌∙◌, subst, append_assoc, append-nil, arith}
 use Rattle.std.proofs.lemmas.Bool.{leb-false}
 use Rattle.std.specs.Prelude.{slice_index_or}
@@ -27,7 +27,7 @@ use Rattle.sv_tree.proofs.Counting.{turn_counts}
 use Rattle.sv_tree.proofs.Doing.{absurd_result, becomes_then, chosen_then}
 use Rattle.sv_dispatch.proofs.Deeds.{Makes, did_by, did_first, did_last, did_not, did_other, did_see, did_then}
 
--- a servlet that serves is not gone
+-- A servlet that serves is not gone.
 serving_here : (moment : ℕ) (standing : Standing) → standing_now moment standing ≡ Serving → is_gone standing ≡ false
 serving_here moment Serving e = refl
 serving_here moment Gone e = cc
@@ -106,7 +106,7 @@ module _ {M : Type 0} (state : M → State) (frame : M → Frame) (ran : M → L
           (did_then state frame ran (becomes counted) (λ _. Serve number) a c b tt result count did))
 
     module _ (number : ℕ) (a : M) (hear : site.listeners ≡ (frame a).listeners) where
-      -- the call, as the site has it
+      -- The call, with the site's number of listeners.
       asked : (b : M) (result : Option Step) → Makes state frame ran (asks (frame a).listeners (service_of place number)) a b result
           → Makes state frame ran (asks site.listeners (service_of place number)) a b result
       asked b result call =
@@ -145,7 +145,7 @@ module _ {M : Type 0} (state : M → State) (frame : M → Frame) (ran : M → L
         let all : y.exchange.calls ≡ count_all r + x.exchange.calls = sum in
         omega arith
 
-    -- a turn after which the servlet goes on had a call that counts
+    -- A turn after which the servlet continues makes a call that counts.
     goes_on : (number : ℕ) (x y : State) (r : List Record) → tree.Turn site room (Tree site room) place number x r y (Some None)
         → (x.exchange.calls < MAX_CALLS) × (x.exchange.calls < y.exchange.calls)
     goes_on number x y r h =
@@ -158,7 +158,7 @@ module _ {M : Type 0} (state : M → State) (frame : M → Frame) (ran : M → L
     abbrev pub ServesFrom : ℕ → State → List Record → State → Option Finished → Type 0
     ServesFrom number before calls after result = (left : ℕ) × tree.Turns site room (Tree site room) place left number before calls after result
 
-    -- whatever completes the turns that are left completes all
+    -- A run that completes the remaining turns completes all of them.
     pub record TurnsOn (start reached : M) (number : ℕ) : Type 0 where
       pub front : List Record
       pub completes : (made : List Record) (after : State) (result : Option Finished) → ServesFrom number (state reached) made after result
@@ -178,7 +178,7 @@ module _ {M : Type 0} (state : M → State) (frame : M → Frame) (ran : M → L
       few = omega arith;
     }
 
-    -- what is left of the calls falls with each turn
+    -- The number of remaining calls decreases with each turn.
     pub calls_fall : (reached next : M) (number : ℕ) → Makes state frame ran (tree.Turn site room (Tree site room) place number) reached next (Some None)
         → ((state reached).exchange.calls < MAX_CALLS) × (MAX_CALLS - (state next).exchange.calls < MAX_CALLS - (state reached).exchange.calls)
     calls_fall reached next number did =

@@ -13,7 +13,7 @@ use Rattle.sv_tree.specs.declared.finished.Finished.{Finished}
 use Rattle.sv_tree.specs.declared.limits.TheConstants.{MAX_NESTING}
 use Rattle.sv_uri.specs.declared.path.Canon.{Canon}
 
--- it has no result, no component was called, and all is as before
+-- There is no result, no component was called, and nothing changed.
 pub record Refused {S F L A : Type 0} (live : LiveState S F L) (exchange : exchanges.State) (noted : JournalState) (result : Option A) (live_after : LiveState S F L) (exchange_after : exchanges.State) (noted_after : JournalState) : Type 0 where
   pub result_is : result ≡ None
   pub live_is : live_after ≡ live
@@ -21,8 +21,9 @@ pub record Refused {S F L A : Type 0} (live : LiveState S F L) (exchange : excha
   pub noted_is : noted_after ≡ noted
 
 module _ {S F L : Type 0} (moving : ComponentSteps S F L) where
-  -- these calls were made and noted, they are those of a dispatch of the kind to the path, no servlet, filter or listener came or went, and
-  -- what was initialised was; a dispatch that memory ended has no result
+  -- The calls that were made and logged are those of a dispatch of the kind to the path. The context, the numbers of
+  -- servlets, filters and listeners, and the initialized components stay. A dispatch that runs out of memory has no
+  -- result.
   pub record Dispatched (site : Site) (kind : Kind) (canon : Canon) (live : LiveState S F L) (exchange : exchanges.State) (noted : JournalState) (result : Option Finished) (live_after : LiveState S F L) (exchange_after : exchanges.State) (noted_after : JournalState) : Type 0 where
     pub made : List Record
     pub is_tree : Tree site MAX_NESTING kind canon (state_of live exchange) made (state_of live_after exchange_after) result

@@ -1,4 +1,4 @@
--- A started context with the exchange of a request, as dispatches see them, and what its answers come to.
+-- A started context with the exchange of a request, as dispatches see them, and the results of its calls.
 use Rattle.std.specs.Prelude.{Bool, true, false, Option, Some, None, Result, Ok, Err}
 use Rattle.sv_exchange.specs.declared.exchange_fault.ExchangeFault.{ExchangeFault}
 use Rattle.sv_exchange.specs.declared.exchange_fault.ExchangeFault.TheVariants as faults
@@ -14,28 +14,28 @@ use Rattle.sv_tree.specs.State.{State}
 abbrev pub state_of : {S F L : Type 0} → LiveState S F L → exchanges.State → State
 state_of live its_exchange = record { exchange = its_exchange; standings = live.standings }
 
--- a servlet's answer, and none where it wanted memory
+-- A servlet's step, or none if it ran out of memory.
 abbrev pub step_seen : Step → Option Step
 step_seen steps.NoMemory = None
 step_seen step = Some step
 
--- a filter's answer, and none where it wanted memory
+-- A filter's gate, or none if it ran out of memory.
 abbrev pub gate_seen : Gate → Option Gate
 gate_seen gates.NoMemory = None
 gate_seen gate = Some gate
 
--- that a filter was done, and none where it wanted memory
+-- The completion of a filter, or none if it ran out of memory.
 abbrev pub done_seen : Result (Unit {0}) NoMemory → Option Bool
 done_seen (Ok done) = Some true
 done_seen (Err refusal) = None
 
--- what a changing call did, and none where it wanted memory
+-- The completion of a change of the exchange, or none if it ran out of memory.
 abbrev pub made_seen : Result Bool ExchangeFault → Option (Unit {0})
 made_seen (Ok done) = Some tt
 made_seen (Err faults.NoMemory) = None
 made_seen (Err fault) = Some tt
 
--- whether the body could take what was written, and none where memory was wanted
+-- Whether the body had room for the bytes, or none if memory ran out.
 abbrev pub offer_seen : Result Bool ExchangeFault → Option Bool
 offer_seen (Ok done) = Some true
 offer_seen (Err faults.NoMemory) = None

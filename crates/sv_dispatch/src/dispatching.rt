@@ -1,4 +1,4 @@
-//! A dispatch: its filters, a servlet's turns or a file, and the dispatches within.
+//! A dispatch: its filters, a servlet's turns or a file, and nested dispatches.
 
 ghost use Rattle.std.specs.Prelude.{◌≡◌, ◌<◌, ℕ, IfOk, None, OnErr, OnOk, Some, suc};
 ghost use Rattle.sv_component.specs.declared.answers.Step.TheVariants.{Unavailable};
@@ -25,7 +25,7 @@ use sv_uri::canon;
 use sv_uri::fault::CanonFault;
 use sv_uri::path::Canon;
 
-/// Dispatches a path, with room for so many dispatches within it (Jakarta Servlet 6.0, chapters 6 and 9).
+/// Dispatches a path, with at most `room` levels of dispatches nested in it (Jakarta Servlet 6.0, chapters 6 and 9).
 #[cycle(dispatching)]
 pub(crate) fn dispatch_by<M: Machine, T: Tables>(
     alloc: Global,
@@ -51,7 +51,7 @@ pub(crate) fn dispatch_by<M: Machine, T: Tables>(
     Ok(finished)
 }
 
-// The beginning of a dispatch: who answers.
+// Begins a dispatch and returns the resource that serves its path.
 fn entered<M: Machine, T: Tables>(
     machine: &mut M,
     tables: &T,
@@ -72,7 +72,7 @@ fn entered<M: Machine, T: Tables>(
     Ok(chosen.resource)
 }
 
-// The filters, and what stands behind them.
+// Calls the filters, then the servlet or the file servlet if all pass, and once more the filters that passed.
 #[cycle(dispatching)]
 fn within<M: Machine, T: Tables>(
     alloc: Global,
@@ -117,7 +117,7 @@ fn within<M: Machine, T: Tables>(
     Ok(finished)
 }
 
-// The servlet or the file, where all filters passed.
+// Calls the servlet or the file servlet, if all filters passed.
 #[cycle(dispatching)]
 fn respond<M: Machine, T: Tables>(
     alloc: Global,
@@ -146,7 +146,7 @@ fn respond<M: Machine, T: Tables>(
     }
 }
 
-// The file servlet.
+// Calls the file servlet.
 fn file<M: Machine, T: Tables>(
     alloc: Global,
     machine: &mut M,
@@ -163,7 +163,7 @@ fn file<M: Machine, T: Tables>(
     filed(alloc, machine, tables, kind, found)
 }
 
-// The turns of a servlet.
+// Gives a servlet turns until the dispatch ends.
 #[cycle(dispatching)]
 fn turns<M: Machine, T: Tables>(
     alloc: Global,
@@ -191,7 +191,7 @@ fn turns<M: Machine, T: Tables>(
     }
 }
 
-// A turn of a servlet, and how it ended the dispatch; none where the servlet goes on.
+// Gives a servlet one turn. Returns the end of the dispatch, or none if the servlet continues.
 #[cycle(dispatching)]
 #[inline(always)]
 fn turn<M: Machine, T: Tables>(
@@ -230,7 +230,7 @@ fn turn<M: Machine, T: Tables>(
     }
 }
 
-// What follows a servlet's answer.
+// Carries out the step that a servlet returned.
 #[cycle(dispatching)]
 #[inline(always)]
 fn stepped<M: Machine, T: Tables>(
@@ -272,7 +272,7 @@ fn stepped<M: Machine, T: Tables>(
     }
 }
 
-// A servlet goes on behind an include, unless a failure came out of it.
+// Returns the end of the dispatch after an include: none, so that the servlet continues, unless it ended in a failure.
 fn behind_include(finished: Finished) -> Option<Finished>
     ensures { result ≡ behind_include finished }
 {
@@ -283,7 +283,7 @@ fn behind_include(finished: Finished) -> Option<Finished>
     }
 }
 
-// A servlet that answered that it is out of service, for good or for some seconds.
+// Handles a servlet that has reported itself unavailable, permanently or for some seconds.
 fn unavailable<M: Machine, T: Tables>(
     alloc: Global,
     machine: &mut M,
@@ -312,7 +312,7 @@ fn unavailable<M: Machine, T: Tables>(
     }
 }
 
-// A dispatch that a servlet asks for (Jakarta Servlet 6.0, sections 9.1, 9.3 and 9.4).
+// Makes a dispatch that a servlet requests (Jakarta Servlet 6.0, sections 9.1, 9.3 and 9.4).
 #[cycle(dispatching)]
 fn asked_for<M: Machine, T: Tables>(
     alloc: Global,
@@ -358,7 +358,7 @@ fn asked_for<M: Machine, T: Tables>(
     }
 }
 
-// A forward comes too late once the answer is committed.
+// Returns whether the dispatch is a forward after the response was committed.
 fn is_too_late(kind: Kind, committed: bool) -> bool
     ensures { result ≡ is_too_late kind committed }
 {

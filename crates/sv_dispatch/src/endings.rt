@@ -1,4 +1,4 @@
-//! Errors and failures, kept for the answer where they arise.
+//! Errors and failures of dispatches, stored in the exchange for the response.
 
 ghost use Rattle.std.specs.Prelude.{◌≡◌, None, IfOk};
 ghost use Rattle.sv_dispatch.specs.Did.{Did, lasting, seen};
@@ -17,7 +17,7 @@ use sv_tree::{
     NOT_FOUND, Resource, SERVICE_UNAVAILABLE,
 };
 
-/// An error; within an include it counts as done.
+/// Ends a dispatch in an error. Within an include the error is ignored, and the dispatch counts as done.
 pub(crate) fn err<M: Machine, T: Tables>(
     machine: &mut M,
     tables: &T,
@@ -37,7 +37,7 @@ pub(crate) fn err<M: Machine, T: Tables>(
     Ok(Finished::Error(status, text))
 }
 
-/// An error whose text is the phrase of its status.
+/// Ends a dispatch in an error whose text is the reason phrase of its status.
 fn err_with<M: Machine, T: Tables>(
     alloc: Global,
     machine: &mut M,
@@ -57,7 +57,7 @@ fn err_with<M: Machine, T: Tables>(
     err(machine, tables, resource, status, text, field)
 }
 
-/// Nothing stands at the path.
+/// Ends a dispatch in a 404 error: nothing is found at the path, or the servlet is gone.
 pub(crate) fn missing<M: Machine, T: Tables>(
     alloc: Global,
     machine: &mut M,
@@ -76,7 +76,7 @@ pub(crate) fn missing<M: Machine, T: Tables>(
     )
 }
 
-/// What stands at the path cannot be asked for by this method.
+/// Ends a dispatch in a 405 error: the file servlet does not serve the path by this method.
 pub(crate) fn not_allowed<M: Machine, T: Tables>(
     alloc: Global,
     machine: &mut M,
@@ -95,7 +95,7 @@ pub(crate) fn not_allowed<M: Machine, T: Tables>(
     )
 }
 
-/// The servlet is away, for so many seconds more.
+/// Ends a dispatch in a 503 error: the servlet is unavailable for this many more seconds.
 pub(crate) fn away_for<M: Machine, T: Tables>(
     alloc: Global,
     machine: &mut M,
@@ -109,7 +109,7 @@ pub(crate) fn away_for<M: Machine, T: Tables>(
     err_with(alloc, machine, tables, resource, SERVICE_UNAVAILABLE, field)
 }
 
-/// A failure.
+/// Ends a dispatch in a failure.
 pub(crate) fn fail<M: Machine, T: Tables>(
     machine: &mut M,
     tables: &T,
@@ -131,7 +131,7 @@ pub(crate) fn fail<M: Machine, T: Tables>(
     Ok(Finished::Failed(kind, text))
 }
 
-/// A failure of the container's own.
+/// Ends a dispatch in a failure that the container itself raises.
 pub(crate) fn fault<M: Machine, T: Tables>(
     alloc: Global,
     machine: &mut M,
@@ -150,7 +150,7 @@ pub(crate) fn fault<M: Machine, T: Tables>(
     fail(machine, tables, resource, kind, text)
 }
 
-/// The status of an error that a servlet answers with a code.
+/// Returns the status for the error code of a servlet: the code if it is an error status, 500 for any other.
 pub(crate) fn error_status(code: u16) -> u16
     ensures { result ≡ error_status code }
 {
@@ -161,7 +161,7 @@ pub(crate) fn error_status(code: u16) -> u16
     }
 }
 
-/// How a dispatch ends, for good.
+/// Turns the end of a dispatch into the result of a turn: the servlet gets no further turn.
 pub(crate) fn lasting(finished: Result<Finished, NoMemory>) -> Result<Option<Finished>, NoMemory>
     ensures { result ≡ lasting finished }
 {
@@ -171,7 +171,7 @@ pub(crate) fn lasting(finished: Result<Finished, NoMemory>) -> Result<Option<Fin
     }
 }
 
-// The phrase of the status of an error.
+// Returns the reason phrase of an error's status.
 fn phrase(alloc: Global, status: u16) -> Result<Text, NoMemory>
     ensures { IfOk result (λ text. text ≡ phrase_of status) }
 {

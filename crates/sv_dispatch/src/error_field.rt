@@ -1,12 +1,12 @@
-//! The field that goes with an error.
+//! The header field of an error.
 
-/// The field that goes with an error of the container's own (RFC 9110, sections 10.2.1 and 10.2.3).
+/// The header field of an error that the container raises (RFC 9110, sections 10.2.1 and 10.2.3).
 #[derive(Clone, Copy, Debug, PartialEq, Eq)]
 pub(crate) enum ErrorField {
-    /// None goes with it.
+    /// No field.
     Nothing,
-    /// `allow`, with the methods by which a file is read.
+    /// `allow`, with the methods that the file servlet supports.
     Allow,
-    /// `retry-after`, with the seconds after which the servlet is in service again.
+    /// `retry-after`, with the number of seconds until the servlet is available again.
     RetryAfter(u64),
 }

@@ -14,7 +14,7 @@ use sv_site::FileFound;
 use sv_text::NoMemory;
 use sv_tree::{DispatchFault, FOUND, Finished, Resource};
 
-/// What the file servlet has is answered (Jakarta Servlet 6.0, section 12.2).
+/// Answers with the file servlet's result (Jakarta Servlet 6.0, section 12.2).
 pub(crate) fn filed<M: Machine, T: Tables>(
     alloc: Global,
     machine: &mut M,
@@ -35,7 +35,7 @@ pub(crate) fn filed<M: Machine, T: Tables>(
     }
 }
 
-// A file is sent: its type, and its bytes where the body can take them.
+// Sends a file: its content type, and its bytes if the body has room for them.
 fn send<M: Machine, T: Tables>(
     alloc: Global,
     machine: &mut M,
@@ -63,7 +63,7 @@ fn send<M: Machine, T: Tables>(
     )
 }
 
-// The client is sent elsewhere.
+// Redirects the client.
 fn send_to<M: Machine, T: Tables>(
     machine: &mut M,
     tables: &T,
@@ -81,7 +81,7 @@ fn send_to<M: Machine, T: Tables>(
     Ok(Finished::Done)
 }
 
-// Nothing stands at the path; an include of it fails.
+// Reports that nothing is at the path; an include of it fails.
 fn miss<M: Machine, T: Tables>(
     alloc: Global,
     machine: &mut M,

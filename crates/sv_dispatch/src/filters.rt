@@ -1,4 +1,4 @@
-//! Filters before and after.
+//! Calls of filters, before and after the rest of a dispatch.
 
 ghost use Rattle.std.specs.Prelude.{◌≡◌, ◌≤◌, ◌<◌, IfOk, drop, length, reverse, take};
 ghost use Rattle.std.specs.List.{All};
@@ -13,14 +13,15 @@ use sv_component::Gate;
 use sv_text::NoMemory;
 use sv_tree::{DispatchFault, Finished, Resource};
 
-/// How many filters of a chain passed, and how the dispatch ended where one did not.
+/// The number of filters of a chain that passed, and the end of the dispatch if one did not.
 #[derive(Drop)]
 pub(crate) struct Passed {
     pub count: usize,
     pub ended: Option<Finished>,
 }
 
-/// Calls the filters of a chain from a place on, up to the first that does not pass (Jakarta Servlet 6.0, section 6.2.1).
+/// Calls the filters of a chain from an index on, up to the first that does not pass (Jakarta Servlet 6.0, section
+/// 6.2.1).
 #[inline(always)]
 pub(crate) fn befores<M: Machine, T: Tables>(
     alloc: Global,
@@ -81,7 +82,7 @@ pub(crate) fn befores<M: Machine, T: Tables>(
     }
 }
 
-/// Calls the first filters of a chain once more, the last first.
+/// Calls the first `count` filters of a chain once more, in reverse order.
 #[inline(always)]
 pub(crate) fn afters<M: Machine>(
     machine: &mut M,

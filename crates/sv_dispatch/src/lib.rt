@@ -1,5 +1,5 @@
-//! Dispatches over a started context, and the machine that makes them, held to the definitions of `sv_tree`; and the answer to a request: its
-//! dispatch, and where that ends in an error, the error's page or the plain answer (Jakarta Servlet 6.0, section 10.9).
+//! Dispatches over a started context, proved against the definitions of `sv_tree`, and responses to requests. If a
+//! dispatch ends in an error, the response is the error's page or a plain text (Jakarta Servlet 6.0, section 10.9).
 #![tactic(auto)]
 
 mod dispatching;

@@ -18,14 +18,15 @@ use sv_text::NoMemory;
 use sv_tree::{Finished, MAX_NESTING};
 use sv_uri::path::Canon;
 
-/// Dispatches an exchange to a path within the context: the filters, then the servlet or the file servlet, and the dispatches that they
-/// ask for (Jakarta Servlet 6.0, chapters 6 and 9). Each call of a component is noted in the journal, and what it did to the session is
-/// told right behind it (section 11.3). An error or a failure of the dispatch is kept with the exchange. The context has as many
-/// servlets, filters and listeners as the site's descriptor, as it has since its start with it.
+/// Dispatches an exchange to a path within the context: the filters, then the servlet or the file servlet, and the
+/// dispatches that they request (Jakarta Servlet 6.0, chapters 6 and 9). Each call of a component is logged in the
+/// journal, and the listeners are then notified of its session events (section 11.3). An error or a failure of the
+/// dispatch is stored in the exchange. The context must have as many servlets, filters and listeners as the site's
+/// descriptor, as it does if it was started with it.
 ///
 /// # Errors
-/// `NoMemory` where memory ended the dispatch, or the journal broke: the calls made so far were made, and the dispatches that were under
-/// way still are. Where the journal is broken before, nothing is called, and all is as it was.
+/// `NoMemory` if memory runs out or the journal breaks: calls that were made are not undone, and the current dispatches
+/// stay open. If the journal was broken before, nothing is called, and nothing changes.
 pub fn dispatch<'a, S: Servlet, F: Filter, L: Listener>(
     alloc: Global,
     live: &'a mut Live<S, F, L>,
@@ -51,7 +52,7 @@ pub fn dispatch<'a, S: Servlet, F: Filter, L: Listener>(
     run(&mut machine, site, kind, canon)
 }
 
-// Makes the dispatch.
+// Runs the dispatch.
 fn run<S: Servlet, F: Filter, L: Listener>(
     machine: &mut Running<'_, S, F, L>,
     site: &mut Site,
@@ -75,7 +76,7 @@ fn run<S: Servlet, F: Filter, L: Listener>(
 }
 
 impl<'a, S, F, L> Running<'a, S, F, L> {
-    // The machine over these.
+    // Creates the machine over these parts.
     fn over(
         alloc: Global,
         live: &'a mut Live<S, F, L>,

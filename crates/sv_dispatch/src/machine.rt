@@ -1,4 +1,4 @@
-//! What a dispatch does by itself: one method for each step of the definitions.
+//! The elementary steps of a dispatch: one method for each step of the model.
 
 use crate::error_field::ErrorField;
 use sv_component::{Gate, Standing, Step};
@@ -28,20 +28,20 @@ pub(crate) trait Machine: Sized {
     /// The state that dispatches see and change.
     ghost state: { Self → State };
 
-    /// What stays.
+    /// The part that dispatches do not change.
     ghost frame: { Self → Frame };
 
-    /// That from a machine these calls led to another, each of them made and noted.
+    /// These calls led from one machine to another, and each was made and logged.
     ghost ran: { Self → List Record → Self → Type 0 };
 
     fn is_committed(&self) -> bool
         ensures { result ≡ (state self.now).exchange.committed };
 
-    /// Whether an include is under way, at any depth.
+    /// Returns whether an include is active, at any depth.
     fn is_within_include(&self) -> bool
         ensures { result ≡ is_within_include (state self.now).exchange };
 
-    /// Whether the request has had all calls that it may have.
+    /// Returns whether the request has used up its calls.
     fn is_full(&self) -> bool
         ensures { result ≡ is_full (state self.now) };
 
@@ -51,7 +51,7 @@ pub(crate) trait Machine: Sized {
     fn method(&self) -> &str
         ensures { result.now ≡ (state self.now).exchange.method };
 
-    /// How the servlet at the place stands at the moment of the exchange.
+    /// Returns the state of the servlet at the exchange's time.
     fn standing(&self, place: usize) -> Standing
         requires { place < (frame self.now).servlets }
         ensures { result ≡ standing_at (state self.now).exchange.moment place (state self.now).standings };
@@ -70,7 +70,7 @@ pub(crate) trait Machine: Sized {
         requires { is_full (state self.old) ≡ false }
         ensures { Did state frame ran (becomes counted) self.old self.new (Some tt) };
 
-    /// Keeps an error for the answer.
+    /// Stores an error for the response.
     fn keep_error(
         &mut self,
         status: u16,
@@ -87,11 +87,11 @@ pub(crate) trait Machine: Sized {
     fn set_header(&mut self, name: &str, value: &str) -> Result<(), NoMemory>
         ensures { Did state frame ran (makes (SetHeader name.now value.now)) self.old self.new (seen result) };
 
-    /// Writes bytes where the body can take them, and answers whether it could.
+    /// Writes the bytes if the body has room for them, and returns whether it has.
     fn offer(&mut self, bytes: &[u8]) -> Result<bool, NoMemory>
         ensures { Did state frame ran (offers bytes.now) self.old self.new (seen result) };
 
-    /// Takes back what was written, unless it is committed.
+    /// Discards the body written so far, unless the response is committed.
     fn empty(&mut self)
         ensures { Did state frame ran (becomes (on_exchange emptied)) self.old self.new (Some tt) };
 
@@ -99,7 +99,7 @@ pub(crate) trait Machine: Sized {
         requires { place < (frame self.old).filters }
         ensures { Did state frame ran (asks (frame self.old).listeners (before_of place)) self.old self.new (seen result) };
 
-    /// Answers whether the filter found the memory that it wanted.
+    /// Returns `false` if the filter ran out of memory.
     fn after(&mut self, place: usize) -> Result<bool, NoMemory>
         requires { place < (frame self.old).filters }
         ensures { Did state frame ran (asks (frame self.old).listeners (after_of place)) self.old self.new (seen result) };
@@ -109,13 +109,13 @@ pub(crate) trait Machine: Sized {
         requires here { IsHere place (state self.old) }
         ensures { Did state frame ran (asks (frame self.old).listeners (service_of place turn)) self.old self.new (seen result) };
 
-    /// Destroys the servlet, which is gone then.
+    /// Destroys the servlet, which is then gone.
     fn retire(&mut self, place: usize) -> Result<(), NoMemory>
         requires there { place < (frame self.old).servlets }
         requires here { IsHere place (state self.old) }
         ensures { Did state frame ran (destroys place) self.old self.new (seen result) };
 
-    /// Puts the servlet out of service for so many seconds from the moment of the exchange.
+    /// Makes the servlet unavailable for this many seconds from the exchange's time.
     fn away(&mut self, place: usize, seconds: u32)
         requires there { place < (frame self.old).servlets }
         requires here { IsHere place (state self.old) }

@@ -1,4 +1,4 @@
-//! The pages of errors.
+//! Error pages.
 
 ghost use Rattle.sv_component.specs.Steps.{steps_of};
 ghost use Rattle.std.specs.Prelude.{◌≡◌, OnOk, Some, false, length, true};
@@ -24,20 +24,20 @@ use sv_text::{NoMemory, Text};
 use sv_tree::Finished;
 use sv_uri::path::Canon;
 
-/// An error with what is answered to it: the status, and the field that goes with it.
+/// The parts of an error that its response needs: the status, and the header field if any.
 #[derive(Drop)]
 pub(crate) struct Sought {
     pub(crate) status: u16,
     pub(crate) field: Option<KeptField>,
 }
 
-/// Answers an error of the status that no dispatch brought up, by its page where there is one, and else plainly; a committed answer breaks
-/// off behind its last flush. The page is told the status and its phrase. The context has as many servlets, filters and listeners as the
-/// site's descriptor, as it has since its start with it.
+/// Answers an error of this status that no dispatch raised: by its page if there is one, or in plain text. A committed
+/// response is truncated after its last flush. The page sees the status and its phrase. The context must have as many
+/// servlets, filters and listeners as the site's descriptor, as it does if it was started with it.
 ///
 /// # Errors
-/// `NoMemory` where memory ended the answer, or the journal broke: the calls made so far were made. Where the journal is broken before,
-/// nothing is called, and all is as it was.
+/// `NoMemory` if memory runs out or the journal breaks: calls that were made are not undone. If the journal was broken
+/// before, nothing is called, and nothing changes.
 pub fn show_error<S: Servlet, F: Filter, L: Listener>(
     alloc: Global,
     live: &mut Live<S, F, L>,
@@ -73,7 +73,8 @@ pub fn show_error<S: Servlet, F: Filter, L: Listener>(
     show(alloc, live, exchange, site, &sought, page, journal)
 }
 
-/// The answer to an error, of the kind where it is a failure: a committed response breaks off behind its last flush.
+/// Answers the stored error, by the page for its status and, for a failure, its kind. A committed response is truncated
+/// after its last flush.
 pub(crate) fn show_kept<S: Servlet, F: Filter, L: Listener>(
     alloc: Global,
     live: &mut Live<S, F, L>,
@@ -106,7 +107,7 @@ pub(crate) fn show_kept<S: Servlet, F: Filter, L: Listener>(
     show(alloc, live, exchange, site, &sought, page.as_ref(), journal)
 }
 
-// The answer to an error by its page, or plainly where there is none.
+// Answers an error by its page, or in plain text if there is none.
 fn show<S: Servlet, F: Filter, L: Listener>(
     alloc: Global,
     live: &mut Live<S, F, L>,
@@ -131,7 +132,7 @@ fn show<S: Servlet, F: Filter, L: Listener>(
     }
 }
 
-// The answer to an error by its page.
+// Answers an error by its page.
 fn show_page<S: Servlet, F: Filter, L: Listener>(
     alloc: Global,
     live: &mut Live<S, F, L>,
@@ -159,7 +160,8 @@ fn show_page<S: Servlet, F: Filter, L: Listener>(
     shown(alloc, exchange, sought, &finished)
 }
 
-// What follows a page: where it ends in an error itself, the plain answer of the first error; once it is committed it breaks off.
+// Completes the response after an error page. If the page ends in an error itself, the first error is answered in plain
+// text, or a committed response is truncated.
 fn shown(
     alloc: Global,
     exchange: &mut Exchange,
@@ -185,7 +187,7 @@ fn shown(
     }
 }
 
-// The field that goes with the error that was kept.
+// Returns a copy of the stored error's header field, if any.
 fn kept_field(alloc: Global, kept: Option<&KeptError>) -> Result<Option<KeptField>, NoMemory>
     ensures { GivesAnswer result (kept_field (option_copied kept.entry)) }
 {

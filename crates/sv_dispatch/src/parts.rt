@@ -1,4 +1,4 @@
-//! Parts of what a machine does: with an exchange, and with what components answered.
+//! Parts of a machine's steps: changes of the exchange, and results of components.
 
 ghost use Rattle.std.specs.Prelude.{◌≡◌, IfOk, None, OnErr, OnOk, Some, is_ok};
 ghost use Rattle.std.specs.Option.{option_copied};
@@ -22,7 +22,7 @@ use sv_site::Chosen;
 use sv_text::{NoMemory, Text};
 use sv_uri::path::Canon;
 
-/// Begins a dispatch of a path that is split so.
+/// Begins a dispatch to a path that is split this way.
 pub(crate) fn enter(
     exchange: &mut Exchange,
     kind: Kind,
@@ -41,7 +41,7 @@ pub(crate) fn enter(
     Ok(())
 }
 
-// A forward finds an empty body (Jakarta Servlet 6.0, section 9.4).
+// Empties the body for a forward (Jakarta Servlet 6.0, section 9.4).
 fn empty_for(exchange: &mut Exchange, kind: Kind)
     ensures { exchange.new ≡ emptied_for kind exchange.old }
 {
@@ -53,7 +53,7 @@ fn empty_for(exchange: &mut Exchange, kind: Kind)
     }
 }
 
-/// Takes back what was written, unless it is committed.
+/// Discards the body written so far, unless the response is committed.
 pub(crate) fn empty(exchange: &mut Exchange)
     ensures { exchange.new ≡ emptied exchange.old }
 {
@@ -62,7 +62,7 @@ pub(crate) fn empty(exchange: &mut Exchange)
     }
 }
 
-/// Keeps an error for the answer.
+/// Stores an error for the response.
 pub(crate) fn keep_error(
     alloc: Global,
     exchange: &mut Exchange,
@@ -81,7 +81,7 @@ pub(crate) fn keep_error(
     exchange.keep_error(status, text, Some(servlet), field)
 }
 
-// The field that goes with an error.
+// Returns the header field of an error.
 fn kept_field(alloc: Global, field: ErrorField) -> Result<Option<KeptField>, NoMemory>
     ensures { IfOk result (λ kept. kept ≡ field_of field) }
 {
@@ -104,7 +104,7 @@ fn named(alloc: Global, name: &str, value: &str) -> Result<Option<KeptField>, No
     }))
 }
 
-// The text, if it is there.
+// Returns the text, if any.
 fn shown(text: &Option<Text>) -> Option<&str>
     ensures { option_copied result ≡ text.now }
 {
@@ -114,7 +114,7 @@ fn shown(text: &Option<Text>) -> Option<&str>
     }
 }
 
-/// A servlet's answer, and a refusal where it wanted memory.
+/// Returns a servlet's step, or `NoMemory` if the servlet ran out of memory.
 pub(crate) fn step_of(step: Step) -> Result<Step, NoMemory>
     ensures { seen result ≡ step_seen step }
 {
@@ -129,7 +129,7 @@ pub(crate) fn step_of(step: Step) -> Result<Step, NoMemory>
     }
 }
 
-/// A filter's answer, and a refusal where it wanted memory.
+/// Returns a filter's gate, or `NoMemory` if the filter ran out of memory.
 pub(crate) fn gate_of(gate: Gate) -> Result<Gate, NoMemory>
     ensures { seen result ≡ gate_seen gate }
 {
@@ -141,7 +141,7 @@ pub(crate) fn gate_of(gate: Gate) -> Result<Gate, NoMemory>
     }
 }
 
-/// That a filter was done, and a refusal where it wanted memory.
+/// Returns `true`, or `NoMemory` if the filter ran out of memory.
 pub(crate) fn done_of(done: Result<(), NoMemory>) -> Result<bool, NoMemory>
     ensures { seen result ≡ done_seen done }
 {
@@ -151,7 +151,7 @@ pub(crate) fn done_of(done: Result<(), NoMemory>) -> Result<bool, NoMemory>
     }
 }
 
-/// What was answered, and a refusal where the journal is broken.
+/// Returns the result, or `NoMemory` if the journal is broken.
 pub(crate) fn unless_broken<A: Drop>(
     journal: &Journal,
     answered: Result<A, NoMemory>,
@@ -165,17 +165,17 @@ pub(crate) fn unless_broken<A: Drop>(
     }
 }
 
-/// Whether a servlet's end was noted.
+/// Returns `NoMemory` if the end of a servlet was not logged.
 pub(crate) fn retired(whole: bool) -> Result<(), NoMemory>
     ensures { is_ok result ≡ whole }
 {
     if whole { Ok(()) } else { Err(NoMemory) }
 }
 
-/// What a changing call did: a fault other than want of memory is an answer, and changes nothing.
+/// Converts the result of a change of the exchange. Any fault except `NoMemory` is ignored: the exchange is unchanged.
 ///
 /// # Errors
-/// `NoMemory` where the call wanted memory.
+/// `NoMemory` if the change ran out of memory.
 pub fn made(answered: Result<bool, ExchangeFault>) -> Result<(), NoMemory>
     ensures { seen result ≡ made_seen answered }
 {
@@ -186,7 +186,7 @@ pub fn made(answered: Result<bool, ExchangeFault>) -> Result<(), NoMemory>
     }
 }
 
-/// Whether the body could take what was written.
+/// Returns whether the body had room for the bytes.
 pub(crate) fn offer(answered: Result<bool, ExchangeFault>) -> Result<bool, NoMemory>
     ensures { seen result ≡ offer_seen answered }
 {
@@ -197,7 +197,7 @@ pub(crate) fn offer(answered: Result<bool, ExchangeFault>) -> Result<bool, NoMem
     }
 }
 
-/// The moment so many seconds later, or the last one.
+/// Returns the time this many seconds later, at most `u64::MAX`.
 pub(crate) fn moment_after(moment: u64, seconds: u64) -> u64
     ensures { result ≡ moment_after moment seconds }
 {

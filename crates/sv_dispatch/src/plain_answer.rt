@@ -1,4 +1,4 @@
-//! The plain answer to an error.
+//! The plain text response to an error.
 
 ghost use Rattle.std.specs.Prelude.{◌≡◌, IfOk, string_bytes};
 ghost use Rattle.std.specs.Option.{option_copied};
@@ -13,11 +13,11 @@ use sv_component::Exchange;
 use sv_exchange::KeptField;
 use sv_text::NoMemory;
 
-/// Answers an error plainly: what was said is taken back, and the answer has the status, the field that goes with the error, and the
-/// status and its phrase as a line of text.
+/// Answers an error in plain text. The fields and the unflushed body are discarded. The response has the status, the
+/// error's header field, and one line of text with the status and its phrase.
 ///
 /// # Errors
-/// `NoMemory` where a growth was refused: what was said is taken back, and a part of the answer may be there.
+/// `NoMemory` if an allocation fails: the old content is discarded, and part of the response may have been set.
 pub(crate) fn plain(
     alloc: Global,
     exchange: &mut Exchange,
@@ -38,7 +38,7 @@ pub(crate) fn plain(
     made(exchange.write(text.as_bytes()))
 }
 
-/// The plain answer; a committed response breaks off behind its last flush.
+/// Answers an error in plain text; a committed response is truncated after its last flush.
 pub(crate) fn plain_unless_committed(
     alloc: Global,
     exchange: &mut Exchange,
@@ -54,7 +54,7 @@ pub(crate) fn plain_unless_committed(
     plain(alloc, exchange, status, field)
 }
 
-/// Takes back what was said, and sets the status and the field of an error.
+/// Discards the fields and the unflushed body, and sets the status and the header field of an error.
 pub(crate) fn reset(
     exchange: &mut Exchange,
     status: u16,
@@ -69,7 +69,7 @@ pub(crate) fn reset(
     set_field(exchange, field)
 }
 
-// Sets the field of an error, where it has one.
+// Sets the header field of an error, if any.
 fn set_field(exchange: &mut Exchange, field: Option<&KeptField>) -> Result<(), NoMemory>
     ensures { Alone (sets (option_copied field.entry)) exchange.old exchange.new (seen result) }
 {
@@ -79,7 +79,7 @@ fn set_field(exchange: &mut Exchange, field: Option<&KeptField>) -> Result<(), N
     }
 }
 
-// The status and its phrase, as a line.
+// Returns the status and its phrase, as a line.
 fn plain_text(alloc: Global, status: u16) -> Result<String, NoMemory>
     ensures { IfOk result (λ text. string_bytes text ≡ plain_text status) }
 {

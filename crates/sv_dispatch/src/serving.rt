@@ -1,4 +1,4 @@
-//! The answer to a request.
+//! Responses to requests.
 
 ghost use Rattle.sv_component.specs.Steps.{steps_of};
 ghost use Rattle.std.specs.Prelude.{◌≡◌, OnOk, false, length, true};
@@ -20,14 +20,14 @@ use sv_text::NoMemory;
 use sv_tree::{Finished, INTERNAL_SERVER_ERROR};
 use sv_uri::path::Canon;
 
-/// Answers a request by a dispatch of the kind to a path within the context; where that ends in an error or a failure that can still be
-/// shown, by the error's page, and else plainly (Jakarta Servlet 6.0, sections 9.5 and 10.9). Each call of a component is noted in the
-/// journal. The context has as many servlets, filters and listeners as the
-/// site's descriptor, as it has since its start with it.
+/// Answers a request by a dispatch of this kind to a path within the context. An error or failure is answered by its
+/// page if there is one, or in plain text; a committed response is truncated (Jakarta Servlet 6.0, sections 9.5 and
+/// 10.9). Each call of a component is logged in the journal. The context must have as many servlets, filters and
+/// listeners as the site's descriptor, as it does if it was started with it.
 ///
 /// # Errors
-/// `NoMemory` where memory ended the answer, or the journal broke: the calls made so far were made, and the dispatches that were under way
-/// still are. Where the journal is broken before, nothing is called, and all is as it was.
+/// `NoMemory` if memory runs out or the journal breaks: calls that were made are not undone, and the current dispatches
+/// stay open. If the journal was broken before, nothing is called, and nothing changes.
 #[inline(always)]
 pub fn serve<S: Servlet, F: Filter, L: Listener>(
     alloc: Global,
@@ -53,7 +53,7 @@ pub fn serve<S: Servlet, F: Filter, L: Listener>(
     settle(alloc, live, exchange, site, &finished, journal)
 }
 
-// What follows a dispatch: the answer to the error in which it ended.
+// Completes the response after a dispatch: answers its error or failure, if any.
 fn settle<S: Servlet, F: Filter, L: Listener>(
     alloc: Global,
     live: &mut Live<S, F, L>,

@@ -1,4 +1,4 @@
-//! What a dispatch asks of its context.
+//! The tables of a context, as a dispatch uses them.
 
 use std::alloc::Global;
 use sv_chain::Chain;
@@ -8,7 +8,7 @@ use sv_text::NoMemory;
 use sv_tree::Resource;
 use sv_uri::path::Canon;
 
-/// The tables of a context, which no dispatch changes for those that come after it.
+/// The tables of a context, which dispatches leave unchanged.
 pub(crate) trait Tables {
     ghost use Rattle.std.specs.Prelude.{◌≡◌, ◌<◌, ℕ, IfOk};
     ghost use Rattle.std.specs.List.{All};
@@ -16,25 +16,25 @@ pub(crate) trait Tables {
     ghost use Rattle.sv_tree.specs.Site.{Site, chosen, name_of};
     ghost use Rattle.sv_tree.specs.declared.resource.Resource.TheVariants.{Servlet};
 
-    /// The tables as the definitions have them.
+    /// The site of the model.
     ghost site: { Self → Site };
 
-    /// How many servlets there are.
+    /// The number of servlets.
     ghost servlets: { Self → ℕ };
 
-    /// How many filters there are.
+    /// The number of filters.
     ghost filters: { Self → ℕ };
 
-    /// Who answers the path, by the pattern that matches best.
+    /// Returns the resource for the path, by the pattern that matches best.
     fn choose<'a>(&'a self, path: &'a str) -> Chosen<'a>
         ensures is { chosen_seen result ≡ chosen (site self.now) path.now }
         ensures there { (place : ℕ) → result.resource ≡ Servlet place → place < servlets self.now };
 
-    /// The name of who answers.
+    /// Returns the name of a resource.
     fn name(&self, resource: Resource) -> &str
         ensures { result.now ≡ name_of (site self.now) resource };
 
-    /// The filters of a dispatch to who answers, by their places.
+    /// Returns the filters of a dispatch to the resource, as indices.
     fn chain(
         &mut self,
         alloc: Global,
@@ -46,7 +46,7 @@ pub(crate) trait Tables {
         ensures there { IfOk result (λ chain. All (λ place. place < filters self.new) chain) }
         ensures stays { self.new ≡ self.old };
 
-    /// What the file servlet has for a path.
+    /// Returns the file servlet's result for a path.
     fn file<'a>(
         &'a self,
         alloc: Global,

@@ -1,4 +1,4 @@
-//! What happened to the session of a request is told.
+//! Notifying listeners of a request's session events.
 
 ghost use Rattle.sv_component.specs.Steps.{steps_of};
 ghost use Rattle.std.specs.Prelude.{◌≡◌, length};
@@ -14,8 +14,8 @@ use sv_component::{Event, Exchange, Filter, Listener, Servlet};
 use sv_journal::Journal;
 use sv_live::Live;
 
-/// Has the listeners hear each event that is still to be told, the oldest first (Jakarta Servlet 6.0, section 11.3). Where an entry finds
-/// no memory the journal breaks, and the listeners are told all the same.
+/// Notifies the listeners of each pending event, the oldest first (Jakarta Servlet 6.0, section 11.3). If an entry
+/// cannot be allocated, the journal breaks, but the listeners are still notified.
 pub(crate) fn tell_events<S: Servlet, F: Filter, L: Listener>(
     alloc: Global,
     live: &mut Live<S, F, L>,
@@ -32,7 +32,7 @@ pub(crate) fn tell_events<S: Servlet, F: Filter, L: Listener>(
     }
 }
 
-// Has the listeners hear the event.
+// Notifies the listeners of the event.
 fn tell_event<S: Servlet, F: Filter, L: Listener>(
     alloc: Global,
     live: &mut Live<S, F, L>,

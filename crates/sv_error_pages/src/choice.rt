@@ -7,9 +7,9 @@ ghost use Rattle.sv_error_pages.specs.Choice as spec;
 
 use sv_descriptor::{Descriptor, ErrorPage, PageFor};
 
-/// The page for an error: the first that is for the fault's kind, else the first for the status, else the first that is for all that
-/// has no other page. An error that is no fault has no kind. The answer is the page's path within the context, with or without a
-/// query, and has a canonical path. Kinds are compared with case.
+/// Returns the page for an error, as its path within the context, with or without a query. It has a canonical path. The
+/// first page for the fault's kind is chosen, otherwise the first for the status, otherwise the first for all other
+/// errors. An error that is no fault has no kind. Kinds are case-sensitive.
 pub fn page_for<'a>(descriptor: &'a Descriptor, status: u16, kind: Option<&str>) -> Option<&'a str>
     ensures place { option_copied result ≡ spec.page_for descriptor.now.error_pages status (option_copied kind.entry) }
     ensures canonical { IfSome result (λ page. IsTrue (is_location page.now)) }

@@ -1,4 +1,4 @@
-//! Which page answers an error (Jakarta Servlet 6.0, section 10.9.2).
+//! The choice of the page for an error (Jakarta Servlet 6.0, section 10.9.2).
 #![tactic(auto)]
 
 mod choice;

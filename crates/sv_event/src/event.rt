@@ -1,4 +1,4 @@
-//! What listeners hear.
+//! Events for listeners.
 
 ghost use Rattle.std.specs.Prelude.{Some};
 ghost use Rattle.sv_text.specs.Gives.{GivesAnswer};
@@ -8,15 +8,15 @@ use std::alloc::Global;
 use std::fmt;
 use sv_text::{NoMemory, Text};
 
-/// What a listener hears (Jakarta Servlet 6.0, chapter 11). A number is that of a session's record, a text the name of its attribute.
-/// It is printed as its name, with the number and the name behind it.
+/// An event for listeners (Jakarta Servlet 6.0, chapter 11). A number is that of a session's record, and a text the
+/// name of its attribute. Printed as its name, followed by the number and the text.
 #[derive(Debug, Drop)]
 pub enum Event {
-    /// The context starts: no component is initialised yet.
+    /// The context starts: no component is initialized yet.
     ContextInitialized,
     /// The context stops: all components are destroyed.
     ContextDestroyed,
-    /// A request comes to its first dispatch.
+    /// A request reaches its first dispatch.
     RequestInitialized,
     /// A request has left its last dispatch.
     RequestDestroyed,
@@ -24,18 +24,18 @@ pub enum Event {
     SessionCreated(u64),
     /// A session has ended.
     SessionDestroyed(u64),
-    /// A session has another id.
+    /// The id of a session changed.
     SessionIdChanged(u64),
-    /// A session has one attribute more.
+    /// An attribute was added to a session.
     AttributeAdded(u64, Text),
-    /// An attribute of a session has another value, or the same one once more.
+    /// An attribute of a session was set to another value, or to the same one again.
     AttributeReplaced(u64, Text),
-    /// A session has one attribute less, or has ended with it.
+    /// An attribute was removed from a session, or its session ended.
     AttributeRemoved(u64, Text),
 }
 
 impl Event {
-    /// Copies an event.
+    /// Returns a copy of an event.
     pub fn copy_of(alloc: Global, event: &Event) -> Result<Event, NoMemory>
         ensures { GivesAnswer result event.now }
     {

@@ -1,4 +1,4 @@
-//! What listeners hear.
+//! Events for listeners.
 #![tactic(auto)]
 
 mod event;

@@ -1,4 +1,4 @@
--- Within an include changing calls leave the status and the fields as they are.
+-- Within an include, changing calls leave the status and the fields unchanged.
 use Rattle.std.specs.Prelude.{ℕ, Bool, true, false, not, ◌&&◌, Option, None, Some, is_some, Result, Ok, Err, if◌then◌else◌}
 use Rattle.std.proofs.Common.{◌≡◌, List, [], ◌∷◌, refl, sym, ◌∙◌, ap, subst}
 use Rattle.std.specs.List.{list_any}
@@ -14,7 +14,7 @@ use Rattle.sv_exchange.specs.State.{State}
 use Rattle.sv_exchange.proofs.Keeping.{made_request}
 use Rattle.sv_exchange.proofs.Reaching.{reaches_to}
 
--- a call that is not ignored is not made within an include
+-- A call that is not ignored is made outside of includes.
 not_open : {P : Type 0} (committed within settable : Bool) → within ≡ true → ((not committed && not within) && settable) ≡ true → P
 not_open true within settable h e = cc
 not_open false true settable h e = cc

@@ -1,4 +1,4 @@
--- Changing calls leave the request as it is.
+-- Changing calls keep the request.
 use Rattle.std.specs.Prelude.{ℕ, Bool, true, false, Option, None, Some, is_some, Result, Ok, Err, if◌then◌else◌}
 use Rattle.std.specs.Option.{option_map_or}
 use Rattle.std.proofs.Common.{List, [], ◌∷◌, refl, sym, ◌∙◌, subst}
@@ -29,7 +29,7 @@ request_then x y z one two = record {
   words = two.words ∙ one.words;
 }
 
--- where a session lives, or a test holds, the state is another one
+-- A change of the session, or one under a test, keeps the request if the change itself does.
 on_session_request : (change : ℕ → State → State) (x : State) → ((number : ℕ) → SameRequest x (change number x)) → SameRequest x (on_session change x)
 on_session_request change x same = found_request (session_of x)
   where

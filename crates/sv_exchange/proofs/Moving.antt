@@ -1,4 +1,4 @@
--- Changing calls move the sessions by calls that components can bring about at the moment of the request.
+-- Changing calls move the sessions by calls that components can make at the time of the request.
 use Rattle.std.specs.Prelude.{Bool, true, false, ℕ, Option, None, Some, is_some, map, Result, Ok, Err, if◌then◌else◌}
 use Rattle.std.specs.Option.{option_map_or}
 use Rattle.std.proofs.Common.{◌≡◌, List, [], ◌∷◌, ◌++◌, refl, sym, subst}
@@ -25,12 +25,12 @@ stays x y same = ([], tt, same)
 moves_by : (call : Call) (x y : State) → IsOfComponent x.moment call → y.store ≡ runs.left_by call x.store → Moves x y
 moves_by call x y by is = (call ∷ [], (by, tt), is)
 
--- what is left where there is no fault
+-- The result if there is no fault.
 done : {A : Type 0} (faults : List SessionFault) (left refused : A) → faults ≡ [] → left ≡ unless faults left refused
 done [] left refused none = refl
 done (fault ∷ faults) left refused none = cc
 
--- a call that is not refused has no fault
+-- A call that is not refused has no fault.
 opens_freely : (committed : Bool) (others : List SessionFault) → first_or (when committed faults.Committed ++ map fault_of others) true ≡ Ok true → others ≡ []
 opens_freely true others h = cc
 opens_freely false [] h = refl
@@ -89,7 +89,7 @@ left_moves (Ok true) change x h = changed_moves change x h
 left_moves (Ok false) change x h = stays x x refl
 left_moves (Err fault) change x h = stays x x refl
 
--- two behind one another, where the moment of both is the same
+-- Two moves compose if both are made at the same time.
 module _ (joins : MovesJoin) where
   joined : (x y z : State) → y.moment ≡ x.moment → Moves x y → Moves y z → Moves x z
   joined x y z same one two = joins x.moment x.store y.store z.store one (subst (λ now. MovedByComponents now y.store z.store) same two)

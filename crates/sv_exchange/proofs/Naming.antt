@@ -1,4 +1,4 @@
--- The first parameter of a name in the queries of dispatches.
+-- The first parameter with a name in the queries of dispatches.
 use Rattle.std.proofs.Common.{◌≡◌, ℕ, List, [], ◌∷◌, ◌++◌, reverse, None, Some, ◌∙◌, ap}
 use Rattle.std.specs.List.{IsLastAndRest, flat_map}
 use Rattle.std.proofs.lemmas.List.{reverse-append}

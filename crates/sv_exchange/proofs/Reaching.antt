@@ -1,4 +1,4 @@
--- Each call reaches what it leaves by changing calls.
+-- The state after any call is reached by changing calls.
 use Rattle.std.specs.Prelude.{Bool, Result, Ok, Err}
 use Rattle.std.proofs.Common.{◌≡◌, List, [], ◌∷◌, ◌++◌, refl, sym, ◌∙◌, ap}
 use Rattle.sv_exchange.specs.declared.exchange_fault.ExchangeFault.{ExchangeFault}
@@ -10,12 +10,12 @@ after_all-append : (front back : List Change) (x : State) → after_all (front +
 after_all-append [] back x = refl
 after_all-append (change ∷ front) back x = after_all-append front back (left_by (answer change x) change x)
 
--- nothing changed
+-- Nothing changed.
 pub reached_same : (before after : State) → after ≡ before → Reaches before after
 unfolding IsReached
 reached_same before after same from reached = (reached.0, same ∙ reached.1)
 
--- one more call
+-- One more call.
 pub reached_on : (change : Change) (before after : State) → after ≡ left_by (answer change before) change before → Reaches before after
 unfolding IsReached
 reached_on change before after more from reached = (
@@ -23,7 +23,7 @@ reached_on change before after more from reached = (
   more ∙ (ap (λ x. left_by (answer change x) change x) reached.1 ∙ sym (after_all-append reached.0 (change ∷ []) from)),
 )
 
--- what a call does is reached by changing calls
+-- The state that a call leaves is reached by changing calls.
 pub reached_by : (change : Change) (result : Result Bool ExchangeFault) (before after : State) → Does change result before after → Reaches before after
 reached_by change (Ok done) before after does =
     reached_on change before after (does.1 ∙ ap (λ said. left_by said change before) (sym does.0))

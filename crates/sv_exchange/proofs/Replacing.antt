@@ -1,4 +1,4 @@
--- The first item of a list that passes is replaced.
+-- Replacing the first item of a list that passes a test.
 use Rattle.std.proofs.Common.{◌≡◌, ℕ, ◌+◌, ◌<◌, ◌≤◌, ◌⊎◌, inl, inr, Bool, true, false, not, List, [], ◌∷◌, ◌++◌, length, drop, set, None, Some, refl, sym, ◌∙◌, ap, arith}
 use Rattle.std.specs.Prelude.{bytes_eq, nat_lt, position}
 use Rattle.std.specs.List.{insert, position_or_len}
@@ -11,12 +11,12 @@ use Rattle.sv_exchange.specs.declared.attribute.Attribute.{Attribute}
 use Rattle.sv_exchange.specs.Attributes.{set_value}
 use Rattle.sv_exchange.specs.Fields.{field_of, is_called, set_field, without}
 
--- no item passes
+-- No item passes.
 pub AllFail : {A : Type 0} → (A → Bool) → List A → Type 0
 AllFail test [] = Unit {0}
 AllFail test (x ∷ xs) = (test x ≡ false) × AllFail test xs
 
--- the item at a place is the first that passes
+-- The item at an index is the first that passes.
 pub record FirstAt {A : Type 0} (test : A → Bool) (xs : List A) (place : ℕ) : Type 0 where
   pub front : List A
   pub item : A
@@ -32,7 +32,7 @@ position_here test x xs passes = cond-false _ _ _ (ap not passes)
 position_later : {A : Type 0} (test : A → Bool) (x : A) (xs : List A) → test x ≡ false → position_or_len test (x ∷ xs) ≡ 1 + position_or_len test xs
 position_later test x xs fails = cond-true _ _ _ (ap not fails)
 
--- the place that is found is that of the first item that passes, or no item passes
+-- The position found is that of the first item that passes, or no item passes.
 found : {A : Type 0} (test : A → Bool) (xs : List A) → FirstAt test xs (position_or_len test xs) ⊎ (AllFail test xs × (position_or_len test xs ≡ length xs))
 unfolding AllFail
 found test [] = inr (tt, refl)
@@ -134,7 +134,7 @@ module _ (name value : List ℕ) where
       ∙ put_at first.front (without name first.back) (field_of name value) place first.there
       ∙ sym (ap (set_field name value) first.is ∙ field_found first.front first.back first.item first.others first.passes)
 
-  -- where a field of the name stands, there is room for another one once all of them are removed
+  -- If there is a field with the name, removing all such fields leaves room for a new one at the index of the first.
   pub less : (xs : List Field) (place : ℕ) → position (is_called name) xs ≡ Some place
       → (place ≤ length (without name xs)) × (length (without name xs) < length xs)
   less xs place found =

@@ -1,4 +1,4 @@
--- What dispatches tell, from the innermost one outwards.
+-- The attributes that dispatches set, from the innermost dispatch outward.
 use Rattle.std.proofs.Common.{◌≡◌, ℕ, List, [], ◌∷◌, reverse, None, Some, ◌∙◌, ap}
 use Rattle.std.specs.List.{IsLastAndRest}
 use Rattle.std.specs.Option.{option_map_or}

@@ -1,4 +1,4 @@
--- Whether there can be a field: the test of a name and a value, and that of this crate.
+-- The tests of `http_header` for a name and a value agree with the field test of this crate.
 use Rattle.std.proofs.Common.{◌≡◌, ℕ, ◌&&◌, List, refl}
 use Rattle.std.specs.List.{list_all}
 use Rattle.http_header.specs.FieldName.{is_field_name}

@@ -1,4 +1,4 @@
--- How an exchange begins, and the response that it ends with.
+-- The state of an exchange when it begins, and the response when it ends.
 use Rattle.std.specs.Prelude.{ℕ, ◌==◌, Bool, true, false, List, [], ◌++◌, Option, None, codes, if◌then◌else◌}
 use Rattle.std.specs.Option.{option_and_then, option_map}
 use Rattle.sv_session.specs.Calls.{id_of}
@@ -17,16 +17,16 @@ use Rattle.sv_exchange.specs.Dispatches.{paths_at}
 use Rattle.sv_exchange.specs.Sessions.{cookie_of}
 use Rattle.sv_exchange.specs.State.{State}
 
--- the cookie of a session that this request's message opened or renamed
+-- The cookie of the session that a request holds, if its message opened or renamed the session.
 abbrev pub renewed_cookie : CookieSettings → List ℕ → Store → HeldSession → Option Cookie
 renewed_cookie settings context_path store held =
     if held.is_renewed then option_map (cookie_of settings context_path) (id_of held.number store) else None
 
--- a cookie without a name
+-- A cookie without a name.
 abbrev pub no_settings : CookieSettings
 no_settings = record { name = []; path = None; http_only = false; max_age = None }
 
--- nothing was asked yet, and nothing said
+-- An exchange without a request or a response.
 abbrev pub unasked : State
 unasked = record {
   method = codes "GET";
@@ -55,7 +55,7 @@ unasked = record {
   events = [];
 }
 
--- no dispatch is under way, nothing was said yet, and there is nothing to tell
+-- An exchange with a new request: no dispatch is active, the response is empty, and there are no events.
 abbrev pub begun : Message → Canon → List ℕ → CookieSettings → ℕ → ℕ × ℕ → Option HeldSession → Store → State
 begun message canon context_path settings moment words held store = record {
   method = message.method;
@@ -84,15 +84,15 @@ begun message canon context_path settings moment words held store = record {
   events = [];
 }
 
--- what was written behind the last flush leaves as the last piece, and not where the answer broke off
+-- The bytes written since the last flush are the last piece, unless the response is truncated.
 abbrev pub last_piece : Bool → List ℕ → List (List ℕ)
 last_piece broken buffer = if broken then [] else piece_of buffer
 
--- the body is whole until the response is committed, and then it leaves in pieces (section 5.1)
+-- The body is whole until the response is committed, and then it is sent in pieces (section 5.1).
 abbrev pub body_of : Bool → List (List ℕ) → List ℕ → Bool → Bool → Body
 body_of false flushed buffer chunked broken = Whole buffer
 body_of true flushed buffer chunked broken = Flushed (flushed ++ last_piece broken buffer) chunked broken
 
--- the response has the cookie of the session that this message opened or renamed last, where it still lives
+-- The response of an exchange that ends.
 abbrev pub finished : State → Response
 finished x = record { status = x.status; fields = x.fields; cookie = x.cookie; body = body_of x.committed x.flushed x.buffer x.reads_chunks x.broken }

@@ -1,4 +1,4 @@
--- What the changing calls of an exchange do (Jakarta Servlet 6.0, chapters 3, 5, 7 and 9).
+-- The effects of changing calls on an exchange (Jakarta Servlet 6.0, chapters 3, 5, 7 and 9).
 use Rattle.std.specs.Prelude.{◌≡◌, ℕ, ◌+◌, Bool, true, false, not, ◌&&◌, List, [], ◌∷◌, ◌++◌, length, ◌==◌, nat_le, is_some, Result, Ok, Err, if◌then◌else◌}
 use Rattle.sv_exchange.specs.declared.exchange_fault.ExchangeFault.{ExchangeFault}
 use Rattle.sv_exchange.specs.declared.exchange_fault.ExchangeFault.TheVariants as faults
@@ -11,7 +11,7 @@ use Rattle.sv_exchange.specs.State.{State}
 use Rattle.sv_text.specs.Faults.{first_or}
 use Rattle.sv_message.specs.Chunking.{joined, piece_of}
 
--- a changing call with its arguments
+-- A changing call with its arguments.
 pub data Change : Type 0 where
   SetStatus : ℕ → Change
   SetHeader : List ℕ → List ℕ → Change
@@ -25,29 +25,29 @@ pub data Change : Type 0 where
   SessionEnd : Change
   Logout : Change
 
--- whether status and fields can be changed: neither once the response is committed, nor within an include
+-- Whether the status and the fields can be changed: not once the response is committed, and not within an include.
 abbrev pub is_open : State → Bool
 is_open before = not before.committed && not (is_within_include before)
 
--- whether a component may set the status
+-- Whether a component may set the status.
 abbrev pub is_settable : ℕ → Bool
 is_settable status =
     nat_le LEAST_STATUS status && nat_le status MAX_STATUS && not (status == RESET_CONTENT) && not (status == NOT_MODIFIED)
 
--- whether a field of that name can be set
+-- Whether a field with the name can be set.
 abbrev pub is_free : List ℕ → State → Bool
 is_free name before = is_open before && not (is_reserved_field name)
 
--- what setting a field answers: where it is not ignored, its name and value have to be those of a field
+-- The result of setting a field. Unless the call is ignored, the name and the value must be valid for a field.
 abbrev pub field_answer : List ℕ → List ℕ → State → Result Bool ExchangeFault
 field_answer name value before =
     if is_free name before then (if is_field name value then Ok true else Err faults.BadHeader) else Ok false
 
--- whether the body can take that many bytes more, beside its pieces
+-- Whether the body can take `count` more bytes, in addition to its pieces and its buffer.
 abbrev pub has_room : ℕ → State → Bool
 has_room count before = nat_le (length (joined before.flushed) + length before.buffer + count) MAX_BODY_LEN
 
--- what the call answers, unless memory ran out: `false` says that it is ignored
+-- The result of a call, unless memory runs out. `false` means that the call is ignored.
 abbrev pub answer : Change → State → Result Bool ExchangeFault
 answer (SetStatus status) before = Ok (is_open before && is_settable status)
 answer (SetHeader name value) before = field_answer name value before
@@ -61,7 +61,7 @@ answer (SessionRemove name) before = wants_session before
 answer SessionEnd before = wants_session before
 answer Logout before = Ok true
 
--- what the call changes where it is not ignored
+-- The state after a call that is not ignored.
 abbrev pub changed : Change → State → State
 changed (SetStatus status) before = record before { status = status }
 changed (SetHeader name value) before = record before { fields = set_field name value before.fields }
@@ -75,27 +75,27 @@ changed (SessionRemove name) before = if is_some (session_value name before) the
 changed SessionEnd before = on_session ended before
 changed Logout before = if is_some before.caller then logged_out before else before
 
--- what a call that answered leaves: the change, or all as it was
+-- The state after a call with the given result: changed, or as it was.
 abbrev pub left_by : Result Bool ExchangeFault → Change → State → State
 left_by (Ok true) change before = changed change before
 left_by (Ok false) change before = before
 left_by (Err fault) change before = before
 
--- the call answered as it had to, and left what it had to: a refusal changes nothing
+-- The call returns the specified result and leaves the specified state. A refusal changes nothing.
 abbrev pub Does : Change → Result Bool ExchangeFault → State → State → Type 0
 Does change (Ok done) before after = (answer change before ≡ Ok done) × (after ≡ left_by (Ok done) change before)
 Does change (Err faults.NoMemory) before after = (answer change before ≡ Ok true) × (after ≡ before)
 Does change (Err fault) before after = (answer change before ≡ Err fault) × (after ≡ before)
 
--- the calls made one after another, none refused for want of memory
+-- The state after a sequence of calls, if none runs out of memory.
 abbrev pub after_all : List Change → State → State
 after_all [] before = before
 after_all (change ∷ changes) before = after_all changes (left_by (answer change before) change before)
 
--- reached by changing calls alone
+-- The state is reached by changing calls only.
 unfoldable pub IsReached : State → State → Type 0
 IsReached before after = (changes : List Change) × (after ≡ after_all changes before)
 
--- the same, in the form that composes without a middle
+-- The same, in a form that composes without an intermediate state.
 abbrev pub Reaches : State → State → Type 0
 Reaches before after = (from : State) → IsReached from before → IsReached from after

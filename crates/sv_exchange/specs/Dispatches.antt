@@ -10,7 +10,7 @@ use Rattle.sv_exchange.specs.declared.kept_error.KeptError.{KeptError}
 use Rattle.sv_exchange.specs.declared.told_error.ToldError.{ToldError}
 use Rattle.sv_exchange.specs.State.{State}
 
--- the paths of a path in a context
+-- The paths for a path in a context.
 abbrev pub paths_at : List ℕ → List ℕ → Option (List ℕ) → Option (List ℕ) → Option (List ℕ) → Paths
 paths_at context_path path servlet_path path_info query = record {
   uri = context_path ++ path;
@@ -29,11 +29,11 @@ is_include_kind kinds.Error = false
 abbrev pub is_include : Dispatch → Bool
 is_include dispatch = is_include_kind dispatch.kind
 
--- whether an include is under way, at any depth
+-- Whether an include is active, at any depth.
 abbrev pub is_within_include : State → Bool
 is_within_include x = list_any is_include x.dispatches
 
--- the kind of the innermost dispatch
+-- The kind of the innermost dispatch.
 abbrev pub innermost_kind : List Dispatch → Kind
 innermost_kind [] = kinds.Request
 innermost_kind (dispatch ∷ outer) = dispatch.kind
@@ -41,7 +41,7 @@ innermost_kind (dispatch ∷ outer) = dispatch.kind
 abbrev pub kind_of : State → Kind
 kind_of x = innermost_kind (reverse x.dispatches)
 
--- the paths that are shown: those of the innermost dispatch that is no include, or else the client's
+-- The visible paths: those of the innermost dispatch that is not an include, or else the client's.
 abbrev pub innermost_paths : Paths → List Dispatch → Paths
 innermost_paths client [] = client
 innermost_paths client (dispatch ∷ outer) = if is_include dispatch then innermost_paths client outer else dispatch.paths
@@ -61,31 +61,31 @@ path_info_of x = (paths_of x).path_info
 abbrev pub query_of : State → Option (List ℕ)
 query_of x = (paths_of x).query
 
--- what the client asked for, once its own dispatch begins
+-- The client's paths after a dispatch begins. A dispatch of kind `Request` sets their servlet path and path info.
 abbrev pub client_in : Kind → Paths → Paths → Paths
 client_in kinds.Request paths client = record client { servlet_path = paths.servlet_path; path_info = paths.path_info }
 client_in kind paths client = client
 
--- what is told of an error (section 10.9.1)
+-- The description of an error for an error page (section 10.9.1).
 abbrev pub told_error : KeptError → ToldError
 told_error kept = record { status_code = decimal kept.status; message = kept.text; servlet_name = kept.servlet }
 
--- an error page is told of the error that is kept when it begins
+-- An error page gets the error that is kept when the page begins.
 abbrev pub error_in : Kind → Option KeptError → Option ToldError
 error_in kinds.Error kept = option_map told_error kept
 error_in kind kept = None
 
--- a dispatch begins
+-- A dispatch begins.
 abbrev pub entered : Kind → Paths → State → State
 entered kind paths before = record before {
   client = client_in kind paths before.client;
   dispatches = before.dispatches ++ (record { kind = kind; paths = paths; error = error_in kind before.kept }) ∷ [];
 }
 
--- the last one of a list goes
+-- The last dispatch of a list ends.
 abbrev pub LeavesOne : List Dispatch → List Dispatch → Type 0
 LeavesOne before after = (dispatch : Dispatch) × (before ≡ after ++ dispatch ∷ [])
 
--- the innermost dispatch ends, and what it set is taken back
+-- The innermost dispatch ends, and nothing else changes.
 abbrev pub Leaves : State → State → Type 0
 Leaves before after = (dispatch : Dispatch) × (before ≡ record after { dispatches = after.dispatches ++ dispatch ∷ [] })

@@ -1,4 +1,4 @@
--- The faults of changing calls: their names, and what to answer.
+-- The names and the response statuses of faults.
 use Rattle.std.specs.Prelude.{ℕ, List, codes}
 use Rattle.sv_exchange.specs.declared.exchange_fault.ExchangeFault.{ExchangeFault}
 use Rattle.sv_exchange.specs.declared.exchange_fault.ExchangeFault.TheVariants.{Committed, TooManySessions, SerialSpent, NoSession, NoMemory, BadHeader, TooLarge}
@@ -12,7 +12,8 @@ fault_name NoMemory = codes "NoMemory"
 fault_name BadHeader = codes "BadHeader"
 fault_name TooLarge = codes "TooLarge"
 
--- the status by which a component can answer it (RFC 9110, section 15.6): 503 where the server is full for now, else 500
+-- The status with which a component can respond to a fault (RFC 9110, section 15.6): 503 if the server is full for now,
+-- else 500.
 abbrev pub fault_status : ExchangeFault → ℕ
 fault_status Committed = 500
 fault_status TooManySessions = 503

@@ -1,21 +1,22 @@
--- What is kept of a request from its beginning to its answer, whatever components do (Jakarta Servlet 6.0, chapters 6, 9 and 10).
+-- The parts of an exchange that components cannot change (Jakarta Servlet 6.0, chapters 6, 9 and 10).
 use Rattle.std.specs.Prelude.{◌≡◌, suc, true, Some}
 use Rattle.sv_exchange.specs.declared.kept_error.KeptError.{KeptError}
 use Rattle.sv_exchange.specs.State.{State}
 
--- that is the error of which the answer will speak
+-- The state with the error that the response will report.
 abbrev pub with_kept : KeptError → State → State
 with_kept kept before = record before { kept = Some kept }
 
--- one call more
+-- The state with one more call.
 abbrev pub counted : State → State
 counted before = record before { calls = suc before.calls }
 
--- the answer breaks off behind the last flush
+-- The state with a truncated response.
 abbrev pub broken_off : State → State
 broken_off before = record before { broken = true }
 
--- what was asked, the dispatches that are under way, the error that is kept, the count of calls and whether the answer broke off are the same
+-- The request, the active dispatches, the kept error, the count of calls, the random words and whether the response is
+-- truncated are the same.
 pub record SameRequest (before after : State) : Type 0 where
   pub method : after.method ≡ before.method
   pub context_path : after.context_path ≡ before.context_path
@@ -31,6 +32,6 @@ pub record SameRequest (before after : State) : Type 0 where
   pub broken : after.broken ≡ before.broken
   pub words : after.words ≡ before.words
 
--- status and fields are the same
+-- The status and the fields are the same.
 abbrev pub SameHead : State → State → Type 0
 SameHead before after = (after.status ≡ before.status) × (after.fields ≡ before.fields)

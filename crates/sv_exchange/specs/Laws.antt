@@ -1,4 +1,4 @@
--- Laws over the definitions.
+-- Laws about the definitions.
 use Rattle.std.specs.Prelude.{◌≡◌, ◌↔◌, true, List}
 use Rattle.sv_exchange.specs.Changing.{Change, Reaches, after_all}
 use Rattle.sv_exchange.specs.Dispatches.{is_within_include}
@@ -6,18 +6,18 @@ use Rattle.sv_exchange.specs.Keeping.{SameHead, SameRequest}
 use Rattle.sv_exchange.specs.State.{State}
 use Rattle.sv_session.specs.Runs.{MovedByComponents}
 
--- what changes is reached by a list of calls, and the other way round
+-- A state is reached exactly if some list of changing calls leads to it.
 abbrev pub ChangesAreCalls : Type 0
 ChangesAreCalls = (before after : State) → (Reaches before after ↔ ((changes : List Change) × (after ≡ after_all changes before)))
 
--- changing calls leave the request as it is
+-- Changing calls keep the request.
 abbrev pub ChangesKeepTheRequest : Type 0
 ChangesKeepTheRequest = (before after : State) → Reaches before after → SameRequest before after
 
--- within an include changing calls leave the status and the fields as they are (section 9.3)
+-- Within an include, changing calls leave the status and the fields unchanged (section 9.3).
 abbrev pub IncludesKeepTheHead : Type 0
 IncludesKeepTheHead = (before after : State) → Reaches before after → is_within_include before ≡ true → SameHead before after
 
--- changing calls move the sessions of the context by calls that components can bring about at the request's moment
+-- Changing calls move the sessions of the context by calls that components can make at the time of the request.
 abbrev pub ChangesMoveTheSessions : Type 0
 ChangesMoveTheSessions = (before after : State) → Reaches before after → MovedByComponents before.moment before.store after.store

@@ -7,7 +7,7 @@ use Rattle.sv_exchange.specs.declared.dispatch.Dispatch.{Dispatch}
 use Rattle.sv_exchange.specs.Fields.{first_value}
 use Rattle.sv_exchange.specs.State.{State}
 
--- those of a query that may be absent
+-- The parameters of an optional query.
 abbrev pub query_parameters : Option (List ℕ) → List (List ℕ × List ℕ)
 query_parameters None = []
 query_parameters (Some query) = parameters_of query
@@ -15,18 +15,18 @@ query_parameters (Some query) = parameters_of query
 abbrev pub dispatch_parameters : Dispatch → List (List ℕ × List ℕ)
 dispatch_parameters dispatch = query_parameters dispatch.paths.query
 
--- those of the body, where it is a form
+-- The parameters of the body, if it is a form.
 abbrev pub body_parameters : State → List (List ℕ × List ℕ)
 body_parameters x = form_parameters x.method (first_value (codes "content-type") x.request_fields) x.body
 
--- those that the client itself sent: its query's, then its form's
+-- The parameters that the client sent: those of its query, then those of its form.
 abbrev pub client_parameters : State → List (List ℕ × List ℕ)
 client_parameters x = query_parameters x.client.query ++ body_parameters x
 
--- all of them: those of the dispatches that are under way come first, the innermost before the others
+-- All parameters. Those of the active dispatches come first, beginning with the innermost.
 abbrev pub all_parameters : State → List (List ℕ × List ℕ)
 all_parameters x = flat_map dispatch_parameters (reverse x.dispatches) ++ client_parameters x
 
--- the first value of that name
+-- The first value with the name.
 abbrev pub parameter_of : List ℕ → State → Option (List ℕ)
 parameter_of name x = first_named name (all_parameters x)

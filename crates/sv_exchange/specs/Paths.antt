@@ -1,5 +1,5 @@
--- The paths of a request or of a dispatch (Jakarta Servlet 6.0, section 3.5): the context path with the path, the canonical path in the context, the part of it
--- that the servlet's pattern names and what stands behind that, and the query.
+-- The paths of a request or of a dispatch (Jakarta Servlet 6.0, section 3.5). They are the context path with the path,
+-- the canonical path in the context, the part that the servlet's pattern matches, the rest after it, and the query.
 use Rattle.std.specs.Prelude.{ℕ, List, Option}
 
 pub record Paths : Type 0 where

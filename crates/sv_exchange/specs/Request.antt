@@ -1,4 +1,4 @@
--- What is told of the message that asks (Jakarta Servlet 6.0, sections 3.1 to 3.5).
+-- Queries on the request message (Jakarta Servlet 6.0, sections 3.1 to 3.5).
 use Rattle.std.specs.Prelude.{ℕ, List, Option, codes, slice_get}
 use Rattle.std.specs.Option.{option_map}
 use Rattle.http_header.specs.Token.{lowercase}
@@ -8,15 +8,15 @@ use Rattle.sv_parameters.specs.Form.{media_type}
 use Rattle.sv_exchange.specs.Fields.{first_value}
 use Rattle.sv_exchange.specs.State.{State}
 
--- the value at that place among those of the fields of that name, in any case
+-- The value at an index among the fields with the name, in any case.
 abbrev pub value_at : List ℕ → ℕ → List Field → Option (List ℕ)
 value_at name place fields = slice_get (values_of (lowercase name) fields) place
 
--- what the first Content-Type says in front of its parameters
+-- The first Content-Type without its parameters.
 abbrev pub media_type_of : State → Option (List ℕ)
 media_type_of x = option_map media_type (first_value (codes "content-type") x.request_fields)
 
--- the path that the client asked for, in the context and with the context's own in front
+-- The path that the client requested, in the context and with the context path in front.
 abbrev pub client_path_of : State → List ℕ
 client_path_of x = x.client.path
 

@@ -19,7 +19,7 @@ use Rattle.sv_exchange.specs.declared.exchange_fault.ExchangeFault.{ExchangeFaul
 use Rattle.sv_exchange.specs.declared.exchange_fault.ExchangeFault.TheVariants as faults
 use Rattle.sv_exchange.specs.State.{State}
 
--- a refusal of a call on sessions, as the exchange answers it
+-- The fault of the exchange for a refused call on sessions.
 abbrev pub fault_of : SessionFault → ExchangeFault
 fault_of session_faults.TooMany = faults.TooManySessions
 fault_of session_faults.SerialSpent = faults.SerialSpent
@@ -27,46 +27,47 @@ fault_of session_faults.NoSuch = faults.NoSession
 fault_of session_faults.NoMemory = faults.NoMemory
 fault_of session_faults.TooLarge = faults.TooLarge
 
--- the number of the request's session, while it lives
+-- The number of the request's session, if it is alive.
 abbrev pub session_of : State → Option ℕ
 session_of x = option_and_then (λ number. option_map (λ id. number) (calls.id_of number x.store)) x.session
 
 abbrev pub has_session : State → Bool
 has_session x = is_some (session_of x)
 
--- its id
+-- The id of the session.
 abbrev pub session_id_of : State → Option (List ℕ)
 session_id_of x = option_and_then (λ number. calls.id_of number x.store) x.session
 
--- the value of an attribute of that session
+-- The value of an attribute of the session.
 abbrev pub session_value : List ℕ → State → Option (List ℕ)
 session_value name x = option_and_then (λ number. calls.value_of number name x.store) (session_of x)
 
--- its attributes, in the order in which they were first set
+-- The attributes of the session, in the order of their first setting.
 abbrev pub session_attributes_of : State → List Attribute
 session_attributes_of x = option_map_or (λ number. attributes_of number x.store) (session_of x) []
 
--- whether the caller has the role; every caller is in `**`, none in `*`
+-- Whether the caller has the role. Every caller has `**`, and none has `*`.
 abbrev pub is_in_role : List ℕ → Option Caller → Bool
 is_in_role role None = false
 is_in_role role (Some caller) =
     bytes_eq role (codes "**") || (not (bytes_eq role (codes "*")) && list_any (λ own. bytes_eq own role) caller.roles)
 
--- what changes with the session's number; nothing where no session lives
+-- Applies a change to the session with its number. Nothing changes if no session is alive.
 abbrev pub on_session : (ℕ → State → State) → State → State
 on_session change before = option_map_or (λ number. change number before) (session_of before) before
 
--- the path of a context, as a cookie has it
+-- The path of a context, as it is written in a cookie.
 abbrev pub context_cookie_path : List ℕ → List ℕ
 context_cookie_path [] = codes "/"
 context_cookie_path context_path = location context_path
 
--- the path below which the cookie is sent back (section 7.1.1): the one that the settings have, as it stands, or else the context's
+-- The path under which the client sends the cookie back (section 7.1.1): the path of the settings, unchanged, or else
+-- the context's.
 abbrev pub cookie_path : Option (List ℕ) → List ℕ → List ℕ
 cookie_path (Some path) context_path = path
 cookie_path None context_path = context_cookie_path context_path
 
--- the cookie of a session of that id
+-- The cookie of the session with the id.
 abbrev pub cookie_of : CookieSettings → List ℕ → List ℕ → Cookie
 cookie_of settings context_path id = record {
   name = settings.name;
@@ -76,14 +77,14 @@ cookie_of settings context_path id = record {
   max_age = settings.max_age;
 }
 
--- the number of the session that would be opened, and its cookie
+-- The number and the cookie of the next session to be opened.
 abbrev pub next_number : State → ℕ
 next_number before = before.store.serial + 1
 
 abbrev pub next_cookie : State → Cookie
 next_cookie before = cookie_of before.cookie_settings before.context_path (id_text before.words (next_number before))
 
--- a session is opened (section 7.2)
+-- A session is opened (section 7.2).
 abbrev pub opened : State → State
 opened before = record before {
   store = calls.opened before.words before.moment before.store;
@@ -92,7 +93,7 @@ opened before = record before {
   events = before.events ++ SessionCreated (next_number before) ∷ [];
 }
 
--- an attribute of the session is set (section 7.4)
+-- An attribute of the session is set (section 7.4).
 abbrev pub setting_event : ℕ → List ℕ → Option (List ℕ) → Event
 setting_event number name None = AttributeAdded number name
 setting_event number name (Some value) = AttributeReplaced number name
@@ -103,14 +104,14 @@ with_attribute name value number before = record before {
   events = before.events ++ setting_event number name (calls.value_of number name before.store) ∷ [];
 }
 
--- an attribute of the session is removed
+-- An attribute of the session is removed.
 abbrev pub without_attribute : List ℕ → ℕ → State → State
 without_attribute name number before = record before {
   store = calls.without_attribute number name before.store;
   events = before.events ++ AttributeRemoved number name ∷ [];
 }
 
--- the session ends, and its attributes with it (sections 7.6 and 11.3); a cookie that was sent stays sent
+-- The session ends with its attributes (sections 7.6 and 11.3). The cookie of a committed response stays.
 abbrev pub ending_events : ℕ → List Attribute → List Event
 ending_events number attributes = SessionDestroyed number ∷ map (λ attribute. AttributeRemoved number attribute.name) attributes
 
@@ -123,14 +124,14 @@ ended number before = record before {
   events = before.events ++ ending_events number (attributes_of number before.store);
 }
 
--- the caller leaves the session, which stays (section 13.6.3)
+-- The caller leaves the session, which stays open (section 13.6.3).
 abbrev pub without_caller : ℕ → State → State
 without_caller number before = record before { store = calls.with_caller number None before.store }
 
 abbrev pub logged_out : State → State
 logged_out before = record (on_session without_caller before) { caller = None }
 
--- what the calls answer: where a session has to live, and where one is to be opened or an attribute set
+-- The result of a call that needs a session, and the faults of opening a session and of setting an attribute.
 abbrev pub wants_session : State → Result Bool ExchangeFault
 wants_session before = if has_session before then Ok true else Err faults.NoSession
 

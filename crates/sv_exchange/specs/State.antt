@@ -1,6 +1,7 @@
--- An exchange as contracts see it: what was asked of which context and whether the client reads chunks, the dispatches that are under way,
--- what is answered so far (its pieces up to the last flush, and what was written since), how many calls of `before` and of `service` were made, the error of which the answer will speak, and the session with the events that are still to
--- be told (Jakarta Servlet 6.0, chapters 3, 5, 7, 9, 10 and 11).
+-- An exchange as contracts see it (Jakarta Servlet 6.0, chapters 3, 5, 7, 9, 10 and 11). It holds the request and its
+-- context, whether the client reads chunks, and the active dispatches. It holds the response so far, as the pieces up
+-- to the last flush and the bytes written since. It also holds the number of calls of `before` and `service`, the error
+-- that the response will report, and the session with its pending events.
 use Rattle.std.specs.Prelude.{ℕ, Bool, List, Option}
 use Rattle.sv_head.specs.declared.field.Field.{Field}
 use Rattle.sv_event.specs.declared.event.Event.{Event}

@@ -1,4 +1,4 @@
-//! What an exchange tells of the answer so far.
+//! Queries on the response so far.
 
 ghost use Rattle.std.specs.Prelude.{◌≡◌};
 
@@ -8,22 +8,24 @@ use sv_head::Field;
 impl Exchange {
     ghost use Rattle.sv_exchange.specs.Answered.{written_len};
 
-    /// The status of the answer so far (Jakarta Servlet 6.0, chapter 5).
+    /// Returns the status of the response so far (Jakarta Servlet 6.0, chapter 5).
     pub fn status(&self) -> u16
         ensures { result ≡ self.now.status }
     {
         self.status
     }
 
-    /// The fields of the answer so far, in the order in which they were set (Jakarta Servlet 6.0, section 5.2). Their names are in lower
-    /// case. The lines that the server alone writes are not among them, nor is that of the session's cookie.
+    /// Returns the fields of the response so far, in the order of their lines (Jakarta Servlet 6.0, section 5.2). Their
+    /// names are in lower case. The fields that only the server writes are not included, and neither is the session
+    /// cookie.
     pub fn fields(&self) -> &[Field]
         ensures { result.now ≡ self.now.fields }
     {
         self.fields.as_slice()
     }
 
-    /// How many bytes of the body were written so far, flushed or not (Jakarta Servlet 6.0, section 5.1); the greatest number where they are more.
+    /// Returns the number of bytes of the body written so far, flushed or not, but at most the maximum `usize` (Jakarta
+    /// Servlet 6.0, section 5.1).
     pub fn written(&self) -> usize
         ensures { result ≡ written_len self.now }
     {

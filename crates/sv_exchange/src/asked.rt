@@ -1,4 +1,4 @@
-//! What an exchange keeps of its context from one request to the next.
+//! The context path and the cookie settings that an exchange keeps from one request to the next.
 
 ghost use Rattle.std.specs.Prelude.{◌≡◌, [], IsTrue, OnOk};
 ghost use Rattle.sv_exchange.specs.Beginning.{no_settings};
@@ -7,14 +7,14 @@ use std::alloc::Global;
 use sv_message::CookieSettings;
 use sv_text::{NoMemory, Text};
 
-/// A text of no bytes, which takes no memory.
+/// Returns an empty text. Takes no memory.
 pub(crate) fn no_text(alloc: Global) -> Text
     ensures { result ≡ [] }
 {
     Text::from_string(String::new(alloc))
 }
 
-/// Settings of a cookie without a name.
+/// Returns settings for a cookie without a name.
 pub(crate) fn no_settings(alloc: Global) -> CookieSettings
     ensures { result ≡ no_settings }
 {
@@ -26,7 +26,7 @@ pub(crate) fn no_settings(alloc: Global) -> CookieSettings
     }
 }
 
-/// Has a text be another. Where it is that already, it takes no memory.
+/// Sets a text to the other one. Takes no memory if they are equal.
 #[inline(always)]
 pub(crate) fn set_text(alloc: Global, text: &mut Text, other: &str) -> Result<(), NoMemory>
     ensures { OnOk result (text.new ≡ other.now) }
@@ -37,7 +37,7 @@ pub(crate) fn set_text(alloc: Global, text: &mut Text, other: &str) -> Result<()
     Ok(())
 }
 
-/// Has settings be others. Where they are that already, it takes no memory.
+/// Sets settings to the other ones. Takes no memory if they are equal.
 pub(crate) fn set_settings(
     alloc: Global,
     settings: &mut CookieSettings,
@@ -51,7 +51,7 @@ pub(crate) fn set_settings(
     Ok(())
 }
 
-// Whether settings say the same.
+// Returns whether two settings are equal.
 fn are_same(settings: &CookieSettings, others: &CookieSettings) -> bool
     ensures { IsTrue result → settings.now ≡ others.now }
 {
@@ -61,7 +61,7 @@ fn are_same(settings: &CookieSettings, others: &CookieSettings) -> bool
         && settings.max_age == others.max_age
 }
 
-// Whether a text that may be absent is another.
+// Returns whether two optional texts are equal.
 fn is_same(text: &Option<Text>, other: &Option<Text>) -> bool
     ensures { IsTrue result → text.now ≡ other.now }
 {

@@ -28,14 +28,14 @@ const MESSAGE: &[u8] = b"message";
 
 const SERVLET_NAME: &[u8] = b"servlet_name";
 
-/// Whether dispatches alone set attributes of that name.
+/// Returns whether only dispatches set attributes with the name.
 pub(crate) fn is_reserved_attribute(name: &str) -> bool
     ensures { result ≡ is_reserved_attribute name.now }
 {
     name.as_bytes().starts_with(b"jakarta.servlet.")
 }
 
-/// The value of the attribute of that name.
+/// Returns the value of the attribute with the name.
 pub(crate) fn value_named<'a>(name: &str, attributes: &'a [Attribute]) -> Option<&'a str>
     ensures { option_copied result ≡ value_named name.now attributes.now }
 {
@@ -47,7 +47,7 @@ pub(crate) fn value_named<'a>(name: &str, attributes: &'a [Attribute]) -> Option
     None
 }
 
-/// Gives the attribute of that name the value, or adds one. After a refusal the attributes are as they were.
+/// Sets the value of the attribute with the name, or adds one. After [`NoMemory`] the attributes are unchanged.
 pub(crate) fn set_value(
     alloc: Global,
     name: &str,
@@ -77,7 +77,7 @@ fn place_of(name: &str, attributes: &[Attribute]) -> Option<usize>
         .position(|attribute| attribute.name.as_str() == name)
 }
 
-/// What the innermost dispatch tells that sets names of that front.
+/// Returns the value of a reserved attribute from the innermost dispatch that sets names with its prefix.
 pub(crate) fn told_innermost<'a>(
     exchange: &'a Exchange,
     name: &str,
@@ -105,7 +105,7 @@ fn rest_of(kind: Kind, name: &str) -> Option<&[u8]>
     }
 }
 
-// What stands behind the front.
+// Returns the rest of the name after the prefix, if it begins with the prefix.
 fn behind<'a>(front: &[u8], name: &'a [u8]) -> Option<&'a [u8]>
     ensures { option_copied result ≡ behind front.now name.now }
 {

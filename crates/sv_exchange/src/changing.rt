@@ -1,4 +1,4 @@
-//! The calls by which components change an exchange.
+//! Calls of components that change an exchange.
 
 ghost use Rattle.std.specs.Prelude.{◌≡◌};
 ghost use Rattle.sv_exchange.specs.Changing.{is_settable};
@@ -16,8 +16,8 @@ impl Exchange {
     ghost use Rattle.sv_exchange.specs.Dispatches.{is_within_include};
     ghost use Rattle.sv_exchange.specs.Changing.{AddHeader, Reaches, Does, Flush, SetAttribute, SetHeader, SetStatus, Write, answer, has_room, is_free, is_open};
 
-    /// Sets the status. `Ok(false)` says that it is ignored: the response is committed, an include is under way, or the status is
-    /// outside 200 to 599 or one of 205 and 304. No fault comes.
+    /// Sets the status. Returns `Ok(false)` if the call is ignored: the response is committed, an include is active, or
+    /// the status is outside 200 to 599 or is 205 or 304. The call never fails.
     pub fn set_status(&mut self, status: u16) -> Result<bool, ExchangeFault>
         ensures does { Does (SetStatus status) result self.old self.new }
         ensures answered { result ≡ answer (SetStatus status) self.old }
@@ -26,9 +26,10 @@ impl Exchange {
         self.do_set_status(status)
     }
 
-    /// Gives the first field of the name, in any case, the value as it is given and removes the others of that name; where there is
-    /// none, adds one (Jakarta Servlet 6.0, section 5.2). `Ok(false)` says that it is ignored: the response is committed, an include
-    /// is under way, or the server alone writes fields of the name. The faults are `BadHeader`, then `NoMemory`; nothing changes then.
+    /// Sets the first field with the name, in any case, to the value as given, and removes the others with the name.
+    /// Adds a field if there is none (Jakarta Servlet 6.0, section 5.2). Returns `Ok(false)` if the call is ignored:
+    /// the response is committed, an include is active, or only the server writes fields with the name. The faults are
+    /// `BadHeader`, then `NoMemory`; nothing changes on a fault.
     pub fn set_header(&mut self, name: &str, value: &str) -> Result<bool, ExchangeFault>
         ensures does { Does (SetHeader name.now value.now) result self.old self.new }
         ensures reached { Reaches self.old self.new }
@@ -36,7 +37,8 @@ impl Exchange {
         self.do_set_header(name, value)
     }
 
-    /// Adds a field behind the others, whatever their names. It is ignored and refused as [`set_header`](Exchange::set_header) is.
+    /// Adds a field after the others, whatever their names. The call is ignored and fails like
+    /// [`set_header`](Exchange::set_header).
     pub fn add_header(&mut self, name: &str, value: &str) -> Result<bool, ExchangeFault>
         ensures does { Does (AddHeader name.now value.now) result self.old self.new }
         ensures reached { Reaches self.old self.new }
@@ -44,8 +46,8 @@ impl Exchange {
         self.do_add_header(name, value)
     }
 
-    /// Writes bytes behind the body. It is never ignored. The faults are `TooLarge` where the body would pass
-    /// [`MAX_BODY_LEN`], then `NoMemory`; nothing is written then.
+    /// Appends bytes to the body. The call is never ignored. The faults are `TooLarge` if the body would exceed
+    /// [`MAX_BODY_LEN`], then `NoMemory`; nothing is written on a fault.
     pub fn write(&mut self, bytes: &[u8]) -> Result<bool, ExchangeFault>
         ensures does { Does (Write bytes.now) result self.old self.new }
         ensures reached { Reaches self.old self.new }
@@ -53,8 +55,9 @@ impl Exchange {
         self.do_write(bytes)
     }
 
-    /// Gives the attribute of the name, with case, the value, or adds one (Jakarta Servlet 6.0, section 3.3). `Ok(false)` says that
-    /// it is ignored: dispatches alone set names that begin with `jakarta.servlet.`. The fault is `NoMemory`; nothing changes then.
+    /// Sets the value of the attribute with the name, which is case-sensitive, or adds one (Jakarta Servlet 6.0,
+    /// section 3.3). Returns `Ok(false)` if the call is ignored: only dispatches set names that begin with
+    /// `jakarta.servlet.`. The fault is `NoMemory`; nothing changes on a fault.
     pub fn set_attribute(&mut self, name: &str, value: &str) -> Result<bool, ExchangeFault>
         ensures does { Does (SetAttribute name.now value.now) result self.old self.new }
         ensures reached { Reaches self.old self.new }
@@ -62,9 +65,9 @@ impl Exchange {
         self.do_set_attribute(name, value)
     }
 
-    /// Commits the response: its status, its fields and its cookie stay as they are, and what was written since the last flush leaves as a
-    /// piece, where anything was (Jakarta Servlet 6.0, section 5.1). It is never ignored. The fault is `NoMemory`; nothing changes
-    /// then.
+    /// Commits the response: its status, its fields and its cookie are fixed. The bytes written since the last flush,
+    /// if any, are sent as a piece (Jakarta Servlet 6.0, section 5.1). The call is never ignored. The fault is
+    /// `NoMemory`; nothing changes on a fault.
     pub fn flush(&mut self) -> Result<bool, ExchangeFault>
         ensures does { Does Flush result self.old self.new }
         ensures reached { Reaches self.old self.new }
@@ -72,14 +75,15 @@ impl Exchange {
         self.do_flush()
     }
 
-    // Whether status and fields can be changed.
+    // Returns whether the status and the fields can be changed.
     fn is_open(&self) -> bool
         ensures { result ≡ is_open self.now }
     {
         !self.committed && !self.is_within_include()
     }
 
-    /// Whether an include is under way, at any depth: status and fields stay as they are then (Jakarta Servlet 6.0, section 9.3).
+    /// Returns whether an include is active, at any depth, so that the status and the fields are fixed (Jakarta Servlet
+    /// 6.0, section 9.3).
     pub fn is_within_include(&self) -> bool
         ensures { result ≡ is_within_include self.now }
     {
@@ -89,7 +93,7 @@ impl Exchange {
             .any(|dispatch| dispatch.is_include())
     }
 
-    // Whether a field of that name can be set.
+    // Returns whether a field with the name can be set.
     #[inline(always)]
     fn is_free(&self, name: &str) -> bool
         ensures { result ≡ is_free name.now self.now }
@@ -97,7 +101,7 @@ impl Exchange {
         self.is_open() && !is_reserved_field(name)
     }
 
-    // Whether the body can take that many bytes more.
+    // Returns whether the body can take `count` more bytes.
     fn has_room(&self, count: usize) -> bool
         ensures { result ≡ has_room count self.now }
     {
@@ -174,7 +178,8 @@ impl Exchange {
     }
 }
 
-// Gives a body of which nothing was written room for that many bytes, and for some more, so that small writes behind it need no growth.
+// Gives a buffer without capacity room for `count` bytes, and for at least `FIRST_ROOM`, so that later small writes do
+// not grow it.
 fn make_room(buffer: &mut Vec<u8>, count: usize) -> Result<(), NoMemory>
     ensures { buffer.new.items ≡ buffer.old.items }
 {
@@ -184,7 +189,7 @@ fn make_room(buffer: &mut Vec<u8>, count: usize) -> Result<(), NoMemory>
     Ok(())
 }
 
-// Whether a component may set the status.
+// Returns whether a component may set the status.
 fn is_settable(status: u16) -> bool
     ensures { result ≡ is_settable status }
 {

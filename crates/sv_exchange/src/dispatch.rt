@@ -1,4 +1,4 @@
-//! A dispatch, and the paths that it sets.
+//! A dispatch and its paths.
 
 ghost use Rattle.std.specs.Prelude.{◌≡◌, [], ◌++◌, None, OnOk, unwrap_or};
 ghost use Rattle.std.specs.Option.{option_copied};
@@ -13,27 +13,27 @@ use sv_mapping::Kind;
 use sv_message::Rare;
 use sv_text::{NoMemory, Text};
 
-/// A dispatch that is under way: its kind, and what it is asked for (Jakarta Servlet 6.0, chapter 9).
+/// An active dispatch: its kind and its paths (Jakarta Servlet 6.0, chapter 9).
 #[derive(Debug, Drop)]
 pub struct Dispatch {
     pub kind: Kind,
     pub paths: Paths,
-    /// The error that was kept when an error page began; `None` for other kinds.
+    /// The error that was kept when an error page began; `None` if there was none, and for other kinds.
     pub error: Rare<ToldError>,
 }
 
 /// The paths of a request or of a dispatch (Jakarta Servlet 6.0, section 3.5).
 #[derive(Debug, Drop)]
 pub struct Paths {
-    // The context path with the path; `None` where that is the path alone.
+    // The context path with the path; `None` if the context path is empty.
     uri: Option<Text>,
     /// The canonical path in the context.
     pub path: Text,
-    /// The part of the path that the servlet's pattern names; `None` before a servlet was chosen.
+    /// The part of the path that the servlet's pattern matches; `None` before a servlet is chosen.
     pub servlet_path: Option<Text>,
-    /// What stands behind it, `None` where nothing does.
+    /// The rest of the path after it; `None` if there is none.
     pub path_info: Option<Text>,
-    /// The query, `None` where there is none.
+    /// The query; `None` if there is none.
     pub query: Option<Text>,
 }
 
@@ -53,7 +53,7 @@ impl Model for Paths {
 }
 
 impl Paths {
-    /// No path.
+    /// Returns empty paths. Takes no memory.
     pub(crate) fn empty(alloc: Global) -> Paths
         ensures { result ≡ paths_at [] [] None None None }
     {
@@ -66,7 +66,8 @@ impl Paths {
         }
     }
 
-    /// Has them be those of a path in a context. What is as before is not copied, and in the root context neither is the URI.
+    /// Sets the paths to those of a path in a context. Unchanged texts are not copied, except for the URI outside of
+    /// the root context, which is always built again.
     #[inline(always)]
     pub(crate) fn set(
         &mut self,
@@ -87,14 +88,14 @@ impl Paths {
         set_option(alloc, &mut self.query, query)
     }
 
-    /// The query, `None` where there is none.
+    /// Returns the query; `None` if there is none.
     pub(crate) fn query(&self) -> &Option<Text>
         ensures { result.now ≡ self.now.query }
     {
         &self.query
     }
 
-    /// The context path with the path.
+    /// Returns the context path with the path.
     pub fn uri(&self) -> &str
         ensures { result.now ≡ self.now.uri }
     {
@@ -106,7 +107,7 @@ impl Paths {
 }
 
 impl Dispatch {
-    /// Whether it is an include.
+    /// Returns whether the dispatch is an include.
     pub(crate) fn is_include(&self) -> bool
         ensures { result ≡ is_include self.now }
     {
@@ -114,7 +115,7 @@ impl Dispatch {
     }
 }
 
-/// Copies a text that may be absent.
+/// Copies an optional text.
 #[inline(always)]
 pub(crate) fn copied(alloc: Global, text: Option<&str>) -> Result<Option<Text>, NoMemory>
     ensures { GivesAnswer result (option_copied text.entry) }
@@ -125,7 +126,7 @@ pub(crate) fn copied(alloc: Global, text: Option<&str>) -> Result<Option<Text>, 
     }
 }
 
-/// The text, if it is there.
+/// Returns the text, if there is one.
 pub(crate) fn shown(text: &Option<Text>) -> Option<&str>
     ensures { option_copied result ≡ text.now }
 {
@@ -135,7 +136,7 @@ pub(crate) fn shown(text: &Option<Text>) -> Option<&str>
     }
 }
 
-// Has a text that may be absent be another. Where it is that already, it takes no memory.
+// Sets an optional text to the other one. Takes no memory if they are equal.
 #[inline(always)]
 fn set_option(alloc: Global, text: &mut Option<Text>, other: Option<&str>) -> Result<(), NoMemory>
     ensures { OnOk result (text.new ≡ option_copied other.entry) }
@@ -151,7 +152,7 @@ fn set_option(alloc: Global, text: &mut Option<Text>, other: Option<&str>) -> Re
     Ok(())
 }
 
-// Has what is kept of a URI be that of a path in a context. In the root context it is the path, and nothing is kept.
+// Sets the stored URI to that of a path in a context. In the root context the URI is the path, and nothing is stored.
 #[inline(always)]
 fn set_uri(
     alloc: Global,
@@ -169,7 +170,7 @@ fn set_uri(
     Ok(())
 }
 
-// Both texts, one behind the other.
+// Concatenates two texts.
 fn joined(alloc: Global, front: &str, back: &str) -> Result<Text, NoMemory>
     ensures { GivesAnswer result (front.now ++ back.now) }
 {

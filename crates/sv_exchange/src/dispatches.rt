@@ -1,4 +1,4 @@
-//! The dispatches that are under way.
+//! The active dispatches.
 
 ghost use Rattle.std.specs.Prelude.{◌≡◌, ◌≤◌, ◌+◌, [], ◌∷◌, ◌++◌, OnErr, OnOk, Some, take, vec_capacity, vec_len, ◌<◌};
 ghost use Rattle.std.specs.Option.{option_copied};
@@ -12,12 +12,12 @@ use sv_mapping::Kind;
 use sv_message::Rare;
 use sv_text::NoMemory;
 
-/// The dispatches that are under way, the innermost last. One that has ended keeps its place, and the next that begins there is set in its memory. Contracts see
-/// the list of those that are under way.
+/// The active dispatches, the innermost last. A dispatch that ends keeps its slot, and the next one in that slot reuses
+/// its memory. Contracts see the list of active dispatches.
 #[derive(Drop)]
 pub(crate) struct Dispatches {
     list: Vec<Dispatch>,
-    /// So many of them are under way, the first ones.
+    /// The number of active dispatches, which come first in the list.
     depth: usize,
 }
 
@@ -36,7 +36,7 @@ impl Dispatches {
     ghost use Rattle.std.specs.Prelude.{◌<◌, length};
     ghost use Rattle.sv_exchange.specs.Dispatches.{LeavesOne};
 
-    /// None. It takes no memory.
+    /// Returns no dispatches. Takes no memory.
     pub(crate) fn new(alloc: Global) -> Dispatches
         ensures { result ≡ [] }
     {
@@ -46,7 +46,7 @@ impl Dispatches {
         }
     }
 
-    /// Those that are under way.
+    /// Returns the active dispatches.
     #[inline(always)]
     pub(crate) fn as_slice(&self) -> &[Dispatch]
         ensures { result.now ≡ self.now }
@@ -54,14 +54,14 @@ impl Dispatches {
         self.list.as_slice().split_at(self.depth).0
     }
 
-    /// Ends all.
+    /// Ends all dispatches.
     pub(crate) fn clear(&mut self)
         ensures { self.new ≡ [] }
     {
         self.depth = 0;
     }
 
-    /// Begins one more to a path in a context. After [`NoMemory`] nothing has changed.
+    /// Begins a dispatch to a path in a context. After [`NoMemory`] nothing has changed.
     #[inline(always)]
     pub(crate) fn push(
         &mut self,
@@ -97,7 +97,7 @@ impl Dispatches {
         Ok(())
     }
 
-    /// Ends the last one, without taking memory.
+    /// Ends the last dispatch, without taking memory.
     pub(crate) fn pop(&mut self)
         requires { 0 < length self.old }
         ensures { LeavesOne self.old self.new }
@@ -106,7 +106,7 @@ impl Dispatches {
     }
 }
 
-// Has the dispatch behind so many be one to a path in a context.
+// Sets the dispatch at index `depth` to one for a path in a context, and adds it if it does not exist.
 #[inline(always)]
 fn set_behind(
     alloc: Global,
@@ -152,7 +152,8 @@ fn set_behind(
     Ok(())
 }
 
-// Makes room for one dispatch more. The first one gets no more room than its own: most requests have no other, and a dispatch is large.
+// Makes room for one more dispatch. The first one gets exactly its own room, since most requests have no other and a
+// dispatch is large.
 fn make_room(dispatches: &mut Vec<Dispatch>) -> Result<(), NoMemory>
     ensures stays { dispatches.new.items ≡ dispatches.old.items }
     ensures room { OnOk result (vec_len dispatches.new < vec_capacity dispatches.new) }

@@ -1,4 +1,4 @@
-//! What dispatches do to an exchange, which components cannot.
+//! The operations on an exchange that only the container uses.
 
 ghost use Rattle.std.specs.Prelude.{◌≡◌, ◌<◌, [], length, OnOk, OnErr, Some};
 ghost use Rattle.std.specs.Option.{option_copied};
@@ -16,10 +16,10 @@ impl Exchange {
     ghost use Rattle.sv_exchange.specs.Dispatches.{Leaves, entered, error_in, paths_at};
     ghost use Rattle.sv_exchange.specs.Keeping.{broken_off, counted, with_kept};
 
-    /// Begins a dispatch of that kind to that path in the context: its kind, its paths and its attributes are the ones shown until
-    /// [`leave`](Exchange::leave) ends it (Jakarta Servlet 6.0, sections 9.3.1, 9.4.2 and 10.9.1). In an include the paths of the includer
-    /// go on to be shown, and changes of status and fields are ignored. An error page is told of the error that is kept at its beginning.
-    /// After [`NoMemory`] nothing has changed.
+    /// Begins a dispatch of a kind to a path in the context. Its kind, paths and attributes are visible until
+    /// [`leave`](Exchange::leave) ends it (Jakarta Servlet 6.0, sections 9.3.1, 9.4.2 and 10.9.1). In an include, the
+    /// paths of the includer stay visible, and changes of the status and the fields are ignored. An error page gets the
+    /// error that is kept when it begins. After [`NoMemory`] nothing has changed.
     pub fn enter(
         &mut self,
         kind: Kind,
@@ -56,7 +56,7 @@ impl Exchange {
         Ok(())
     }
 
-    /// Ends the innermost dispatch, without taking memory: what was shown before it is shown again.
+    /// Ends the innermost dispatch, without taking memory. The dispatch around it, if any, becomes the innermost.
     pub fn leave(&mut self)
         requires { 0 < length self.old.dispatches }
         ensures { Leaves self.old self.new }
@@ -64,14 +64,14 @@ impl Exchange {
         self.dispatches.pop();
     }
 
-    /// Empties what was written behind the last flush, without taking memory.
+    /// Drops the bytes written since the last flush, without taking memory.
     pub fn clear(&mut self)
         ensures { self.new ≡ record self.old { buffer = [] } }
     {
         self.buffer.clear();
     }
 
-    /// Empties what was written behind the last flush, and the fields, without taking memory. The status stays.
+    /// Drops the bytes written since the last flush, and the fields, without taking memory. The status stays.
     pub fn reset(&mut self)
         ensures { self.new ≡ record self.old { buffer = []; fields = [] } }
     {
@@ -79,9 +79,9 @@ impl Exchange {
         self.fields.clear();
     }
 
-    /// Keeps an error until its answer: the status that is answered, its text, the servlet in which it arose where one was chosen, and
-    /// the field that goes with the answer (Jakarta Servlet 6.0, section 10.9). It takes the place of an earlier one. What an error page
-    /// that is under way tells stays as it is. After [`NoMemory`] nothing has changed.
+    /// Keeps an error for the response: its status and text, the servlet that caused it if one was chosen, and a field
+    /// to send with it (Jakarta Servlet 6.0, section 10.9). It replaces an earlier error, but an active error page
+    /// still reports the error that it began with. After [`NoMemory`] nothing has changed.
     pub fn keep_error(
         &mut self,
         status: u16,
@@ -103,29 +103,29 @@ impl Exchange {
         Ok(())
     }
 
-    /// Breaks the answer off, without taking memory: once it is committed, what was written behind the last flush is not sent, and neither
-    /// is the end of the body.
+    /// Truncates the response, without taking memory. If the response is committed, neither the bytes written since the
+    /// last flush nor the end of the body are sent.
     pub fn break_off(&mut self)
         ensures { self.new ≡ broken_off self.old }
     {
         self.broken = true;
     }
 
-    /// The error that was kept last, `None` where none was.
+    /// Returns the last kept error; `None` if there is none.
     pub fn kept(&self) -> Option<&KeptError>
         ensures { option_copied result ≡ self.now.kept }
     {
         self.kept.get()
     }
 
-    /// How many calls of `before` and `service` the request has had.
+    /// Returns the number of calls of `before` and `service` for the request.
     pub fn calls(&self) -> u32
         ensures { result ≡ self.now.calls }
     {
         self.calls
     }
 
-    /// Counts one call more. A request has fewer than 4,294,967,295 of them.
+    /// Counts one more call. There must be fewer than 4,294,967,295 calls so far.
     pub fn count_call(&mut self)
         requires { self.old.calls < 4294967295 }
         ensures { self.new ≡ counted self.old }
@@ -133,7 +133,7 @@ impl Exchange {
         self.calls += 1;
     }
 
-    // What an error page of this moment is told; nothing for other kinds.
+    // Returns the error for an error page that begins now; none for other kinds.
     fn error_in(&self, kind: Kind) -> Result<Rare<ToldError>, NoMemory>
         ensures { GivesAnswer result (error_in kind self.now.kept) }
     {

@@ -1,4 +1,4 @@
-//! Events that are still to be told.
+//! Events that are still to be reported.
 
 ghost use Rattle.std.specs.Prelude.{◌≡◌, ◌++◌, ◌∷◌, ◌<◌, [], IfOk, drop, slice_get};
 ghost use Rattle.std.specs.VecDeque.{deque_capacity, deque_len};
@@ -12,7 +12,8 @@ use sv_session::Attribute;
 use sv_text::{NoMemory, Text};
 
 impl Exchange {
-    /// Takes the oldest event of the request's session that was not taken yet, without taking memory (Jakarta Servlet 6.0, section 11.3).
+    /// Removes and returns the oldest pending event of the request's session, without taking memory (Jakarta Servlet
+    /// 6.0, section 11.3).
     pub fn take_event(&mut self) -> Option<Event>
         ensures oldest { result ≡ slice_get self.old.events 0 }
         ensures left { self.new ≡ record self.old { events = drop 1 self.old.events } }
@@ -21,7 +22,7 @@ impl Exchange {
     }
 }
 
-/// Adds an event behind the others, for which there is room.
+/// Appends an event. There must be room for it.
 pub(crate) fn push(events: &mut VecDeque<Event>, event: Event)
     requires { deque_len events.old < deque_capacity events.old }
     ensures { events.new.items ≡ events.old.items ++ event ∷ [] }
@@ -30,7 +31,7 @@ pub(crate) fn push(events: &mut VecDeque<Event>, event: Event)
     let _room = events.push_back(event);
 }
 
-/// What is told of a session that ends.
+/// Returns the events of a session that ends.
 pub(crate) fn ending_events(
     alloc: Global,
     number: u64,

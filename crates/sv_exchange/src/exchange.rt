@@ -26,7 +26,8 @@ use sv_session::Sessions;
 use sv_text::{Bytes, Listed, NoMemory, Text};
 use sv_uri::path::Canon;
 
-/// A request with the answer that components make of it (Jakarta Servlet 6.0, chapters 3 and 5). Contracts see it as a `State`.
+/// A request and the response that components make (Jakarta Servlet 6.0, chapters 3 and 5). Contracts see it as a
+/// `State`.
 #[derive(Drop)]
 pub struct Exchange {
     pub(crate) alloc: Global,
@@ -92,7 +93,7 @@ impl Model for Exchange {
 impl Exchange {
     ghost use Rattle.sv_exchange.specs.Beginning.{begun, finished, unasked};
 
-    /// An exchange of which nothing was asked yet. It takes no memory.
+    /// Returns an exchange without a request. Takes no memory.
     pub fn new(alloc: Global) -> Exchange
         ensures { result ≡ unasked }
     {
@@ -125,14 +126,18 @@ impl Exchange {
         }
     }
 
-    /// Begins with a request to the context with that path, whose session cookie is set so, and of which nothing was said yet; what was asked and said before is
-    /// let go. It takes what stands in the message, of which nothing is said then: its fields and body are not copied. The path of the `Canon` is the one in the
-    /// context, the moment is in seconds since 1970, and the words are the two random ones of the message. The context's sessions are lent to the exchange until
-    /// [`finish`](Exchange::finish), for those that it had, and the session that the request holds is one of them. The context's path and settings are copied
-    /// only where they are others than before, and lists keep their memory.
+    /// Begins with a request to the context with the path and the settings of its session cookie. The earlier request
+    /// and response are dropped. The path of the `Canon` is the one in the context, the moment is in seconds since
+    /// 1970, and the words are the two random ones of the message.
+    ///
+    /// The fields and the body are moved out of the message, whose content is then unspecified. The context's sessions
+    /// are swapped with those of the exchange until [`finish`](Exchange::finish), and the session that the request
+    /// holds is one of them. The context's path and settings are copied only if they changed. The attributes, the
+    /// fields, the buffer and the dispatches keep their memory.
     ///
     /// # Errors
-    /// `NoMemory` where a growth was refused: the sessions are as they were. Nothing is said of the exchange then, which can be begun again.
+    /// `NoMemory` if an allocation failed. The sessions are unchanged. The state of the exchange is unspecified, but it
+    /// can begin again.
     pub fn begin(
         &mut self,
         message: &mut Message,
@@ -162,7 +167,7 @@ impl Exchange {
         Ok(())
     }
 
-    // Takes what stands in a message.
+    // Moves the content out of a message.
     fn take(&mut self, message: &mut Message)
         ensures { self.new ≡ record self.old {
           method = message.old.method;
@@ -181,7 +186,7 @@ impl Exchange {
         self.reads_chunks = message.minor == 1;
     }
 
-    // Has it ask for a path of a context whose session cookie is set so.
+    // Sets the requested path, its context and the settings of the session cookie.
     fn ask(
         &mut self,
         canon: &Canon,
@@ -202,7 +207,7 @@ impl Exchange {
         set_settings(self.alloc, &mut self.cookie_settings, cookie_settings)
     }
 
-    // Lets go what was said.
+    // Resets the response, the dispatches, the attributes and the events.
     fn forget(&mut self)
         ensures { self.new ≡ record self.old {
           dispatches = [];
@@ -231,10 +236,13 @@ impl Exchange {
         self.events = VecDeque::new(self.alloc);
     }
 
-    /// Ends the exchange with its response and gives the context's sessions back, for those that it is handed, without taking memory. The response sets the
-    /// cookie of the session that the message opened or renamed last, where that still lived when the response was committed, or lives at its end.
-    /// What was flushed leaves in pieces, and behind them what was written since, unless the answer broke off. Of the exchange nothing is said then but that
-    /// it can be begun again; it keeps nothing of the caller, of what came, or of attributes.
+    /// Ends the exchange, returns its response and swaps the context's sessions back, without taking memory. The
+    /// response sets the cookie of the session that the message opened or renamed last, unless that session ended
+    /// before the response was committed. The body of a committed response is sent in pieces, with the bytes written
+    /// since the last flush at the end unless the response is truncated.
+    ///
+    /// The state of the exchange is then unspecified, but it can begin again. It drops the caller, the attributes, and
+    /// the fields and the body of the request.
     pub fn finish(&mut self, sessions: &mut Sessions) -> Response
         ensures response { result ≡ finished self.old }
         ensures sessions { sessions.new ≡ self.old.store }
@@ -261,8 +269,9 @@ impl Exchange {
         }
     }
 
-    /// Takes the memory of a response that was written for the next one, where it is for no more than [`MAX_KEPT_FIELDS`] fields and
-    /// [`MAX_KEPT_BYTES`] bytes of a body. What was said is let go.
+    /// Reuses the memory of a response that was written. The list of fields is kept if its capacity is at most
+    /// [`MAX_KEPT_FIELDS`], and the buffer of a whole body if its capacity is at most [`MAX_KEPT_BYTES`]. The fields
+    /// and the buffer of the exchange become empty.
     pub fn recycle(&mut self, response: Response)
         ensures { self.new ≡ record self.old { fields = []; buffer = [] } }
     {
@@ -272,7 +281,7 @@ impl Exchange {
     }
 }
 
-// The memory of a body that is whole.
+// Returns the buffer of a whole body, and an empty one for a body in pieces.
 fn bytes_of(alloc: Global, body: Body) -> Vec<u8> {
     match body {
         Body::Whole(bytes) => bytes.into_vec(),
@@ -280,7 +289,7 @@ fn bytes_of(alloc: Global, body: Body) -> Vec<u8> {
     }
 }
 
-// A list without its items, and without its memory where that is for more than so many.
+// Empties a list, and drops its memory if its capacity is greater than `most`.
 fn emptied<T: Drop>(alloc: Global, list: Vec<T>, most: usize) -> Vec<T>
     ensures { result.items ≡ [] }
 {
@@ -292,7 +301,7 @@ fn emptied<T: Drop>(alloc: Global, list: Vec<T>, most: usize) -> Vec<T>
     list
 }
 
-// Lets go of the items of a list, which keeps its memory.
+// Drops the items of a list, which keeps its memory.
 fn clear<T: Drop>(list: &mut Vec<T>)
     ensures { list.new.items ≡ [] }
 {

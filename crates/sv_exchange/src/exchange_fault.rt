@@ -1,4 +1,4 @@
-//! Why a changing call was refused.
+//! The faults of changing calls.
 
 ghost use Rattle.std.specs.Prelude.{◌≡◌, Some};
 ghost use Rattle.sv_exchange.specs.declared.exchange_fault.ExchangeFault.TheVariants as faults;
@@ -11,31 +11,31 @@ use std::fmt;
 use sv_session::SessionFault;
 use sv_text::NoMemory;
 
-/// Why a changing call was refused. Nothing changes after it. Of several faults the one answered is the first of `Committed`,
-/// `BadHeader`, `NoSession`, `TooLarge`, `TooManySessions`, `SerialSpent` and `NoMemory`, and each comes only where the call would not be
-/// ignored. It is printed as its name.
+/// The reason why a changing call was refused. Nothing changes on a fault. Of several faults, a call returns the first
+/// of `Committed`, `BadHeader`, `NoSession`, `TooLarge`, `TooManySessions`, `SerialSpent` and `NoMemory`. A call that
+/// would be ignored has no fault. A fault is printed as its name.
 #[derive(Clone, Copy, Debug, PartialEq, Eq)]
 pub enum ExchangeFault {
-    /// A session is to be opened, and the response is committed, so that its cookie could not be set.
+    /// A session cannot be opened after the response is committed, since its cookie could not be set.
     Committed = 1,
-    /// As many sessions live in the context as there may be.
+    /// The context has the maximum number of sessions.
     TooManySessions = 2,
-    /// The greatest serial of the context's sessions was given.
+    /// The greatest serial of the context's sessions is used up.
     SerialSpent = 3,
-    /// The request has no session that lives.
+    /// The request has no session that is alive.
     NoSession = 4,
-    /// A growth was refused; the same call may succeed later.
+    /// An allocation failed. The same call may succeed later.
     NoMemory = 5,
-    /// The name or the value is none of a field (RFC 9110, sections 5.1 and 5.5).
+    /// The name or the value is not valid for a field (RFC 9110, sections 5.1 and 5.5).
     BadHeader = 6,
-    /// The body would be longer than [`MAX_BODY_LEN`](crate::MAX_BODY_LEN); or the name or the value of a session's attribute is too long,
-    /// or the session has as many others as it may have.
+    /// The body would be longer than [`MAX_BODY_LEN`](crate::MAX_BODY_LEN); or the name or the value of a session
+    /// attribute is too long, or the session has the maximum number of other attributes.
     TooLarge = 7,
 }
 
 impl ExchangeFault {
-    /// The status by which a component can answer a request whose call was refused so (RFC 9110, section 15.6): 503 where the server is full
-    /// for now, which are `TooManySessions` and `NoMemory`, and 500 where the component did what it may not.
+    /// Returns the status with which a component can respond to the request after the fault (RFC 9110, section 15.6).
+    /// It is 503 for `TooManySessions` and `NoMemory`, when the server is full for now, and 500 for all other faults.
     pub fn status(self) -> u16
         ensures { result ≡ fault_status self }
     {

@@ -9,14 +9,14 @@ use std::alloc::Global;
 use sv_head::Field;
 use sv_text::NoMemory;
 
-/// Whether the field has that name, in any case.
+/// Returns whether the field has the name, in any case.
 pub(crate) fn is_called(name: &str, field: &Field) -> bool
     ensures { result ≡ is_called name.now field.now }
 {
     field.name.eq_str(name)
 }
 
-/// The place of the first field of that name.
+/// Returns the index of the first field with the name.
 pub(crate) fn place_of(name: &str, fields: &[Field]) -> Option<usize>
     ensures place { result ≡ position (λ field. is_called name.now field) fields.now }
     ensures bound { IfSome result (λ place. place < length fields.now) }
@@ -24,17 +24,17 @@ pub(crate) fn place_of(name: &str, fields: &[Field]) -> Option<usize>
     fields.iter().position(|field| is_called(name, field))
 }
 
-/// Removes the fields of the name, whose first one stands at the place, and puts the field there.
+/// Removes the fields with the name and inserts the field at `place`, the index of the first of them.
 fn put_for_all(place: usize, name: &str, field: Field, fields: &mut Vec<Field>)
     requires { position (is_called name.now) fields.old.items ≡ Some place }
     ensures { fields.new.items ≡ insert (without name.now fields.old.items) place field }
 {
     fields.retain(|other| !is_called(name, other));
-    // One field at least was removed, so there is room.
+    // At least one field was removed, so there is room.
     let _room = fields.insert(place, field);
 }
 
-/// Whether the server alone writes fields of that name.
+/// Returns whether only the server writes fields with the name.
 pub(crate) fn is_reserved_field(name: &str) -> bool
     ensures { result ≡ is_reserved_field name.now }
 {
@@ -44,8 +44,8 @@ pub(crate) fn is_reserved_field(name: &str) -> bool
         || name.eq_ignore_ascii_case("connection")
 }
 
-/// Makes a field the first and only one of its name, or adds it, and says whether there can be such a field. Where there cannot, and after a refusal,
-/// the fields are as they were.
+/// Replaces the first field with the name and removes the others, or adds a field. Returns whether the name and the
+/// value are valid. If they are not, and after [`NoMemory`], the fields are unchanged.
 pub(crate) fn set_field(
     alloc: Global,
     name: &str,
@@ -67,7 +67,8 @@ pub(crate) fn set_field(
     Ok(true)
 }
 
-/// Adds a field, and says whether there can be such a field. Where there cannot, and after a refusal, the fields are as they were.
+/// Adds a field. Returns whether the name and the value are valid. If they are not, and after [`NoMemory`], the fields
+/// are unchanged.
 pub(crate) fn add_field(
     alloc: Global,
     name: &str,
@@ -86,7 +87,7 @@ pub(crate) fn add_field(
     Ok(true)
 }
 
-// The field of that name and that value, where there can be one.
+// Returns the field with the name and the value, if they are valid.
 fn field_of(alloc: Global, name: &str, value: &str) -> Result<Option<Field>, NoMemory>
     ensures found { GivesAnswer result (if is_field name.now value.now then Some (field_of name.now value.now) else None) }
     ensures no_memory { OnErr result (IsTrue (is_field name.now value.now)) }

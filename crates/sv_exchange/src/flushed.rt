@@ -1,4 +1,4 @@
-//! What was flushed of a body.
+//! The flushed part of a body.
 
 ghost use Rattle.std.specs.Prelude.{◌≡◌, ◌^◌, ◌-◌, ◌++◌, [], OnOk, OnErr, length, min};
 ghost use Rattle.sv_exchange.specs.Beginning.{body_of, last_piece};
@@ -10,11 +10,11 @@ use std::mem;
 use sv_message::{Body, Pieces};
 use sv_text::{Bytes, NoMemory};
 
-/// The pieces of a body that were flushed, and how many bytes they have. Contracts see their list.
+/// The flushed pieces of a body, and their total length. Contracts see the list of pieces.
 #[derive(Drop)]
 pub(crate) struct Flushed {
     pieces: Vec<Bytes>,
-    /// The bytes of all pieces; where that is no `usize`, the greatest one.
+    /// The number of bytes in all pieces, at most the maximum `usize`.
     total: usize,
 }
 
@@ -30,7 +30,7 @@ impl Model for Flushed {
 }
 
 impl Flushed {
-    /// Before the first flush.
+    /// Returns the value before the first flush.
     pub(crate) fn new(alloc: Global) -> Flushed
         ensures { result ≡ [] }
     {
@@ -40,14 +40,14 @@ impl Flushed {
         }
     }
 
-    /// The bytes of all pieces; where that is no `usize`, the greatest one.
+    /// Returns the number of bytes in all pieces, at most the maximum `usize`.
     pub(crate) fn total(&self) -> usize
         ensures { result ≡ min (length (joined self.now)) (2 ^ 64 - 1) }
     {
         self.total
     }
 
-    /// Takes what was written as a piece, where anything was. After [`NoMemory`] nothing has changed.
+    /// Moves the written bytes, if any, into a new piece. After [`NoMemory`] nothing has changed.
     pub(crate) fn take_piece(&mut self, written: &mut Vec<u8>) -> Result<(), NoMemory>
         ensures taken { OnOk result (self.new ≡ self.old ++ piece_of written.old.items) }
         ensures emptied { OnOk result (written.new.items ≡ []) }
@@ -67,7 +67,8 @@ impl Flushed {
     }
 }
 
-/// The body of a response: whole, or where it is committed what was flushed, and behind it what was written since, unless it broke off.
+/// Returns the body of a response: whole if the response is not committed, and otherwise in pieces. The last piece is
+/// the bytes written since the last flush, unless the response is truncated.
 pub(crate) fn body_of(
     committed: bool,
     flushed: Flushed,
@@ -89,7 +90,7 @@ pub(crate) fn body_of(
     }
 }
 
-// What was written behind the last flush, and nothing where the answer broke off.
+// Returns the bytes written since the last flush, and none if the response is truncated.
 fn unbroken(buffer: Vec<u8>, broken: bool) -> Vec<u8>
     ensures { piece_of result.items ≡ last_piece broken buffer.items }
 {

@@ -1,4 +1,4 @@
-//! The session with which a request comes.
+//! The session of a request when its exchange begins.
 
 use sv_message::Rare;
 use sv_realm::Caller;
@@ -7,8 +7,8 @@ use sv_realm::Caller;
 #[derive(Drop)]
 pub struct HeldSession {
     pub number: u64,
-    /// Whether the request's own message opened or renamed it, so that the response sets its cookie.
+    /// Whether the request's own message opened or renamed the session, so that the response sets its cookie.
     pub is_renewed: bool,
-    /// The caller whom the session holds.
+    /// The caller that the session holds.
     pub caller: Rare<Caller>,
 }

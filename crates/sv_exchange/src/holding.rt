@@ -1,4 +1,4 @@
-//! The session of a request: what is told of it.
+//! Queries on the session and the caller of a request.
 
 ghost use Rattle.std.specs.Prelude.{◌≡◌, bytes_eq};
 ghost use Rattle.std.specs.List.{list_any};
@@ -19,7 +19,7 @@ use sv_uri::location;
 impl Exchange {
     ghost use Rattle.sv_exchange.specs.Sessions.{has_session, session_attributes_of, session_id_of, session_of, session_value};
 
-    /// The number of the request's session, while it lives (Jakarta Servlet 6.0, section 7.1).
+    /// Returns the number of the request's session, if it is alive (Jakarta Servlet 6.0, section 7.1).
     pub fn session(&self) -> Option<u64>
         ensures { result ≡ session_of self.now }
     {
@@ -28,7 +28,7 @@ impl Exchange {
         Some(number)
     }
 
-    /// The id of the request's session, as its cookie has it, while it lives (Jakarta Servlet 6.0, section 7.1).
+    /// Returns the id of the request's session, as in its cookie, if it is alive (Jakarta Servlet 6.0, section 7.1).
     pub fn session_id(&self) -> Option<&str>
         ensures { option_copied result ≡ session_id_of self.now }
     {
@@ -36,8 +36,8 @@ impl Exchange {
         self.sessions.id(number)
     }
 
-    /// The value of the attribute of that name, with case, of the request's session; `None` where there is none, or no session (Jakarta
-    /// Servlet 6.0, section 7.4).
+    /// Returns the value of the attribute of the request's session with the name, which is case-sensitive. Returns
+    /// `None` if there is no such attribute, or no session (Jakarta Servlet 6.0, section 7.4).
     pub fn session_get(&self, name: &str) -> Option<&str>
         ensures { option_copied result ≡ session_value name.now self.now }
     {
@@ -45,8 +45,8 @@ impl Exchange {
         self.sessions.get(number, name)
     }
 
-    /// The attributes of the request's session, names with values, in the order in which they were first set; none where there is no session
-    /// (Jakarta Servlet 6.0, section 7.4).
+    /// Returns the attributes of the request's session, as names with values, in the order of their first setting.
+    /// There are none without a session (Jakarta Servlet 6.0, section 7.4).
     pub fn session_attributes(&self) -> &[Attribute]
         ensures { result.now ≡ session_attributes_of self.now }
     {
@@ -56,15 +56,15 @@ impl Exchange {
         }
     }
 
-    /// The authenticated caller, until `logout` or the session's end (Jakarta Servlet 6.0, section 13.3).
+    /// Returns the authenticated caller, until `logout` or the end of the session (Jakarta Servlet 6.0, section 13.3).
     pub fn caller(&self) -> Option<&Caller>
         ensures { option_copied result ≡ self.now.caller }
     {
         self.caller.get()
     }
 
-    /// Whether the caller has the role, with case (Jakarta Servlet 6.0, section 13.3). Every authenticated caller is in the role `**`, and
-    /// none in `*`.
+    /// Returns whether the caller has the role, which is case-sensitive (Jakarta Servlet 6.0, section 13.3). Every
+    /// authenticated caller has the role `**`, and none has `*`.
     pub fn is_user_in_role(&self, role: &str) -> bool
         ensures { result ≡ is_in_role role.now self.now.caller }
     {
@@ -75,7 +75,7 @@ impl Exchange {
         }
     }
 
-    // Whether the request's session lives.
+    // Returns whether the request's session is alive.
     pub(crate) fn has_session(&self) -> bool
         ensures { result ≡ has_session self.now }
     {
@@ -89,7 +89,7 @@ fn names_role(roles: &[Text], role: &str) -> bool
     roles.iter().any(|own| own.as_str() == role)
 }
 
-/// The number and the caller of the session that a request holds.
+/// Returns the number and the caller of the session that a request holds.
 pub(crate) fn parts_of(held: Option<HeldSession>) -> (Option<u64>, Rare<Caller>)
     ensures number { result.0 ≡ option_map (λ session. session.number) held }
     ensures caller { result.1 ≡ option_and_then (λ session. session.caller) held }
@@ -100,7 +100,7 @@ pub(crate) fn parts_of(held: Option<HeldSession>) -> (Option<u64>, Rare<Caller>)
     }
 }
 
-/// The cookie of a session that a request holds, where its own message opened or renamed it.
+/// Returns the cookie of the session that a request holds, if the request's own message opened or renamed it.
 pub(crate) fn held_cookie(
     alloc: Global,
     settings: &CookieSettings,
@@ -138,7 +138,7 @@ fn renewed_cookie(
     }
 }
 
-/// The cookie of a session of that id.
+/// Returns the cookie of the session with the id.
 pub(crate) fn cookie_of(
     alloc: Global,
     settings: &CookieSettings,
@@ -156,7 +156,7 @@ pub(crate) fn cookie_of(
     })
 }
 
-// The path below which the cookie is sent back.
+// Returns the path under which the client sends the cookie back.
 fn cookie_path(alloc: Global, path: &Option<Text>, context_path: &str) -> Result<Text, NoMemory>
     ensures { GivesAnswer result (cookie_path path.now context_path.now) }
 {
@@ -166,7 +166,7 @@ fn cookie_path(alloc: Global, path: &Option<Text>, context_path: &str) -> Result
     }
 }
 
-// The path of a context, as a cookie has it.
+// Returns the path of a context, as it is written in a cookie.
 fn context_cookie_path(alloc: Global, context_path: &str) -> Result<Text, NoMemory>
     ensures { GivesAnswer result (context_cookie_path context_path.now) }
 {

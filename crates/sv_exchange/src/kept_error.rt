@@ -1,21 +1,21 @@
-//! The error of which an answer will speak.
+//! The error that a response reports.
 
 use sv_text::Text;
 
-/// The error of which the answer will speak, as it is kept from where it arose to where it is answered (Jakarta Servlet 6.0, section
-/// 10.9).
+/// The error that the response reports. It is kept from the time it occurs until the response (Jakarta Servlet 6.0,
+/// section 10.9).
 #[derive(Debug, Drop)]
 pub struct KeptError {
-    /// The status that is answered.
+    /// The status of the response.
     pub status: u16,
     pub text: Text,
-    /// The name of the servlet in which it arose, `None` where none was chosen.
+    /// The name of the servlet that caused the error; `None` if none was chosen.
     pub servlet: Option<Text>,
-    /// The field that goes with the answer.
+    /// The field that is sent with the response.
     pub field: Option<KeptField>,
 }
 
-/// A field that goes with an error, as `allow` and `retry-after` do (RFC 9110, sections 10.2.1 and 10.2.3).
+/// A field that is sent with an error, such as `allow` or `retry-after` (RFC 9110, sections 10.2.1 and 10.2.3).
 #[derive(Debug, Drop)]
 pub struct KeptField {
     pub name: Text,

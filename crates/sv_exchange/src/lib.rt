@@ -1,4 +1,4 @@
-//! The exchange: a request with the answer that components make of it.
+//! The exchange: a request and the response that components make.
 #![tactic(auto)]
 
 mod answered;

@@ -1,4 +1,4 @@
-//! All parameters of a request.
+//! The list of all parameters of a request.
 
 ghost use Rattle.std.specs.Prelude.{◌≡◌, ◌++◌, reverse, IfOk, OnOk};
 ghost use Rattle.std.specs.List.{flat_map};
@@ -17,11 +17,11 @@ use sv_text::{NoMemory, Text};
 impl Exchange {
     ghost use Rattle.sv_exchange.specs.Parameters.{all_parameters};
 
-    /// All parameters of the request, each a name with a value, in the order in which [`parameter`](Exchange::parameter) looks for them
-    /// (Jakarta Servlet 6.0, sections 3.1 and 9.1.1): a name that was sent more than once stands there as often.
+    /// Returns all parameters of the request as names with values, in the order that [`parameter`](Exchange::parameter)
+    /// searches (Jakarta Servlet 6.0, sections 3.1 and 9.1.1). A name that was sent more than once occurs as often.
     ///
     /// # Errors
-    /// [`NoMemory`]: a growth was refused.
+    /// [`NoMemory`]: an allocation failed.
     pub fn parameters(&self) -> Result<Vec<(Text, Text)>, NoMemory>
         ensures { IfOk result (λ parameters. parameters.items ≡ all_parameters self.now) }
     {
@@ -41,7 +41,7 @@ impl Exchange {
     }
 }
 
-// Adds those of the queries of dispatches, the innermost first.
+// Appends the parameters in the queries of dispatches, the innermost first.
 fn push_dispatches(
     alloc: Global,
     dispatches: &[Dispatch],
@@ -58,7 +58,7 @@ fn push_dispatches(
     }
 }
 
-// Adds those of a body, where it is a form.
+// Appends the parameters of a body, if it is a form.
 fn push_form(
     alloc: Global,
     method: &str,
@@ -76,7 +76,7 @@ fn push_form(
     }
 }
 
-// Adds those of a query that may be absent.
+// Appends the parameters of an optional query.
 fn push_shown(
     alloc: Global,
     query: &Option<Text>,
@@ -90,7 +90,7 @@ fn push_shown(
     }
 }
 
-// Adds those of a query or a form.
+// Appends the parameters of a query or a form.
 fn push_query(
     alloc: Global,
     query: &[u8],

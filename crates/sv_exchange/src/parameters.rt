@@ -1,4 +1,4 @@
-//! The parameters of a request.
+//! Looking up the parameters of a request.
 
 ghost use Rattle.std.specs.Prelude.{◌≡◌, reverse};
 ghost use Rattle.std.specs.List.{flat_map};
@@ -15,12 +15,12 @@ use sv_text::{NoMemory, Text};
 impl Exchange {
     ghost use Rattle.sv_exchange.specs.Parameters.{body_parameters, client_parameters, parameter_of};
 
-    /// The first value of the parameter of that name, with case, `None` where there is none (Jakarta Servlet 6.0, section 3.1). The queries
-    /// of the dispatches that are under way come first, the innermost before the others (section 9.1.1), then the client's query, then
-    /// the body of a POST whose Content-Type is that of a form.
+    /// Returns the first value of the parameter with the name, which is case-sensitive; `None` if there is none
+    /// (Jakarta Servlet 6.0, section 3.1). The queries of the active dispatches come first, beginning with the
+    /// innermost (section 9.1.1). The client's query follows, then the body of a POST with the Content-Type of a form.
     ///
     /// # Errors
-    /// [`NoMemory`]: a growth was refused.
+    /// [`NoMemory`]: an allocation failed.
     pub fn parameter(&self, name: &str) -> Result<Option<Text>, NoMemory>
         ensures { GivesAnswer result (parameter_of name.now self.now) }
     {
@@ -30,7 +30,7 @@ impl Exchange {
         }
     }
 
-    // The first value of that name that the client itself sent.
+    // Returns the first value with the name that the client sent.
     fn first_of_client(&self, name: &str) -> Result<Option<Text>, NoMemory>
         ensures { GivesAnswer result (first_named name.now (client_parameters self.now)) }
     {
@@ -40,7 +40,7 @@ impl Exchange {
         }
     }
 
-    // The first value of that name in the body.
+    // Returns the first value with the name in the body.
     fn first_of_body(&self, name: &str) -> Result<Option<Text>, NoMemory>
         ensures { GivesAnswer result (first_named name.now (body_parameters self.now)) }
     {
@@ -50,7 +50,7 @@ impl Exchange {
     }
 }
 
-// The first value of that name in the queries of dispatches, the innermost first.
+// Returns the first value with the name in the queries of dispatches, the innermost first.
 fn first_of_dispatches(
     alloc: Global,
     dispatches: &[Dispatch],
@@ -67,7 +67,7 @@ fn first_of_dispatches(
     }
 }
 
-// The first value of that name in a query that may be absent.
+// Returns the first value with the name in an optional query.
 fn first_of_shown(alloc: Global, query: &Option<Text>, name: &str) -> Result<Option<Text>, NoMemory>
     ensures { GivesAnswer result (first_named name.now (query_parameters query.now)) }
 {

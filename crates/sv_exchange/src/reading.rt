@@ -1,4 +1,4 @@
-//! What an exchange tells of its request.
+//! Queries on the request and its dispatches.
 
 ghost use Rattle.std.specs.Prelude.{◌≡◌, reverse};
 ghost use Rattle.std.specs.Option.{option_copied};
@@ -15,42 +15,43 @@ impl Exchange {
     ghost use Rattle.sv_exchange.specs.Dispatches.{kind_of, path_of, path_info_of, paths_of, query_of, servlet_path_of};
     ghost use Rattle.sv_exchange.specs.Fields.{first_value};
 
-    /// The method of the request.
+    /// Returns the method of the request.
     pub fn method(&self) -> &str
         ensures { result.now ≡ self.now.method }
     {
         self.method.as_str()
     }
 
-    /// The path in the context, of the innermost dispatch that is no include (Jakarta Servlet 6.0, section 9.3.1).
+    /// Returns the path in the context of the innermost dispatch that is not an include, or else the client's (Jakarta
+    /// Servlet 6.0, section 9.3.1).
     pub fn path(&self) -> &str
         ensures { result.now ≡ path_of self.now }
     {
         self.paths().path.as_str()
     }
 
-    /// The part of the path that the servlet's pattern names, empty before a servlet was chosen.
+    /// Returns the part of the path that the servlet's pattern matches, empty before a servlet is chosen.
     pub fn servlet_path(&self) -> &str
         ensures { result.now ≡ servlet_path_of self.now }
     {
         shown(&self.paths().servlet_path).unwrap_or("")
     }
 
-    /// What stands behind the servlet path, `None` where nothing does.
+    /// Returns the rest of the path after the servlet path; `None` if there is none.
     pub fn path_info(&self) -> Option<&str>
         ensures { option_copied result ≡ path_info_of self.now }
     {
         shown(&self.paths().path_info)
     }
 
-    /// The query that stands with the path, `None` where there is none. It is not decoded.
+    /// Returns the query of the path, not decoded; `None` if there is none.
     pub fn query(&self) -> Option<&str>
         ensures { option_copied result ≡ query_of self.now }
     {
         shown(&self.paths().query)
     }
 
-    /// The kind of the innermost dispatch (Jakarta Servlet 6.0, section 3.7).
+    /// Returns the kind of the innermost dispatch (Jakarta Servlet 6.0, section 3.7).
     pub fn kind(&self) -> Kind
         ensures { result ≡ kind_of self.now }
     {
@@ -60,7 +61,8 @@ impl Exchange {
         }
     }
 
-    /// The value of the first field of that name, in any case (Jakarta Servlet 6.0, section 3.4), `None` where there is none.
+    /// Returns the value of the first field with the name, in any case; `None` if there is none (Jakarta Servlet 6.0,
+    /// section 3.4).
     pub fn header(&self, name: &str) -> Option<&[u8]>
         ensures { option_copied result ≡ first_value name.now self.now.request_fields }
     {
@@ -72,8 +74,8 @@ impl Exchange {
         None
     }
 
-    /// The value of the attribute of that name, with case (Jakarta Servlet 6.0, section 3.3). Names that begin with `jakarta.servlet.`
-    /// are those that dispatches set (Jakarta Servlet 6.0, sections 9.3.1 and 9.4.2).
+    /// Returns the value of the attribute with the name, which is case-sensitive (Jakarta Servlet 6.0, section 3.3).
+    /// Only dispatches set names that begin with `jakarta.servlet.` (Jakarta Servlet 6.0, sections 9.3.1 and 9.4.2).
     pub fn attribute(&self, name: &str) -> Option<&str>
         ensures { option_copied result ≡ attribute_of name.now self.now }
     {
@@ -84,21 +86,21 @@ impl Exchange {
         }
     }
 
-    /// Whether the response is committed: its status and fields stay as they are.
+    /// Returns whether the response is committed, so that components can no longer change its status and its fields.
     pub fn committed(&self) -> bool
         ensures { result ≡ self.now.committed }
     {
         self.committed
     }
 
-    /// The moment at which the exchange began, in seconds since 1970.
+    /// Returns the time at which the exchange began, in seconds since 1970.
     pub fn moment(&self) -> u64
         ensures { result ≡ self.now.moment }
     {
         self.moment
     }
 
-    // The paths that are shown.
+    // Returns the visible paths.
     fn paths(&self) -> &Paths
         ensures { result.now ≡ paths_of self.now }
     {

@@ -1,4 +1,4 @@
-//! What an exchange tells of the message that asked for it.
+//! Queries on the request message.
 
 ghost use Rattle.std.specs.Prelude.{◌≡◌};
 ghost use Rattle.std.specs.Option.{option_copied};
@@ -11,22 +11,23 @@ use sv_parameters::media_type;
 impl Exchange {
     ghost use Rattle.sv_exchange.specs.Request.{client_path_of, client_uri_of, media_type_of, value_at};
 
-    /// The body of the request: its bytes behind the head, without what a coding put around them (Jakarta Servlet 6.0, section 3.1.1).
+    /// Returns the body of the request, without any transfer coding (Jakarta Servlet 6.0, section 3.1.1).
     pub fn body(&self) -> &[u8]
         ensures { result.now ≡ self.now.body }
     {
         self.body.as_slice()
     }
 
-    /// The fields of the request, in the order in which they came (Jakarta Servlet 6.0, section 3.4). Their names are in lower case.
+    /// Returns the fields of the request, in the order of their lines (Jakarta Servlet 6.0, section 3.4). Their names
+    /// are in lower case.
     pub fn request_fields(&self) -> &[Field]
         ensures { result.now ≡ self.now.request_fields }
     {
         self.request_fields.as_slice()
     }
 
-    /// The value at that place, from 0, among those of the fields of that name, in any case; `None` behind the last (Jakarta Servlet 6.0,
-    /// section 3.4).
+    /// Returns the value at an index, from 0, among the fields with the name, in any case; `None` past the last
+    /// (Jakarta Servlet 6.0, section 3.4).
     pub fn header_at(&self, name: &str, place: usize) -> Option<&[u8]>
         ensures { option_copied result ≡ value_at name.now place self.now.request_fields }
     {
@@ -42,8 +43,8 @@ impl Exchange {
         None
     }
 
-    /// The media type of the body: what the first Content-Type says in front of its parameters, without the blanks around it and in the
-    /// case in which it came; `None` where there is no Content-Type (Jakarta Servlet 6.0, section 3.1.1).
+    /// Returns the media type of the body: the first Content-Type without its parameters and the blanks around it. Its
+    /// case is kept. Returns `None` if there is no Content-Type (Jakarta Servlet 6.0, section 3.1.1).
     pub fn media_type(&self) -> Option<&[u8]>
         ensures { option_copied result ≡ media_type_of self.now }
     {
@@ -51,21 +52,23 @@ impl Exchange {
         Some(media_type(value))
     }
 
-    /// The path of the context, empty for the root context (Jakarta Servlet 6.0, section 3.5). It is not encoded.
+    /// Returns the path of the context, not encoded; empty for the root context (Jakarta Servlet 6.0, section 3.5).
     pub fn context_path(&self) -> &str
         ensures { result.now ≡ self.now.context_path }
     {
         self.context_path.as_str()
     }
 
-    /// The canonical path in the context that the client asked for, whatever was dispatched since (Jakarta Servlet 6.0, section 3.5).
+    /// Returns the canonical path in the context that the client requested, regardless of dispatches (Jakarta Servlet
+    /// 6.0, section 3.5).
     pub fn client_path(&self) -> &str
         ensures { result.now ≡ client_path_of self.now }
     {
         self.client.path.as_str()
     }
 
-    /// The context path with the path that the client asked for, whatever was dispatched since (Jakarta Servlet 6.0, section 3.5).
+    /// Returns the context path with the path that the client requested, regardless of dispatches (Jakarta Servlet 6.0,
+    /// section 3.5).
     pub fn client_uri(&self) -> &str
         ensures { result.now ≡ client_uri_of self.now }
     {

@@ -1,4 +1,4 @@
-//! The calls by which components change the session of a request.
+//! Calls of components that change the session of a request.
 
 ghost use Rattle.std.specs.Prelude.{◌≡◌, ◌++◌, ◌∷◌, ◌<◌, [], map};
 ghost use Rattle.sv_text.specs.Gives.{GivesAnswer};
@@ -15,9 +15,9 @@ use sv_text::Text;
 impl Exchange {
     ghost use Rattle.sv_exchange.specs.Changing.{Reaches, Does, Logout, SessionEnd, SessionOpen, SessionRemove, SessionSet, answer};
 
-    /// Opens a session, whose cookie the response sets, and tells `SessionCreated`; nothing changes where the request has a session that
-    /// lives (Jakarta Servlet 6.0, section 7.2). It is never ignored. The faults are `Committed`, `TooManySessions`, `SerialSpent` and
-    /// `NoMemory`, in that order; nothing changes then.
+    /// Opens a session and reports `SessionCreated`. The response sets its cookie. Nothing changes if the request
+    /// already has a session that is alive (Jakarta Servlet 6.0, section 7.2). The call is never ignored. The faults
+    /// are `Committed`, `TooManySessions`, `SerialSpent` and `NoMemory`, in that order; nothing changes on a fault.
     pub fn session_open(&mut self) -> Result<bool, ExchangeFault>
         ensures does { Does SessionOpen result self.old self.new }
         ensures reached { Reaches self.old self.new }
@@ -25,9 +25,10 @@ impl Exchange {
         self.do_session_open()
     }
 
-    /// Gives the session's attribute of the name, with case, the value, or adds one, and tells `AttributeReplaced` or `AttributeAdded`
-    /// (Jakarta Servlet 6.0, section 7.4). It is never ignored. The faults are `NoSession`, `TooLarge` where a limit of sv_session would be
-    /// passed, and `NoMemory`, in that order; nothing changes then.
+    /// Sets the value of the session attribute with the name, which is case-sensitive, or adds one. Reports
+    /// `AttributeReplaced` or `AttributeAdded` (Jakarta Servlet 6.0, section 7.4). The call is never ignored. The
+    /// faults are `NoSession`, `TooLarge` if a limit of sv_session would be exceeded, and `NoMemory`, in that order;
+    /// nothing changes on a fault.
     pub fn session_set(&mut self, name: &str, value: &str) -> Result<bool, ExchangeFault>
         ensures does { Does (SessionSet name.now value.now) result self.old self.new }
         ensures reached { Reaches self.old self.new }
@@ -35,8 +36,9 @@ impl Exchange {
         self.do_session_set(name, value)
     }
 
-    /// Removes the session's attribute of the name, with case, and tells `AttributeRemoved`; nothing changes where there is none (Jakarta
-    /// Servlet 6.0, section 7.4). It is never ignored. The faults are `NoSession`, then `NoMemory`; nothing changes then.
+    /// Removes the session attribute with the name, which is case-sensitive, and reports `AttributeRemoved`. Nothing
+    /// changes if there is none (Jakarta Servlet 6.0, section 7.4). The call is never ignored. The faults are
+    /// `NoSession`, then `NoMemory`; nothing changes on a fault.
     pub fn session_remove(&mut self, name: &str) -> Result<bool, ExchangeFault>
         ensures does { Does (SessionRemove name.now) result self.old self.new }
         ensures reached { Reaches self.old self.new }
@@ -44,9 +46,10 @@ impl Exchange {
         self.do_session_remove(name)
     }
 
-    /// Ends the session, its caller and its cookie with it, and tells `SessionDestroyed`, then `AttributeRemoved` for each attribute in the
-    /// order in which they were first set (Jakarta Servlet 6.0, sections 7.5 and 11.3). It is never ignored. The faults are `NoSession`, then
-    /// `NoMemory`; nothing changes then.
+    /// Ends the session and removes the caller. Unless the response is committed, also drops the session cookie.
+    /// Reports `SessionDestroyed`, then `AttributeRemoved` for each attribute, in the order of their first setting
+    /// (Jakarta Servlet 6.0, sections 7.5 and 11.3). The call is never ignored. The faults are `NoSession`, then
+    /// `NoMemory`; nothing changes on a fault.
     pub fn session_end(&mut self) -> Result<bool, ExchangeFault>
         ensures does { Does SessionEnd result self.old self.new }
         ensures reached { Reaches self.old self.new }
@@ -54,8 +57,8 @@ impl Exchange {
         self.do_session_end()
     }
 
-    /// The caller leaves the request and its session, which stays; nothing changes where there is no caller (Jakarta Servlet 6.0,
-    /// section 13.3). It is never ignored, and no fault comes.
+    /// Removes the caller from the request and from its session, which stays open. Nothing changes if there is no
+    /// caller (Jakarta Servlet 6.0, section 13.3). The call is never ignored and never fails.
     pub fn logout(&mut self) -> Result<bool, ExchangeFault>
         ensures does { Does Logout result self.old self.new }
         ensures answered { result ≡ answer Logout self.old }

@@ -1,4 +1,4 @@
-//! What an error page is told of its error.
+//! The description of an error for an error page.
 
 ghost use Rattle.sv_text.specs.Gives.{GivesAnswer};
 ghost use Rattle.sv_exchange.specs.Dispatches.{told_error};
@@ -8,18 +8,18 @@ use crate::kept_error::KeptError;
 use std::alloc::Global;
 use sv_text::{NoMemory, Text};
 
-/// What an error page is told of its error (Jakarta Servlet 6.0, section 10.9.1).
+/// The description of an error for an error page (Jakarta Servlet 6.0, section 10.9.1).
 #[derive(Debug, Drop)]
 pub struct ToldError {
     /// The status in decimal digits.
     pub status_code: Text,
     pub message: Text,
-    /// The name of the servlet in which the error arose, `None` where none was chosen.
+    /// The name of the servlet that caused the error; `None` if none was chosen.
     pub servlet_name: Option<Text>,
 }
 
 impl ToldError {
-    /// Copies what is told of an error.
+    /// Copies the description of a kept error.
     pub(crate) fn of(alloc: Global, kept: &KeptError) -> Result<ToldError, NoMemory>
         ensures { GivesAnswer result (told_error kept.now) }
     {

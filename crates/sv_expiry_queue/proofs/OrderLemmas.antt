@@ -1,11 +1,11 @@
--- The order of the records that wait, and one more place.
+-- The order of the records, and one more entry.
 use Rattle.std.proofs.Common.{◌≡◌, ℕ, true, false, ◌&&◌, ◌||◌, eqb, ltb, inl, inr, ◌⊎◌, List, [], ◌∷◌, Option, Some, None, refl, ◌∙◌, ap, ◌<◌, ◌++◌, length, set, arith}
 use Rattle.std.proofs.lemmas.Bool.{cases_Bool}
 use Rattle.std.proofs.lemmas.Bool.Decides.{nat_tests}
 use Rattle.sv_expiry_queue.specs.declared.due.Due.{Due}
 use Rattle.sv_expiry_queue.specs.Order.{Waiting, is_before, sooner}
 
--- the first record, if there is one, is not behind the other
+-- The first record, if any, is not after the other.
 abbrev pub Covers : Option Due → Due → Type 0
 Covers None due = ⊥
 Covers (Some least) due = is_before due least ≡ false
@@ -45,7 +45,7 @@ from_sooner (Some x) (Some y) due is = elim (cases_Bool (is_before y x)) [
   | inr behind ↦ inl (rw behind at is)
 ]
 
--- ---- one more place
+-- ---- one more entry
 pub last_place : (places : List (Option Due)) (due : Option Due) → length places < length (places ++ None ∷ [])
     × (set (places ++ None ∷ []) (length places) due ≡ places ++ due ∷ [])
 last_place [] due = (omega arith, refl)

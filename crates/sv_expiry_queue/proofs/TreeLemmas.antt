@@ -1,4 +1,4 @@
--- The places as a tree: what a change at a place leaves settled, and what the root knows.
+-- The entries as a tree: which stay settled after a change, and the first record at the root.
 use Rattle.std.proofs.Common.{◌≡◌, ◌≢◌, ℕ, zero, suc, ◌+◌, ◌-◌, ◌*◌, ◌/◌, ◌<◌, ◌≤◌, false, eqb, inl, inr, ◌⊎◌, List, [], ◌∷◌, ◌++◌, length, map, set, get_or, Option, Some, None, MatchOption, refl, sym, ◌∙◌, ap, subst, ltb, arith}
 use Rattle.std.specs.List.{slice_get}
 use Rattle.std.specs.Option.{option_and_then}
@@ -11,7 +11,7 @@ use Rattle.sv_expiry_queue.specs.Order.{IsFirst, NoneWaits, Waits, is_before, so
 use Rattle.sv_expiry_queue.specs.Tree.{IsSettled, least_at, least_below}
 use Rattle.sv_expiry_queue.proofs.OrderLemmas.{Covers, covers_left, covers_right, from_sooner, not_itself}
 
--- ---- a change at a place
+-- ---- a change at an index
 other_place : (nodes : List Node) (at k : ℕ) (node : Node) → k ≢ at → slice_get (set nodes at node) k ≡ slice_get nodes k
 other_place [] at k node other = refl
 other_place (x ∷ xs) zero zero node other = absurd (other refl)
@@ -69,7 +69,7 @@ module _ (nodes : List Node) (at : ℕ) (own least : Option Due) (within : at < 
 pub within_below : (nodes : List Node) (at : ℕ) (node : Node) → at < length nodes → (at - 1) / 2 < length (set nodes at node)
 within_below nodes at node within = omega (arith, within, length-set nodes at node)
 
--- ---- another record at a place
+-- ---- another record at an index
 abbrev pub owns : List Node → List (Option Due)
 owns nodes = map (λ (node : Node). node.own) nodes
 
@@ -102,7 +102,7 @@ pub owns_length : (nodes others : List Node) → owns nodes ≡ owns others → 
 owns_length nodes others same =
     sym (length-map nodes (λ (node : Node). node.own)) ∙ (ap length same ∙ length-map others (λ (node : Node). node.own))
 
--- ---- one more place
+-- ---- one more entry
 more_place : (nodes : List Node) (last : Node) (k : ℕ) (n : Node) → slice_get (nodes ++ last ∷ []) k ≡ Some n
     → (slice_get nodes k ≡ Some n) ⊎ ((last ≡ n) × (k ≡ length nodes))
 more_place [] last zero n is = inr (same_Some last n is, refl)
@@ -116,7 +116,7 @@ more_place (x ∷ xs) last (suc k) n is = elim (more_place xs last k n is) [
 abbrev empty : Node
 empty = record { own = None; least = None }
 
--- an empty place is known by none
+-- Appending an empty entry changes no first record.
 least_more : (nodes : List Node) (k : ℕ) → least_at (nodes ++ empty ∷ []) k ≡ least_at nodes k
 least_more [] zero = refl
 least_more [] (suc k) = refl
@@ -136,7 +136,7 @@ settled_more nodes settled k node is = elim (more_place nodes empty k node is) [
       (rw (least_more nodes (2 * k + 1), least_more nodes (2 * k + 2), left, right) refl)
 ]
 
--- ---- what the root knows
+-- ---- the first record at the root
 read_own : (nodes : List Node) (k : ℕ) (due : Due) → slice_get (owns nodes) k ≡ Some (Some due)
     → (node : Node) × (slice_get nodes k ≡ Some node) × (node.own ≡ Some due)
 read_own [] k due is = absurd (none-some (Some due) is)
@@ -148,7 +148,7 @@ own_read [] k node is = absurd (none-some node is)
 own_read (x ∷ xs) zero node is = ap (λ (n : Node). Some n.own) (same_Some x node is)
 own_read (x ∷ xs) (suc k) node is = own_read xs k node is
 
--- each place but the first stands below another
+-- Each entry except the root has a parent.
 above : (k : ℕ) → (up : ℕ) × ((suc k ≡ 2 * up + 1) ⊎ (suc k ≡ 2 * up + 2))
 above zero = (0, inl refl)
 above (suc k) =
@@ -206,7 +206,7 @@ module _ (nodes : List Node) (settled : (k : ℕ) → IsSettled nodes k) where
         let at = read_own nodes waits.0 due waits.1 in
         covers_root waits.0 waits.0 (omega arith) (slice_get_within nodes waits.0 at.0 at.1) (covers_own waits.0 at.0 at.1 at.2)
 
-    -- what a place knows waits there or below
+    -- The first record of an entry is in its subtree.
     waits_below : (room k : ℕ) → length nodes ≤ k + room → least_at nodes k ≡ Some due → Waits (owns nodes) due
     waits_below zero k large is = absurd (none-some due (sym (none_past nodes k (omega (arith, large))) ∙ is))
     waits_below (suc room) k large is = elim (cases_Bool (ltb k (length nodes))) [

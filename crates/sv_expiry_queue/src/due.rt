@@ -1,19 +1,20 @@
-//! When a record is due, against others.
+//! The deadlines of records, and their order.
 
 ghost use Rattle.std.specs.Prelude.{◌≡◌};
 ghost use Rattle.sv_expiry_queue.specs.Order.{has_waited, is_before, sooner};
 
-/// A record that waits: its last access, from which its deadline is as far as from those of all others, and its number.
+/// A record in the queue, by its last access and its number. All deadlines follow the last access by the same interval,
+/// so the order of accesses is that of deadlines.
 #[derive(Clone, Copy)]
 pub struct Due {
-    /// The moment of its last access, in seconds.
+    /// The time of its last access, in seconds.
     pub last_access: u64,
-    /// Its number, which decides between equal deadlines.
+    /// Its number, which orders records with equal deadlines.
     pub number: u64,
 }
 
 impl Due {
-    /// Whether it has an earlier deadline than another, or the same and a lesser number.
+    /// Returns whether it has an earlier deadline than another, or the same deadline and a lower number.
     pub fn is_before(&self, other: &Due) -> bool
         ensures { result ≡ is_before self.now other.now }
     {
@@ -21,7 +22,7 @@ impl Due {
             || (self.last_access == other.last_access && self.number < other.number)
     }
 
-    /// Whether it has waited for as long as the interval, which is in seconds, 0 for ever.
+    /// Returns whether the interval, in seconds, has passed since its last access. An interval of 0 never passes.
     pub fn has_waited(&self, interval: u32, now: u64) -> bool
         ensures { result ≡ has_waited interval now self.now }
     {
@@ -29,7 +30,7 @@ impl Due {
     }
 }
 
-/// The one of two that comes first, where there is any.
+/// Returns the record that is first in the order, of two that may be missing.
 pub(crate) fn sooner(one: Option<Due>, other: Option<Due>) -> Option<Due>
     ensures { result ≡ sooner one other }
 {

@@ -1,4 +1,5 @@
-//! A queue of the records of a list, by deadline and then number, whose least record is known at once.
+//! A priority queue over the records of a list, by deadline and then by number. Its first record is read in constant
+//! time.
 #![tactic(auto)]
 
 mod due;

@@ -1,4 +1,4 @@
-//! The places of a queue, as a tree: below a place stand the places of twice its number and one, and of twice its number and two.
+//! The entries of a queue as a binary tree: the children of entry `k` are the entries `2 * k + 1` and `2 * k + 2`.
 
 ghost use Rattle.std.specs.Prelude.{◌≡◌, ◌≢◌, ◌<◌, ◌+◌, ◌*◌, ℕ, length, map};
 ghost use Rattle.sv_expiry_queue.specs.Order.{sooner};
@@ -6,14 +6,14 @@ ghost use Rattle.sv_expiry_queue.specs.Tree.{IsSettled, least_at, least_below};
 
 use crate::due::{Due, sooner};
 
-/// A place: the record that waits there, if there is one, and the first of all that wait there and below.
+/// An entry: its own record, if any, and the first record of its subtree.
 #[derive(Clone, Copy)]
 pub(crate) struct Node {
     pub(crate) own: Option<Due>,
     pub(crate) least: Option<Due>,
 }
 
-/// The first of all that wait at a place and below.
+/// Returns the first record of the subtree at an index.
 pub(crate) fn least_at(nodes: &[Node], place: usize) -> Option<Due>
     ensures { result ≡ least_at nodes.now place }
 {
@@ -23,7 +23,7 @@ pub(crate) fn least_at(nodes: &[Node], place: usize) -> Option<Due>
     }
 }
 
-/// The first of a record, if there is one, and of all that wait below a place.
+/// Returns the first of a record, if there is one, and all records in the subtrees below an index.
 fn least_below(nodes: &[Node], own: Option<Due>, place: usize) -> Option<Due>
     requires { place < length nodes.now }
     ensures { result ≡ least_below nodes.now own place }
@@ -32,7 +32,7 @@ fn least_below(nodes: &[Node], own: Option<Due>, place: usize) -> Option<Due>
     sooner(left, least_at(nodes, 2 * place + 2))
 }
 
-/// Notes the first of all that wait at a place and below, there and at the places above it.
+/// Updates the first record of the subtree at an index, and those of all its ancestors.
 pub(crate) fn settle(nodes: &mut [Node], place: usize)
     requires place { place < length nodes.old }
     requires others { (other : ℕ) → other ≢ place → IsSettled nodes.old other }

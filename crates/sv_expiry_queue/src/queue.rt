@@ -8,8 +8,8 @@ use crate::node::{Node, least_at, settle};
 use std::alloc::{AllocError, Global};
 use std::marker::Model;
 
-/// The records that wait, by place. Contracts see the list of the places, each with its record or empty.
-/// A change at a place takes as many steps as the number of places has binary digits, and no memory.
+/// The records of a list, by index. Contracts see a list of entries, each with a record or empty. Changing an entry
+/// takes logarithmic time and no memory.
 #[derive(Drop)]
 pub struct Queue {
     nodes: Vec<Node>,
@@ -28,7 +28,7 @@ impl Model for Queue {
 }
 
 impl Queue {
-    /// No places. It takes no memory.
+    /// Creates an empty queue. Takes no memory.
     pub fn new(alloc: Global) -> Queue
         ensures { result ≡ [] }
     {
@@ -37,10 +37,10 @@ impl Queue {
         }
     }
 
-    /// Adds a place behind the others, with a record.
+    /// Appends an entry with a record.
     ///
     /// # Errors
-    /// `AllocError` where a growth was refused; nothing has changed.
+    /// `AllocError` if memory runs out; nothing has changed.
     pub fn push(&mut self, due: Due) -> Result<(), AllocError>
         ensures added { OnOk result (self.new ≡ self.old ++ Some due ∷ []) }
         ensures refused { OnErr result (self.new ≡ self.old) }
@@ -53,14 +53,14 @@ impl Queue {
         Ok(())
     }
 
-    /// How many places there are.
+    /// Returns the number of entries.
     pub fn len(&self) -> usize
         ensures { result ≡ length self.now }
     {
         self.nodes.len()
     }
 
-    /// Adds an empty place behind the others. Nothing changes where a growth is refused.
+    /// Appends an empty entry. If memory runs out, nothing changes.
     fn widen(&mut self) -> Result<(), AllocError>
         ensures wider { OnOk result (self.new ≡ self.old ++ None ∷ []) }
         ensures refused { OnErr result (self.new ≡ self.old) }
@@ -75,7 +75,7 @@ impl Queue {
         Ok(())
     }
 
-    /// Puts a record at a place, or empties it.
+    /// Replaces the record at an index, or empties the entry.
     pub fn put(&mut self, place: usize, due: Option<Due>)
         requires { place < length self.old }
         ensures { self.new ≡ slice_set self.old place due }
@@ -85,7 +85,7 @@ impl Queue {
         settle(self.nodes.as_mut_slice(), place);
     }
 
-    /// The first of the records that wait.
+    /// Returns the first record in the order, or `None` if there is none.
     pub fn least(&self) -> Option<Due>
         ensures { MatchOption result (NoneWaits self.now) (IsFirst self.now) }
     {

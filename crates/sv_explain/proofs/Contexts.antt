@@ -1,4 +1,4 @@
--- The context at the place that was chosen.
+-- The context at the chosen index.
 use Rattle.std.proofs.Common.{◌≡◌, ℕ, ◌<◌, Bool, true, false, List, [], ◌∷◌, length, map, ltb, refl, sym, ◌∙◌, ap, inl, inr, cond, Option, Some, None, IsTrue, IfSome, Bor, get_or}
 use Rattle.std.specs.Prelude.{is_some}
 use Rattle.std.specs.List.{find, position, position_or_len, slice_get}
@@ -17,7 +17,7 @@ at_place : {X : Type 0} (t : X → Bool) (xs : List X) → option_and_then (λ i
 at_place t xs =
     elim (cases_Bool (ltb (position_or_len t xs) (length xs))) [ inl e ↦ rw e (sym (find_at t xs)) | inr e ↦ rw e (sym (find_at t xs ∙ slice_get_past xs _ (ltb-false _ _ e))) ]
 
--- what is found in a mapped list is mapped
+-- Mapping the result of a search is the same as searching the mapped list.
 found_mapped : {X Y : Type 0} (f : X → Y) (t : Y → Bool) (xs : List X) → option_map f (find (λ x. t (f x)) xs) ≡ find t (map f xs)
 found_mapped f t [] = refl
 found_mapped f t (x ∷ xs) = by_test (t (f x)) (find (λ y. t (f y)) xs) (find t (map f xs)) (found_mapped f t xs)
@@ -27,7 +27,7 @@ found_mapped f t (x ∷ xs) = by_test (t (f x)) (find (λ y. t (f y)) xs) (find 
     by_test true others mapped same = refl
     by_test false others mapped same = same
 
--- the places of a chosen context among contexts that are mapped
+-- The index of the chosen context among mapped contexts.
 module _ {X : Type 0} (path_of : X → List ℕ) (standing_of : X → Standing) (users_of : X → List User) where
   abbrev policy_of : X → ContextPolicy
   policy_of context = policy (path_of context) (standing_of context) (users_of context)
@@ -51,14 +51,14 @@ module _ {X : Type 0} (path_of : X → List ℕ) (standing_of : X → Standing) 
   serves_by_place contexts path place None same serves = tt
   serves_by_place contexts path place (Some context) same serves = serves context.now (sym same)
 
--- what is got of a place that is there
+-- The context at an index within the list.
 pub got : {X : Type 0} (contexts : List X) (place : ℕ) (found : Option (Bor X)) → place < length contexts
     → is_some found ≡ ltb place (length contexts) → IfSome found (λ context. context.now ≡ get_or contexts place context.now)
     → option_copied found ≡ slice_get contexts place
 got contexts place None within some is = absurd (both_ways _ (sym some) (lt-ltb _ _ within))
 got contexts place (Some context) within some is = ap Some is ∙ sym (slice_get-get_or contexts place context.now within)
 
--- policies are their own
+-- Rebuilding contexts from their parts gives the same contexts.
 pub policies_same : (contexts : List ContextPolicy) → map (λ context. policy context.path context.policy context.realm) contexts ≡ contexts
 policies_same [] = refl
 policies_same (context ∷ contexts) = ap (λ others. context ∷ others) (policies_same contexts)

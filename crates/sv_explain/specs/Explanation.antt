@@ -1,4 +1,5 @@
--- What would become of a request, by its method, target and user: RFC 9110 section 5.6.2 (tokens); Jakarta Servlet 6.0 sections 3.5, 10.5, 12.1 and 13.8.
+-- The explanation of a request, by its method, target and user: RFC 9110 section 5.6.2 (tokens); Jakarta Servlet 6.0
+-- sections 3.5, 10.5, 12.1 and 13.8.
 use Rattle.std.specs.Prelude.{ℕ, Bool, ◌&&◌, not, List, [], Option, Some, None, Result, Ok, Err, if◌then◌else◌}
 use Rattle.std.specs.List.{list_all}
 use Rattle.std.specs.Option.{option_map}
@@ -24,41 +25,41 @@ use Rattle.sv_explain.specs.declared.fault.ExplainFault.TheVariants.{BadMethod, 
 abbrev pub Answer : Type 0
 Answer = Result Explanation ExplainFault
 
--- a token of any length
+-- A token of any length.
 abbrev pub is_token : List ℕ → Bool
 is_token text = not (bytes_eq text []) && list_all is_token_byte text
 
--- the caller that a user's name stands for, and no caller where no user is named
+-- The caller with the name of the user, or no caller if no user is named.
 abbrev pub caller_as : List User → Option (List ℕ) → Option (Option Caller)
 caller_as users None = Some None
 caller_as users (Some name) = option_map Some (caller_named users name)
 
--- the verdict of the context's constraints as they stand
+-- The verdict of the current constraints of the context.
 abbrev pub decided : ContextPolicy → List ℕ → List ℕ → Option Caller → Explanation
 decided context method path caller =
     Decided context.path path (verdict context.policy.constraints context.policy.rules method path caller)
 
--- for a path within the context and a caller, if the context has the user
+-- The explanation for a path within the context and a caller, if the context has the user.
 abbrev pub explanation_for : ContextPolicy → List ℕ → List ℕ → Option (Option Caller) → Answer
 explanation_for context method path None = Err NoSuchUser
 explanation_for context method path (Some caller) = Ok (if is_protected path then Hidden Protected else decided context method path caller)
 
--- for a path that the context serves
+-- The explanation for a path that the context serves.
 abbrev pub explanation_within : ContextPolicy → List ℕ → List ℕ → Option (List ℕ) → Answer
 explanation_within context method path user =
     explanation_for context method (path_within context.path path) (caller_as context.realm user)
 
--- for a canonical path and its context, if there is one
+-- The explanation for a canonical path and its context, if any.
 abbrev pub explanation_in : Option ContextPolicy → List ℕ → List ℕ → Option (List ℕ) → Answer
 explanation_in None method path user = Ok (Hidden NoContext)
 explanation_in (Some context) method path user = explanation_within context method path user
 
--- for the canonical path of a target, if it has one
+-- The explanation for the canonical path of a target, if it has one.
 abbrev pub explanation_at : List ContextPolicy → List ℕ → Result Canon PathFault → Option (List ℕ) → Answer
 explanation_at contexts method (Err fault) user = Ok (Refused fault)
 explanation_at contexts method (Ok canon) user = explanation_in (context_of contexts canon.path) method canon.path user
 
--- for a target
+-- The explanation for a target.
 abbrev pub explanation : List ContextPolicy → List ℕ → List ℕ → Option (List ℕ) → Answer
 explanation contexts method target user =
     if is_token method then explanation_at contexts method (canonical target) user else Err BadMethod

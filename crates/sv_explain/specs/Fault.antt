@@ -1,9 +1,9 @@
--- Why there is no explanation.
+-- Reasons for a missing explanation.
 use Rattle.std.specs.Prelude.{ℕ, List, codes, Option, Some, None}
 use Rattle.sv_explain.specs.declared.fault.ExplainFault.{ExplainFault}
 use Rattle.sv_explain.specs.declared.fault.ExplainFault.TheVariants.{BadMethod, NoSuchUser, NoMemory}
 
--- the fault, apart from want of memory
+-- The fault, or none if memory ran out.
 abbrev pub explain_fault : ExplainFault → Option ExplainFault
 explain_fault BadMethod = Some BadMethod
 explain_fault NoSuchUser = Some NoSuchUser

@@ -18,23 +18,23 @@ pub trait HasPolicy: HasContextPath {
 
     ghost users_of: { Self → List User };
 
-    /// The policy of the context's constraints as they stand.
+    /// Returns the policy of the current constraints of the context.
     fn policy(&self) -> &Policy
         ensures { result.now ≡ standing_of self.now };
 
-    /// The users who may be callers.
+    /// Returns the users that may be callers.
     fn users(&self) -> &Realm
         ensures { result.now ≡ users_of self.now };
 }
 
-/// What is needed of a context to explain a decision.
+/// The parts of a context that explain its decisions.
 #[derive(Drop)]
 pub struct ContextPolicy {
-    /// The context path: empty for the root context, and else a path that begins with `/` and does not end in one.
+    /// The context path: empty for the root context, and otherwise a path that begins with `/` and does not end in one.
     pub path: Text,
-    /// The policy of the context's constraints as they stand.
+    /// The policy of the current constraints of the context.
     pub policy: Policy,
-    /// The users who may be callers.
+    /// The users that may be callers.
     pub realm: Realm,
 }
 
@@ -60,7 +60,8 @@ impl HasPolicy for ContextPolicy {
     }
 }
 
-/// The context of a path: of those whose context paths serve it the one with the longest, and of equal ones the first.
+/// Returns the context of a path: among those whose context path serves it, the one with the longest, and the first of
+/// equal ones.
 pub fn context_of<'a, C: HasPolicy>(contexts: &'a [C], path: &str) -> Option<&'a C>
     ensures chosen { option_map (λ context. policy (C.path_of context) (C.standing_of context) (C.users_of context)) (option_copied result)
         ≡ context_of (map (λ context. policy (C.path_of context) (C.standing_of context) (C.users_of context)) contexts.now) path.now }

@@ -19,15 +19,16 @@ use sv_text::{NoMemory, Text};
 use sv_uri::canon;
 use sv_uri::fault::CanonFault;
 
-/// What would become of a request with this method and this target, from the named user of its context or without a caller.
+/// Explains how a request with this method and target would be handled, for the named user of its context or without a
+/// caller.
 ///
-/// The target is any bytes, read as a path with an optional query. A method may have any length. In a named user's place no
-/// password is asked for. The work is linear in the contexts and their users; the constraints
-/// are not gone over.
+/// The target is any bytes, read as a path with an optional query. A method may have any length. No password is needed
+/// for a named user. The time is linear in the contexts and their users; the constraints are not iterated over.
 ///
 /// # Errors
-/// [`ExplainFault::BadMethod`] before anything is said of the target, [`ExplainFault::NoSuchUser`] where the target has a
-/// context and that context's realm does not have the user, and [`ExplainFault::NoMemory`].
+/// [`ExplainFault::BadMethod`] if the method is not a token; this is checked before the target.
+/// [`ExplainFault::NoSuchUser`] if the realm of the context of the target does not have the user.
+/// [`ExplainFault::NoMemory`] if memory runs out.
 pub fn explain_request<C: HasPolicy>(
     alloc: Global,
     contexts: &[C],
@@ -53,7 +54,7 @@ pub fn explain_request<C: HasPolicy>(
     }
 }
 
-/// The same for contexts that are not deployed.
+/// Explains a request as [`explain_request`] does, for contexts that are not deployed.
 ///
 /// # Errors
 /// Those of [`explain_request`].
@@ -69,7 +70,7 @@ pub fn explain_parts(
     explain_request(alloc, contexts, method, target, user)
 }
 
-/// What would become of a request for a path that this context serves.
+/// Explains a request for a path that this context serves.
 fn explain_within<C: HasPolicy>(
     alloc: Global,
     context: &C,
@@ -91,7 +92,8 @@ fn explain_within<C: HasPolicy>(
     Ok(decided(alloc, context, method, path, caller)?)
 }
 
-/// The caller that a user's name stands for, or no caller where no user is named; none where the realm lacks the user.
+/// Returns the caller with the name of the user, or no caller if no user is named. Returns none if the realm lacks the
+/// user.
 fn caller_as<'a>(realm: &'a Realm, user: Option<&str>) -> Option<Option<&'a Caller>>
     ensures { option_map option_copied result ≡ spec.caller_as realm.now (option_copied user.entry) }
 {
@@ -101,7 +103,7 @@ fn caller_as<'a>(realm: &'a Realm, user: Option<&str>) -> Option<Option<&'a Call
     }
 }
 
-/// What the constraints of the context decide as they stand.
+/// Returns the decision of the current constraints of the context.
 fn decided<C: HasPolicy>(
     alloc: Global,
     context: &C,
@@ -120,7 +122,7 @@ fn decided<C: HasPolicy>(
     })
 }
 
-/// Whether the text is a token, as every method is (RFC 9110, sections 5.6.2 and 9.1).
+/// Returns whether the text is a token, as every method is (RFC 9110, sections 5.6.2 and 9.1).
 fn is_token(text: &str) -> bool
     ensures { result ≡ spec.is_token text.now }
 {

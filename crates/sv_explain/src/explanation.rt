@@ -1,4 +1,4 @@
-//! What would become of a request, and its text.
+//! The explanation of a request, and its text.
 
 ghost use Rattle.std.specs.Prelude.{Some};
 ghost use Rattle.sv_explain.specs.Text as spec;
@@ -9,14 +9,14 @@ use sv_text::Text;
 use sv_uri::fault::PathFault;
 use sv_uri::shown_context;
 
-/// What would become of a request.
+/// The expected outcome of a request.
 #[derive(Drop)]
 pub enum Explanation {
-    /// It is refused: its target has no canonical path.
+    /// The request is refused: its target has no canonical path.
     Refused(PathFault),
-    /// It is answered as if nothing were there.
+    /// The request is answered as if its target did not exist.
     Hidden(HiddenCause),
-    /// The constraints of its context decide it.
+    /// The constraints of its context decide the request.
     Decided {
         /// The context path, empty for the root context.
         context: Text,
@@ -27,12 +27,12 @@ pub enum Explanation {
     },
 }
 
-/// Why a request is answered as if nothing were there.
+/// The reason why a request is answered as if its target did not exist.
 #[derive(Clone, Copy)]
 pub enum HiddenCause {
     /// No context path serves the path.
     NoContext,
-    /// The path within the context leads into a folder that is served to no client.
+    /// The path within the context is in a folder that is served to no client.
     Protected,
 }
 

@@ -1,4 +1,4 @@
-//! Why there is no explanation.
+//! Reasons for a missing explanation.
 
 ghost use Rattle.std.specs.Prelude.{◌≡◌, Some};
 ghost use Rattle.sv_explain.specs.Fault.{fault_name};
@@ -8,14 +8,14 @@ use std::error::Error;
 use std::fmt;
 use sv_text::NoMemory;
 
-/// Why [`explain_request`](crate::explain_request) gave no explanation. It is printed as its name.
+/// The reason why [`explain_request`](crate::explain_request) gave no explanation. It is printed as its name.
 #[derive(Clone, Copy, Debug)]
 pub enum ExplainFault {
-    /// The method is no token (RFC 9110, section 5.6.2).
+    /// The method is not a token (RFC 9110, section 5.6.2).
     BadMethod = 1,
-    /// The context's realm has no user of the name.
+    /// The realm of the context has no user with this name.
     NoSuchUser = 2,
-    /// There was no memory for the explanation. Nothing is said of the request.
+    /// Memory ran out. The request is not explained.
     NoMemory = 3,
 }
 

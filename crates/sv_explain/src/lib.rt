@@ -1,4 +1,4 @@
-//! Why a request would be decided as it is: its context, its path within it, and what the context's constraints decide
+//! Explaining a request: its context, its path within the context, and the decision of the context's constraints
 //! (Jakarta Servlet 6.0, sections 3.5, 10.5 and 13.8).
 #![tactic(auto)]
 

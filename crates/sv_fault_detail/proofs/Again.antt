@@ -1,4 +1,4 @@
--- The first text that is among those in front of it, with a set of those.
+-- The first text that repeats an earlier one, with a set of the earlier ones.
 use Rattle.std.proofs.Common.{◌≡◌, ℕ, ◌+◌, ◌<◌, Bool, true, false, not, List, [], ◌∷◌, length, get_or, drop, Bor, refl, sym, ap, ◌∙◌}
 use Rattle.std.specs.Prelude.{◌||◌}
 use Rattle.std.specs.Str.{bytes_eq}
@@ -7,7 +7,7 @@ use Rattle.sv_schema.specs.Names.{HaveSame}
 use Rattle.sv_schema.specs.Table.{is_among, texts}
 use Rattle.sv_fault_detail.specs.Offending.{again}
 
--- only which texts are in front counts
+-- only the members of the set matter
 again-same : (before set rest : List (List ℕ)) → HaveSame set before → again set rest ≡ again before rest
 again-same before set [] same = refl
 again-same before set (text ∷ rest) same =

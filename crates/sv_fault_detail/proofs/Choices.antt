@@ -1,4 +1,4 @@
--- What is found first, or else what is found then.
+-- The first result, or else the next one.
 use Rattle.std.proofs.Common.{◌≡◌, Option, Some, None, refl}
 use Rattle.std.specs.Option.{option_or}
 

@@ -1,4 +1,4 @@
--- Lists that are put together, as they are seen.
+-- Joined lists, through a view.
 use Rattle.std.proofs.Common.{◌≡◌, List, ◌++◌, map, Result, Ok, Err, IfOk, Vec, refl}
 use Rattle.std.specs.declared.alloc.Global.{Global}
 use Rattle.std.proofs.lemmas.List.{map-append}

@@ -1,4 +1,4 @@
--- What stands in a table, as its map has it.
+-- The contents of a table, from its map.
 use Rattle.std.proofs.Common.{◌≡◌, List, [], ◌∷◌, map, Some, refl, sym, ap, ◌∙◌}
 use Rattle.std.specs.Map.{values_of}
 use Rattle.std.specs.Option.{option_map_or}

@@ -1,4 +1,4 @@
--- The second line of a fault of a configuration file: the file, the place where it is known, and what is wrong.
+-- The second line of a fault of a configuration file: the file, the place if it is known, and the problem.
 use Rattle.std.specs.Prelude.{◌≡◌, ◌≤◌, ℕ, List, ◌++◌, codes, length, take, Option, None, IfSome, MatchOption}
 use Rattle.std.specs.Fmt.{decimal}
 use Rattle.std.specs.Option.{option_and_then, option_map_or}
@@ -16,20 +16,20 @@ use Rattle.sv_fault_detail.specs.Sentence.{sentence}
 abbrev pub plain_line : List ℕ → DescriptorFault → List ℕ
 plain_line name fault = codes "  " ++ name ++ codes ": " ++ sentence fault
 
--- the line with what is shown of the text that offends
+-- the line with the offending text, if it is shown
 abbrev pub told_line : List ℕ → DescriptorFault → Option (List ℕ) → List ℕ
 told_line name fault told = plain_line name fault ++ option_map_or (λ text. codes ": " ++ text) told (codes "")
 
--- the line with the place behind these bytes of the text
+-- the line with the place after these bytes of the text
 abbrev pub line_with_place : List ℕ → List ℕ → List ℕ → List ℕ
 line_with_place name before message =
     codes "  " ++ name ++ codes ":" ++ decimal (line_behind before) ++ codes ":" ++ decimal (column_behind before) ++ codes ": " ++ message
 
--- a place in the text, and what the reader of TOML says there
+-- the line has some place in the text, and some message
 abbrev pub IsPlaced : List ℕ → List ℕ → List ℕ → Type 0
 IsPlaced name text line = (at : ℕ) × (message : List ℕ) × (at ≤ length text) × (line ≡ line_with_place name (take at text) message)
 
--- the line of a text that is no TOML has a place, where the file has such a text still
+-- the line has a place if the text is not valid TOML; the file may have changed since the fault
 abbrev pub IsTextLine : List ℕ → List ℕ → DescriptorFault → List ℕ → Type 0
 IsTextLine name text found line = MatchOption (parse_document text) (IsPlaced name text line) (λ _. line ≡ plain_line name found)
 
@@ -41,7 +41,7 @@ IsLineOf other name text found line = line ≡ told_line name found (option_and_
 abbrev pub IsLine : List ℕ → List ℕ → DescriptorFault → List ℕ → Type 0
 IsLine name text found line = IsLineOf found.code name text found line
 
--- of a fault of a file, where a line is given, it is that for some text of a file, which has this name if it is the server file
+-- a line for a fault of a file is the line for some text of a file; for a server file, it has the server file's name
 abbrev pub IsDetail : List ℕ → CommandFault → Option (List ℕ) → Type 0
 IsDetail config (fault.Server found) given = IfSome given (λ line. (text : List ℕ) × IsLine config text found line)
 IsDetail config (fault.Descriptor context found) given = IfSome given (λ line. (name : List ℕ) × (text : List ℕ) × IsLine name text found line)

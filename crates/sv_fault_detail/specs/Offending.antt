@@ -1,4 +1,4 @@
--- The text that offends at the key of a fault, where the file says which it is.
+-- The offending text at the key of a fault, if the file determines it.
 use Rattle.std.specs.Prelude.{ℕ, Bool, not, ◌||◌, List, [], ◌∷◌, ◌++◌, codes, Option, Some, None, option_map, unwrap_or, if◌then◌else◌}
 use Rattle.std.specs.List.{find, list_any}
 use Rattle.std.specs.Option.{option_and_then, option_or}
@@ -12,7 +12,7 @@ use Rattle.sv_schema.specs.declared.fault.FaultCode.TheVariants.{WrongType, BadP
 use Rattle.sv_fault_detail.specs.Shown.{quoted, shown}
 use Rattle.sv_fault_detail.specs.Tree.{all_tables, items, tables_at, tables_in, texts_at, values_at}
 
--- the tables at the top of a file by this name
+-- the top-level tables of this name
 abbrev pub elements : List ℕ → Members → List Members
 elements name file = tables_at name (file ∷ [])
 
@@ -20,7 +20,7 @@ elements name file = tables_at name (file ∷ [])
 abbrev pub texts_of_elements : List ℕ → List ℕ → Members → List (List ℕ)
 texts_of_elements name key file = texts_at key (elements name file)
 
--- the first text that is among those in front of it
+-- the first text that repeats an earlier one
 abbrev pub again : List (List ℕ) → List (List ℕ) → Option (List ℕ)
 again before [] = None
 again before (text ∷ rest) = if is_among before text then Some text else again (text ∷ before) rest
@@ -29,7 +29,7 @@ again before (text ∷ rest) = if is_among before text then Some text else again
 abbrev pub first_other : List (List ℕ) → List (List ℕ) → Option (List ℕ)
 first_other known texts = find (λ text. not (is_among known text)) texts
 
--- the URL patterns of a descriptor, in the order in which they are read (Jakarta Servlet 6.0 section 14.4)
+-- the URL patterns of a descriptor, in reading order (Jakarta Servlet 6.0 section 14.4)
 abbrev pub url_patterns : Members → List (List ℕ)
 url_patterns file =
     texts_of_elements (codes "servlet-mapping") (codes "url-pattern") file
@@ -40,7 +40,7 @@ url_patterns file =
 abbrev pub servlets : Members → List (List ℕ)
 servlets file = texts_of_elements (codes "servlet") (codes "servlet-name") file
 
--- the first servlet of a filter mapping that is not declared; it may also name the file servlet, and all servlets
+-- the first servlet of a filter mapping that is not declared; the file servlet and all servlets may also be named
 abbrev pub unknown_to_filters : List (List ℕ) → Members → Option (List ℕ)
 unknown_to_filters declared file = first_other (codes "default" ∷ codes "*" ∷ declared) (texts_of_elements (codes "filter-mapping") (codes "servlet-name") file)
 
@@ -54,7 +54,7 @@ abbrev pub unknown_filter : Members → Option (List ℕ)
 unknown_filter file =
     first_other (texts_of_elements (codes "filter") (codes "filter-name") file) (texts_of_elements (codes "filter-mapping") (codes "filter-name") file)
 
--- the tables whose names at this key have to differ
+-- the tables whose names at this key must differ
 abbrev pub named_by : List ℕ → List ℕ
 named_by key =
     if bytes_eq key (codes "servlet-name") then codes "servlet"
@@ -63,15 +63,15 @@ named_by key =
     else if bytes_eq key (codes "path") then codes "context"
     else codes "user"
 
--- the names that every authenticated caller and all roles have (section 13.8)
+-- the reserved names: all roles, and every authenticated caller (section 13.8)
 abbrev pub is_reserved : List ℕ → Bool
 is_reserved text = bytes_eq text (codes "*") || bytes_eq text (codes "**")
 
--- the first role that is declared by such a name
+-- the first role that is declared by a reserved name
 abbrev pub reserved_role : Members → Option (List ℕ)
 reserved_role file = find is_reserved (texts_of_elements (codes "security-role") (codes "role-name") file)
 
--- the text that the fault of a code is about: the first to which it applies
+-- the first text to which the fault of this code applies
 abbrev pub text_of : FaultCode → List ℕ → Members → Option (List ℕ)
 text_of BadPattern key file = find (λ text. not (is_pattern text)) (url_patterns file)
 text_of DuplicatePattern key file = again [] (texts_of_elements (codes "servlet-mapping") (codes "url-pattern") file)
@@ -81,35 +81,35 @@ text_of ReservedRole key file = reserved_role file
 text_of DuplicateName key file = again [] (texts_of_elements (named_by key) key file)
 text_of other key file = None
 
--- the seed, and what stands for a password
+-- the keys of the seed, and of the salts and digests of passwords
 abbrev pub is_secret_key : List ℕ → Bool
 is_secret_key key = bytes_eq key (codes "seed") || (bytes_eq key (codes "salt") || bytes_eq key (codes "digest"))
 
--- what is never told: those, and the parameters of components
+-- the keys whose values are never shown: the keys above, and the parameters of components
 abbrev pub is_secret : List ℕ → Members → Bool
 is_secret key file =
     is_secret_key key || list_any (has_key key) (tables_at (codes "init-param") (tables_in (file ∷ [])))
 
--- the one value, where there is no other
+-- the only value of a list
 abbrev pub sole : List Data → Option Data
 sole (value ∷ []) = Some value
 sole other = None
 
--- the one value that stands at a key anywhere in the file
+-- the only value at this key in the whole file, unless it is secret
 abbrev pub sole_at : List ℕ → Members → Option Data
 sole_at key file = if is_secret key file then None else sole (values_at key (all_tables file))
 
--- of a list of one item that item, and else the value
+-- the item of a list of one item, or else the value itself
 abbrev pub sole_item : Data → Data
 sole_item value = unwrap_or (sole (items value)) value
 
--- what is shown of a value that is refused for itself
+-- a value that is refused for itself, as it is shown
 abbrev pub value_of : FaultCode → List ℕ → Members → Option (List ℕ)
 value_of WrongType key file = option_and_then shown (sole_at key file)
 value_of BadTimeout key file = option_and_then shown (sole_at key file)
 value_of BadValue key file = option_and_then (λ value. shown (sole_item value)) (sole_at key file)
 value_of other key file = None
 
--- what is shown of the text that offends
+-- the offending text, as it is shown
 abbrev pub offending : DescriptorFault → Members → Option (List ℕ)
 offending fault file = option_or (option_map quoted (text_of fault.code fault.key file)) (value_of fault.code fault.key file)

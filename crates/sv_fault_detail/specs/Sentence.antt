@@ -1,10 +1,10 @@
--- What a fault of a configuration file is, in a sentence about its key.
+-- The sentence about the key of a fault in a configuration file.
 use Rattle.std.specs.Prelude.{ℕ, List, ◌++◌, codes}
 use Rattle.sv_schema.specs.declared.fault.DescriptorFault.{DescriptorFault}
 use Rattle.sv_schema.specs.declared.fault.FaultCode.{FaultCode}
 use Rattle.sv_schema.specs.declared.fault.FaultCode.TheVariants.{NotToml, UnknownKey, MissingKey, WrongType, BadPattern, DuplicatePattern, UnknownServlet, UnknownFilter, BothMethodLists, ReservedRole, BadTimeout, BadValue, DuplicateName, TooMany}
 
--- the words in front of the key
+-- the words before the key
 abbrev pub front : FaultCode → List ℕ
 front NotToml = codes "the text is no TOML"
 front UnknownKey = codes "the key `"
@@ -21,7 +21,7 @@ front BadValue = codes "the value of `"
 front DuplicateName = codes "the name at `"
 front TooMany = codes "the list at `"
 
--- the words behind it
+-- the words after the key
 abbrev pub back : FaultCode → List ℕ
 back NotToml = codes ""
 back UnknownKey = codes "` is not known here"

@@ -1,4 +1,4 @@
--- A value as TOML writes it, in one line (TOML 1.0, "Strings", "Integer" and "Boolean").
+-- A value as TOML writes it, on one line (TOML 1.0, "Strings", "Integer" and "Boolean").
 use Rattle.std.specs.Prelude.{ℕ, ◌/◌, ◌%◌, Bool, true, ◌||◌, ◌==◌, nat_lt, List, [], ◌∷◌, ◌++◌, codes, chars, encode_utf8, length, take, flat_map, Option, Some, None, if◌then◌else◌}
 use Rattle.std.specs.Char.{is_control}
 use Rattle.std.specs.Fmt.{digit_glyph, signed_decimal}
@@ -6,7 +6,7 @@ use Rattle.std.specs.Str.{byte}
 use Rattle.toml.specs.Data.{Data, string, integer, boolean}
 use Rattle.sv_fault_detail.specs.declared.limits.TheConstants.{MAX_SHOWN_CHARACTERS}
 
--- the letter of an escape of two characters; 0 where there is none
+-- the letter of a two-character escape, or 0 if there is none
 abbrev pub escape_letter : ℕ → ℕ
 escape_letter c =
     if c == 8 then byte "b"
@@ -18,13 +18,13 @@ escape_letter c =
     else if c == byte "\\" then c
     else 0
 
--- a letter behind a backslash where there is one, and else `\u00` with two hexadecimal digits
+-- a backslash and the letter, if there is one, or else `\u00` and two hexadecimal digits
 abbrev pub escape_text : ℕ → List ℕ
 escape_text c =
     if escape_letter c == 0 then codes "\\u00" ++ digit_glyph true (c / 16) ∷ digit_glyph true (c % 16) ∷ []
     else codes "\\" ++ escape_letter c ∷ []
 
--- a character that a basic string cannot hold as it is, or that no line should
+-- a character that a basic string cannot contain unescaped, or that a line should not contain
 abbrev pub is_escaped : ℕ → Bool
 is_escaped c = is_control c || (c == byte "\"" || c == byte "\\")
 
@@ -32,7 +32,7 @@ is_escaped c = is_control c || (c == byte "\"" || c == byte "\\")
 abbrev pub character_text : ℕ → List ℕ
 character_text c = if is_escaped c then escape_text c else encode_utf8 c
 
--- what stands behind a text that is cut
+-- the mark after a text that is cut
 abbrev pub cut_mark : List ℕ → List ℕ
 cut_mark characters = if nat_lt MAX_SHOWN_CHARACTERS (length characters) then codes ".." else codes ""
 
@@ -47,7 +47,7 @@ quoted text = quoted_characters (chars text)
 abbrev pub truth_text : Bool → List ℕ
 truth_text holds = if holds then codes "true" else codes "false"
 
--- a text, a whole number and a truth value are shown
+-- texts, integers and booleans are shown
 abbrev pub shown : Data → Option (List ℕ)
 shown (string text) = Some (quoted text)
 shown (integer number) = Some (signed_decimal number)

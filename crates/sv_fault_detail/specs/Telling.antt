@@ -1,4 +1,5 @@
--- Of which file the second line of a fault tells, by what the store gives: it is asked again for the server file, and for the file of the context.
+-- The file that the second line of a fault names, by the texts that the store gives. The server file is read again, and
+-- the file of the context.
 use Rattle.std.specs.Prelude.{◌≡◌, ℕ, List, Option, Some, None, find}
 use Rattle.std.specs.Option.{option_and_then}
 use Rattle.std.specs.Path.{path_with_file_name}
@@ -14,7 +15,7 @@ use Rattle.sv_fault_detail.specs.Detail.{IsLine}
 use Rattle.sv_fault_detail.specs.declared.detail.ContextFile.{ContextFile}
 use Rattle.sv_fault_detail.specs.declared.detail.ContextFile.TheVariants.{Descriptor, Users}
 
--- the line is that of this text, and there is none where no text was to be had
+-- the line for this text, or none if no text was available
 abbrev pub TellsText : List ℕ → DescriptorFault → Option (List ℕ) → Option (List ℕ) → Type 0
 TellsText name found None given = given ≡ None
 TellsText name found (Some text) None = ⊥
@@ -25,7 +26,7 @@ abbrev pub TellsFile : {S : Type 0} → Giving S → List ℕ → List ℕ → D
 TellsFile gives path name found before given after =
     (text : Option (List ℕ)) × gives before path text after × TellsText name found text given
 
--- a file that the server file names is read beside it, and the line has the name that stands there
+-- the name of a file is relative to the folder of the server file, and the line shows it as the server file has it
 abbrev pub TellsNamed : {S : Type 0} → Giving S → List ℕ → Option (List ℕ) → DescriptorFault → S → Option (List ℕ) → S → Type 0
 TellsNamed gives config None found before given after = (given ≡ None) × (after ≡ before)
 TellsNamed gives config (Some name) found before given after = TellsFile gives (path_with_file_name config name) name found before given after
@@ -39,7 +40,7 @@ abbrev pub ReadsEntries : {S : Type 0} → Giving S → List ℕ → S → List 
 ReadsEntries gives config before entries after =
     (text : Option (List ℕ)) × gives before config text after × (entries ≡ contexts_in (server_in config text))
 
--- the server file is read, and has this of the context of this path
+-- the server file is read, and has this entry for the context of this path
 abbrev pub ReadsEntry : {S : Type 0} → Giving S → List ℕ → List ℕ → S → Option ContextEntry → S → Type 0
 ReadsEntry gives config path before entry after =
     (text : Option (List ℕ)) × gives before config text after × (entry ≡ entry_among path (contexts_in (server_in config text)))
@@ -60,7 +61,7 @@ abbrev pub named_for : ContextFile → ContextEntry → Option (List ℕ)
 named_for Descriptor = named_descriptor
 named_for Users = named_users
 
--- of a fault of a file its line, and for another fault nothing is read
+-- the line of a fault of a file; for another fault nothing is read
 abbrev pub TellsFault : {S : Type 0} → Giving S → List ℕ → CommandFault → S → Option (List ℕ) → S → Type 0
 TellsFault gives config (fault.Server found) before given after = TellsFile gives config config found before given after
 TellsFault gives config (fault.Descriptor path found) before given after = TellsOfContext gives config path named_descriptor found before given after

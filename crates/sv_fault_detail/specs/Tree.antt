@@ -1,4 +1,4 @@
--- What stands at a key in the tables of a file.
+-- The values at a key in the tables of a file.
 use Rattle.std.specs.Prelude.{ℕ, List, [], ◌∷◌, ◌++◌, map, String}
 use Rattle.std.specs.BTreeMap.{BTreeMap}
 use Rattle.std.specs.declared.alloc.Global.{Global}
@@ -13,7 +13,7 @@ use Rattle.sv_schema.specs.ListOf.{items_list}
 abbrev pub Table : Type 0
 Table = BTreeMap (String Global) Value
 
--- the tables, and the values, that references refer to
+-- the views of referenced tables, and of referenced values
 abbrev pub tables_seen : List (Bor Table) → List Members
 tables_seen references = map (λ table. table_view table.now) references
 
@@ -24,7 +24,7 @@ values_seen references = map (λ value. view value.now) references
 abbrev pub items : Data → List Data
 items value = option_map_or items_list (as_array value) []
 
--- a value, and the items that it has
+-- a value and its items
 abbrev pub with_items : Data → List Data
 with_items value = value ∷ items value
 
@@ -40,23 +40,23 @@ abbrev pub values : Members → List Data
 values no_members = []
 values (member key value rest) = value ∷ values rest
 
--- the values that stand at a key in some tables
+-- the values at a key in some tables
 abbrev pub values_at : List ℕ → List Members → List Data
 values_at key tables = flat_map (λ table. option_to_list (get_member key table)) tables
 
--- the tables that stand at a key in some tables, one by one or in lists
+-- the tables at a key in some tables, as values or in lists
 abbrev pub tables_at : List ℕ → List Members → List Members
 tables_at key tables = flat_map tables_of (values_at key tables)
 
--- the texts that stand at a key in some tables, one by one or in lists
+-- the texts at a key in some tables, as values or in lists
 abbrev pub texts_at : List ℕ → List Members → List (List ℕ)
 texts_at key tables = flat_map texts_of (values_at key tables)
 
--- the tables that stand in some tables
+-- the tables in some tables
 abbrev pub tables_in : List Members → List Members
 tables_in tables = flat_map tables_of (flat_map values tables)
 
--- the tables of a file: that of the file, those in it, and those in these; no format has deeper ones
+-- the table of a file, the tables in it, and the tables in these; no format nests deeper
 abbrev pub all_tables : Members → List Members
 all_tables file =
     let second = tables_in (file ∷ []) in

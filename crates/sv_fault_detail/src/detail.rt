@@ -1,4 +1,4 @@
-//! The second line of a fault, by the files that a store gives.
+//! The second line of a fault, from the files that a store gives.
 
 ghost use Rattle.std.specs.Prelude.{◌≡◌, [], IfOk, IsSome, option_copied};
 ghost use Rattle.std.specs.Option.{option_and_then};
@@ -15,8 +15,9 @@ use sv_schema::DescriptorFault;
 use sv_settings::{ContextEntry, Server};
 use sv_text::{Listed, NoMemory, Text};
 
-/// The line that stands behind that of a fault of a configuration file of the server file `config`, without its end. It asks the store again for the server file, and
-/// for the file of the context. There is none for a fault of another kind, nor where a file is no longer to be had.
+/// Returns the second line of a fault of a configuration file of the server file `config`, without its line feed. Reads
+/// the server file again, and for a fault of a context's file also that file. Returns none for other faults, or if a
+/// file is no longer named or available.
 pub fn fault_detail<S: FileStore>(
     alloc: Global,
     store: &mut S,
@@ -54,7 +55,7 @@ enum ContextFile {
     Users,
 }
 
-/// The line of a fault of a file of the context of this path.
+/// Returns the line of a fault of a file of the context at this path.
 fn detail_of_context<S: FileStore>(
     alloc: Global,
     store: &mut S,
@@ -72,7 +73,7 @@ fn detail_of_context<S: FileStore>(
     }
 }
 
-/// The line of a fault of the file that the server file names so.
+/// Returns the line of a fault of a file, by the name that the server file has for it.
 fn detail_beside<S: FileStore>(
     alloc: Global,
     store: &mut S,
@@ -86,7 +87,7 @@ fn detail_beside<S: FileStore>(
     detail_of_file(alloc, store, path.as_str(), name, fault)
 }
 
-/// The line of a fault of the file at this path, with this name for it.
+/// Returns the line of a fault of the file at this path, with this name for it.
 fn detail_of_file<S: FileStore>(
     alloc: Global,
     store: &mut S,
@@ -102,7 +103,7 @@ fn detail_of_file<S: FileStore>(
     }
 }
 
-/// What the server file says of the contexts.
+/// Reads the contexts in the server file.
 fn entries_in<S: FileStore>(
     alloc: Global,
     store: &mut S,
@@ -123,7 +124,7 @@ fn entries_of(server: Server) -> Listed<ContextEntry>
     contexts
 }
 
-/// None, as a server file has them that is refused.
+/// Returns no entries for a server file that is refused.
 fn no_entries(alloc: Global, fault: CommandFault) -> Result<Listed<ContextEntry>, NoMemory>
     ensures { IfOk result (λ entries. (entries ≡ []) × IsSome (command_fault fault)) }
 {
@@ -133,7 +134,7 @@ fn no_entries(alloc: Global, fault: CommandFault) -> Result<Listed<ContextEntry>
     }
 }
 
-/// The name of the file for the first context of this path.
+/// Returns the name of the file for the first context of this path.
 fn name_among<'a>(entries: &'a [ContextEntry], path: &str, file: ContextFile) -> Option<&'a str>
     ensures { option_copied result ≡ option_and_then (telling.named_for file) (telling.entry_among path.now entries.now) }
 {

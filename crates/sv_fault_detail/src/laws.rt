@@ -1,10 +1,10 @@
-//! The limit in numbers, the contract of a function that does nothing.
+//! The limit as a number, the contract of a function with an empty body.
 
 ghost use Rattle.std.specs.Prelude.{◌≡◌};
 
 use crate::limits::MAX_SHOWN_CHARACTERS;
 
-/// Of a text at most 80 characters are shown.
+/// At most 80 characters of a text are shown.
 pub fn limits_of_the_second_line()
     ensures { MAX_SHOWN_CHARACTERS ≡ 80 }
 {}

@@ -1,4 +1,4 @@
 //! Limits of the second line.
 
-/// How many characters of a text are shown.
+/// Maximum number of characters shown of a text.
 pub const MAX_SHOWN_CHARACTERS: usize = 80;

@@ -1,4 +1,4 @@
-//! The second line of a fault, by the name and the text of its file.
+//! The second line of a fault, from the name and the text of its file.
 
 ghost use Rattle.std.specs.Prelude.{◌≡◌, ◌≤◌, IfOk, length, take};
 ghost use Rattle.sv_text.specs.Gives.{GivesAnswer};
@@ -14,8 +14,9 @@ use std::alloc::Global;
 use sv_schema::{DescriptorFault, FaultCode};
 use sv_text::{NoMemory, Text};
 
-/// The line that stands behind that of a fault of the file of this name and text, without its end. For a text that is no TOML it has the line and the
-/// column at which the reader stops, and what that says; for another fault the text that offends, where the file says which it is.
+/// Returns the second line of a fault of the file of this name and text, without its line feed. If the text is not
+/// valid TOML, it has the line and column at which the parser stops, and the parser's message. For another fault it has
+/// the offending text, if the file determines it.
 pub fn detail_line(
     alloc: Global,
     name: &str,
@@ -30,7 +31,7 @@ pub fn detail_line(
     }
 }
 
-/// The line with what is shown of the text that offends, where the text is TOML still.
+/// Returns the line with the offending text, if the text of the file is still valid TOML.
 fn told_line(
     alloc: Global,
     name: &str,
@@ -61,7 +62,7 @@ fn line_with_text(
     }
 }
 
-/// The line of a text that was no TOML.
+/// Returns the line of a text that was not valid TOML.
 fn text_line(
     alloc: Global,
     name: &str,
@@ -80,7 +81,7 @@ fn text_line(
     line_with_place(alloc, name, before, error.message())
 }
 
-/// The line with the place behind these bytes.
+/// Returns the line with the place after these bytes.
 fn line_with_place(
     alloc: Global,
     name: &str,
@@ -95,7 +96,7 @@ fn line_with_place(
     Ok(Text::from_string(text))
 }
 
-/// The line without a place.
+/// Returns the line without a place.
 fn plain_line(alloc: Global, name: &str, fault: &DescriptorFault) -> Result<Text, NoMemory>
     ensures { GivesAnswer result (spec.plain_line name.now fault.now) }
 {

@@ -1,4 +1,4 @@
-//! Lists that are put together.
+//! Building lists.
 
 ghost use Rattle.std.specs.Prelude.{◌≡◌, IfOk};
 ghost use Rattle.sv_fault_detail.specs.Lists as spec;
@@ -6,7 +6,7 @@ ghost use Rattle.sv_fault_detail.specs.Lists as spec;
 use std::alloc::Global;
 use sv_text::NoMemory;
 
-/// A list of these items.
+/// Returns a list of these items.
 pub(crate) fn list_of<T: Copy>(alloc: Global, items: &[T]) -> Result<Vec<T>, NoMemory>
     ensures { IfOk result (λ list. list.items ≡ items.now) }
 {
@@ -15,8 +15,8 @@ pub(crate) fn list_of<T: Copy>(alloc: Global, items: &[T]) -> Result<Vec<T>, NoM
     Ok(list)
 }
 
-/// The items of both lists, or that one of them is refused.
-// It takes them as they were read, so that a caller holds no list while another is read.
+/// Returns the items of both lists, or an error if one of them failed.
+// It takes results, so that a caller holds no list while it reads the other.
 pub(crate) fn joined<T: Copy>(
     front: Result<Vec<T>, NoMemory>,
     back: Result<Vec<T>, NoMemory>,

@@ -13,7 +13,7 @@ use sv_mapping::{Pattern, PatternFault};
 use sv_schema::Names;
 use sv_text::NoMemory;
 
-/// The first text that is among those in front of it.
+/// Returns the first text that repeats an earlier one.
 pub(crate) fn first_again<'a>(alloc: Global, texts: &[&'a str]) -> Result<Option<&'a str>, NoMemory>
     ensures { IfOk result (λ found. option_copied found ≡ spec.again [] (texts_seen texts.now)) }
 {
@@ -26,7 +26,7 @@ pub(crate) fn first_again<'a>(alloc: Global, texts: &[&'a str]) -> Result<Option
     Ok(None)
 }
 
-/// The first text that is not among the known ones.
+/// Returns the first text that is not among the known ones.
 pub(crate) fn first_other<'a>(
     alloc: Global,
     known: &[&str],
@@ -59,7 +59,7 @@ fn first_outside<'a>(known: &Names<'_>, texts: &[&'a str]) -> Option<&'a str>
     None
 }
 
-/// The first text that is the name of all roles, or of all callers.
+/// Returns the first text that is a reserved name: all roles, or every authenticated caller.
 pub(crate) fn first_reserved<'a>(texts: &[&'a str]) -> Option<&'a str>
     ensures { option_copied result ≡ find spec.is_reserved (texts_seen texts.now) }
 {
@@ -77,7 +77,7 @@ fn is_reserved(text: &str) -> bool
     text == "*" || text == "**"
 }
 
-/// The first text that is no URL pattern.
+/// Returns the first text that is not a URL pattern.
 pub(crate) fn first_bad_pattern<'a>(
     alloc: Global,
     texts: &[&'a str],

@@ -1,4 +1,4 @@
-//! The text that offends at the key of a fault.
+//! The offending text at the key of a fault.
 
 ghost use Rattle.std.specs.Prelude.{◌≡◌, [], IfOk, codes, option_copied, option_map};
 ghost use Rattle.std.specs.List.{list_any};
@@ -20,7 +20,7 @@ use sv_schema::{DescriptorFault, FaultCode, has_key};
 use sv_text::{NoMemory, Text};
 use toml::{Table, Value};
 
-/// What is shown of the text that offends at the key of a fault, where the file says which it is.
+/// Returns the offending text at the key of a fault, as it is shown, if the file determines it.
 pub(crate) fn offending(
     alloc: Global,
     fault: &DescriptorFault,
@@ -35,7 +35,7 @@ pub(crate) fn offending(
     }
 }
 
-/// The text that the fault of a code is about: the first to which it applies.
+/// Returns the first text to which the fault of this code applies.
 fn text_of<'a>(
     alloc: Global,
     code: FaultCode,
@@ -55,14 +55,14 @@ fn text_of<'a>(
     }
 }
 
-/// The tables at the top of a file by this name.
+/// Returns the top-level tables of this name.
 fn elements<'a>(alloc: Global, name: &str, file: &'a Table) -> Result<Vec<&'a Table>, NoMemory>
     ensures { IfOk result (λ found. tables_seen found.items ≡ spec.elements name.now (table_view file.now)) }
 {
     tables_at(alloc, name, &[file])
 }
 
-/// The texts at a key of these tables.
+/// Returns the texts at a key of these tables.
 fn texts_of_elements<'a>(
     alloc: Global,
     name: &str,
@@ -74,7 +74,7 @@ fn texts_of_elements<'a>(
     texts_at(alloc, key, elements(alloc, name, file)?.as_slice())
 }
 
-/// The first text at a key of these tables that is among those in front of it.
+/// Returns the first text at a key of these tables that repeats an earlier one.
 fn repeated<'a>(
     alloc: Global,
     name: &str,
@@ -86,7 +86,7 @@ fn repeated<'a>(
     first_again(alloc, texts_of_elements(alloc, name, key, file)?.as_slice())
 }
 
-/// The URL patterns of a descriptor, in the order in which they are read.
+/// Returns the URL patterns of a descriptor, in reading order.
 fn url_patterns(alloc: Global, file: &Table) -> Result<Vec<&str>, NoMemory>
     ensures { IfOk result (λ found. texts_seen found.items ≡ spec.url_patterns (table_view file.now)) }
 {
@@ -97,7 +97,7 @@ fn url_patterns(alloc: Global, file: &Table) -> Result<Vec<&str>, NoMemory>
     joined(joined(of_servlets, of_filters), of_constraints)
 }
 
-/// The texts at a key of the collections that constraints are about.
+/// Returns the texts at a key of the constraints' resource collections.
 fn patterns_of_constraints<'a>(
     alloc: Global,
     key: &str,
@@ -110,14 +110,14 @@ fn patterns_of_constraints<'a>(
     texts_at(alloc, key, collections.as_slice())
 }
 
-/// The servlets that a descriptor declares.
+/// Returns the servlets that a descriptor declares.
 fn servlets(alloc: Global, file: &Table) -> Result<Vec<&str>, NoMemory>
     ensures { IfOk result (λ found. texts_seen found.items ≡ spec.servlets (table_view file.now)) }
 {
     texts_of_elements(alloc, "servlet", "servlet-name", file)
 }
 
-/// The first text at a key of the tables by this name that is not among the known ones.
+/// Returns the first text at a key of the tables of this name that is not among the known ones.
 fn first_unknown<'a>(
     alloc: Global,
     known: &[&str],
@@ -134,7 +134,7 @@ fn first_unknown<'a>(
     )
 }
 
-/// The first servlet of a mapping that is not declared.
+/// Returns the first servlet of a mapping that is not declared.
 fn unknown_servlet(alloc: Global, file: &Table) -> Result<Option<&str>, NoMemory>
     ensures { IfOk result (λ found. option_copied found ≡ spec.unknown_servlet (table_view file.now)) }
 {
@@ -146,7 +146,7 @@ fn unknown_servlet(alloc: Global, file: &Table) -> Result<Option<&str>, NoMemory
     }
 }
 
-/// The first servlet of a filter mapping that is not declared.
+/// Returns the first servlet of a filter mapping that is not declared.
 fn unknown_to_filters<'a>(
     alloc: Global,
     declared: &[&'a str],
@@ -154,7 +154,7 @@ fn unknown_to_filters<'a>(
 ) -> Result<Option<&'a str>, NoMemory>
     ensures { IfOk result (λ found. option_copied found ≡ spec.unknown_to_filters (texts_seen declared.now) (table_view file.now)) }
 {
-    // Their type says that they live as long as what is declared.
+    // The type gives them the lifetime of the declared names.
     let always: [&'a str; 2] = ["default", "*"];
     let known = joined(list_of(alloc, &always), list_of(alloc, declared))?;
     first_unknown(
@@ -166,7 +166,7 @@ fn unknown_to_filters<'a>(
     )
 }
 
-/// The first filter of a mapping that is not declared.
+/// Returns the first filter of a mapping that is not declared.
 fn unknown_filter(alloc: Global, file: &Table) -> Result<Option<&str>, NoMemory>
     ensures { IfOk result (λ found. option_copied found ≡ spec.unknown_filter (table_view file.now)) }
 {
@@ -180,7 +180,7 @@ fn unknown_filter(alloc: Global, file: &Table) -> Result<Option<&str>, NoMemory>
     )
 }
 
-/// The first role that is declared by a name with a meaning of its own.
+/// Returns the first role that is declared by a reserved name.
 fn reserved_role(alloc: Global, file: &Table) -> Result<Option<&str>, NoMemory>
     ensures { IfOk result (λ found. option_copied found ≡ spec.reserved_role (table_view file.now)) }
 {
@@ -188,7 +188,7 @@ fn reserved_role(alloc: Global, file: &Table) -> Result<Option<&str>, NoMemory>
     Ok(first_reserved(roles.as_slice()))
 }
 
-/// The tables whose names at this key have to differ.
+/// Returns the tables whose names at this key must differ.
 fn named_by(key: &str) -> &'static str
     ensures { result.now ≡ spec.named_by key.now }
 {
@@ -205,7 +205,7 @@ fn named_by(key: &str) -> &'static str
     }
 }
 
-/// What is shown of a value that is refused for itself.
+/// Returns a value that is refused for itself, as it is shown.
 fn value_of(
     alloc: Global,
     code: FaultCode,
@@ -239,7 +239,7 @@ fn item_shown(alloc: Global, key: &str, file: &Table) -> Result<Option<Text>, No
     }
 }
 
-/// Of a list of one item that item, and else the value.
+/// Returns the item of a list of one item, or else the value itself.
 fn sole_item(value: &Value) -> &Value
     ensures { view result.now ≡ spec.sole_item (view value.now) }
 {
@@ -250,7 +250,7 @@ fn sole_item(value: &Value) -> &Value
     value
 }
 
-/// The one value that stands at a key anywhere in the file.
+/// Returns the only value at this key in the whole file, unless it is secret.
 fn sole_at<'a>(alloc: Global, key: &str, file: &'a Table) -> Result<Option<&'a Value>, NoMemory>
     ensures { IfOk result (λ found. option_map (λ value. view value.now) found ≡ spec.sole_at key.now (table_view file.now)) }
 {
@@ -262,7 +262,7 @@ fn sole_at<'a>(alloc: Global, key: &str, file: &'a Table) -> Result<Option<&'a V
     Ok(sole(values.as_slice()))
 }
 
-/// The one value, where there is no other.
+/// Returns the only value of a list.
 fn sole<'a>(values: &[&'a Value]) -> Option<&'a Value>
     ensures { option_map (λ value. view value.now) result ≡ spec.sole (values_seen values.now) }
 {
@@ -272,7 +272,7 @@ fn sole<'a>(values: &[&'a Value]) -> Option<&'a Value>
     None
 }
 
-/// Whether what stands at a key is never told.
+/// Returns whether the values at a key are never shown.
 fn is_secret(alloc: Global, key: &str, file: &Table) -> Result<bool, NoMemory>
     ensures { GivesAnswer result (spec.is_secret key.now (table_view file.now)) }
 {

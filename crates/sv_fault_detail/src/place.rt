@@ -4,14 +4,14 @@ ghost use Rattle.std.specs.Prelude.{◌≡◌, ◌≤◌, length, not};
 ghost use Rattle.std.specs.List.{after_last, count_by, suffix_len};
 ghost use Rattle.sv_fault_detail.specs.Place as spec;
 
-/// The line of the place behind these bytes, from 1.
+/// Returns the line of the place after these bytes, from 1.
 pub(crate) fn line_behind(before: &[u8]) -> usize
     ensures { result ≡ spec.line_behind before.now }
 {
     ends_of_lines(before) + 1
 }
 
-/// The column of the place behind these bytes, from 1, in characters.
+/// Returns the column of the place after these bytes, from 1, in characters.
 pub(crate) fn column_behind(before: &[u8]) -> usize
     ensures { result ≡ spec.column_behind before.now }
 {
@@ -32,7 +32,7 @@ fn characters(text: &[u8]) -> usize
     text.iter().filter(|byte| begins_character(**byte)).count()
 }
 
-/// What stands behind the last end of a line.
+/// Returns the bytes after the last line feed.
 fn last_line(text: &[u8]) -> &[u8]
     ensures { result.now ≡ after_last spec.ends_line text.now }
 {
@@ -55,7 +55,7 @@ fn ends_line(byte: u8) -> bool
     byte == b'\n'
 }
 
-/// Whether a character in UTF-8 begins with the byte.
+/// Returns whether the byte begins a character in UTF-8.
 fn begins_character(byte: u8) -> bool
     ensures { result ≡ spec.begins_character byte }
 {

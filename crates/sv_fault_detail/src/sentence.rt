@@ -1,11 +1,11 @@
-//! What is said of a fault around its key.
+//! The sentence about a fault, around its key.
 
 ghost use Rattle.std.specs.Prelude.{◌≡◌};
 ghost use Rattle.sv_fault_detail.specs.Sentence as spec;
 
 use sv_schema::FaultCode;
 
-/// The words in front of the key.
+/// Returns the words before the key.
 pub(crate) fn front(code: FaultCode) -> &'static str
     ensures { result.now ≡ spec.front code }
 {
@@ -27,7 +27,7 @@ pub(crate) fn front(code: FaultCode) -> &'static str
     }
 }
 
-/// The words behind it.
+/// Returns the words after the key.
 pub(crate) fn back(code: FaultCode) -> &'static str
     ensures { result.now ≡ spec.back code }
 {

@@ -1,4 +1,4 @@
-//! A value as TOML writes it, in one line.
+//! A value as TOML writes it, on one line.
 
 ghost use Rattle.std.specs.Prelude.{◌≡◌, ◌++◌, ◌<◌, true, IfOk, OnOk, chars, string_bytes, take};
 ghost use Rattle.std.specs.List.{flat_map};
@@ -13,7 +13,7 @@ use std::alloc::Global;
 use sv_text::{NoMemory, Text};
 use toml::Value;
 
-/// What is shown of a value: a text, a whole number or a truth value.
+/// Returns a text, an integer or a boolean as it is shown, or none for any other value.
 pub(crate) fn shown(alloc: Global, value: &Value) -> Result<Option<Text>, NoMemory>
     ensures { GivesAnswer result (spec.shown (view value.now)) }
 {
@@ -37,7 +37,7 @@ fn truth_text(alloc: Global, holds: bool) -> Result<Text, NoMemory>
     Text::copy_of(alloc, if holds { "true" } else { "false" })
 }
 
-/// A text as a basic string, cut behind its first [`MAX_SHOWN_CHARACTERS`] characters.
+/// Returns a text as a basic string, cut after its first [`MAX_SHOWN_CHARACTERS`] characters.
 pub(crate) fn quoted(alloc: Global, text: &str) -> Result<Text, NoMemory>
     ensures { GivesAnswer result (spec.quoted text.now) }
 {

@@ -1,4 +1,4 @@
-//! What stands at a key in the tables of a file.
+//! The values at a key in the tables of a file.
 
 ghost use Rattle.std.specs.Prelude.{◌≡◌, ◌++◌, IfOk, OnOk, map, option_map};
 ghost use Rattle.std.specs.List.{flat_map};
@@ -13,7 +13,7 @@ use std::alloc::Global;
 use sv_text::NoMemory;
 use toml::{Table, Value};
 
-/// The tables that stand at a key in some tables, one by one or in lists.
+/// Returns the tables at a key in some tables, as values or in lists.
 pub(crate) fn tables_at<'a>(
     alloc: Global,
     key: &str,
@@ -24,7 +24,7 @@ pub(crate) fn tables_at<'a>(
     tables_among(alloc, values_at(alloc, key, tables)?.as_slice())
 }
 
-/// The texts that stand at a key in some tables, one by one or in lists.
+/// Returns the texts at a key in some tables, as values or in lists.
 pub(crate) fn texts_at<'a>(
     alloc: Global,
     key: &str,
@@ -35,7 +35,7 @@ pub(crate) fn texts_at<'a>(
     texts_among(alloc, values_at(alloc, key, tables)?.as_slice())
 }
 
-/// The values that stand at a key in some tables.
+/// Returns the values at a key in some tables.
 pub(crate) fn values_at<'a>(
     alloc: Global,
     key: &str,
@@ -50,7 +50,7 @@ pub(crate) fn values_at<'a>(
     Ok(values)
 }
 
-/// The tables that stand in some tables.
+/// Returns the tables in some tables.
 pub(crate) fn tables_in<'a>(alloc: Global, tables: &[&'a Table]) -> Result<Vec<&'a Table>, NoMemory>
     ensures { IfOk result (λ found. spec.tables_seen found.items ≡ spec.tables_in (spec.tables_seen tables.now)) }
 {
@@ -61,7 +61,7 @@ pub(crate) fn tables_in<'a>(alloc: Global, tables: &[&'a Table]) -> Result<Vec<&
     tables_among(alloc, values.as_slice())
 }
 
-/// The tables of a file: that of the file, those in it, and those in these.
+/// Returns the table of a file, the tables in it, and the tables in these.
 pub(crate) fn all_tables(alloc: Global, file: &Table) -> Result<Vec<&Table>, NoMemory>
     ensures { IfOk result (λ found. spec.tables_seen found.items ≡ spec.all_tables (table_view file.now)) }
 {
@@ -70,7 +70,7 @@ pub(crate) fn all_tables(alloc: Global, file: &Table) -> Result<Vec<&Table>, NoM
     joined(list_of(alloc, &[file]), joined(Ok(second), third))
 }
 
-/// The items of a list; any other value has none.
+/// Returns the items of a list; any other value has none.
 pub(crate) fn items_of(value: &Value) -> &[Value]
     ensures { map view result.now ≡ spec.items (view value.now) }
 {

@@ -1,4 +1,4 @@
--- The folders that a path lies below, from the innermost outwards.
+-- The folders above a path, from the innermost outward.
 use Rattle.std.proofs.Common.{ℕ, ◌≡◌, Bool, true, false, not, ◌&&◌, ◌||◌, cond, eqb, List, [], ◌∷◌, Option, None, Some, sym, refl, ap, ◌∙◌, ⊎_elim}
 use Rattle.std.specs.Str.{bytes_eq}
 use Rattle.std.proofs.lemmas.Bool.{and_from, and_parts, and_right, both_ways, cases_Bool, cond-true, cond-false, eqb-true, not_from_true, not_from_false, or_cases, or_left, or_right}
@@ -11,12 +11,12 @@ and_true : (b : Bool) → (b && true) ≡ b
 and_true true = refl
 and_true false = refl
 
--- no path lies below itself
+-- No path is below itself.
 below-self : (path : List ℕ) → lies_below path path ≡ false
 below-self [] = refl
 below-self (b ∷ path) = and_right (eqb b b) (lies_below path path) (below-self path)
 
--- what lies below a folder lies below each that this one lies below
+-- A path below a folder is below every folder above that folder.
 below-trans : (outer folder path : List ℕ) → lies_below outer folder ≡ true → lies_below folder path ≡ true → lies_below outer path ≡ true
 below-trans [] [] path up down = cc
 below-trans [] (y ∷ folder) [] up down = cc
@@ -30,7 +30,7 @@ below-trans (x ∷ outer) (y ∷ folder) (z ∷ path) up down =
     let second = and_parts (eqb y z) (lies_below folder path) down in
     and_from (eqb x z) (lies_below outer path) (ap (λ n. eqb x n) (sym (eqb-true y z second.0)) ∙ first.0) (below-trans outer folder path first.1 second.1)
 
--- the folders of a list of files are closed
+-- The folders of a list of files are closed under `lies_below`.
 pub folders_closed : (files : List File) → IsClosed (is_folder files)
 folders_closed [] folder outer is up = cc
 folders_closed (file ∷ files) folder outer is up =
@@ -39,7 +39,7 @@ folders_closed (file ∷ files) folder outer is up =
     (λ later. or_right (lies_below outer file.path) (is_folder files outer) (folders_closed files folder outer later up))
     (or_cases (lies_below folder file.path) (is_folder files folder) is)
 
--- ---- what is known while the folders of a path are entered, of which those from the rest outwards are still to come
+-- ---- the known folders while those of a path are entered; `rest` and the folders above it are not entered yet
 abbrev pub entered : (List ℕ → Bool) → List ℕ → Option (List ℕ) → List ℕ → Bool
 entered known path rest folder = known folder || (lies_below folder path && not (is_at_or_above folder rest))
 
@@ -60,13 +60,13 @@ entered-all known path folder rest ended = apart_from known path folder rest (ap
 at_itself : (folder : List ℕ) → is_at_or_above folder (Some folder) ≡ true
 at_itself folder = or_left (bytes_eq folder folder) (lies_below folder folder) ((bytes_eq-Decides folder folder).1 refl)
 
--- a folder of the rest that was entered was known before
+-- If the first folder not yet entered is in the set, it was known before.
 was_known : (known : List ℕ → Bool) (path first : List ℕ) → entered known path (Some first) first ≡ true → known first ≡ true
 was_known known path first found =
     let apart : (lies_below first path && not (is_at_or_above first (Some first))) ≡ false = and_right (lies_below first path) (not (is_at_or_above first (Some first))) (not_from_true _ (at_itself first)) in
     ⊎_elim (λ is. is) (λ late. absurd (both_ways (lies_below first path && not (is_at_or_above first (Some first))) apart late)) (or_cases (known first) (lies_below first path && not (is_at_or_above first (Some first))) found)
 
--- where the first folder of the rest is there, all folders are
+-- If the first folder not yet entered is in the set, all folders are.
 pub entered-known : (known : List ℕ → Bool) (path first folder : List ℕ) → IsClosed known → entered known path (Some first) first ≡ true → entered known path (Some first) folder ≡ (known folder || lies_below folder path)
 entered-known known path first folder closed found =
     let is = was_known known path first found in
@@ -77,7 +77,7 @@ entered-known known path first folder closed found =
     (λ apart. apart_from known path folder (Some first) apart)
     (cases_Bool (is_at_or_above folder (Some first)))
 
--- one folder more
+-- One more folder.
 pub entered-more : (known : List ℕ → Bool) (path first folder : List ℕ) (rest : Option (List ℕ)) → lies_below folder first ≡ is_at_or_above folder rest → (is_at_or_above folder (Some first) ≡ true → lies_below folder path ≡ true) → cond (bytes_eq first folder) true (entered known path (Some first) folder) ≡ entered known path rest folder
 entered-more known path first folder rest up within =
     ⊎_elim

@@ -1,4 +1,4 @@
--- The places of files, one file after another.
+-- The positions of files, one file after another.
 use Rattle.std.proofs.Common.{ℕ, ◌≡◌, ◌+◌, ◌<◌, Bool, true, false, ◌||◌, cond, List, [], ◌∷◌, ◌++◌, length, get_or, take, drop, take-append-drop, Option, Some, None, sym, refl, ap, subst, ◌∙◌, ⊎_elim}
 use Rattle.std.specs.List.{position, slice_get}
 use Rattle.std.specs.Option.{option_and_then, option_map, option_or}
@@ -17,7 +17,7 @@ use Rattle.sv_files.specs.Files.{file_at, is_file, is_folder}
 use Rattle.sv_files.specs.declared.file.File.{File}
 use Rattle.sv_files.specs.declared.index.Index.{Index}
 
--- ---- one file more, whose path is new
+-- ---- one more file, whose path is new
 pub place-more : (files : List File) (file : File) (place : ℕ) (path : List ℕ) (was now : Option ℕ) → place ≡ length files → is_file files file.path ≡ false → was ≡ position (λ f. bytes_eq f.path path) files → now ≡ cond (bytes_eq file.path path) (Some place) was → now ≡ position (λ f. bytes_eq f.path path) (files ++ file ∷ [])
 place-more files file place path was now last new before after =
     let pushed = position-push (λ (f : File). bytes_eq f.path path) files file in
@@ -37,7 +37,7 @@ folder-more files file folder now is =
     or_false true = refl
     or_false false = refl
 
--- ---- what stands at a place
+-- ---- the file at a position
 file_at-place : (files : List File) (path : List ℕ) → file_at files path ≡ option_map (λ (f : File). f.bytes) (option_and_then (λ i. slice_get files i) (position (λ (f : File). bytes_eq f.path path) files))
 file_at-place files path = ap (option_map (λ (f : File). f.bytes)) (sym (get-position (λ (f : File). bytes_eq f.path path) files))
 
@@ -70,13 +70,13 @@ repeats-new (x ∷ xs) file differ new =
     let other : is_file (xs ++ file ∷ []) x.path ≡ false = is_file-append xs (file ∷ []) x.path ∙ or_from (is_file xs x.path) (is_file (file ∷ []) x.path) before.0 (or_from (bytes_eq file.path x.path) false (bytes_eq-turn file.path x.path ∙ apart.0) refl) in
     or_from (is_file (xs ++ file ∷ []) x.path) (repeats (xs ++ file ∷ [])) other (repeats-new xs file before.1 apart.1)
 
--- the file at a place has the path of one before it
+-- The file at an index has the path of an earlier one.
 pub repeats-at : (files : List File) (file : File) (i : ℕ) → i < length files → file ≡ get_or files i file → is_file (take i files) file.path ≡ true → repeats files ≡ true
 repeats-at files file i within is found =
     let whole : files ≡ take i files ++ file ∷ drop (i + 1) files = sym (take-append-drop i files) ∙ (ap (λ rest. take i files ++ rest) (drop_more files i file within) ∙ ap (λ (f : File). take i files ++ f ∷ drop (i + 1) files) (sym is)) in
     ap repeats whole ∙ repeats-again (take i files) file (drop (i + 1) files) found
 
--- or of none
+-- The file at an index has the path of no earlier one.
 pub repeats-more : (files : List File) (file : File) (i : ℕ) → i < length files → file ≡ get_or files i file → repeats (take i files) ≡ false → is_file (take i files) file.path ≡ false → repeats (take (i + 1) files) ≡ false
 repeats-more files file i within is differ new =
     ap repeats (take_more files i file within ∙ ap (λ (f : File). take i files ++ f ∷ []) (sym is)) ∙ repeats-new (take i files) file differ new
@@ -84,7 +84,7 @@ repeats-more files file i within is differ new =
 pub index-more : (index : Index) (files : List File) (file : File) (i : ℕ) → i < length files → file ≡ get_or files i file → IsIndexOf index (take i files ++ file ∷ []) → IsIndexOf index (take (i + 1) files)
 index-more index files file i within is its = subst (IsIndexOf index) (sym (take_more files i file within ∙ ap (λ (f : File). take i files ++ f ∷ []) (sym is))) its
 
--- ---- what the look-ups give
+-- ---- the results of lookups
 pub file_at-none : (files : List File) (path : List ℕ) → None ≡ position (λ (f : File). bytes_eq f.path path) files → file_at files path ≡ None
 file_at-none files path none = file_at-place files path ∙ ap (λ o. option_map (λ (f : File). f.bytes) (option_and_then (λ i. slice_get files i) o)) (sym none)
 

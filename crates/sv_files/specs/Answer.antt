@@ -1,4 +1,4 @@
--- What the file servlet answers: Jakarta Servlet 6.0, sections 10.10 (welcome files) and 12.2 (the default servlet).
+-- The answers of the file servlet: Jakarta Servlet 6.0, sections 10.10 (welcome files) and 12.2 (the default servlet).
 use Rattle.std.specs.Prelude.{ℕ, Bool, ◌||◌, List, codes, find, Option, Some, None, if◌then◌else◌}
 use Rattle.std.specs.Option.{option_or}
 use Rattle.std.specs.Str.{bytes_eq}
@@ -9,7 +9,8 @@ use Rattle.sv_files.specs.declared.answer.FileAnswer.{FileAnswer}
 use Rattle.sv_files.specs.declared.answer.FileAnswer.TheVariants as seen
 use Rattle.sv_files.specs.declared.file.File.{File}
 
--- the bytes of a file; a welcome file to go to; a folder to go to, with a slash added; nothing; a method that is not allowed
+-- The bytes of a file; a redirect to a welcome path; a redirect to a folder, with a slash added; nothing found; or a
+-- method that is not allowed.
 pub data Answer : Type 0 where
   Content : List ℕ → Answer
   Welcome : List ℕ → Answer
@@ -17,7 +18,7 @@ pub data Answer : Type 0 where
   Missing : Answer
   Method : Answer
 
--- the answer of the code, which refers to the file
+-- The answer of the code, which borrows the bytes of the file.
 abbrev pub answer_seen : FileAnswer → Answer
 answer_seen (seen.File bytes) = Content bytes.now
 answer_seen (seen.Welcome path) = Welcome path
@@ -25,7 +26,7 @@ answer_seen seen.Slash = Slash
 answer_seen seen.Missing = Missing
 answer_seen seen.Method = Method
 
--- the first of the paths that is a file's, else the first that a servlet serves
+-- The first of the paths that is a file's, otherwise the first that a servlet serves.
 abbrev pub welcome : List File → List (List ℕ) → List (List ℕ) → Option (List ℕ)
 welcome files patterns paths = option_or (find (is_file files) paths) (find (is_served patterns) paths)
 
@@ -37,18 +38,18 @@ abbrev pub to_content : Option (List ℕ) → Answer
 to_content (Some bytes) = Content bytes
 to_content None = Missing
 
--- what stands at a path: behind a slash a welcome file, else a folder, else a file
+-- The answer for a path: with a slash at its end a welcome path, otherwise a folder or a file.
 abbrev pub found : List File → List (List ℕ) → List (List ℕ) → List ℕ → Answer
 found files names patterns path =
     if ends_in_slash path then to_welcome (welcome files patterns (welcome_paths names path))
     else if is_folder files path then Slash
     else to_content (file_at files path)
 
--- the methods that read
+-- The methods for reading.
 abbrev pub is_reading : List ℕ → Bool
 is_reading method = bytes_eq method (codes "GET") || bytes_eq method (codes "HEAD")
 
--- another method is not allowed where something stands
+-- Another method is not allowed if something is found.
 abbrev pub refused : Answer → Answer
 refused (Content bytes) = Method
 refused (Welcome path) = Method
@@ -56,11 +57,11 @@ refused Slash = Method
 refused Missing = Missing
 refused Method = Method
 
--- a client may read what stands there
+-- Clients may only read.
 abbrev pub allowed : List ℕ → Answer → Answer
 allowed method at_path = if is_reading method then at_path else refused at_path
 
--- a file and nothing else
+-- Only a file is found.
 abbrev pub file_alone : Answer → Answer
 file_alone (Content bytes) = Content bytes
 file_alone (Welcome path) = Missing
@@ -68,7 +69,8 @@ file_alone Slash = Missing
 file_alone Missing = Missing
 file_alone Method = Missing
 
--- a client's request reads, is sent elsewhere or is refused by its method; any other dispatch reads files alone, by any method
+-- A client's request reads, is redirected, or is refused because of its method. Any other dispatch finds only files, by
+-- any method.
 abbrev pub answer_to : Kind → List ℕ → Answer → Answer
 answer_to Request method at_path = allowed method at_path
 answer_to Forward method at_path = file_alone at_path

@@ -1,9 +1,10 @@
--- The content types of files by their extensions (Jakarta Servlet 6.0, section 12.1 says what an extension is; RFC 9110, section 8.3).
+-- The content types of files by extension (Jakarta Servlet 6.0, section 12.1 defines extensions; RFC 9110, section
+-- 8.3).
 use Rattle.std.specs.Prelude.{ℕ, ◌||◌, List, codes, if◌then◌else◌, Option, Some, None}
 use Rattle.std.specs.Str.{bytes_eq}
 use Rattle.sv_mapping.specs.Pattern.{extension}
 
--- the type of an extension, with case
+-- The type of an extension, which is case-sensitive.
 unfoldable pub type_of : List ℕ → List ℕ
 type_of name =
     if bytes_eq name (codes "html") || bytes_eq name (codes "htm") then codes "text/html"

@@ -1,4 +1,4 @@
--- Which lists of files are refused, and by which fault.
+-- The faults of a list of files.
 use Rattle.std.specs.Prelude.{ℕ, Bool, not, ◌||◌, false, nat_lt, List, [], ◌∷◌, ◌++◌, length, codes, Option, Some, None, Result}
 use Rattle.std.specs.List.{list_any}
 use Rattle.sv_text.specs.Faults.{when, first_or}
@@ -8,23 +8,23 @@ use Rattle.sv_files.specs.declared.fault.FilesFault.TheVariants.{BadPath, Duplic
 use Rattle.sv_files.specs.declared.file.File.{File}
 use Rattle.sv_files.specs.declared.limits.TheConstants.{MAX_FILES, MAX_FILE_BYTES}
 
--- two files have one path
+-- Two files have the same path.
 abbrev pub repeats : List File → Bool
 repeats [] = false
 repeats (file ∷ rest) = is_file rest file.path || repeats rest
 
--- all faults of a list of files, in their order
+-- All faults of a list of files, in their order.
 abbrev pub list_faults : List File → List FilesFault
 list_faults files = when (list_any (λ file. not (is_file_path file.path)) files) BadPath
     ++ when (repeats files) Duplicate
     ++ when (nat_lt MAX_FILES (length files)) TooMany
     ++ when (list_any (λ file. nat_lt MAX_FILE_BYTES (length file.bytes)) files) TooLarge
 
--- the files of a list, or its first fault
+-- The files of a list, or its first fault.
 abbrev pub files_of : List File → Result (List File) FilesFault
 files_of files = first_or (list_faults files) files
 
--- a fault of the list, apart from want of memory
+-- The fault of the list; none if memory ran out.
 abbrev pub list_fault : FilesFault → Option FilesFault
 list_fault BadPath = Some BadPath
 list_fault Duplicate = Some Duplicate
@@ -32,7 +32,7 @@ list_fault TooMany = Some TooMany
 list_fault TooLarge = Some TooLarge
 list_fault NoMemory = None
 
--- the text that is printed for a fault
+-- The printed text of a fault.
 abbrev pub fault_text : FilesFault → List ℕ
 fault_text BadPath = codes "BadPath"
 fault_text Duplicate = codes "Duplicate"

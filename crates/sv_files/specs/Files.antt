@@ -14,34 +14,34 @@ use Rattle.sv_files.specs.declared.file.File.{File}
 abbrev pub ends_in_slash : List ℕ → Bool
 ends_in_slash path = ends_with nat_eq path (codes "/")
 
--- a target was read as this path
+-- The target was read as this path.
 abbrev pub is_read_as : List ℕ → Result Canon PathFault → Bool
 is_read_as path (Ok canon) = bytes_eq canon.path path
 is_read_as path (Err fault) = false
 
--- a request that is sent to the path's location names this path
+-- A request for the path's location names this path.
 unfoldable pub is_canonical : List ℕ → Bool
 is_canonical path = is_read_as path (canonical (location path))
 
--- the path of a file: one that a request can name, and not a folder's
+-- The path of a file: a request can name it, and it is not a folder's.
 unfoldable pub is_file_path : List ℕ → Bool
 is_file_path path = is_canonical path && not (ends_in_slash path)
 
--- the bytes of the file of this path
+-- The bytes of the file of this path.
 abbrev pub file_at : List File → List ℕ → Option (List ℕ)
 file_at files path = option_map (λ file. file.bytes) (find (λ file. bytes_eq file.path path) files)
 
 abbrev pub is_file : List File → List ℕ → Bool
 is_file files path = list_any (λ file. bytes_eq file.path path) files
 
--- some file lies below the path
+-- A file is below the path.
 abbrev pub is_folder : List File → List ℕ → Bool
 is_folder files path = list_any (λ file. lies_below path file.path) files
 
--- a pattern of a servlet other than the default one, which the file servlet has, matches the path
+-- A servlet's pattern matches the path, other than the default pattern, which belongs to the file servlet.
 abbrev pub is_served : List (List ℕ) → List ℕ → Bool
 is_served patterns path = list_any (λ pattern. not (bytes_eq pattern (codes "/")) && matches pattern path) patterns
 
--- the names of welcome files joined to a folder's path
+-- The names of welcome files, appended to a folder's path.
 abbrev pub welcome_paths : List (List ℕ) → List ℕ → List (List ℕ)
 welcome_paths names path = map (λ name. path ++ name) names

@@ -1,4 +1,4 @@
-//! What the file servlet answers.
+//! The answers of the file servlet.
 
 ghost use Rattle.std.specs.Prelude.{◌≡◌};
 ghost use Rattle.sv_files.specs.Answer as spec;
@@ -11,17 +11,17 @@ use sv_text::Text;
 pub enum FileAnswer<'a> {
     /// The bytes of the path's file.
     File(&'a [u8]),
-    /// The path of a folder's welcome file or welcome servlet, to which the client is sent.
+    /// The path of a folder's welcome file or welcome servlet. The client is redirected to it.
     Welcome(Text),
-    /// The path is a folder's, to which the client is sent with `/` added.
+    /// The path is a folder's. The client is redirected to it with `/` added.
     Slash,
-    /// Nothing stands there.
+    /// Nothing was found.
     Missing,
-    /// Something stands there, and the request's method is neither `GET` nor `HEAD`.
+    /// A file, folder or welcome path was found, but the request's method is neither `GET` nor `HEAD`.
     Method,
 }
 
-/// The answer to a dispatch of the kind, by what stands at its path.
+/// Returns the answer to a dispatch of this kind, given the answer to a `GET` request from a client.
 pub(crate) fn answer_to<'a>(kind: Kind, method: &str, found: FileAnswer<'a>) -> FileAnswer<'a>
     ensures { spec.answer_seen result ≡ spec.answer_to kind method.now (spec.answer_seen found.entry) }
 {

@@ -5,8 +5,8 @@ ghost use Rattle.sv_files.specs.ContentType as spec;
 
 use crate::extension::extension_of;
 
-/// The content type of the file of this path, by its extension: what follows the last `.` of its last segment. Extensions are compared
-/// with case, and an unknown one gives `application/octet-stream`.
+/// Returns the content type of the file of this path, by its extension: the part of its last segment after the last
+/// `.`. Extensions are case-sensitive. An unknown one gives `application/octet-stream`.
 pub fn content_type_of(path: &str) -> &'static str
     ensures { result.now ≡ spec.content_type path.now }
 {

@@ -4,7 +4,7 @@ ghost use Rattle.std.specs.Prelude.{◌≡◌};
 ghost use Rattle.std.specs.Option.{option_copied};
 ghost use Rattle.sv_mapping.specs.Pattern.{extension, last_segment};
 
-/// What follows the last dot of the last segment, where it has one.
+/// Returns the part of the last segment after its last dot, if it has one.
 pub(crate) fn extension_of(path: &str) -> Option<&str>
     ensures { option_copied result ≡ extension path.now }
 {

@@ -1,4 +1,4 @@
-//! Why a list of files is refused.
+//! Faults of a list of files.
 
 ghost use Rattle.std.specs.Prelude.{Some};
 ghost use Rattle.sv_files.specs.Fault.{fault_text};
@@ -7,19 +7,20 @@ use std::error::Error;
 use std::fmt;
 use sv_text::NoMemory;
 
-/// Why [`Files::from_list`](crate::Files::from_list) gave no files. Of several faults the one of the least number is answered,
-/// wherever in the list it stands. It is printed as its name, want of memory as `no memory`.
+/// The reason why [`Files::from_list`](crate::Files::from_list) returned no files. If a list has several faults, the
+/// one with the lowest number is returned, whatever its position. A fault is printed as its name; `NoMemory` is printed
+/// as `no memory`.
 #[derive(Clone, Copy, Debug, PartialEq, Eq)]
 pub enum FilesFault {
     /// A path is not the canonical path of its own location, or ends in `/`.
     BadPath = 1,
-    /// Two files have one path.
+    /// Two files have the same path.
     Duplicate = 2,
     /// There are more files than [`MAX_FILES`](crate::MAX_FILES).
     TooMany = 3,
     /// A file has more bytes than [`MAX_FILE_BYTES`](crate::MAX_FILE_BYTES).
     TooLarge = 4,
-    /// A growth was refused; the same call may succeed later.
+    /// Memory ran out. The same call may succeed later.
     NoMemory = 5,
 }
 

@@ -7,6 +7,6 @@ use sv_text::{Bytes, Text};
 pub struct File {
     /// The path, which begins with `/` and is canonical.
     pub path: Text,
-    /// What the file holds.
+    /// The contents of the file.
     pub bytes: Bytes,
 }

@@ -19,7 +19,7 @@ use std::marker::Model;
 use sv_mapping::{Kind, Pattern};
 use sv_text::{NoMemory, Text};
 
-/// The static files of a context. Contracts see the list that they were taken from.
+/// The static files of a context. Contracts see a list of them.
 #[derive(Drop)]
 pub struct Files {
     list: Vec<File>,
@@ -40,10 +40,10 @@ impl Model for Files {
 }
 
 impl Files {
-    /// Takes a list of files. Their bytes are not copied.
+    /// Creates the files from a list. Their bytes are not copied.
     ///
     /// # Errors
-    /// The fault of the least number that the list has, or [`FilesFault::NoMemory`] where a growth was refused.
+    /// The fault of the list that has the lowest number, or [`FilesFault::NoMemory`].
     pub fn from_list(alloc: Global, files: Vec<File>) -> Result<Files, FilesFault>
         ensures { Gives list_fault result (files_of files.items) }
     {
@@ -62,7 +62,7 @@ impl Files {
         Ok(Files { list: files, index })
     }
 
-    /// The files in the order of the list that they were taken from.
+    /// Returns the files in the order of the list that they came from.
     pub fn list(&self) -> &[File]
         ensures value { result.now ≡ self.now }
         ensures faultless { list_faults self.now ≡ [] }
@@ -70,17 +70,18 @@ impl Files {
         self.list.as_slice()
     }
 
-    /// The file servlet's answer to a path within the context (Jakarta Servlet 6.0, sections 10.10 and 12.2).
+    /// Returns the file servlet's answer to a path within the context (Jakarta Servlet 6.0, sections 10.10 and 12.2).
     ///
-    /// A path that ends in `/` leads to the first of the welcome names that, behind it, is the path of a file, else to the first
-    /// that is a path of a servlet's pattern other than the default pattern `/`. Any other path is a folder's where some file lies
-    /// below it, else a file's, else nothing stands there. A client's request by a method other than `GET` and `HEAD` is refused
-    /// where something stands; every other kind of dispatch reads a file by any method, and finds nothing else.
+    /// For a path that ends in `/`, each welcome name is appended to it. The answer is the first resulting path that is
+    /// a file's, otherwise the first that a servlet's pattern matches, other than the default pattern `/`. Any other
+    /// path is a folder's if a file is below it, otherwise a file's or missing. A client's request is refused if
+    /// something is found but the method is neither `GET` nor `HEAD`. Every other kind of dispatch finds only files, by
+    /// any method.
     ///
-    /// A look-up costs the same however many files there are.
+    /// The time of a lookup does not depend on the number of files.
     ///
     /// # Errors
-    /// `NoMemory` where a growth was refused.
+    /// `NoMemory` if memory runs out.
     pub fn answer<'a>(
         &'a self,
         alloc: Global,
@@ -172,7 +173,7 @@ impl Files {
     }
 }
 
-// The first path behind a folder's that a servlet serves.
+// Returns the first welcome path of a folder that a servlet serves.
 fn welcome_servlet(
     alloc: Global,
     path: &str,

@@ -1,4 +1,4 @@
-//! Look-ups by path, which cost the same however many files there are.
+//! Lookups by path, whose time does not depend on the number of files.
 
 ghost use Rattle.std.specs.Prelude.{◌≡◌, ℕ, Bool, List, [], ◌∷◌, ◌++◌, length, not, ◌||◌, position, ◌<◌, IfOk, IfSome, OnOk};
 ghost use Rattle.std.specs.Bool.{OnTrue};
@@ -15,7 +15,7 @@ use std::alloc::Global;
 use std::collections::{HashMap, HashSet};
 use sv_text::NoMemory;
 
-/// The places of files by their paths, and the paths of folders.
+/// The indices of files by path, and the paths of folders.
 #[derive(Drop)]
 pub(crate) struct Index {
     places: HashMap<String, usize>,
@@ -23,7 +23,7 @@ pub(crate) struct Index {
 }
 
 impl Index {
-    /// The index of no files.
+    /// Creates an index of no files.
     pub(crate) fn new(alloc: Global) -> Index
         ensures { IsIndexOf result [] }
     {
@@ -33,7 +33,7 @@ impl Index {
         }
     }
 
-    /// Enters the file that stands at the place behind all others, and answers whether its path is new. Only then is it entered.
+    /// Enters a file at the index `place`, which follows all others, if its path is new. Returns whether it is.
     pub(crate) fn enter(
         &mut self,
         alloc: Global,
@@ -52,14 +52,14 @@ impl Index {
         Ok(true)
     }
 
-    /// The place of the file of this path.
+    /// Returns the index of the file of this path.
     pub(crate) fn place_of(&self, path: &str) -> Option<usize>
         ensures { (files : List File) → IsIndexOf self.now files → result ≡ position (λ file. bytes_eq file.path path.now) files }
     {
         self.places.get(path).copied()
     }
 
-    /// Whether some file lies below the path.
+    /// Returns whether a file is below the path.
     pub(crate) fn is_folder(&self, path: &str) -> bool
         ensures { (files : List File) → IsIndexOf self.now files → result ≡ spec.is_folder files path.now }
     {
@@ -67,7 +67,8 @@ impl Index {
     }
 }
 
-/// Enters the folders that a path lies below, from the innermost up to the first that is known: what that one lies below is known too.
+/// Enters the folders above a path, from the innermost outward. Stops at the first one that is known, since the folders
+/// above it are then known too.
 fn enter_folders(folders: &mut HashSet<String>, alloc: Global, path: &str) -> Result<(), NoMemory>
     ensures { (known : List ℕ → Bool) → IsClosed known → ((folder : List ℕ) → contains_text folders.old folder ≡ known folder)
         → OnOk result ((folder : List ℕ) → contains_text folders.new folder ≡ (known folder || lies_below folder path.now)) }
@@ -83,7 +84,7 @@ fn enter_folders(folders: &mut HashSet<String>, alloc: Global, path: &str) -> Re
     Ok(())
 }
 
-/// The innermost folder that a path lies below.
+/// Returns the innermost folder above a path.
 fn folder_of(path: &str) -> Option<&str>
     ensures folders { (outer : List ℕ) → lies_below outer path.now ≡ is_at_or_above outer (option_copied result) }
     ensures shorter { IfSome result (λ folder. length folder.now < length path.now) }

@@ -1,4 +1,4 @@
-//! The limits as numbers, the contract of a function that does nothing.
+//! The limits as numbers, the contract of a function with an empty body.
 
 ghost use Rattle.std.specs.Prelude.{◌≡◌};
 

@@ -1,4 +1,4 @@
-//! The static files of a context, and what the file servlet answers from them (Jakarta Servlet 6.0, sections 10.10 and 12.2).
+//! The static files of a context, and the answers of the file servlet (Jakarta Servlet 6.0, sections 10.10 and 12.2).
 #![tactic(auto)]
 
 mod answer;

@@ -1,7 +1,7 @@
 //! The limits of this crate.
 
-/// How many files a context may have.
+/// Maximum number of files of a context.
 pub const MAX_FILES: usize = 10_000;
 
-/// How many bytes a file may have.
+/// Maximum length of a file, in bytes.
 pub const MAX_FILE_BYTES: usize = 1_048_576;

@@ -1,4 +1,4 @@
-//! What is asked of a list of files before it is taken.
+//! Checks of a list of files.
 
 ghost use Rattle.std.specs.Prelude.{◌≡◌, nat_lt, length, not, MatchOption, IfOk, true, false};
 ghost use Rattle.std.specs.List.{list_any};
@@ -15,7 +15,7 @@ use sv_text::NoMemory;
 use sv_uri::fault::CanonFault;
 use sv_uri::{canon, location};
 
-/// Whether a path of the files is not one that a request can name, or is a folder's.
+/// Returns whether a file has a path that no request can name, or that is a folder's.
 pub(crate) fn has_bad_path(alloc: Global, files: &[File]) -> Result<bool, NoMemory>
     ensures { GivesAnswer result (list_any (λ file. not (spec.is_file_path file.path)) files.now) }
 {
@@ -46,14 +46,14 @@ fn is_canonical(alloc: Global, path: &str) -> Result<bool, NoMemory>
     }
 }
 
-/// Whether the path is that of a folder as a request names it.
+/// Returns whether the path is that of a folder in a request.
 pub(crate) fn ends_in_slash(path: &str) -> bool
     ensures { result ≡ spec.ends_in_slash path.now }
 {
     path.ends_with('/')
 }
 
-/// The index of the files, `None` where two of them have one path.
+/// Returns the index of the files, or `None` if two of them have the same path.
 pub(crate) fn index_of(alloc: Global, files: &[File]) -> Result<Option<Index>, NoMemory>
     ensures { IfOk result (λ index. MatchOption index (repeats files.now ≡ true) (λ its. (repeats files.now ≡ false) × IsIndexOf its files.now)) }
 {
@@ -66,7 +66,7 @@ pub(crate) fn index_of(alloc: Global, files: &[File]) -> Result<Option<Index>, N
     Ok(Some(index))
 }
 
-/// Whether a file has more bytes than the limit.
+/// Returns whether a file is longer than the limit.
 pub(crate) fn has_large_file(files: &[File]) -> bool
     ensures { result ≡ list_any (λ file. nat_lt MAX_FILE_BYTES (length file.bytes)) files.now }
 {

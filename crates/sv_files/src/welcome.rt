@@ -11,7 +11,7 @@ use std::alloc::Global;
 use sv_mapping::Pattern;
 use sv_text::{NoMemory, Text};
 
-/// A folder's path and a name behind it.
+/// Returns a folder's path with a name appended.
 pub(crate) fn joined(alloc: Global, path: &str, name: &str) -> Result<Text, NoMemory>
     ensures { GivesAnswer result (path.now ++ name.now) }
 {
@@ -21,7 +21,7 @@ pub(crate) fn joined(alloc: Global, path: &str, name: &str) -> Result<Text, NoMe
     Ok(Text::from_string(text))
 }
 
-/// Whether a pattern other than the default pattern matches the path.
+/// Returns whether a pattern other than the default pattern matches the path.
 pub(crate) fn is_served(patterns: &[Pattern], path: &str) -> bool
     ensures { result ≡ spec.is_served patterns.now path.now }
 {

@@ -1,4 +1,4 @@
--- Fields by name, and words in any case.
+-- Fields by name, and case-insensitive comparison of words.
 use Rattle.std.proofs.Common.{◌≡◌, ℕ, ◌<◌, Bool, true, false, ◌||◌, List, [], ◌∷◌, length, get_or, refl, sym, ap, ◌∙◌, map, arith}
 use Rattle.std.specs.List.{filter, list_any, list_all, count_by}
 use Rattle.std.specs.Str.{bytes_eq}
@@ -28,7 +28,7 @@ module _ (name : List ℕ) (fields : List Field) where
       → list_any test (values_of name fields) ≡ list_any (λ field. test field.value.bytes) (filter (is_named name) fields)
   list_any-values_of test = list_any-map test (λ (field : Field). field.value.bytes) (filter (is_named name) fields)
 
--- ---- words in any case
+-- ---- case-insensitive words
 
 module _ (bytes word : List ℕ) where
   pub lowered_other : (i : ℕ) → i < length bytes → (to_ascii_lowercase (get_or bytes i 0) ≡ get_or word i 0 → ⊥)

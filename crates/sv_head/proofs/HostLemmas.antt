@@ -1,4 +1,4 @@
--- The bytes of a host are those of a value.
+-- Every valid host is a valid field value.
 use Rattle.std.proofs.Common.{◌≡◌, ℕ, zero, suc, ◌+◌, ◌<◌, ◌≤◌, Bool, true, ◌||◌, not, ◌⊎◌, List, [], ◌∷◌, ◌++◌, length, get_or, set, take, drop, map, ◌∙◌, refl, ap, subst, inl, inr, eqb, leb, codes, arith, Result, Ok, Err}
 use Rattle.std.specs.Prelude.{OnErr}
 use Rattle.std.specs.List.{list_all, list_any}
@@ -50,7 +50,7 @@ pub host_valid : (host : List ℕ) → is_host host ≡ true → IsFieldValue ho
 host_valid host valid k d inside =
     byte_valid (get_or host k d) (AllPass-from_list_all is_host_byte host (and_parts (leb (length host) 255) (list_all is_host_byte host) valid).1 k d inside)
 
--- ---- a list whose items are replaced one after another
+-- ---- a list whose items are replaced in order
 
 module _ {X : Type 0} (f : X → X) where
   replaced_at : (xs : List X) (i : ℕ) (d : X) → i < length xs → get_or (map f (take i xs) ++ drop i xs) i d ≡ get_or xs i d
@@ -80,7 +80,7 @@ set_kept [] i x is = refl
 set_kept (y ∷ xs) zero x is = ap (λ z. z ∷ xs) is
 set_kept (y ∷ xs) (suc i) x is = ap (λ zs. y ∷ zs) (set_kept xs i x is)
 
--- an item that stays leaves the list as it is
+-- Replacing an item by itself leaves the list unchanged.
 pub replaced_kept : {X A E : Type 0} (f : X → X) (r : Result A E) (xs items : List X) (i : ℕ) (x new : X) → items ≡ map f (take i xs) ++ drop i xs
     → x ≡ get_or items i x → new ≡ x → OnErr r ((k : ℕ) × (set items i new ≡ map f (take k xs) ++ drop k xs))
 replaced_kept f r xs items i x new is here kept = on_err r _ (i, ap (set items i) kept ∙ set_kept items i x here ∙ is)

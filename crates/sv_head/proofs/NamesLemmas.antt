@@ -1,4 +1,4 @@
--- Whether a field can have a name, as a test.
+-- The validity of a field name, as a test.
 use Rattle.std.proofs.Common.{◌≡◌, ℕ, true, false, List, IsTrue, refl}
 use Rattle.std.specs.Bool.{Decides}
 use Rattle.std.specs.List.{list_all}

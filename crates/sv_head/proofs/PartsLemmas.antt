@@ -1,4 +1,4 @@
--- What was seen of the parts of a list, and what the list says.
+-- Reading the parts of a list in order gives the same result as reading the whole list.
 use Rattle.std.proofs.Common.{◌≡◌, ℕ, ◌+◌, ◌*◌, ◌^◌, ◌<◌, ◌==◌, Bool, true, false, ◌&&◌, not, List, [], ◌∷◌, ◌++◌, length, map, Option, None, Some, refl, sym, ap, ◌∙◌, cond, eqb, ltb, leb, arith, take, get_or}
 use Rattle.std.specs.List.{filter, flat_map, fold, list_all}
 use Rattle.std.specs.Str.Parse.{digits_value, AllDigits}
@@ -23,7 +23,7 @@ use Rattle.sv_head.specs.Length.{is_length, is_number, the_length}
 use Rattle.sv_head.specs.Lengths.{length_of, next_length, length_with}
 use Rattle.sv_head.specs.Seen.{next_seen, seen_with}
 
--- ---- the parts of all lists of a name
+-- ---- the parts of all lists with one name
 
 parts_one : (name : List ℕ) (field : Field) (t : Bool) (fields : List Field)
     → flat_map parts_of (map (λ (f : Field). f.value.bytes) (cond t (field ∷ fields) fields))
@@ -46,7 +46,7 @@ parts_by_name-append name (field ∷ fields) more =
 
 -- ---- codings
 
--- what the codings are, by what was seen of them
+-- The kind of the codings, by the state after the last of them.
 abbrev pub kind_seen : Seen → Codings
 kind_seen Nothing = kind.Bad
 kind_seen Others = kind.Bad
@@ -108,7 +108,7 @@ kind_is_seen parts = ap kind_seen (see_parts Nothing parts) ∙ see_all (codings
 
 -- ---- lengths
 
--- the length that was seen
+-- The length in the state after the last text.
 abbrev pub length_seen : Lengths → Option ℕ
 length_seen lengths.Nothing = None
 length_seen (lengths.Same number) = Some number
@@ -169,7 +169,7 @@ digits_from (b ∷ text) all =
     let high = leb-true b 57 range.1 in
     (omega (arith, digit_value_digit b (low, high), high), digits_from text parts.1)
 
--- the number that the first digits write, and one more digit
+-- The value of the first digits, extended by one digit, fits in 64 bits.
 pub digits_fit : (text : List ℕ) (i : ℕ) → is_length text ≡ true → i < length text
     → digits_value 10 (take i text) * 10 + digit_value (get_or text i 0) < 2 ^ 64
 digits_fit text i valid inside =
@@ -179,7 +179,7 @@ digits_fit text i valid inside =
     digits_value_short (numerals_by_value (AllDigits 10) tells_digits) text 18 (digits_from text all.1) (leb-true (length text) 18 short.1) in
     omega (arith, whole, digits_value_more 10 text i inside, digits_value-take-le 10 text (i + 1) (omega arith))
 
--- a digit's value
+-- A digit is its value plus the code of `0`.
 pub digit_is : (text : List ℕ) (i : ℕ) → is_length text ≡ true → i < length text
     → digit_value (get_or text i 0) + 48 ≡ get_or text i 0
 digit_is text i valid inside =

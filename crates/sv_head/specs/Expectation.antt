@@ -5,10 +5,10 @@ use Rattle.http_header.specs.Token.{lowercase}
 use Rattle.sv_head.specs.declared.field.Field.{Field}
 use Rattle.sv_head.specs.Fields.{values_of}
 
--- the one expectation that is known, in any case
+-- The only known expectation, in any case.
 abbrev pub is_continue : List ℕ → Bool
 is_continue value = bytes_eq (lowercase value) (codes "100-continue")
 
--- whether there is one expectation, and it is that
+-- Whether there is exactly one expectation, and it is `100-continue`.
 abbrev pub asks_to_continue : List Field → Bool
 asks_to_continue fields = length (values_of (codes "expect") fields) == 1 && list_all is_continue (values_of (codes "expect") fields)

@@ -8,38 +8,38 @@ use Rattle.httparse.specs.Grammar.{field_value, trim_ows, RequestHead}
 use Rattle.httparse.specs.Grammar as grammar
 use Rattle.sv_head.specs.declared.field.Field.{Field}
 
--- a field of a head: its name in lower case, and its value without the blanks around it
+-- A field of a head: its name in lower case, and its value without the blanks around it.
 abbrev pub field_of : grammar.Field → Field
 field_of line = record { name = lowercase line.name; value = plain_value (field_value line) }
 
--- the fields of a head in the order of their lines
+-- The fields of a head, in the order of their lines.
 abbrev pub fields_of : RequestHead → List Field
 fields_of head = map field_of head.fields
 
--- whether a field has that name
+-- Whether a field has the name.
 abbrev pub is_named : List ℕ → Field → Bool
 is_named name field = bytes_eq field.name name
 
--- the values of the fields of that name
+-- The values of the fields with the name.
 abbrev pub values_of : List ℕ → List Field → List (List ℕ)
 values_of name fields = map (λ field. field.value.bytes) (filter (is_named name) fields)
 
--- whether there is a field of that name
+-- Whether there is a field with the name.
 abbrev pub has_field : List ℕ → List Field → Bool
 has_field name fields = list_any (is_named name) fields
 
--- the parts of the list that a value writes with commas
+-- The parts of a comma-separated list.
 abbrev pub parts_of : List ℕ → List (List ℕ)
 parts_of value = slice_split (λ b. b == comma) value
 
--- the parts of the list that all fields of that name write together, in order
+-- The parts of the lists in all fields with the name, in order.
 abbrev pub parts_by_name : List ℕ → List Field → List (List ℕ)
 parts_by_name name fields = flat_map parts_of (values_of name fields)
 
--- whether a part of a list is the word, in any case and without the blanks around it
+-- Whether a part of a list is the word, in any case and without the blanks around it.
 abbrev pub is_member : List ℕ → List ℕ → Bool
 is_member word part = bytes_eq (lowercase (trim_ows part)) word
 
--- whether the list that a value writes with commas holds the word, which is in lower case
+-- Whether a comma-separated list contains the word, which is in lower case.
 abbrev pub has_member : List ℕ → List ℕ → Bool
 has_member word value = list_any (is_member word) (parts_of value)

@@ -1,4 +1,5 @@
--- The Host field (RFC 9112, section 3.2, and RFC 3986, section 3.2.2). The class of bytes and the limit are this server's own.
+-- The Host field (RFC 9112, section 3.2, and RFC 3986, section 3.2.2). The allowed bytes and the limit are this
+-- server's own.
 use Rattle.std.specs.Prelude.{ℕ, Bool, ◌&&◌, ◌||◌, List, length, map, ◌==◌, nat_le, codes, if◌then◌else◌}
 use Rattle.std.specs.List.{list_all, list_any}
 use Rattle.std.specs.Char.{is_ascii_alphanumeric}
@@ -7,24 +8,24 @@ use Rattle.sv_head.specs.declared.field.Field.{Field}
 use Rattle.sv_head.specs.declared.limits.TheConstants.{MAX_HOST_LEN}
 use Rattle.sv_head.specs.Fields.{is_named}
 
--- a letter, a digit, or one of the marks of a host and a port
+-- A letter, a digit, or one of the marks of a host and a port.
 abbrev pub is_host_byte : ℕ → Bool
 is_host_byte b = is_ascii_alphanumeric b || list_any (λ mark. mark == b) (codes "-._~%!$&'()*+,;=:[]")
 
--- whether the value of a Host field is valid. An empty one is.
+-- Whether the value of a Host field is valid. An empty value is valid.
 abbrev pub is_host : List ℕ → Bool
 is_host value = nat_le (length value) MAX_HOST_LEN && list_all is_host_byte value
 
--- whether those are the Host fields that a request of that minor version may have: one in 1.1, at most one in 1.0
+-- Whether a request with the minor version may have these Host fields: exactly one in 1.1, at most one in 1.0.
 abbrev pub accepts_hosts : ℕ → List (List ℕ) → Bool
 accepts_hosts minor hosts =
     list_all is_host hosts && (if minor == 1 then length hosts == 1 else nat_le (length hosts) 1)
 
--- a field with that host, if it is a Host field
+-- The field with the host as its value, if it is a Host field.
 abbrev pub with_host : List ℕ → Field → Field
 with_host host field =
     if is_named (codes "host") field then record { name = field.name; value = plain_value host } else field
 
--- the fields with that host in place of what their Host fields say
+-- The fields, with the host as the value of every Host field.
 abbrev pub with_hosts : List ℕ → List Field → List Field
 with_hosts host fields = map (with_host host) fields

@@ -1,4 +1,4 @@
--- The length of a body (RFC 9110, section 8.6). The greatest number of digits is this server's own.
+-- The length of a body (RFC 9110, section 8.6). The limit on the number of digits is this server's own.
 use Rattle.std.specs.Prelude.{ℕ, Bool, ◌&&◌, List, [], ◌∷◌, length, map, ◌==◌, nat_lt, nat_le, codes, if◌then◌else◌, Option, None, Some}
 use Rattle.std.specs.List.{list_all}
 use Rattle.std.specs.Char.{is_ascii_digit}
@@ -8,20 +8,20 @@ use Rattle.sv_head.specs.declared.field.Field.{Field}
 use Rattle.sv_head.specs.declared.limits.TheConstants.{MAX_LENGTH_DIGITS}
 use Rattle.sv_head.specs.Fields.{parts_by_name}
 
--- whether a text is a length: some digits, and not too many
+-- Whether a text is a length: at least one digit, and not too many.
 abbrev pub is_length : List ℕ → Bool
 is_length text = nat_lt 0 (length text) && nat_le (length text) MAX_LENGTH_DIGITS && list_all is_ascii_digit text
 
--- whether a text is that length
+-- Whether a text is the given length.
 abbrev pub is_number : ℕ → List ℕ → Bool
 is_number number text = is_length text && digits_value 10 text == number
 
--- the one length that all texts are
+-- The length that all texts give, if they agree.
 abbrev pub the_length : List (List ℕ) → Option ℕ
 the_length [] = None
 the_length (text ∷ texts) =
     if list_all (is_number (digits_value 10 text)) (text ∷ texts) then Some (digits_value 10 text) else None
 
--- the length that the Content-Length fields say
+-- The length in the Content-Length fields.
 abbrev pub content_length : List Field → Option ℕ
 content_length fields = the_length (map trim_ows (parts_by_name (codes "content-length") fields))

@@ -1,4 +1,4 @@
--- The forms of a request's target (RFC 9112, section 3.2).
+-- The forms of a request target (RFC 9112, section 3.2).
 use Rattle.std.specs.Prelude.{◌≡◌, ℕ, ◌+◌, ◌≤◌, Bool, true, ◌&&◌, ◌||◌, List, ◌++◌, length, take, drop, ◌==◌, nat_eq, nat_lt, bytes_eq, codes, if◌then◌else◌, ⊤}
 use Rattle.std.specs.List.{starts_with, position_or_len}
 use Rattle.http_header.specs.Token.{lowercase}
@@ -6,46 +6,46 @@ use Rattle.sv_head.specs.declared.target.TargetForm.{TargetForm}
 use Rattle.sv_head.specs.declared.target.TargetForm.TheVariants.{Origin, Absolute, Star, Unknown}
 use Rattle.sv_head.specs.Host.{is_host}
 
--- a path begins with a slash
+-- A path begins with a slash.
 abbrev pub is_path : List ℕ → Bool
 is_path target = starts_with nat_eq target (codes "/")
 
--- an authority ends before the first slash or question mark
+-- An authority ends before the first slash or question mark.
 abbrev pub is_behind_authority : ℕ → Bool
 is_behind_authority b = b == 47 || b == 63
 
--- the scheme of an absolute form, and what stands behind it
+-- The scheme of an absolute form, and the text after it.
 abbrev pub scheme : List ℕ
 scheme = codes "http://"
 
 abbrev pub behind_scheme : List ℕ → List ℕ
 behind_scheme target = drop (length scheme) target
 
--- whether a target begins with the scheme, in any case
+-- Whether a target begins with the scheme, in any case.
 abbrev pub has_scheme : List ℕ → Bool
 has_scheme target = bytes_eq (lowercase (take (length scheme) target)) scheme
 
--- how long the authority is in what stands behind the scheme
+-- The length of the authority at the start of the text after the scheme.
 abbrev pub authority_len : List ℕ → ℕ
 authority_len behind = position_or_len is_behind_authority behind
 
--- the authority of an absolute form
+-- The authority of an absolute form.
 abbrev pub authority_of : List ℕ → List ℕ
 authority_of target = take (authority_len (behind_scheme target)) (behind_scheme target)
 
--- a path and a query with a slash before an empty path
+-- A path and its query, with a slash added if the path is empty.
 abbrev pub with_slash : List ℕ → List ℕ
 with_slash path = if is_path path then path else codes "/" ++ path
 
--- the path of an absolute form, and its query
+-- The path of an absolute form, with its query.
 abbrev pub path_of : List ℕ → List ℕ
 path_of target = with_slash (drop (authority_len (behind_scheme target)) (behind_scheme target))
 
--- an authority is a host that is not empty
+-- An authority is a host that is not empty.
 abbrev pub is_authority : List ℕ → Bool
 is_authority text = nat_lt 0 (length text) && is_host text
 
--- the form of a target, by the request's method; CONNECT, which asks for a tunnel, has none here
+-- The form of a target, by the request's method. CONNECT asks for a tunnel and has no form here.
 abbrev pub target_form : List ℕ → List ℕ → TargetForm
 target_form method target =
     if bytes_eq method (codes "CONNECT") then Unknown
@@ -54,7 +54,7 @@ target_form method target =
     else if bytes_eq target (codes "*") && bytes_eq method (codes "OPTIONS") then Star
     else Unknown
 
--- the authority of an absolute form is there, and it is a host
+-- The authority of an absolute form lies within the target, and it is a host.
 abbrev pub FitsForm : TargetForm → List ℕ → Type 0
 FitsForm Origin target = ⊤
 FitsForm (Absolute len) target =

@@ -1,4 +1,4 @@
-//! The codings of a body.
+//! The transfer codings of a body.
 
 ghost use Rattle.std.specs.Prelude.{◌≡◌, [], ◌∷◌, codes};
 ghost use Rattle.std.specs.List.{fold};
@@ -10,32 +10,32 @@ ghost use Rattle.sv_head.specs.declared.codings.Seen.TheVariants.{Nothing};
 use crate::field::Field;
 use crate::members::{is_in_lower_case, trim_blanks};
 
-/// What the codings of a body are where `chunked` alone is known (RFC 9112, section 6.1).
+/// The kind of a body's transfer codings, for a server that knows only `chunked` (RFC 9112, section 6.1).
 #[derive(Clone, Copy)]
 pub enum Codings {
     /// `chunked` is the only one.
     Chunked,
-    /// `chunked` is the last one, and behind others.
+    /// `chunked` is the last coding, after others.
     Unknown,
-    /// The last one is not `chunked`, or `chunked` stands before it too, or there is none.
+    /// The last coding is not `chunked`, or an earlier one is, or there is none.
     Bad,
 }
 
-/// What was seen of the codings, in order.
+/// The codings read so far, in order.
 #[derive(Clone, Copy)]
 pub(crate) enum Seen {
     Nothing,
     /// Codings other than `chunked`.
     Others,
-    /// `chunked` alone.
+    /// Only `chunked`.
     Chunked,
-    /// Codings other than `chunked`, and it behind them.
+    /// Codings other than `chunked`, then `chunked`.
     OthersThenChunked,
-    /// A coding behind `chunked`.
+    /// A coding after `chunked`.
     BehindChunked,
 }
 
-/// What the codings are that the Transfer-Encoding fields name.
+/// Returns the kind of the codings in the Transfer-Encoding fields.
 pub fn coding_kind(fields: &[Field]) -> Codings
     ensures { result ≡ coding_kind fields.now }
 {
@@ -59,7 +59,7 @@ fn see_fields(fields: &[Field]) -> Seen
 }
 
 impl Seen {
-    /// What was seen when a field is seen too.
+    /// Returns the state after one more field.
     fn see_field(self, field: &Field) -> Seen
         ensures { result ≡ fold seen_with self (parts_by_name (codes "transfer-encoding") (field.now ∷ [])) }
     {
@@ -69,7 +69,7 @@ impl Seen {
         self.see_list(field.value.as_bytes())
     }
 
-    /// What was seen when the list that a value writes with commas is seen too.
+    /// Returns the state after one more comma-separated list.
     fn see_list(self, value: &[u8]) -> Seen
         ensures { result ≡ fold seen_with self (parts_of value.now) }
     {
@@ -78,7 +78,7 @@ impl Seen {
             .fold(self, |seen, part| seen.see(part))
     }
 
-    /// What was seen when a part of a list is seen too.
+    /// Returns the state after one more part of a list. Empty parts are skipped.
     fn see(self, part: &[u8]) -> Seen
         ensures { result ≡ seen_with self part.now }
     {

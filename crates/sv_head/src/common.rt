@@ -1,4 +1,4 @@
-//! Names and values that are given often.
+//! Common field names and values.
 
 ghost use Rattle.std.specs.Prelude.{◌≡◌, IfSome, IsTrue};
 ghost use Rattle.std.specs.List.{list_all};
@@ -11,7 +11,8 @@ use http_header::{
     HeaderValue, USER_AGENT,
 };
 
-/// The name of those bytes where they are one of a few as most clients write it, or as answers do. It is found without a search among all standard names.
+/// Returns the name if the bytes are one of a few common names, in the usual spelling of clients or responses. This
+/// avoids a search among all standard names.
 pub(crate) fn common_name(bytes: &[u8]) -> Option<HeaderName>
     ensures same { IfSome result (λ name. name ≡ lowercase bytes.now) }
     ensures valid { IfSome result (λ name. IsTrue (is_field_name bytes.now)) }
@@ -43,7 +44,7 @@ pub(crate) fn common_name(bytes: &[u8]) -> Option<HeaderName>
     None
 }
 
-/// The value of those bytes where it is one of a few, which takes no memory then.
+/// Returns the value if the bytes are one of a few common values. It takes no memory.
 pub(crate) fn common_value(bytes: &[u8]) -> Option<HeaderValue>
     ensures same { IfSome result (λ value. value ≡ plain_value bytes.now) }
     ensures valid { IfSome result (λ value. IsTrue (list_all is_value_byte bytes.now)) }

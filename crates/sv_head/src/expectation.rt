@@ -1,4 +1,4 @@
-//! What a request expects.
+//! The expectation of a request.
 
 ghost use Rattle.std.specs.Prelude.{◌≡◌, codes, length};
 ghost use Rattle.std.specs.List.{filter, list_all};
@@ -8,7 +8,7 @@ ghost use Rattle.sv_head.specs.Fields.{is_named, values_of};
 use crate::field::Field;
 use crate::members::is_in_lower_case;
 
-/// Whether there is one Expect field, and it asks for `100 Continue` (RFC 9110, section 10.1.1).
+/// Returns whether there is exactly one Expect field, and it asks for `100 Continue` (RFC 9110, section 10.1.1).
 pub fn asks_to_continue(fields: &[Field]) -> bool
     ensures { result ≡ asks_to_continue fields.now }
 {

@@ -27,7 +27,7 @@ impl Field {
     ghost use Rattle.sv_head.specs.Fields.{is_named};
     ghost use Rattle.sv_head.specs.Host.{is_host, with_host};
 
-    /// Copies a field, whose name and value are valid. A standard name takes no memory, nor does a value that is given often.
+    /// Copies a field with a valid name and value. A standard name takes no memory, and neither does a common value.
     pub fn copy_of(alloc: Global, name: &[u8], value: &[u8]) -> Result<Field, NoMemory>
         requires name { IsFieldName name.now }
         requires value { IsFieldValue value.now }
@@ -42,8 +42,9 @@ impl Field {
         Ok(Field { name, value })
     }
 
-    /// Copies a field, where one can have that name and that value (RFC 9110, sections 5.1 and 5.5), and is `None` where none can. Memory is wanted as by
-    /// [`copy_of`](Field::copy_of), and only where there is a field. Neither a standard name nor a value that is given often is tested byte by byte.
+    /// Copies a field, or returns `None` if the name or the value is not valid (RFC 9110, sections 5.1 and 5.5). Takes
+    /// memory as [`copy_of`](Field::copy_of) does, and returns [`NoMemory`] only if both are valid. A standard name or a
+    /// common value is not validated byte by byte.
     pub fn checked_copy_of(
         alloc: Global,
         name: &[u8],
@@ -64,9 +65,9 @@ impl Field {
         Ok(Some(Field { name, value }))
     }
 
-    /// The field of a head whose valid name and value stand at those spans of the head's text. It shares the text: nothing is
-    /// copied but a name that is neither standard nor in lower case.
-    // Inlined, the field is made where its list has room for it.
+    /// Returns the field of a head with the valid name and value at these spans of the head's text. The field shares
+    /// the text. Only a name that is neither standard nor in lower case is copied.
+    // Inlined so that the field is built in its place in the list.
     #[inline(always)]
     pub fn at_span(alloc: Global, text: &Bytes, span: &HeaderSpan) -> Result<Field, NoMemory>
         requires within { IsHeaderWithin (length text.now) span.now }
@@ -85,7 +86,7 @@ impl Field {
         })
     }
 
-    /// Whether the field has that name, which is in lower case.
+    /// Returns whether the field has the name, which is in lower case.
     pub fn is_named(&self, name: &str) -> bool
         ensures { result ≡ is_named name.now self.now }
     {
@@ -93,7 +94,7 @@ impl Field {
         own.len() == name.len() && own == name
     }
 
-    /// Gives a Host field that host in place of what it says. Another field stays as it is.
+    /// Replaces the value of a Host field by the host. Any other field stays as it is.
     pub(crate) fn take_host(&mut self, alloc: Global, host: &[u8]) -> Result<(), NoMemory>
         requires { is_host host.now ≡ true }
         ensures ok { OnOk result (self.new ≡ with_host host.now self.old) }
@@ -106,7 +107,7 @@ impl Field {
     }
 }
 
-/// The valid name that stands at a span of a head's text, in lower case.
+/// Returns the valid name at a span of a head's text, in lower case.
 #[inline(always)]
 fn name_at(alloc: Global, text: &Bytes, span: Span) -> Result<HeaderName, NoMemory>
     requires within { IsWithin (length text.now) span }
@@ -127,7 +128,7 @@ fn name_at(alloc: Global, text: &Bytes, span: Span) -> Result<HeaderName, NoMemo
     }
 }
 
-/// Copies a name in lower case, where a field can have it.
+/// Copies a name in lower case, or returns `None` if it is not a valid field name.
 fn checked_name(alloc: Global, name: &[u8]) -> Result<Option<HeaderName>, NoMemory>
     ensures found { GivesAnswer result (if is_field_name name.now then Some (lowercase name.now) else None) }
     ensures no_memory { OnErr result (IsTrue (is_field_name name.now)) }
@@ -142,7 +143,7 @@ fn checked_name(alloc: Global, name: &[u8]) -> Result<Option<HeaderName>, NoMemo
     }
 }
 
-/// Whether a field's value can hold those bytes, which are those of a common value if there is one.
+/// Returns whether the bytes are a valid field value. `common` is the common value with these bytes, if there is one.
 fn is_valid(common: &Option<HeaderValue>, bytes: &[u8]) -> bool
     requires { IfSome common.now (λ value. IsTrue (list_all is_value_byte bytes.now)) }
     ensures { result ≡ list_all is_value_byte bytes.now }
@@ -150,21 +151,21 @@ fn is_valid(common: &Option<HeaderValue>, bytes: &[u8]) -> bool
     common.is_some() || is_field_value(bytes)
 }
 
-/// Whether a field's value can hold those bytes.
+/// Returns whether the bytes are a valid field value.
 fn is_field_value(bytes: &[u8]) -> bool
     ensures { result ≡ list_all is_value_byte bytes.now }
 {
     bytes.iter().all(|b| is_value_byte(*b))
 }
 
-/// Whether a field's value can hold the byte.
+/// Returns whether the byte may occur in a field value.
 fn is_value_byte(b: u8) -> bool
     ensures { result ≡ is_value_byte b }
 {
     b == b'\t' || (b' ' <= b && b != 0x7f)
 }
 
-/// The valid value of those bytes, which takes no memory where it is a common one.
+/// Returns the valid value with the bytes. A common value takes no memory.
 fn value_of(
     alloc: Global,
     common: Option<HeaderValue>,
@@ -180,7 +181,7 @@ fn value_of(
     }
 }
 
-/// Copies a value, which is valid.
+/// Copies a valid value.
 fn read_value(alloc: Global, bytes: &[u8]) -> Result<HeaderValue, NoMemory>
     requires { IsFieldValue bytes.now }
     ensures { GivesAnswer result (plain_value bytes.now) }
@@ -189,7 +190,7 @@ fn read_value(alloc: Global, bytes: &[u8]) -> Result<HeaderValue, NoMemory>
     Ok(HeaderValue::from_known_valid(copy))
 }
 
-/// Whether there is a field of that name, which is in lower case.
+/// Returns whether there is a field with the name, which is in lower case.
 pub fn has_field(name: &str, fields: &[Field]) -> bool
     ensures { result ≡ has_field name.now fields.now }
 {

@@ -10,7 +10,7 @@ use crate::limits::MAX_HOST_LEN;
 use std::alloc::Global;
 use sv_text::NoMemory;
 
-/// Whether those are the fields of a request with the Host fields that its version asks for (RFC 9112, section 3.2).
+/// Returns whether the Host fields are those that a request with the minor version must have (RFC 9112, section 3.2).
 pub fn accepts_hosts(minor: u8, fields: &[Field]) -> bool
     ensures { result ≡ accepts_hosts minor (values_of (codes "host") fields.now) }
 {
@@ -18,8 +18,8 @@ pub fn accepts_hosts(minor: u8, fields: &[Field]) -> bool
     are_hosts_valid(fields) && if minor == 1 { count == 1 } else { count <= 1 }
 }
 
-/// Gives each Host field that host in place of what it says (RFC 9112, section 3.2.2). After [`NoMemory`] the fields before
-/// the one that took no copy have it, and all others are as before.
+/// Replaces the value of every Host field by the host (RFC 9112, section 3.2.2). On [`NoMemory`], the fields before the
+/// one that could not be copied have the new host, and the others are unchanged.
 pub fn replace_hosts(alloc: Global, fields: &mut [Field], host: &[u8]) -> Result<(), NoMemory>
     requires { is_host host.now ≡ true }
     ensures ok { OnOk result (fields.new ≡ with_hosts host.now fields.old) }
@@ -31,14 +31,14 @@ pub fn replace_hosts(alloc: Global, fields: &mut [Field], host: &[u8]) -> Result
     Ok(())
 }
 
-/// How many Host fields there are.
+/// Returns the number of Host fields.
 fn host_count(fields: &[Field]) -> usize
     ensures { result ≡ length (values_of (codes "host") fields.now) }
 {
     fields.iter().filter(|field| field.is_named("host")).count()
 }
 
-/// Whether the value of each Host field is valid.
+/// Returns whether the value of every Host field is valid.
 fn are_hosts_valid(fields: &[Field]) -> bool
     ensures { result ≡ list_all (λ field. is_host field.value.bytes) (filter (is_named (codes "host")) fields.now) }
 {
@@ -48,7 +48,7 @@ fn are_hosts_valid(fields: &[Field]) -> bool
         .all(|field| is_host(field.value.as_bytes()))
 }
 
-/// Whether the value of a Host field is valid.
+/// Returns whether the value of a Host field is valid.
 pub(crate) fn is_host(value: &[u8]) -> bool
     ensures { result ≡ is_host value.now }
 {

@@ -12,18 +12,18 @@ use crate::field::Field;
 use crate::limits::MAX_LENGTH_DIGITS;
 use crate::members::trim_blanks;
 
-/// What was seen of the lengths of a body, in order.
+/// The lengths of a body read so far, in order.
 #[derive(Clone, Copy)]
 pub(crate) enum Lengths {
     Nothing,
-    /// One length, once or several times.
+    /// One length, given once or more.
     Same(usize),
-    /// A text that is no length, or two lengths.
+    /// A text that is not a length, or two different lengths.
     Bad,
 }
 
-/// The length that the Content-Length fields say, unless there is none, or one that is not valid, or another beside it
-/// (RFC 9110, section 8.6).
+/// Returns the length in the Content-Length fields. It is `None` if there is no length, if one is not valid, or if two
+/// differ (RFC 9110, section 8.6).
 pub fn content_length(fields: &[Field]) -> Option<usize>
     ensures { result ≡ content_length fields.now }
 {
@@ -45,7 +45,7 @@ fn see_fields(fields: &[Field]) -> Lengths
 }
 
 impl Lengths {
-    /// What was seen when a field is seen too.
+    /// Returns the state after one more field.
     fn see_field(self, field: &Field) -> Lengths
         ensures { result ≡ fold length_with self (parts_by_name (codes "content-length") (field.now ∷ [])) }
     {
@@ -55,7 +55,7 @@ impl Lengths {
         self.see_list(field.value.as_bytes())
     }
 
-    /// What was seen when the list that a value writes with commas is seen too.
+    /// Returns the state after one more comma-separated list.
     fn see_list(self, value: &[u8]) -> Lengths
         ensures { result ≡ fold length_with self (parts_of value.now) }
     {
@@ -64,7 +64,7 @@ impl Lengths {
             .fold(self, |seen, part| seen.see(part))
     }
 
-    /// What was seen when a part of a list is seen too.
+    /// Returns the state after one more part of a list.
     fn see(self, part: &[u8]) -> Lengths
         ensures { result ≡ length_with self part.now }
     {
@@ -76,7 +76,7 @@ impl Lengths {
     }
 }
 
-/// The length that a text is.
+/// Returns the length that a text gives, if it is one.
 fn length_of(text: &[u8]) -> Option<usize>
     ensures { result ≡ length_of text.now }
 {

@@ -1,4 +1,4 @@
-//! What the target and the fields of a request's head say.
+//! The target and the fields of a request head.
 #![tactic(auto)]
 
 mod codings;

@@ -1,7 +1,7 @@
 //! The limits of a head's fields.
 
-/// A Host field's value has at most so many bytes.
+/// The maximum length of a Host field's value, in bytes.
 pub const MAX_HOST_LEN: usize = 255;
 
-/// A length has at most so many digits.
+/// The maximum number of digits of a length.
 pub const MAX_LENGTH_DIGITS: usize = 18;

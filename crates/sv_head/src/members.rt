@@ -1,4 +1,4 @@
-//! The members of a list that the value of a field writes with commas.
+//! The members of a comma-separated field value.
 
 ghost use Rattle.std.specs.Prelude.{◌≡◌, reverse, bytes_eq};
 ghost use Rattle.http_header.specs.Token.{lowercase};
@@ -7,7 +7,7 @@ ghost use Rattle.sv_head.specs.Fields.{is_member, has_member};
 
 use httparse::is_space_or_tab;
 
-/// Whether the list of a value holds the word, which is in lower case, in any case.
+/// Returns whether a list contains the word, which is in lower case. Members match in any case.
 pub(crate) fn has_member(value: &[u8], word: &[u8]) -> bool
     ensures { result ≡ has_member word.now value.now }
 {
@@ -16,14 +16,14 @@ pub(crate) fn has_member(value: &[u8], word: &[u8]) -> bool
         .any(|part| is_member(part, word))
 }
 
-/// Whether a part of a list is the word, in any case and without the blanks around it.
+/// Returns whether a part of a list is the word, in any case and without the blanks around it.
 fn is_member(part: &[u8], word: &[u8]) -> bool
     ensures { result ≡ is_member word.now part.now }
 {
     is_in_lower_case(trim_blanks(part), word)
 }
 
-/// Whether the bytes are the word when they are written in lower case.
+/// Returns whether the bytes, in lower case, are the word.
 pub(crate) fn is_in_lower_case(bytes: &[u8], word: &[u8]) -> bool
     ensures { result ≡ bytes_eq (lowercase bytes.now) word.now }
 {
@@ -38,7 +38,7 @@ pub(crate) fn is_in_lower_case(bytes: &[u8], word: &[u8]) -> bool
     true
 }
 
-/// The bytes without the spaces and tabs around them (RFC 9110, section 5.6.3).
+/// Returns the bytes without the spaces and tabs around them (RFC 9110, section 5.6.3).
 pub fn trim_blanks(bytes: &[u8]) -> &[u8]
     ensures { result.now ≡ trim_ows bytes.now }
 {

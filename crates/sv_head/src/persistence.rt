@@ -1,4 +1,4 @@
-//! Whether a connection goes on after a request.
+//! Whether a connection stays open after a request.
 
 ghost use Rattle.std.specs.Prelude.{◌≡◌, codes};
 ghost use Rattle.std.specs.List.{filter, list_any};
@@ -8,14 +8,14 @@ ghost use Rattle.sv_head.specs.Persistence.{keeps};
 use crate::field::Field;
 use crate::members::has_member;
 
-/// Whether a request of that minor version keeps the connection (RFC 9112, section 9.3).
+/// Returns whether a request with the minor version keeps the connection open (RFC 9112, section 9.3).
 pub fn keeps(minor: u8, fields: &[Field]) -> bool
     ensures { result ≡ keeps minor fields.now }
 {
     minor == 1 && !asks_to_close(fields)
 }
 
-/// Whether a Connection field asks to close the connection.
+/// Returns whether a Connection field asks to close the connection.
 fn asks_to_close(fields: &[Field]) -> bool
     ensures { result ≡ list_any (λ field. has_member (codes "close") field.value.bytes) (filter (is_named (codes "connection")) fields.now) }
 {

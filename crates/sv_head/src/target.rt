@@ -1,4 +1,4 @@
-//! The forms of a request's target.
+//! The forms of a request target.
 
 ghost use Rattle.std.specs.Prelude.{◌≡◌, ◌≤◌, true, length};
 ghost use Rattle.sv_head.specs.TargetForm.{scheme, target_form, has_scheme, authority_len, is_authority, is_behind_authority, FitsForm};
@@ -8,24 +8,24 @@ use crate::members::is_in_lower_case;
 
 const SCHEME: &[u8] = b"http://";
 
-/// How long the scheme of an absolute form is.
+/// The length of the scheme of an absolute form, in bytes.
 pub const SCHEME_LEN: usize = SCHEME.len();
 
-/// The form of a request's target (RFC 9112, section 3.2).
+/// The form of a request target (RFC 9112, section 3.2).
 #[derive(Clone, Copy)]
 pub enum TargetForm {
     /// A path.
     Origin,
-    /// A scheme, an authority of so many bytes, and a path, which may be empty.
+    /// A scheme, an authority with this many bytes, and a path, which may be empty.
     Absolute(usize),
     /// `*` with the method OPTIONS: the server itself.
     Star,
-    /// No form that is served.
+    /// A form that is not served.
     Unknown,
 }
 
-/// The form of a target, by the request's method. CONNECT asks for a tunnel (RFC 9110, section 9.3.6): whatever its target, it is in no form
-/// that is served.
+/// Returns the form of a target, by the request's method. CONNECT asks for a tunnel (RFC 9110, section 9.3.6), so it
+/// has no form that is served, whatever its target.
 pub fn target_form(method: &[u8], target: &[u8]) -> TargetForm
     ensures form { result ≡ target_form method.now target.now }
     ensures fits { FitsForm result target.now }
@@ -49,7 +49,7 @@ pub fn target_form(method: &[u8], target: &[u8]) -> TargetForm
     TargetForm::Unknown
 }
 
-/// Whether a target begins with the scheme, in any case.
+/// Returns whether a target begins with the scheme, in any case.
 fn has_scheme(target: &[u8]) -> bool
     ensures value { result ≡ has_scheme target.now }
     ensures fits { result ≡ true → length scheme ≤ length target.now }
@@ -57,7 +57,7 @@ fn has_scheme(target: &[u8]) -> bool
     target.len() >= SCHEME_LEN && is_in_lower_case(&target[..SCHEME_LEN], SCHEME)
 }
 
-/// How long the authority is that stands behind the scheme.
+/// Returns the length in bytes of the authority that follows the scheme.
 fn authority_len(behind: &[u8]) -> usize
     ensures value { result ≡ authority_len behind.now }
     ensures fits { result ≤ length behind.now }
@@ -70,14 +70,14 @@ fn authority_len(behind: &[u8]) -> usize
     behind.len()
 }
 
-/// Whether a byte ends an authority that stands before it.
+/// Returns whether a byte ends the authority before it.
 fn is_behind_authority(b: u8) -> bool
     ensures { result ≡ is_behind_authority b }
 {
     b == b'/' || b == b'?'
 }
 
-/// Whether bytes are an authority: a host that is not empty.
+/// Returns whether bytes are an authority: a host that is not empty.
 fn is_authority(authority: &[u8]) -> bool
     ensures { result ≡ is_authority authority.now }
 {

@@ -1,4 +1,4 @@
--- The texts of calls of components, and of their answers (Jakarta Servlet 6.0, chapters 2 and 6).
+-- The texts of the calls of components, and of their answers (Jakarta Servlet 6.0, chapters 2 and 6).
 use Rattle.std.specs.Prelude.{ℕ, List, ◌++◌, codes, Some, None}
 use Rattle.std.specs.Fmt.{decimal}
 use Rattle.sv_journal.specs.declared.answer.Answer.{Answer}

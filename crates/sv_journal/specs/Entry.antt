@@ -13,7 +13,7 @@ use Rattle.sv_journal.specs.Called.{answer_text, call_text, component_text}
 use Rattle.sv_event.specs.Event.{event_text}
 use Rattle.sv_journal.specs.RefusalCause.{cause_text}
 
--- the listener at a place, from 0, heard an event
+-- The listener at a place, counted from 0, is notified of an event.
 abbrev pub heard : List ℕ → ℕ → Event → Entry
 heard context place event = Told context (place + 1) event
 

@@ -1,4 +1,4 @@
--- The causes for which the container itself answers a message: their numbers, names and texts.
+-- The causes of messages that the container itself answers: their numbers, names and texts.
 use Rattle.std.specs.Prelude.{ℕ, List, ◌++◌, codes}
 use Rattle.sv_constraints.specs.Decision.{why_text}
 use Rattle.sv_uri.specs.Fault.{fault_name as path_name}
@@ -44,7 +44,7 @@ cause_number NoSession = 26
 cause_number (Denied why) = 27
 cause_number (NoLogin why) = 28
 
--- the name, and behind it the reason where there is one
+-- The name, followed by the reason if there is one.
 abbrev pub cause_text : RefusalCause → List ℕ
 cause_text (Wire fault) = wire_name fault
 cause_text (Path fault) = path_name fault

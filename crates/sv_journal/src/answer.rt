@@ -1,4 +1,4 @@
-//! What components answer, as the journal keeps it.
+//! The answers of components, as the journal records them.
 
 ghost use Rattle.std.specs.Prelude.{Some};
 ghost use Rattle.sv_journal.specs.Called.{answer_text};
@@ -6,20 +6,20 @@ ghost use Rattle.sv_journal.specs.Called.{answer_text};
 use std::fmt;
 use sv_text::Text;
 
-/// The answer of a component. It is printed as its name, with what it carries behind it.
+/// The answer of a component. Printed as its name, followed by its value, if it has one.
 #[derive(Debug, Drop)]
 pub enum Answer {
     Ready,
     Pass,
     Stop,
     Done,
-    /// The path that was asked for.
+    /// The requested path.
     Forward(Text),
-    /// The path that was asked for.
+    /// The requested path.
     Include(Text),
-    /// The code as the component gave it.
+    /// The code that the component gave.
     Error(u16),
-    /// The kind of the failure, which may be empty; `None` where the call has no kinds, as an `init`.
+    /// The kind of the failure, which may be empty. `None` for a call without kinds, such as `init`.
     Failed(Option<Text>),
     Unavailable,
     NoMemory,

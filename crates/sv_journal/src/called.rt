@@ -1,4 +1,4 @@
-//! Which component was called, and how.
+//! Components and their calls.
 
 ghost use Rattle.std.specs.Prelude.{Some};
 ghost use Rattle.sv_journal.specs.Called.{call_text, component_text};
@@ -6,18 +6,18 @@ ghost use Rattle.sv_journal.specs.Called.{call_text, component_text};
 use std::fmt;
 use sv_text::Text;
 
-/// A component by its name. It is printed as the word for its interface with its name.
+/// A component, by its name. Printed as `servlet` or `filter`, followed by the name.
 #[derive(Debug, Drop)]
 pub enum Component {
     Servlet(Text),
     Filter(Text),
 }
 
-/// A call of a component. It is printed as the method's name.
+/// A call of a component. Printed as the name of the method.
 #[derive(Clone, Copy, Debug, PartialEq, Eq)]
 pub enum CallName {
     Init,
-    /// With its turn, which is printed behind the name.
+    /// The number of its turn, printed after the name.
     Service(u32),
     Before,
     After,

@@ -1,4 +1,4 @@
-//! An entry of the journal, and its text.
+//! The entries of the journal, and their texts.
 
 ghost use Rattle.std.specs.Prelude.{◌≡◌, ◌+◌, ◌<◌, ◌^◌, Some};
 ghost use Rattle.sv_text.specs.Gives.{GivesAnswer};
@@ -14,21 +14,22 @@ use sv_event::Event;
 use sv_text::{NoMemory, Text};
 use sv_uri::shown_context;
 
-/// An entry of the journal. The first text of most is the context path, empty for the root context. An entry is printed as one line
-/// without its end.
+/// An entry of the journal. The first text of most is the context path, empty for the root context. Printed as one line
+/// without a line end.
 #[derive(Debug, Drop)]
 pub enum Entry {
     /// A message entered its context: the context path, and the path in the context.
     Entered(Text, Text),
     /// A message was sent to the login page: the context path, and why.
     SentToLogin(Text, OwnedWhy),
-    /// A message was answered by the container itself.
+    /// The container itself answered a message.
     Refused(RefusalCause),
-    /// A message was answered as if nothing were there.
+    /// The container answered a message as if nothing were at its path.
     Hidden(RefusalCause),
-    /// A listener heard an event: the context path, and the listener's number from 1.
+    /// A listener was notified of an event: the context path, the number of the listener from 1, and the event.
     Told(Text, usize, Event),
-    /// A component was called: the context path, the component, the call and the answer, which `after` and `destroy` have none of.
+    /// A component was called: the context path, the component, the call, and its answer; `None` for `after` and
+    /// `destroy`.
     Called(Text, Component, CallName, Option<Answer>),
 }
 
@@ -36,7 +37,7 @@ impl Entry {
     ghost use Rattle.std.specs.Prelude.{Option};
     ghost use Rattle.sv_journal.specs.declared.answer.Answer.{Answer as AnswerData};
 
-    /// The entry of an event that the listener at a place, from 0, heard.
+    /// Returns the entry of an event for the listener at `place`, counted from 0.
     pub fn told(
         alloc: Global,
         context: &str,
@@ -53,7 +54,7 @@ impl Entry {
         ))
     }
 
-    /// The entry of a servlet's call. Want of memory for the answer is want of memory for the entry.
+    /// Returns the entry of a call of a servlet. Fails if the answer ran out of memory.
     #[inline(always)]
     pub fn of_servlet(
         alloc: Global,
@@ -72,7 +73,7 @@ impl Entry {
         ))
     }
 
-    /// The entry of a filter's call. Want of memory for the answer is want of memory for the entry.
+    /// Returns the entry of a call of a filter. Fails if the answer ran out of memory.
     pub fn of_filter(
         alloc: Global,
         context: &str,

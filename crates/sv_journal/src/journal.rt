@@ -8,7 +8,7 @@ use std::alloc::Global;
 use std::marker::Model;
 use sv_text::NoMemory;
 
-/// A journal. An entry that could not be made, or that finds no room, breaks it, and it takes no more.
+/// A journal. It breaks at an entry that could not be made or stored for lack of memory, and takes no more entries.
 #[derive(Drop)]
 pub struct Journal {
     entries: Vec<Entry>,
@@ -27,7 +27,7 @@ impl Journal {
     ghost use Rattle.sv_journal.specs.Journal.{Notes, Takes, new_journal, with_entry};
     ghost use Rattle.sv_journal.specs.declared.entry.Entry.{Entry as EntryData};
 
-    /// An empty journal.
+    /// Returns an empty journal.
     pub fn new(alloc: Global) -> Journal
         ensures { result ≡ new_journal }
     {
@@ -37,21 +37,21 @@ impl Journal {
         }
     }
 
-    /// Whether nothing is missing.
+    /// Returns whether no entry is missing.
     pub fn whole(&self) -> bool
         ensures { result ≡ self.now.whole }
     {
         self.whole
     }
 
-    /// The entries in order: of a broken journal those that were noted before it broke.
+    /// Returns the entries in order. A broken journal has the entries that were noted before it broke.
     pub fn entries(&self) -> &[Entry]
         ensures { result.now ≡ self.now.entries }
     {
         self.entries.as_slice()
     }
 
-    /// An empty journal in the memory of this one.
+    /// Returns an empty journal that reuses the memory of this one.
     pub fn emptied(self) -> Journal
         ensures { result ≡ new_journal }
     {
@@ -65,7 +65,8 @@ impl Journal {
         }
     }
 
-    /// Adds the entry, or breaks the journal where the entry could not be made or finds no room. A broken journal stays as it is.
+    /// Adds the entry, or breaks the journal if the entry could not be made or stored. A broken journal does not
+    /// change.
     #[inline(always)]
     pub fn note(&mut self, entry: Result<Entry, NoMemory>)
         ensures notes { Notes self.old entry self.new }
@@ -74,7 +75,7 @@ impl Journal {
         self.do_note(entry)
     }
 
-    /// Lets go of the journal. Who calls it drops none of what the entries hold, and is proved without that.
+    /// Drops the journal, so that callers need no proof about dropping its entries.
     pub fn let_go(self) {}
 
     #[inline(always)]
@@ -91,7 +92,7 @@ impl Journal {
         }
     }
 
-    // Adds the entry, and answers whether it finds room. One that finds none is let go.
+    // Adds the entry and returns true, or drops it and returns false if there is no memory for it.
     #[inline(always)]
     fn finds_room(&mut self, entry: Entry) -> bool
         ensures { cond result (self.new ≡ with_entry entry self.old) (self.new ≡ self.old) }
@@ -104,7 +105,7 @@ impl Journal {
     }
 }
 
-// Lets go of what holds an entry. It stands apart, so that an entry that is noted is moved as a whole.
+// Drops a value that may hold an entry. A separate function, so that an entry that is noted is moved as a whole.
 #[cold]
 #[inline(never)]
 fn let_go<T: Drop>(_value: T) {}

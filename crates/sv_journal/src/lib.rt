@@ -1,4 +1,4 @@
-//! The journal of what the container did: what was called, told, refused and let in.
+//! The journal of the container: calls of components, events for listeners, and messages admitted or refused.
 #![tactic(auto)]
 
 mod answer;

@@ -1,4 +1,4 @@
-//! Why a message is answered by the container itself.
+//! Why the container itself answers a message.
 
 ghost use Rattle.std.specs.Prelude.{◌≡◌, Some};
 ghost use Rattle.sv_journal.specs.RefusalCause.{cause_number, cause_text, path_number, wire_number};
@@ -8,11 +8,11 @@ use sv_constraints::OwnedWhy;
 use sv_uri::fault::PathFault;
 use sv_wire_fault::WireFault;
 
-/// Why a message is answered by the container itself, with no dispatch to the path that it asks for. Two of the causes are no faults.
-/// It is printed as its name; `Denied` and `NoLogin` have their reason behind it.
+/// Why the container itself answers a message, with no dispatch to the requested path. Two of the causes are not
+/// faults. Printed as its name; `Denied` and `NoLogin` are followed by their reason.
 #[derive(Debug, Drop)]
 pub enum RefusalCause {
-    /// The message is none that is served.
+    /// The message has a fault.
     Wire(WireFault),
     /// The target has no canonical path.
     Path(PathFault),
@@ -20,22 +20,23 @@ pub enum RefusalCause {
     Star,
     /// No context serves the path.
     NoContext,
-    /// The path leads into a folder that is served to no client (Jakarta Servlet 6.0, section 10.5).
+    /// The path is in a directory that is served to no client (Jakarta Servlet 6.0, section 10.5).
     Protected,
     /// The message was a login that passed (Jakarta Servlet 6.0, section 13.6.3).
     LoggedIn,
     /// The message was a login that failed.
     LoginFailed,
-    /// The message was a login, and no session could be had.
+    /// The message was a login, and no session was available.
     NoSession,
-    /// The constraints deny it (Jakarta Servlet 6.0, section 13.8).
+    /// The constraints deny the message (Jakarta Servlet 6.0, section 13.8).
     Denied(OwnedWhy),
-    /// The constraints ask for a login, and the context has none.
+    /// The constraints require a login, and the context has none.
     NoLogin(OwnedWhy),
 }
 
 impl RefusalCause {
-    /// The number of the cause: 1 to 8 for the faults of messages, 11 to 20 for the faults of paths, and 21 to 28 for the others.
+    /// Returns the number of the cause: 1 to 8 for the faults of messages, 11 to 20 for the faults of paths, and 21 to
+    /// 28 for the others.
     pub fn number(&self) -> u8
         ensures { result ≡ cause_number self.now }
     {

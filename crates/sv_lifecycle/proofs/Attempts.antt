@@ -1,4 +1,4 @@
--- A start that went through, and one that is undone.
+-- A start that succeeds, and one that is undone.
 use Rattle.std.proofs.Common.{◌≡◌, ℕ, ◌<◌, Bool, true, false, inl, inr, List, [], ◌∷◌, ◌++◌, length, get_or, map, take, Option, None, Some, Ok, Err, refl, sym, ◌∙◌, ap, subst, arith}
 use Rattle.std.specs.Prelude.{cond, is_some, not}
 use Rattle.std.specs.Prelude.{IfSome}
@@ -43,7 +43,7 @@ all_below count k d within =
     let len = length-range_with_len 0 count in
     omega (arith, within, len, get_or-range_with_len 0 count k d (omega (arith, within, len)))
 
--- the places of a plan are those of components
+-- The places of a plan are places of components.
 pub plan_places : {S F L : Type 0} (its_context : List ℕ) (app : WebApp) (parts : Parts S F L) (plan : Plan) → Fits app parts → IsPlan its_context app plan → All (IsPlaceIn parts) plan.order.items
 plan_places its_context app parts plan fits is_plan =
     let servlets : length parts.servlets.items ≡ length app.servlets = same_length (λ named. named.name) (λ servlet. servlet.servlet_name) parts.servlets.items app.servlets fits.servlets in
@@ -60,7 +60,7 @@ pub plan_standings : {S F L : Type 0} (its_context : List ℕ) (app : WebApp) (p
 plan_standings its_context app parts after plan fits is_plan counts =
     counts.servlets ∙ same_length (λ named. named.name) (λ servlet. servlet.servlet_name) parts.servlets.items app.servlets fits.servlets
 
--- what was initialised is there
+-- Initialized components exist.
 pub initialised_there : (P : Place → Type 0) (order : List Place) (begun more : List Answered) (left : List Place) → order ≡ places_of (begun ++ more) ++ left → All P order → All P (initialised begun)
 initialised_there P order begun more left is there =
     let ready : Answered → Bool = λ answered. is_ready answered.answer in
@@ -79,7 +79,7 @@ none_of f None none = refl
 none_of f (Some a) none = absurd (cc)
 
 module _ {S F L : Type 0} (moving : ComponentSteps S F L) where
-  -- nothing was done
+  -- No component was called.
   pub did_nothing : (its_context : List ℕ) (app : WebApp) (parts : Parts S F L) (noted : JournalState) (why : StartCode)
       → RefusesUntouched app parts why
       → Starts moving its_context app parts noted (Err (record { code = why; parts = parts })) noted
@@ -89,7 +89,7 @@ module _ {S F L : Type 0} (moving : ComponentSteps S F L) where
     is = refuses;
   }
 
-  -- the inits of a plan go in order
+  -- The `init` calls of a plan are made in order.
   abbrev goes_in_order : (app : WebApp) (parts : Parts S F L) (plan : Plan) (noted : JournalState) (how_far : Begun) (after : Parts S F L) (plan_after : Plan) (noted_after : JournalState)
       → (is_plan : IsPlan plan.context app plan) (begins : Begins moving app parts plan noted how_far after plan_after noted_after)
       → GoesInOrder app (record { order = is_plan.loaded; begun = begins.begun; stopper = begins.stopper })
@@ -101,7 +101,7 @@ module _ {S F L : Type 0} (moving : ComponentSteps S F L) where
     stopper = begins.stops;
   }
 
-  -- the telling and the inits are one run
+  -- The notifications and the `init` calls are one run.
   begin_calls : (app : WebApp) (parts told_parts : Parts S F L) (plan : Plan) (noted told_noted : JournalState) (how_far : Begun) (after : Parts S F L) (plan_after : Plan) (noted_after : JournalState)
       → Fits app parts
       → Runs moving (world plan.context parts noted) (told ContextInitialized (length parts.listeners.items)) (world plan.context told_parts told_noted)
@@ -113,7 +113,7 @@ module _ {S F L : Type 0} (moving : ComponentSteps S F L) where
       (subst (λ count. Runs moving (world plan.context parts noted) (told ContextInitialized count) (world plan.context told_parts told_noted)) fits.listeners tells)
       begins.made
 
-  -- a start that went through
+  -- A start that succeeds.
   pub started : (app : WebApp) (parts told_parts : Parts S F L) (plan : Plan) (noted told_noted : JournalState) (how_far : Begun) (after : Parts S F L) (plan_after : Plan) (noted_after : JournalState)
       → (kept : List Place) → Fits app parts → IsPlan plan.context app plan → HasSameCounts parts after
       → Runs moving (world plan.context parts noted) (told ContextInitialized (length parts.listeners.items)) (world plan.context told_parts told_noted)
@@ -151,7 +151,7 @@ not_ready place init_answers.Unavailable stops = refl
 not_ready place init_answers.Failed stops = refl
 not_ready place init_answers.NoMemory stops = refl
 
--- what did not let the start go on is not initialised
+-- A component that stops the start is not initialized.
 initialised_called : (begun : List Answered) (stopper : Option Answered) → IfSome stopper (λ answered. lets_go_on answered.place answered.answer ≡ false)
     → initialised (begun ++ option_to_list stopper) ≡ initialised begun
 initialised_called begun None stops = ap initialised (append-nil begun)
@@ -162,7 +162,7 @@ stays_broken : (before after : Bool) → before ≡ false → (after ≡ true �
 stays_broken before true broken was = absurd (cc (was refl))
 stays_broken before false broken was = refl
 
--- why an undone start is refused
+-- The reason for an undone start.
 module _ (inits : Inits) (after : JournalState) where
   lacked : (whole : Bool) → after.whole ≡ whole → (answered : Answered) → inits.stopper ≡ Some answered → (answer : Init) → answered.answer ≡ answer → RefusesUndone inits (code_of (Some answer) whole) after
   lacked whole is answered stopper init_answers.NoMemory answers = inr (answered, stopper, ap is_no_memory answers)
@@ -180,11 +180,11 @@ module _ (inits : Inits) (after : JournalState) where
   refused (Some answered) found whole is broken = lacked whole is answered found answered.answer refl
 
 module _ {S F L : Type 0} (moving : ComponentSteps S F L) where
-  -- a journal that is whole was whole before
+  -- If a journal is whole after a run, it was whole before.
   was_whole : (before after : World S F L) (records : List Record) → Runs moving before records after → after.journal.whole ≡ true → before.journal.whole ≡ true
   was_whole before after records grows whole = ((run_gains moving before after records (runs_grown moving before after records grows)).all whole).0
 
-  -- a start that is undone
+  -- A start that is undone.
   pub undone : (app : WebApp) (parts told_parts : Parts S F L) (plan : Plan) (noted told_noted : JournalState) (how_far : Begun) (after : Parts S F L) (plan_after : Plan) (noted_after : JournalState)
       → (kept : List Place) (ended : Parts S F L) (noted_ended : JournalState) (why : StartCode) → Fits app parts → IsPlan plan.context app plan
       → Runs moving (world plan.context parts noted) (told ContextInitialized (length parts.listeners.items)) (world plan.context told_parts told_noted)
@@ -222,7 +222,7 @@ none_from (Some a) none is is_none = absurd (cc (is ∙ ap not is_none))
 pub not_none_from : {A P : Type 0} (found : Option A) (none : Bool) → is_some found ≡ not none → none ≡ false → found ≡ None → P
 not_none_from found none is is_none same = absurd (cc (sym (ap is_some same) ∙ is ∙ ap not is_none))
 
--- a plan is one for its own context
+-- A plan is a plan for its own context.
 pub own_plan : (its_context : List ℕ) (app : WebApp) (plan : Plan) → IsPlan its_context app plan → IsPlan plan.context app plan
 own_plan its_context app plan is_plan = record {
   loaded = is_plan.loaded;
@@ -234,7 +234,7 @@ own_plan its_context app plan is_plan = record {
 }
 
 module _ {S F L : Type 0} (moving : ComponentSteps S F L) where
-  -- what was initialised is there, and each servlet has a standing
+  -- Initialized components exist, and each servlet has an availability.
   pub kept_there : (app : WebApp) (parts told_parts : Parts S F L) (plan : Plan) (noted : JournalState) (how_far : Begun) (after : Parts S F L) (plan_after : Plan) (noted_after : JournalState)
       → (kept : List Place) → Fits app parts → IsPlan plan.context app plan → HasSameCounts parts after
       → Begins moving app told_parts plan noted how_far after plan_after noted_after → kept ≡ take how_far.initialised plan_after.order.items

@@ -1,4 +1,4 @@
--- The inits of a start, one after another.
+-- The `init` calls of a start, one after another.
 use Rattle.std.proofs.Common.{◌≡◌, ℕ, ◌+◌, ◌<◌, ◌≤◌, Bool, true, false, List, [], ◌∷◌, ◌++◌, length, get_or, map, set, take, drop, inl, inr, Some, None, refl, sym, ◌∙◌, ap, ap₂, subst}
 use Rattle.std.specs.Prelude.{◌==◌, ◌||◌, cond}
 use Rattle.std.specs.List.{All, filter, list_any}
@@ -40,7 +40,7 @@ pub initialised_push : (begun : List Answered) (answered : Answered) → initial
 initialised_push begun answered =
     ap places_of (filter-append ready begun (answered ∷ [])) ∙ map-append (λ a. a.place) (filter ready begun) (filter ready (answered ∷ []))
 
--- what is kept in front of the order
+-- The initialized components at the front of the order.
 kept_by : (yes : Bool) (order : List Place) (count : ℕ) (answered : Answered) (front : List Place) → is_ready answered.answer ≡ yes → count < length order → take count order ≡ front
     → take (cond yes (count + 1) count) (cond yes (set order count answered.place) order) ≡ front ++ initialised (answered ∷ [])
 kept_by true order count answered front is within kept =
@@ -49,7 +49,7 @@ kept_by true order count answered front is within kept =
 kept_by false order count answered front is within kept =
     kept ∙ sym (append-nil front) ∙ ap (λ b. front ++ places_of (cond b (answered ∷ []) [])) (sym is)
 
--- how the servlet at a place stands behind one answer more
+-- The availability of the servlet at an index after one more result.
 stands_by : (out : Bool) (any : Bool) → cond (any || (out || false)) Gone Serving ≡ cond out Gone (cond any Gone Serving)
 stands_by true true = refl
 stands_by true false = refl
@@ -82,7 +82,7 @@ with_answer_at standings (Filter filter) answer place within = refl
 some_is_none : {A P : Type 0} (a : A) → Some a ≡ None → P
 some_is_none a same = absurd (cc)
 
--- the places that were begun, with one more
+-- The places of the components called so far, with one more.
 front_more : (order : List Place) (step : ℕ) (begun : List Answered) (its_place : Place) (its_answer : Init) → step < length order → its_place ≡ get_or order step its_place
     → take step order ≡ places_of begun → take (step + 1) order ≡ places_of (begun ++ record { place = its_place; answer = its_answer } ∷ [])
 front_more order step begun its_place its_answer within is front =
@@ -90,7 +90,7 @@ front_more order step begun its_place its_answer within is front =
     ∙ sym (map_push (λ a. a.place) begun (record { place = its_place; answer = its_answer }))
 
 module _ {S F L : Type 0} (moving : ComponentSteps S F L) (app : WebApp) where
-  -- one init more
+  -- One more `init`.
   inits_more : (start before after : World S F L) (begun : List Answered) (its_place : Place) (its_answer : Init) (config : Config) → config ≡ config_at app its_place
       → Runs moving start (map (inited app) begun) before → Moves moving before (init_record its_place config its_answer) after
       → Runs moving start (map (inited app) (begun ++ record { place = its_place; answer = its_answer } ∷ [])) after
@@ -100,7 +100,7 @@ module _ {S F L : Type 0} (moving : ComponentSteps S F L) (app : WebApp) where
       (grows_more moving start before after (map (inited app) begun) (inited app answered) so_far
       (subst (λ c. Moves moving before (init_record its_place c its_answer) after) is moves))
 
-  -- what is known between two inits
+  -- The invariant between two `init` calls.
   pub record SoFar (parts : Parts S F L) (plan : Plan) (noted : JournalState) (step count : ℕ) (now_parts : Parts S F L) (now_plan : Plan) (now_noted : JournalState) : Type 0 where
     pub begun : List Answered
     pub front : take step plan.order.items ≡ places_of begun
@@ -147,7 +147,7 @@ module _ {S F L : Type 0} (moving : ComponentSteps S F L) (app : WebApp) where
             ∙ sym (standing_after_push so_far.begun answered place);
       }
 
-  -- the inits end where all are made, or the journal is broken
+  -- The `init` calls end when all are made or the journal is broken.
   pub begins_to_end : (parts : Parts S F L) (plan : Plan) (noted : JournalState) (step count : ℕ) (after : Parts S F L) (plan_after : Plan) (noted_after : JournalState)
       → SoFar parts plan noted step count after plan_after noted_after
       → (noted_after.whole ≡ true → length plan.order.items ≤ step)
@@ -171,7 +171,7 @@ module _ {S F L : Type 0} (moving : ComponentSteps S F L) (app : WebApp) where
         context = its_context;
       }
 
-  -- the inits end at a component that does not let the start go on
+  -- The `init` calls end at a component that stops the start.
   pub begins_to_stop : (parts : Parts S F L) (plan : Plan) (noted : JournalState) (step count : ℕ) (before : Parts S F L) (plan_before : Plan) (noted_before : JournalState)
       → (at : Place) (config : Config) (answer : Init) (after : Parts S F L) (noted_after : JournalState)
       → SoFar parts plan noted step count before plan_before noted_before

@@ -1,20 +1,20 @@
--- Names that are the declared ones, one after another.
+-- Comparing names with the declared ones, one after another.
 use Rattle.std.proofs.Common.{◌≡◌, ℕ, ◌+◌, ◌<◌, Bool, true, false, not, List, [], ◌∷◌, ◌++◌, length, get_or, map, take, refl, sym, ◌∙◌, ap, ap₂}
 use Rattle.std.specs.Str.{bytes_eq}
 use Rattle.std.proofs.lemmas.List.{get_or-map, length-map, map_more}
 use Rattle.std.proofs.lemmas.Slice.Eq.{bytes_eq-Decides}
 
--- lists with the same texts have the same length
+-- Lists with the same texts have the same length.
 pub same_length : {X Y Z : Type 0} (f : X → Z) (h : Y → Z) (xs : List X) (ys : List Y) → map f xs ≡ map h ys → length xs ≡ length ys
 same_length f h xs ys same = sym (length-map xs f) ∙ ap length same ∙ length-map ys h
 
--- and the same text at each place
+-- They also have the same text at each index.
 pub same_at : {X Y Z : Type 0} (f : X → Z) (h : Y → Z) (xs : List X) (ys : List Y) (place : ℕ) (x : X) (y : Y)
     → place < length xs → place < length ys → x ≡ get_or xs place x → y ≡ get_or ys place y → map f xs ≡ map h ys → f x ≡ h y
 same_at f h xs ys place x y in_xs in_ys is_x is_y same =
     ap f is_x ∙ sym (get_or-map f xs place x (f x) in_xs) ∙ ap (λ zs. get_or zs place (f x)) same ∙ get_or-map h ys place y (f x) in_ys ∙ ap h (sym is_y)
 
--- a test of two texts, and what it says
+-- A test of two texts, and its meaning.
 not_true : (test : Bool) → test ≡ true → not test ≡ true → ⊥
 not_true true is_true is_false = absurd (cc)
 not_true false is_true is_false = absurd (cc)
@@ -29,7 +29,7 @@ texts_differ xs ys differ same = not_true (bytes_eq xs ys) ((bytes_eq-Decides xs
 pub texts_equal : (xs ys : List ℕ) → not (bytes_eq xs ys) ≡ false → xs ≡ ys
 texts_equal xs ys equal = (bytes_eq-Decides xs ys).0 (not_false (bytes_eq xs ys) equal)
 
--- one name more
+-- One more name.
 pub names_more : {X Y : Type 0} (f : X → List ℕ) (h : Y → List ℕ) (xs : List X) (ys : List Y) (place : ℕ) (x : X) (y : Y)
     → place < length xs → place < length ys → x ≡ get_or xs place x → y ≡ get_or ys place y → f x ≡ h y
     → map f (take place xs) ≡ map h (take place ys) → map f (take (place + 1) xs) ≡ map h (take (place + 1) ys)

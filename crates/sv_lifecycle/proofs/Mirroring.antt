@@ -1,4 +1,4 @@
--- A stop right behind a start, and a start that is undone, mirror what was called.
+-- A stop directly after a start, and a start that is undone, mirror the calls made.
 use Rattle.std.proofs.Common.{◌≡◌, ℕ, zero, suc, ◌+◌, ◌<◌, Bool, true, false, eqb, inl, inr, List, [], ◌∷◌, ◌++◌, length, map, reverse, refl, sym, ◌∙◌, ap, ap₂, subst, arith}
 use Rattle.std.specs.Prelude.{◌==◌, ◌||◌, cond, not}
 use Rattle.std.specs.List.{AllByRecursion, IsDistinct, filter, flat_map, list_any, range_with_len}
@@ -33,7 +33,7 @@ use Rattle.sv_live.specs.declared.place.Place.TheVariants.{Filter, Servlet}
 use Rattle.sv_lifecycle.proofs.Attempts.{all_below}
 use Rattle.sv_lifecycle.proofs.Places.{not_both}
 
--- ---- each servlet is begun once
+-- ---- The `init` of each servlet is called once.
 range_apart : (at from count : ℕ) → at < from → AllByRecursion (λ other. eqb at other ≡ false) (range_with_len from count)
 range_apart at from zero less = tt
 range_apart at from (suc count) less = (grind (arith, nat_tests, less), range_apart at (from + 1) count (omega (arith, less)))
@@ -65,7 +65,7 @@ servlets_alone (servlet ∷ servlets) = ap (λ others. servlet ∷ others) (serv
 abbrev begun_servlets : List Answered → List ℕ
 begun_servlets begun = servlets_of (places_of begun)
 
--- ---- a servlet whose init answered that it is ready gave no other answer
+-- ---- A servlet whose `init` returned that it is ready gave no other result.
 all_behind : (P : ℕ → Type 0) (place : Place) (others : List ℕ) → AllByRecursion P (servlets_at place others) → AllByRecursion P others
 all_behind P (Servlet place) others all = all.1
 all_behind P (Filter place) others all = all
@@ -75,7 +75,7 @@ unfolding IsDistinct
 distinct_behind (Servlet place) others distinct = distinct.1
 distinct_behind (Filter place) others distinct = distinct
 
--- whether the answer says that the servlet is ready
+-- Whether the servlet is ready according to this result.
 abbrev is_ready_at : ℕ → Place → Init → Bool
 is_ready_at servlet (Servlet other) Ready = other == servlet
 is_ready_at servlet (Servlet other) Unavailable = false
@@ -103,7 +103,7 @@ out_tells servlet (Servlet other) Failed is = absurd (cc)
 out_tells servlet (Servlet other) NoMemory is = absurd (cc)
 out_tells servlet (Filter other) answer is = absurd (cc)
 
--- what holds of all servlets that were begun holds of one that was
+-- A property of all servlets whose `init` was called holds for each of them.
 of_begun : (P : ℕ → Type 0) (servlet : ℕ) (test : Answered → Bool) → ((answered : Answered) → test answered ≡ true → answered.place ≡ Servlet servlet)
     → (begun : List Answered) → AllByRecursion P (begun_servlets begun) → list_any test begun ≡ true → P servlet
 of_begun P servlet test tells [] all passes = absurd (cc)
@@ -141,8 +141,8 @@ one_answer : (servlet : ℕ) (begun : List Answered) → HasOneAnswer servlet be
 one_answer servlet [] distinct is = refl
 one_answer servlet (answered ∷ begun) distinct is = one_answer_more servlet answered.place answered.answer begun (one_answer servlet begun) distinct is
 
--- ---- so what was initialised is in service right behind the start
--- a test passes all filters, and all servlets that are ready
+-- ---- The initialized components are therefore in service directly after the start.
+-- A test that passes all filters, and all servlets that are ready.
 record Passes (test : Place → Bool) (begun : List Answered) : Type 0 where
   filters : (place : ℕ) → test (Filter place) ≡ true
   servlets : (servlet : ℕ) → list_any (ready servlet) begun ≡ true → test (Servlet servlet) ≡ true
@@ -195,7 +195,7 @@ all_in_service context app inits live journal stands =
           ∙ ap (λ any. cond any Gone Serving) (one_answer servlet begun distinct is));
     })
 
--- ---- the mirror of a start
+-- ---- The mirror of a start.
 map_reverse : {X Y : Type 0} (f : X → Y) (xs : List X) → map f (reverse xs) ≡ reverse (map f xs)
 map_reverse f [] = refl
 map_reverse f (x ∷ xs) =

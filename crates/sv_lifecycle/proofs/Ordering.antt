@@ -1,4 +1,4 @@
--- The order of load-on-startup, from a stable sort of the places by their ranks.
+-- The load-on-startup order as a stable sort of the indexes by rank.
 use Rattle.std.proofs.Common.{Greater, ◌≡◌, ℕ, ◌+◌, inl, inr, List, [], ◌∷◌, ◌++◌, length, get_or, sym, ◌∙◌, ap, ap₂, subst, arith}
 use Rattle.std.specs.List.{range_with_len}
 use Rattle.std.specs.List.Sorted.{IsPermutation, IsSortedByKey, IsStableByKey}
@@ -33,7 +33,7 @@ is_load_order servlets before after are permutation sorted stable =
           ];
     }
 
--- one place more
+-- One more index.
 pub places_more : (count : ℕ) → range_with_len 0 (count + 1) ≡ range_with_len 0 count ++ count ∷ []
 places_more count =
     sym (map-id (range_with_len 0 (count + 1))) ∙ map-range_with_len_more (λ place. place) 0 count count (omega arith) ∙ ap (λ xs. xs ++ count ∷ []) (map-id (range_with_len 0 count))

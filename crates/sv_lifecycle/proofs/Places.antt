@@ -1,4 +1,4 @@
--- Places of components, and a list that is begun or ended place by place.
+-- Places of components, and a list whose components are initialized or destroyed one by one.
 use Rattle.std.proofs.Common.{◌≡◌, ℕ, ◌+◌, ◌-◌, ◌<◌, ◌≤◌, Bool, true, false, List, [], ◌∷◌, ◌++◌, length, get_or, map, replicate, reverse, set, take, drop, refl, sym, ◌∙◌, ap, arith}
 use Rattle.std.specs.Prelude.{cond}
 use Rattle.std.specs.List.{All}
@@ -19,19 +19,19 @@ use Rattle.sv_component.specs.declared.standing.Standing.TheVariants.{Serving, G
 pub not_both : {P : Type 0} (b : Bool) → b ≡ true → b ≡ false → P
 not_both b is_true is_false = absurd (cc)
 
--- each of so many servlets serves
+-- All of these servlets are in service.
 pub all_serve : (count : ℕ) (standings : List Standing) → standings ≡ replicate count Serving → (place : ℕ) → place < length standings → standing_at standings place ≡ Serving
 all_serve count standings are place within =
     unwrap_or-slice_get standings place Gone ∙ ap (λ xs. get_or xs place Gone) are
     ∙ get_or-replicate count place Serving Gone (omega (arith, within, ap length are, length-replicate count Serving))
 
--- the same element where the rest is the same
+-- Lists with the same rest have the same next element.
 pub same_in_rest : {X : Type 0} (xs ys : List X) (step : ℕ) (x : X) → drop step xs ≡ drop step ys → get_or xs step x ≡ get_or ys step x
 same_in_rest xs ys step x same =
     let at_step : step + 0 ≡ step = omega arith in
     sym (get_or-drop step xs 0 x ∙ ap (λ n. get_or xs n x) at_step) ∙ ap (λ rest. get_or rest 0 x) same ∙ get_or-drop step ys 0 x ∙ ap (λ n. get_or ys n x) at_step
 
--- what is kept in front of the order leaves its rest
+-- Initialized components at the front of the order leave its rest unchanged.
 pub few_kept : (yes : Bool) (count step : ℕ) → count ≤ step → cond yes (count + 1) count ≤ step + 1
 few_kept true count step few = omega (arith, few)
 few_kept false count step few = omega (arith, few)

@@ -1,4 +1,4 @@
--- The inits of a start, as far as they went.
+-- The `init` calls of a start, as far as it went.
 use Rattle.std.specs.Prelude.{◌≡◌, ℕ, ◌<◌, true, false, List, [], ◌++◌, length, map, slice_set, take, Option, None, IfSome}
 use Rattle.std.specs.List.{All}
 use Rattle.std.specs.Option.{option_map, option_to_list}
@@ -20,12 +20,12 @@ use Rattle.sv_component.specs.declared.standing.Standing.{Standing}
 use Rattle.sv_component.specs.declared.standing.Standing.TheVariants.{Gone}
 use Rattle.sv_component.specs.Steps.{ComponentSteps}
 
--- a servlet has a standing among so many
+-- A servlet's index is within a list of this length.
 abbrev pub HasStanding : ℕ → Place → Type 0
 HasStanding count (Filter place) = Unit {0}
 HasStanding count (Servlet place) = place < count
 
--- how the servlets stand behind one more answer
+-- The availability of the servlets after one more result.
 abbrev pub with_answer : List Standing → Place → Init → List Standing
 with_answer standings (Servlet place) Unavailable = slice_set standings place Gone
 with_answer standings (Servlet place) Ready = standings
@@ -33,7 +33,7 @@ with_answer standings (Servlet place) Failed = standings
 with_answer standings (Servlet place) NoMemory = standings
 with_answer standings (Filter place) answer = standings
 
--- the components of the plan are begun up to the first that does not let the start go on, or to where the journal breaks
+-- The components of the plan are initialized until one stops the start or the journal breaks.
 pub record Begins {S F L : Type 0} (moving : ComponentSteps S F L) (app : WebApp) (parts : Parts S F L) (plan : Plan) (noted : JournalState) (result : Begun) (parts_after : Parts S F L) (plan_after : Plan) (noted_after : JournalState) : Type 0 where
   pub begun : List Answered
   pub stopper : Option Answered

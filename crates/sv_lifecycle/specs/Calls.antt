@@ -1,4 +1,5 @@
--- The calls and tellings of a start, and of a start that is undone (Jakarta Servlet 6.0, sections 2.3, 6.2.1 and 11.3).
+-- The calls and notifications of a start, and of a start that is undone (Jakarta Servlet 6.0, sections 2.3, 6.2.1 and
+-- 11.3).
 use Rattle.std.specs.Prelude.{ℕ, Bool, true, false, List, [], ◌++◌, length, map, slice_get, Option, Some, None}
 use Rattle.std.specs.List.{filter}
 use Rattle.sv_component.specs.Runs.{Record}
@@ -19,11 +20,11 @@ use Rattle.sv_live.specs.declared.place.Place.TheVariants.{Filter, Servlet}
 abbrev pub params_of : List InitParam → List Param
 params_of params = map (λ param. record { name = param.name; value = param.value }) params
 
--- a name with parameters, as a descriptor lists them
+-- A name with parameters, from a descriptor.
 abbrev pub config_of : List ℕ → List InitParam → Config
 config_of its_name its_params = record { name = its_name; params = params_of its_params }
 
--- what a filter and a servlet are begun with
+-- The configuration of a filter and of a servlet.
 abbrev pub filter_config : Option FilterEntry → Config
 filter_config (Some entry) = config_of entry.filter_name entry.init_params
 filter_config None = config_of [] []
@@ -32,12 +33,12 @@ abbrev pub servlet_config : Option ServletEntry → Config
 servlet_config (Some entry) = config_of entry.servlet_name entry.init_params
 servlet_config None = config_of [] []
 
--- what the component at a place of the descriptor is begun with
+-- The configuration of the component at a place in the descriptor.
 abbrev pub config_at : WebApp → Place → Config
 config_at app (Filter place) = filter_config (slice_get app.filters place)
 config_at app (Servlet place) = servlet_config (slice_get app.servlets place)
 
--- a component that was begun, with its answer
+-- A component whose `init` was called, with the result.
 pub record Answered : Type 0 where
   pub place : Place
   pub answer : Init
@@ -45,11 +46,11 @@ pub record Answered : Type 0 where
 abbrev pub places_of : List Answered → List Place
 places_of begun = map (λ answered. answered.place) begun
 
--- the init of a component of the descriptor
+-- The `init` call of a component of the descriptor.
 abbrev pub inited : WebApp → Answered → Record
 inited app answered = init_record answered.place (config_at app answered.place) answered.answer
 
--- the calls of a start as far as it went: each listener hears that the context starts, then those components are begun
+-- The calls of a start as far as it went: each listener is notified, and then the `init` of these components is called.
 abbrev pub start_calls : WebApp → List Answered → List Record
 start_calls app begun = told ContextInitialized (length app.listeners) ++ map (inited app) begun
 
@@ -59,15 +60,15 @@ is_ready Unavailable = false
 is_ready Failed = false
 is_ready NoMemory = false
 
--- the components that are initialised: those that answered that they can be called
+-- The initialized components, whose `init` returned that they are ready.
 abbrev pub initialised : List Answered → List Place
 initialised begun = places_of (filter (λ answered. is_ready answered.answer) begun)
 
--- the calls of a start that is undone: what was initialised is stopped, and there is no session yet
+-- The calls of a start that is undone: the initialized components are stopped, and there are no sessions yet.
 abbrev pub undone_calls : WebApp → List Answered → List Record
 undone_calls app begun = start_calls app begun ++ stop_calls (length app.listeners) (initialised begun) []
 
--- whether the start goes on behind an answer: a servlet may be unavailable, a filter may not
+-- Whether the start continues after a result. A servlet may be unavailable, but a filter may not.
 abbrev pub lets_go_on : Place → Init → Bool
 lets_go_on place Ready = true
 lets_go_on (Servlet place) Unavailable = true

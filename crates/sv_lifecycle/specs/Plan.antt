@@ -1,4 +1,4 @@
--- What a start prepares before it begins: the components in order, what each is begun with, and room for how the servlets stand.
+-- The plan of a start: the components in order, their configurations, and the initial availability of the servlets.
 use Rattle.std.specs.Prelude.{◌≡◌, ℕ, List, length, map, replicate}
 use Rattle.sv_descriptor.specs.declared.web_app.WebApp.{WebApp}
 use Rattle.sv_lifecycle.specs.Calls.{config_at}

@@ -1,4 +1,5 @@
--- How the servlets of a context stand behind the inits of its start (Jakarta Servlet 6.0, section 2.3.3.2).
+-- The availability of the servlets of a context after the `init` calls of its start (Jakarta Servlet 6.0, section
+-- 2.3.3.2).
 use Rattle.std.specs.Prelude.{ℕ, ◌==◌, Bool, false, List, if◌then◌else◌}
 use Rattle.std.specs.List.{list_any}
 use Rattle.sv_component.specs.declared.answers.Init.{Init}
@@ -9,7 +10,7 @@ use Rattle.sv_lifecycle.specs.Calls.{Answered}
 use Rattle.sv_live.specs.declared.place.Place.{Place}
 use Rattle.sv_live.specs.declared.place.Place.TheVariants.{Filter, Servlet}
 
--- whether an answer puts the servlet at a place out of service
+-- Whether a result takes the servlet at an index out of service.
 abbrev pub is_out : ℕ → Place → Init → Bool
 is_out place (Servlet other) Unavailable = other == place
 is_out place (Servlet other) Ready = false
@@ -17,6 +18,7 @@ is_out place (Servlet other) Failed = false
 is_out place (Servlet other) NoMemory = false
 is_out place (Filter other) answer = false
 
--- how the servlet at a place stands behind the inits: one that answered that it is unavailable is gone
+-- The availability of the servlet at an index after the `init` calls. A servlet whose `init` returned that it is
+-- unavailable is gone.
 abbrev pub standing_after : List Answered → ℕ → Standing
 standing_after begun place = if list_any (λ answered. is_out place answered.place answered.answer) begun then Gone else Serving

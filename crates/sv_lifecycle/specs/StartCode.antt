@@ -1,4 +1,4 @@
--- The faults of a start: their numbers and names.
+-- The numbers and names of the faults of a start.
 use Rattle.std.specs.Prelude.{ℕ, List, codes}
 use Rattle.sv_lifecycle.specs.declared.start_fault.StartCode.{StartCode}
 use Rattle.sv_lifecycle.specs.declared.start_fault.StartCode.TheVariants.{PartsMismatch, InitFailed, NoMemory}

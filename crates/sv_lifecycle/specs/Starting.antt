@@ -1,4 +1,4 @@
--- Starts of contexts (Jakarta Servlet 6.0, sections 2.3, 6.2.1 and 11.3): which calls were made, and what the result says of them.
+-- Starts of contexts (Jakarta Servlet 6.0, sections 2.3, 6.2.1 and 11.3): the calls made, and the result.
 use Rattle.std.specs.Prelude.{◌≡◌, ℕ, ◌<◌, ◌⊎◌, Bool, true, false, List, [], ◌++◌, length, Option, None, Some, IfSome, Result, Ok, Err}
 use Rattle.std.specs.List.{All}
 use Rattle.std.specs.Option.{option_to_list}
@@ -20,32 +20,32 @@ use Rattle.sv_lifecycle.specs.declared.start_fault.StartCode.{StartCode}
 use Rattle.sv_lifecycle.specs.declared.start_fault.StartCode.TheVariants.{PartsMismatch, InitFailed, NoMemory}
 use Rattle.sv_lifecycle.specs.declared.start_fault.StartFault.{StartFault}
 
--- the inits of a start
+-- The `init` calls of a start.
 pub record Inits : Type 0 where
-  -- the places of the servlets in the order of load-on-startup
+  -- The indexes of the servlets in load-on-startup order.
   pub order : List ℕ
-  -- the components that were begun and let the start go on
+  -- The components whose `init` let the start continue.
   pub begun : List Answered
-  -- the one behind them that did not
+  -- The next component, which stopped the start, if any.
   pub stopper : Option Answered
 
--- all components that were begun
+-- All components whose `init` was called.
 abbrev pub called : Inits → List Answered
 called inits = inits.begun ++ option_to_list inits.stopper
 
--- what became of a start: nobody was called, or it was undone, or the context stands
+-- The outcome of a start: no component was called, the start was undone, or the context is running.
 pub data Outcome : Type 0 where
   Untouched : Outcome
   Undone : Inits → Outcome
   Started : Inits → Outcome
 
--- the calls that were made
+-- The calls that were made.
 abbrev pub calls_of : WebApp → Outcome → List Record
 calls_of app Untouched = []
 calls_of app (Undone inits) = undone_calls app (called inits)
 calls_of app (Started inits) = start_calls app inits.begun
 
--- components are begun in their order, up to the first that does not let the start go on
+-- Components are initialized in order, until one stops the start.
 pub record GoesInOrder (app : WebApp) (inits : Inits) : Type 0 where
   pub order : IsLoadOrder app.servlets inits.order
   pub left : List Place
@@ -53,7 +53,7 @@ pub record GoesInOrder (app : WebApp) (inits : Inits) : Type 0 where
   pub begun : All (λ answered. lets_go_on answered.place answered.answer ≡ true) inits.begun
   pub stopper : IfSome inits.stopper (λ answered. lets_go_on answered.place answered.answer ≡ false)
 
--- the context stands: all components were begun, none failed, and the journal has every entry
+-- The context is running: every `init` was called, none stopped the start, and the journal is whole.
 pub record Stands {S F L : Type 0} (its_context : List ℕ) (app : WebApp) (inits : Inits) (live : LiveState S F L) (after : JournalState) : Type 0 where
   pub goes : GoesInOrder app inits
   pub none_left : goes.left ≡ []
@@ -72,23 +72,23 @@ is_no_memory init_answers.Unavailable = false
 is_no_memory init_answers.Failed = false
 is_no_memory init_answers.NoMemory = true
 
--- the component that did not let the start go on answered so
+-- A component stopped the start, and the flag says whether it ran out of memory.
 abbrev pub StoppedFor : Bool → Inits → Type 0
 StoppedFor memory inits = (answered : Answered) × (inits.stopper ≡ Some answered) × (is_no_memory answered.answer ≡ memory)
 
--- why nobody was called: a mismatch comes first
+-- The reason why no component was called. A mismatch takes precedence.
 abbrev pub RefusesUntouched : {S F L : Type 0} → WebApp → Parts S F L → StartCode → Type 0
 RefusesUntouched app parts PartsMismatch = Fits app parts → ⊥
 RefusesUntouched app parts InitFailed = ⊥
 RefusesUntouched app parts NoMemory = Fits app parts
 
--- why a start was undone: want of memory comes before a failed init
+-- The reason why a start was undone. Running out of memory takes precedence over a failed `init`.
 abbrev pub RefusesUndone : Inits → StartCode → JournalState → Type 0
 RefusesUndone inits PartsMismatch after = ⊥
 RefusesUndone inits InitFailed after = StoppedFor false inits × (after.whole ≡ true)
 RefusesUndone inits NoMemory after = (after.whole ≡ false) ⊎ StoppedFor true inits
 
--- the result of a start with that outcome
+-- The result of a start with this outcome.
 abbrev pub IsResultOf : {S F L : Type 0} → List ℕ → WebApp → Parts S F L → Outcome → Result (LiveState S F L) (StartFault S F L) → JournalState → Type 0
 IsResultOf context app parts (Started inits) (Ok live) after = Fits app parts × Stands context app inits live after
 IsResultOf context app parts (Undone inits) (Err fault) after = Fits app parts × GoesInOrder app inits × RefusesUndone inits fault.code after
@@ -97,18 +97,18 @@ IsResultOf context app parts (Started inits) (Err fault) after = ⊥
 IsResultOf context app parts (Undone inits) (Ok live) after = ⊥
 IsResultOf context app parts Untouched (Ok live) after = ⊥
 
--- where the components are behind the start
+-- The components after the start.
 abbrev pub parts_in : {S F L : Type 0} → Result (LiveState S F L) (StartFault S F L) → Parts S F L
 parts_in (Ok live) = live.parts
 parts_in (Err fault) = fault.parts
 
--- a start: exactly those calls were made of the components, and they are handed on
+-- A start: exactly these calls are made of the components, and the result contains them.
 pub record Starts {S F L : Type 0} (moving : ComponentSteps S F L) (context : List ℕ) (app : WebApp) (parts : Parts S F L) (before : JournalState) (result : Result (LiveState S F L) (StartFault S F L)) (after : JournalState) : Type 0 where
   pub outcome : Outcome
   pub made : Runs moving (world context parts before) (calls_of app outcome) (world context (parts_in result) after)
   pub is : IsResultOf context app parts outcome result after
 
--- why a start is refused that was undone, by the answer of the component that stopped it and by whether the journal is whole
+-- The reason for an undone start, given the result of the component that stopped it and whether the journal is whole.
 abbrev pub code_of : Option Init → Bool → StartCode
 code_of (Some init_answers.NoMemory) whole = NoMemory
 code_of stopper false = NoMemory

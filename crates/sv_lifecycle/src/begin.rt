@@ -1,4 +1,4 @@
-//! The inits of a start.
+//! Initializing the components of a context.
 
 ghost use Rattle.sv_component.specs.Steps.{steps_of};
 ghost use Rattle.std.specs.Prelude.{◌≡◌, ◌+◌, ◌<◌, length, map, replicate, slice_set, if◌then◌else◌};
@@ -15,16 +15,16 @@ use sv_component::{Filter, Init, Listener, Servlet, Standing};
 use sv_journal::Journal;
 use sv_live::{Parts, Place};
 
-/// How far a start went.
+/// The progress of a start.
 #[derive(Clone, Copy)]
 pub(crate) struct Begun {
-    /// How many components are initialised: those stand first in the plan's order.
+    /// The number of initialized components, which come first in the plan's order.
     pub initialised: usize,
-    /// The answer of the component that did not let the start go on.
+    /// The result of the component that stopped the start, if any.
     pub stopper: Option<Init>,
 }
 
-/// Begins the components in the plan's order, up to the first that does not let the start go on, or to where the journal breaks.
+/// Initializes the components in the plan's order, until one stops the start or the journal breaks.
 pub(crate) fn begin_all<S: Servlet, F: Filter, L: Listener>(
     alloc: Global,
     parts: &mut Parts<S, F, L>,
@@ -68,7 +68,7 @@ pub(crate) fn begin_all<S: Servlet, F: Filter, L: Listener>(
     }
 }
 
-// Whether the start goes on behind an answer.
+// Returns whether the start continues after this result.
 fn lets_go_on(place: Place, answer: Init) -> bool
     ensures { result ≡ lets_go_on place answer }
 {
@@ -84,7 +84,8 @@ fn lets_go_on(place: Place, answer: Init) -> bool
 }
 
 impl Plan {
-    // Keeps a component that is initialised behind those before it, and has a servlet that is unavailable be gone.
+    // Moves an initialized component to the end of those before it, and marks an unavailable servlet as gone. Returns
+    // the number of initialized components.
     fn keep(&mut self, initialised: usize, place: Place, answer: Init) -> usize
         requires room { initialised < length self.old.order.items }
         requires there { HasStanding (length self.old.standings.items) place }

@@ -1,4 +1,4 @@
-//! What components are begun with.
+//! Configurations of components.
 
 ghost use Rattle.std.specs.Prelude.{◌≡◌, IfOk, map};
 ghost use Rattle.sv_text.specs.Gives.{GivesAnswer};
@@ -10,7 +10,7 @@ use sv_descriptor::{InitParam, WebApp};
 use sv_live::Place;
 use sv_text::{Listed, NoMemory, Text};
 
-/// The configurations of the components at those places.
+/// Copies the configurations of the components at these places.
 pub(crate) fn configs(
     alloc: Global,
     app: &WebApp,

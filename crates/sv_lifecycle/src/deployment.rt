@@ -1,4 +1,4 @@
-//! What a context is deployed with.
+//! The input of a deployment.
 
 use sv_descriptor::Descriptor;
 use sv_files::Files;
@@ -6,10 +6,10 @@ use sv_live::Parts;
 use sv_realm::Realm;
 use sv_text::Text;
 
-/// What a context is deployed with.
+/// The input of a deployment.
 #[derive(Drop)]
 pub struct Deployment<S, F, L> {
-    /// The context path: empty for the root context, and else a path that begins with `/` and does not end in one.
+    /// The context path: empty for the root context. Any other path begins with `/` and does not end with it.
     pub path: Text,
     /// The deployment descriptor.
     pub descriptor: Descriptor,
@@ -17,6 +17,6 @@ pub struct Deployment<S, F, L> {
     pub files: Files,
     /// The users who may log in.
     pub users: Realm,
-    /// The components, in the order in which the descriptor declares them.
+    /// The components, in the order of their declaration.
     pub parts: Parts<S, F, L>,
 }

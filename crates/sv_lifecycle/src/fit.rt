@@ -1,4 +1,4 @@
-//! Whether components are those of a descriptor.
+//! Comparing components with a descriptor.
 
 ghost use Rattle.std.specs.Prelude.{◌≡◌, map, MatchBool};
 ghost use Rattle.sv_lifecycle.specs.Fit.{Fits};
@@ -8,8 +8,8 @@ use sv_descriptor::WebApp;
 use sv_live::Parts;
 use sv_schema::Named as Declared;
 
-/// Whether the servlets and filters have the descriptor's names in its order, and there are as many listeners as it declares. Components
-/// that do not are refused by [`start`](crate::start) before anything else.
+/// Returns whether the servlets and filters have the names in the descriptor, in its order, and the number of listeners
+/// is the declared one. If not, [`start`](crate::start) refuses the components before it calls any.
 pub fn fits<S, F, L>(app: &WebApp, parts: &Parts<S, F, L>) -> bool
     ensures { MatchBool result (Fits app.now parts.now) (Fits app.now parts.now → ⊥) }
 {

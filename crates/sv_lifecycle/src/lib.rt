@@ -1,4 +1,4 @@
-//! What a context is deployed with, and how its components are started.
+//! The input of a deployment, and the start of its components.
 #![tactic(auto)]
 
 mod begin;

@@ -1,4 +1,4 @@
-//! The order in which components are initialised.
+//! The order in which components are initialized.
 
 ghost use Rattle.std.specs.Prelude.{◌≡◌, ◌++◌, IfOk, map};
 ghost use Rattle.std.specs.List.{range_with_len};
@@ -10,10 +10,11 @@ use sv_descriptor::{ServletEntry, WebApp};
 use sv_live::Place;
 use sv_text::NoMemory;
 
-/// Behind all numbers of 32 bits: the rank of a servlet without a number of its own.
+/// The rank of a servlet without a number for load-on-startup, or with a negative one. It exceeds every signed 32-bit
+/// number.
 pub const LAST: u32 = 2147483648;
 
-/// Filters in the order of the descriptor, then servlets in the order of load-on-startup.
+/// Returns the filters in descriptor order, followed by the servlets in load-on-startup order.
 pub(crate) fn in_init_order(
     alloc: Global,
     app: &WebApp,
@@ -39,7 +40,7 @@ fn add_servlets(all: &mut Vec<Place>, order: &[usize]) -> Result<(), NoMemory>
     Ok(())
 }
 
-/// The places of the servlets in the order of load-on-startup.
+/// Returns the indexes of the servlets in load-on-startup order.
 pub(crate) fn load_order(alloc: Global, servlets: &[ServletEntry]) -> Result<Vec<usize>, NoMemory>
     ensures { IfOk result (λ order. IsLoadOrder servlets.now order.items) }
 {

@@ -1,4 +1,4 @@
-//! What a start needs memory for.
+//! The plan of a start.
 
 ghost use Rattle.std.specs.Prelude.{◌≡◌, IfOk, replicate};
 ghost use Rattle.sv_lifecycle.specs.Plan.{IsPlan};
@@ -12,21 +12,21 @@ use sv_descriptor::WebApp;
 use sv_live::Place;
 use sv_text::{NoMemory, Text};
 
-/// What a start needs memory for, made before it begins.
+/// The data of a start, allocated before its first call.
 #[derive(Drop)]
 pub(crate) struct Plan {
     /// The context path.
     pub context: Text,
-    /// The components in the order of their inits.
+    /// The components in the order of their `init`.
     pub order: Vec<Place>,
-    /// What each of them is begun with.
+    /// The configuration of each component.
     pub configs: Vec<Config>,
-    /// How the servlets stand.
+    /// The availability of each servlet.
     pub standings: Vec<Standing>,
 }
 
 impl Plan {
-    /// A plan for the components of a descriptor.
+    /// Creates a plan for the components of a descriptor.
     pub fn of(alloc: Global, context: &str, app: &WebApp) -> Result<Plan, NoMemory>
         ensures { IfOk result (IsPlan context.now app.now) }
     {

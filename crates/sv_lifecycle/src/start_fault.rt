@@ -1,4 +1,4 @@
-//! Why a context did not start.
+//! The reason why a context did not start.
 
 ghost use Rattle.std.specs.Prelude.{◌≡◌, Some};
 ghost use Rattle.sv_lifecycle.specs.StartCode.{code_name, code_number};
@@ -6,19 +6,21 @@ ghost use Rattle.sv_lifecycle.specs.StartCode.{code_name, code_number};
 use std::fmt;
 use sv_live::Parts;
 
-/// Why a context did not start. It is printed as its name.
+/// The reason why a context did not start. It displays as its name.
 #[derive(Clone, Copy, Debug, PartialEq, Eq)]
 pub enum StartCode {
-    /// The names of the servlets or filters, or the number of listeners, are not the descriptor's. Nothing was called.
+    /// The names of the servlets or filters, or the number of listeners, differ from the descriptor. No component was
+    /// called.
     PartsMismatch = 1,
-    /// A component's `init` failed. What was initialised is stopped.
+    /// The `init` of a component failed, or a filter is unavailable. The initialized components were stopped.
     InitFailed = 2,
-    /// There was no memory, for the start or for the journal, or an `init` had none. What was initialised is stopped.
+    /// Memory ran out for the start, for the journal, or in an `init`. The initialized components, if any, were
+    /// stopped.
     NoMemory = 3,
 }
 
 impl StartCode {
-    /// The number of the fault.
+    /// Returns the number of the fault.
     pub fn number(self) -> u8
         ensures { result ≡ code_number self }
     {
@@ -45,8 +47,8 @@ impl fmt::Display for StartCode {
 /// A context that did not start, with its components.
 #[derive(Drop)]
 pub struct StartFault<S, F, L> {
-    /// Why it did not start.
+    /// The reason why it did not start.
     pub code: StartCode,
-    /// All components, as the calls left them.
+    /// All components, in the state after the calls.
     pub parts: Parts<S, F, L>,
 }

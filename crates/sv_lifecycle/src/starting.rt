@@ -1,4 +1,4 @@
-//! Start of a context.
+//! Starting a context.
 
 ghost use Rattle.sv_component.specs.Steps.{steps_of};
 ghost use Rattle.std.specs.Prelude.{◌≡◌};
@@ -18,8 +18,9 @@ use sv_journal::Journal;
 use sv_live::{Live, Parts, end_all};
 use sv_session::Sessions;
 
-/// Starts a context: the listeners hear that it starts, then the filters are initialised in the order of the descriptor, then the
-/// servlets in the order of load-on-startup (Jakarta Servlet 6.0, sections 2.3.1, 6.2.1 and 14.4). A start that is refused is undone.
+/// Starts a context. The listeners are notified first, then the filters are initialized in descriptor order, and then
+/// the servlets in load-on-startup order (Jakarta Servlet 6.0, sections 2.3.1, 6.2.1 and 14.4). A start that fails
+/// after its first call is undone.
 ///
 /// # Errors
 /// [`StartCode`] with all components.
@@ -54,7 +55,7 @@ pub fn start<S: Servlet, F: Filter, L: Listener>(
     }
 }
 
-// Starts the components of a plan, or undoes what was begun.
+// Starts the components of a plan, or undoes the start.
 fn run<S: Servlet, F: Filter, L: Listener>(
     alloc: Global,
     parts: Parts<S, F, L>,
@@ -97,7 +98,7 @@ fn run<S: Servlet, F: Filter, L: Listener>(
     Err(StartFault { code, parts })
 }
 
-// Why a start is refused that was undone. Want of memory for an entry comes before the answer of the component that failed.
+// Returns the reason for an undone start. A broken journal takes precedence over a failed `init`.
 fn code_of(stopper: Option<Init>, whole: bool) -> StartCode
     ensures { result ≡ code_of stopper whole }
 {

@@ -1,4 +1,4 @@
--- One call of a started context's component.
+-- One call of a component of a started context.
 use Rattle.std.proofs.Common.{◌≡◌, ℕ, ◌<◌, Bool, true, false, List, length, set, Result, Err, is_ok, refl, sym, ap, subst}
 use Rattle.std.specs.Prelude.{cond}
 use Rattle.sv_component.specs.Call.{Destroyed}
@@ -12,14 +12,14 @@ use Rattle.sv_live.specs.declared.parts.Parts.{Parts}
 use Rattle.sv_component.specs.declared.standing.Standing.TheVariants.{Gone}
 use Rattle.sv_component.specs.Steps.{ComponentSteps}
 
--- a component of a live context is there once its fields are seen
+-- A component of a started context exists after its fields are unpacked.
 pub servlet_there : {S F L : Type 0} (before opened : LiveState S F L) (place : ℕ) → opened ≡ before → place < length before.parts.servlets.items → place < length opened.parts.servlets.items
 servlet_there {S} {F} {L} before opened place is there = subst (λ (live : LiveState S F L). place < length live.parts.servlets.items) (sym is) there
 
 pub filter_there : {S F L : Type 0} (before opened : LiveState S F L) (place : ℕ) → opened ≡ before → place < length before.parts.filters.items → place < length opened.parts.filters.items
 filter_there {S} {F} {L} before opened place is there = subst (λ (live : LiveState S F L). place < length live.parts.filters.items) (sym is) there
 
--- want of memory is no success
+-- Running out of memory is not a success.
 pub ok_unless : {A E : Type 0} (whole : Bool) (no_memory : E) (done result : Result A E) → result ≡ cond whole done (Err no_memory) → is_ok result ≡ cond whole (is_ok done) false
 ok_unless true no_memory done result is = ap is_ok is
 ok_unless false no_memory done result is = ap is_ok is

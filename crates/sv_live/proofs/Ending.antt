@@ -1,4 +1,4 @@
--- What a stop destroys, and in which order.
+-- The components that a stop destroys, and their order.
 use Rattle.std.proofs.Common.{◌≡◌, ℕ, List, length, subst}
 use Rattle.sv_component.specs.Runs.{Runs}
 use Rattle.sv_component.specs.Steps.{ComponentSteps}

@@ -1,4 +1,4 @@
--- One call of a component with a name, and its entry, is one record.
+-- A call of a named component and its journal entry form one record.
 use Rattle.std.proofs.Common.{◌≡◌, ℕ, ◌<◌, List, [], length, get_or, set, Option, refl, sym, ◌∙◌, ap, subst}
 use Rattle.std.specs.Prelude.{unwrap_or}
 use Rattle.std.specs.Option.{option_map}
@@ -11,7 +11,7 @@ use Rattle.sv_component.specs.declared.named.Named.{Named}
 use Rattle.sv_component.specs.Steps.{ComponentSteps}
 use Rattle.sv_journal.specs.Journal.{JournalState, Takes}
 
--- a component of the same name
+-- The component's new state, under the same name.
 abbrev pub renewed : {C : Type 0} → Named C → C → Named C
 renewed old moved = record { name = old.name; component = moved }
 
@@ -57,6 +57,6 @@ module _ {S F L : Type 0} (moving : ComponentSteps S F L) where
     context = refl;
   }
 
-  -- the same record by another name
+  -- Equal records make the same move.
   pub moves_same : (before after : World S F L) (made other : Record) → made ≡ other → Moves moving before other after → Moves moving before made after
   moves_same before after made other same moves = subst (λ record_made. Moves moving before record_made after) (sym same) moves

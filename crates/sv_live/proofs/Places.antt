@@ -1,4 +1,4 @@
--- Places of components, and a list that is ended place by place.
+-- Places of components, and a list whose components are destroyed one by one.
 use Rattle.std.proofs.Common.{◌≡◌, ℕ, ◌+◌, ◌-◌, ◌<◌, List, [], ◌∷◌, ◌++◌, length, get_or, map, reverse, take, ◌∙◌, ap, arith}
 use Rattle.std.specs.List.{All}
 use Rattle.std.proofs.lemmas.List.{get_or-map, get_or-reverse, length-map, length-reverse, take_more}
@@ -8,7 +8,7 @@ use Rattle.sv_live.specs.declared.place.Place.{Place}
 use Rattle.sv_live.specs.declared.place.Place.TheVariants.{Filter, Servlet}
 use Rattle.sv_live.specs.declared.parts.Parts.{Parts}
 
--- components stay where they are
+-- Components keep their places.
 pub place_kept : {S F L : Type 0} (before after : Parts S F L) → HasSameCounts before after → (place : Place) → IsPlaceIn before place → IsPlaceIn after place
 place_kept before after counts (Filter place) there = omega (arith, counts.filters, there)
 place_kept before after counts (Servlet place) there = omega (arith, counts.servlets, there)
@@ -23,7 +23,7 @@ counts_join before middle after first second = record {
   listeners = second.listeners ∙ first.listeners;
 }
 
--- one component less, from the back
+-- One component fewer, from the end.
 pub back_more : (places : List Place) (done : ℕ) (place : Place) → done < length places
     → take (done + 1) (map destroyed (reverse places)) ≡ take done (map destroyed (reverse places)) ++ destroyed (get_or places (length places - 1 - done) place) ∷ []
 back_more places done place within =

@@ -1,4 +1,4 @@
--- Sessions that end by number, and runs that have done a front of what is to be done.
+-- Sessions that end in order of their numbers, and runs that have done a prefix of their records.
 use Rattle.std.proofs.Common.{◌≡◌, ℕ, ◌<◌, false, ltb, List, [], ◌∷◌, ◌++◌, drop, length, map, Some, None, refl, sym, ◌∙◌, ap, subst, arith}
 use Rattle.std.specs.List.{flat_map}
 use Rattle.std.specs.Prelude.{slice_get}
@@ -16,7 +16,7 @@ use Rattle.sv_session.specs.Calls.{ended}
 use Rattle.sv_session.specs.Store.{NumbersRise, Session}
 use Rattle.sv_live.specs.SessionEnds.{all_told, by_number, end_events, ends_told, put_by_number}
 
--- ---- sessions that stand in the order of their numbers
+-- ---- Sessions in order of their numbers.
 put_first : (low high : ℕ) (session : Session) (sessions : List Session) → low ≡ session.number → NumbersRise low high sessions
     → put_by_number session sessions ≡ session ∷ sessions
 put_first low high session [] is rises = refl
@@ -27,7 +27,7 @@ in_order : (low high : ℕ) (sessions : List Session) → NumbersRise low high s
 in_order low high [] rises = refl
 in_order low high (x ∷ xs) rises = ap (put_by_number x) (in_order x.number high xs rises.1) ∙ put_first x.number high x xs refl rises.1
 
--- the tellings of sessions that have ended, one after another
+-- The notifications of sessions that have ended, one after another.
 abbrev pub told_of : List EndedSession → ℕ → List Record
 told_of sessions count = flat_map (λ session. all_told (end_events session) count) sessions
 
@@ -40,7 +40,7 @@ pub told_in_order : (low high : ℕ) (sessions : List Session) (count : ℕ) →
 told_in_order low high sessions count rises =
     ap (flat_map (λ session. all_told (end_events (ended session)) count)) (in_order low high sessions rises) ∙ sym (told_ended sessions count)
 
--- ---- the tellings of the first, and of the others
+-- ---- The notifications of the first session, and of the others.
 pub ends_more : (before : List EndedSession) (session : EndedSession) (count : ℕ) → Some session ≡ slice_get before 0
     → told_of before count ≡ all_told (end_events session) count ++ told_of (drop 1 before) count
 ends_more [] session count some = absurd (none-some session (sym some))
@@ -54,11 +54,11 @@ pub none_next : (all : List EndedSession) → None ≡ slice_get all 0 → all �
 none_next [] none = refl
 none_next (x ∷ xs) none = absurd (none-some x none)
 
--- the tellings that attributes have gone
+-- The notifications that attributes were removed.
 abbrev pub removals : ℕ → ℕ → List Attribute → List Record
 removals number count attributes = all_told (map (λ attribute. AttributeRemoved number attribute.name) attributes) count
 
--- ---- a front of some records is done, and these are left
+-- ---- A prefix of the records is done, and these are left.
 pub record Doing {S F L : Type 0} (moving : ComponentSteps S F L) (start : World S F L) (all left : List Record) (now : World S F L) : Type 0 where
   pub done : List Record
   pub grows : Runs moving start done now

@@ -1,4 +1,5 @@
--- The init and the end of a component, and the calls and tellings of a stop (Jakarta Servlet 6.0, sections 2.3, 6.2.1 and 11.3).
+-- Initializing and destroying a component, and the calls and notifications of a stop (Jakarta Servlet 6.0, sections
+-- 2.3, 6.2.1 and 11.3).
 use Rattle.std.specs.Prelude.{ℕ, List, ◌++◌, map, reverse}
 use Rattle.sv_component.specs.Call.{Destroyed, Inited}
 use Rattle.sv_component.specs.Runs.{OfFilter, OfServlet, Record}
@@ -11,17 +12,17 @@ use Rattle.sv_live.specs.SessionEnds.{ends_told}
 use Rattle.sv_live.specs.declared.place.Place.{Place}
 use Rattle.sv_live.specs.declared.place.Place.TheVariants.{Filter, Servlet}
 
--- the init of a component
+-- The record of an `init`.
 abbrev pub init_record : Place → Config → Init → Record
 init_record (Filter place) config answer = OfFilter place (Inited config answer)
 init_record (Servlet place) config answer = OfServlet place (Inited config answer)
 
--- the end of a component
+-- The record of a `destroy`.
 abbrev pub destroyed : Place → Record
 destroyed (Filter place) = OfFilter place Destroyed
 destroyed (Servlet place) = OfServlet place Destroyed
 
--- the calls of a stop: the components are destroyed in the reverse of the order in which they were begun, then the sessions end, then each
--- listener hears that the context stops
+-- The calls of a stop. The components are destroyed in reverse order of their `init`. Then the sessions end, and then
+-- each listener is notified of the stop.
 abbrev pub stop_calls : ℕ → List Place → List Session → List Record
 stop_calls listeners places sessions = map destroyed (reverse places) ++ (ends_told sessions listeners ++ told ContextDestroyed listeners)

@@ -1,4 +1,4 @@
--- The components of a context with their journal, as runs see them.
+-- The components of a context with their journal, in the form that runs use.
 use Rattle.std.specs.Prelude.{◌≡◌, ℕ, ◌<◌, List, length}
 use Rattle.sv_component.specs.World.{World}
 use Rattle.sv_journal.specs.Journal.{JournalState}
@@ -15,13 +15,13 @@ world its_context parts its_journal = record {
   journal = its_journal;
 }
 
--- no component came or went
+-- No component was added or removed.
 pub record HasSameCounts {S F L : Type 0} (before after : Parts S F L) : Type 0 where
   pub servlets : length after.servlets.items ≡ length before.servlets.items
   pub filters : length after.filters.items ≡ length before.filters.items
   pub listeners : length after.listeners.items ≡ length before.listeners.items
 
--- there is a component at the place
+-- The component exists.
 abbrev pub IsPlaceIn : {S F L : Type 0} → Parts S F L → Place → Type 0
 IsPlaceIn parts (Filter place) = place < length parts.filters.items
 IsPlaceIn parts (Servlet place) = place < length parts.servlets.items

@@ -1,4 +1,4 @@
-//! Calls of a started context's components by place.
+//! Calls of the components of a started context by index.
 
 ghost use Rattle.sv_component.specs.Steps.{steps_of};
 ghost use Rattle.std.specs.Prelude.{◌≡◌, ◌<◌, false, is_ok, length, Some};
@@ -24,28 +24,28 @@ use sv_journal::{Answer, CallName, Entry, Journal};
 use sv_text::NoMemory;
 
 impl<S: Servlet, F: Filter, L: Listener> Live<S, F, L> {
-    /// How many servlets there are.
+    /// Returns the number of servlets.
     pub fn servlets(&self) -> usize
         ensures { result ≡ length self.now.parts.servlets.items }
     {
         self.parts.servlets.len()
     }
 
-    /// How many filters there are.
+    /// Returns the number of filters.
     pub fn filters(&self) -> usize
         ensures { result ≡ length self.now.parts.filters.items }
     {
         self.parts.filters.len()
     }
 
-    /// How many listeners there are.
+    /// Returns the number of listeners.
     pub fn listeners(&self) -> usize
         ensures { result ≡ length self.now.parts.listeners.items }
     {
         self.parts.listeners.len()
     }
 
-    /// How the servlet at the place stands.
+    /// Returns the availability of the servlet at this index.
     pub fn standing(&self, place: usize) -> Standing
         requires { place < length self.now.parts.servlets.items }
         ensures { result ≡ standing_at self.now.standings place }
@@ -53,8 +53,8 @@ impl<S: Servlet, F: Filter, L: Listener> Live<S, F, L> {
         self.standings[place]
     }
 
-    /// Has the servlet at the place answer the exchange for a turn (Jakarta Servlet 6.0, section 2.3.3). Where the journal is broken the
-    /// answer is `NoMemory` in place of the servlet's.
+    /// Calls the servlet at this index for one turn of the exchange (Jakarta Servlet 6.0, section 2.3.3). Returns
+    /// `NoMemory` instead of the servlet's result if the journal is broken.
     pub fn service(
         &mut self,
         alloc: Global,
@@ -78,8 +78,8 @@ impl<S: Servlet, F: Filter, L: Listener> Live<S, F, L> {
         unless_broken(journal, step, Step::NoMemory)
     }
 
-    /// Calls the filter at the place before what stands behind it (Jakarta Servlet 6.0, section 6.2.1). Where the journal is broken the
-    /// answer is `NoMemory` in place of the filter's.
+    /// Calls `before` of the filter at this index (Jakarta Servlet 6.0, section 6.2.1). Returns `NoMemory` instead of
+    /// the filter's result if the journal is broken.
     pub fn before(
         &mut self,
         alloc: Global,
@@ -101,8 +101,8 @@ impl<S: Servlet, F: Filter, L: Listener> Live<S, F, L> {
         unless_broken(journal, gate, Gate::NoMemory)
     }
 
-    /// Calls the filter at the place after what stands behind it (Jakarta Servlet 6.0, section 6.2.1). It is `NoMemory` where the filter
-    /// answers so, or the journal is broken.
+    /// Calls `after` of the filter at this index (Jakarta Servlet 6.0, section 6.2.1). Returns `NoMemory` if the filter
+    /// does, or if the journal is broken.
     pub fn after(
         &mut self,
         alloc: Global,
@@ -123,7 +123,7 @@ impl<S: Servlet, F: Filter, L: Listener> Live<S, F, L> {
         unless_broken(journal, done, Err(NoMemory))
     }
 
-    /// Destroys the servlet at the place, which is gone from then on (Jakarta Servlet 6.0, section 2.3.3.2).
+    /// Destroys the servlet at this index, which is then gone (Jakarta Servlet 6.0, section 2.3.3.2).
     pub fn retire(&mut self, alloc: Global, place: usize, journal: &mut Journal)
         requires there { place < length self.old.parts.servlets.items }
         requires not_gone { is_gone (standing_at self.old.standings place) ≡ false }
@@ -133,7 +133,8 @@ impl<S: Servlet, F: Filter, L: Listener> Live<S, F, L> {
         self.standings[place] = Standing::Gone;
     }
 
-    /// Puts the servlet at the place out of service until a moment, in seconds since 1970 (Jakarta Servlet 6.0, section 2.3.3.2).
+    /// Takes the servlet at this index out of service until a time, in seconds since 1970 (Jakarta Servlet 6.0, section
+    /// 2.3.3.2).
     pub fn away(&mut self, place: usize, until: u64)
         requires there { place < length self.old.parts.servlets.items }
         requires not_gone { is_gone (standing_at self.old.standings place) ≡ false }
@@ -143,7 +144,7 @@ impl<S: Servlet, F: Filter, L: Listener> Live<S, F, L> {
         self.standings[place] = Standing::Away(until);
     }
 
-    /// Has each listener hear the event, in the telling order (Jakarta Servlet 6.0, section 11.3.3).
+    /// Notifies each listener of the event, in notification order (Jakarta Servlet 6.0, section 11.3.3).
     pub fn tell_all(&mut self, alloc: Global, event: &Event, journal: &mut Journal)
         ensures made { Runs (steps_of S.servlet_step F.filter_step L.listener_step)
             (live_world self.old journal.old) (told event.now (length self.old.parts.listeners.items)) (live_world self.new journal.new) }
@@ -154,14 +155,14 @@ impl<S: Servlet, F: Filter, L: Listener> Live<S, F, L> {
     }
 }
 
-// The answer of a component, or that for want of memory where the journal is broken.
+// Returns the result of a component, or the out-of-memory result if the journal is broken.
 fn unless_broken<A: Drop>(journal: &Journal, answer: A, no_memory: A) -> A
     ensures { result ≡ unless_broken journal.now no_memory answer }
 {
     if journal.whole() { answer } else { no_memory }
 }
 
-// The answer that an entry has.
+// Wraps a result for a journal entry.
 fn some_answer(answer: Result<Answer, NoMemory>) -> Result<Option<Answer>, NoMemory>
     ensures { (known : AnswerData) → GivesAnswer answer known → GivesAnswer result (Some known) }
 {

@@ -1,4 +1,4 @@
-//! Calls of components by their place, each followed by its entry.
+//! Calls of components by index. The journal takes an entry after each call.
 
 ghost use Rattle.sv_component.specs.Steps.{steps_of};
 ghost use Rattle.std.specs.Prelude.{length};
@@ -14,7 +14,7 @@ use sv_component::{Config, Event, Filter, Init, Listener, Servlet, init_answer};
 use sv_journal::{CallName, Entry, Journal};
 
 impl<S: Servlet, F: Filter, L: Listener> Parts<S, F, L> {
-    /// Has each listener hear the event.
+    /// Notifies each listener of the event.
     pub fn tell(&mut self, alloc: Global, context: &str, event: &Event, journal: &mut Journal)
         ensures made { Runs (steps_of S.servlet_step F.filter_step L.listener_step)
             (world context.now self.old journal.old) (told event.now (length self.old.listeners.items)) (world context.now self.new journal.new) }
@@ -29,7 +29,7 @@ impl<S: Servlet, F: Filter, L: Listener> Parts<S, F, L> {
         );
     }
 
-    /// Begins the component at the place.
+    /// Initializes the component at this place.
     pub fn init(
         &mut self,
         alloc: Global,
@@ -63,7 +63,7 @@ impl<S: Servlet, F: Filter, L: Listener> Parts<S, F, L> {
         }
     }
 
-    /// Ends the component at the place.
+    /// Destroys the component at this place.
     pub(crate) fn destroy(
         &mut self,
         alloc: Global,

@@ -1,4 +1,4 @@
-//! A started context: its components, which are called by their places, told of events and stopped.
+//! A started context: calling its components, notifying its listeners, and stopping it.
 #![tactic(auto)]
 
 mod calling;

@@ -6,7 +6,8 @@ use std::marker::Model;
 use sv_component::Standing;
 use sv_text::Text;
 
-/// A started context: its components, which are called by their places in the descriptor, from 0, and how its servlets stand.
+/// A started context: its components, called by their index in the descriptor, from 0, and the availability of its
+/// servlets.
 #[derive(Drop)]
 pub struct Live<S, F, L> {
     pub(crate) context: Text,
@@ -29,7 +30,8 @@ impl<S, F, L> Live<S, F, L> {
     ghost use Rattle.std.specs.Prelude.{◌≡◌};
     ghost use Rattle.sv_live.specs.Standing.{IsLive};
 
-    /// A context with this path, whose components are begun: those that were initialised, in the order of their inits, and how each servlet stands.
+    /// Creates a context with this path from its started components, the initialized ones in order of their `init`, and
+    /// the availability of each servlet.
     pub fn new(
         context: Text,
         parts: Parts<S, F, L>,

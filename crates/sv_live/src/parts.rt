@@ -2,7 +2,7 @@
 
 use sv_component::Named;
 
-/// The components of a context, in the order in which its descriptor declares them.
+/// The components of a context, in the order of their declaration.
 #[derive(Drop)]
 pub struct Parts<S, F, L> {
     /// The servlets, with their names.

@@ -1,6 +1,6 @@
-//! A component by its place.
+//! The place of a component.
 
-/// A filter or a servlet, by its place in the descriptor, from 0.
+/// A filter or a servlet, by its index in the descriptor, from 0.
 #[derive(Clone, Copy)]
 pub enum Place {
     Filter(usize),

@@ -1,4 +1,4 @@
-//! The ends of the sessions of a context.
+//! Ending the sessions of a context.
 
 ghost use Rattle.sv_component.specs.Steps.{steps_of};
 ghost use Rattle.std.specs.Prelude.{◌≡◌, [], length};
@@ -16,8 +16,8 @@ use sv_journal::Journal;
 use sv_session::{Attribute, EndedSession, Sessions};
 
 impl<S: Servlet, F: Filter, L: Listener> Live<S, F, L> {
-    /// Has the listeners hear that a session has ended, and then that each of its attributes has gone, in the order in which they were first
-    /// set (Jakarta Servlet 6.0, sections 7.5 and 11.3.4).
+    /// Notifies the listeners that a session has ended. Then notifies them of the removal of each attribute, in the
+    /// order of their first assignment (Jakarta Servlet 6.0, sections 7.5 and 11.3.4).
     pub fn tell_end(&mut self, alloc: Global, session: EndedSession, journal: &mut Journal)
         ensures made { Runs (steps_of S.servlet_step F.filter_step L.listener_step)
             (live_world self.old journal.old) (all_told (end_events session) (length self.old.parts.listeners.items)) (live_world self.new journal.new) }
@@ -33,7 +33,7 @@ impl<S: Servlet, F: Filter, L: Listener> Live<S, F, L> {
     }
 }
 
-/// Ends all sessions in the order of their numbers, and has the listeners hear of each.
+/// Ends all sessions in order of their numbers, and notifies the listeners of each.
 pub(crate) fn end_sessions<S: Servlet, F: Filter, L: Listener>(
     alloc: Global,
     context: &str,
@@ -52,7 +52,7 @@ pub(crate) fn end_sessions<S: Servlet, F: Filter, L: Listener>(
     }
 }
 
-// Has the listeners hear that a session has ended, and that its attributes have gone.
+// Notifies the listeners that a session has ended and that its attributes were removed.
 fn tell_end<S: Servlet, F: Filter, L: Listener>(
     alloc: Global,
     context: &str,

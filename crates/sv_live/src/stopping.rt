@@ -1,4 +1,4 @@
-//! Stop of a context.
+//! Stopping a context.
 
 ghost use Rattle.sv_component.specs.Steps.{steps_of};
 ghost use Rattle.std.specs.Prelude.{◌≡◌, [], length, map, reverse};
@@ -18,9 +18,9 @@ use sv_journal::Journal;
 use sv_session::Sessions;
 
 impl<S: Servlet, F: Filter, L: Listener> Live<S, F, L> {
-    /// Stops a context: the servlets in service are destroyed in the reverse of the order in which they were initialised, then the filters,
-    /// then the sessions end in the order of their numbers, then the listeners hear that it stops (Jakarta Servlet 6.0, sections 2.3.4, 6.2.1
-    /// and 11.3.4). A journal that breaks holds nothing up.
+    /// Stops a context (Jakarta Servlet 6.0, sections 2.3.4, 6.2.1 and 11.3.4). The initialized components, except the
+    /// servlets that are gone, are destroyed in reverse order of their `init`. Then the sessions end in order of their
+    /// numbers, and then the listeners are notified of the stop. A journal that breaks does not interrupt it.
     pub fn stop(
         self,
         alloc: Global,
@@ -50,8 +50,9 @@ impl<S: Servlet, F: Filter, L: Listener> Live<S, F, L> {
     }
 }
 
-/// Destroys the components at the places, the last first, ends the sessions in the order of their numbers, and has the listeners hear that the
-/// context stops (Jakarta Servlet 6.0, sections 2.3.4, 6.2.1 and 11.3.4). A journal that breaks holds nothing up.
+/// Destroys the components at these places in reverse order, ends the sessions in order of their numbers, and notifies
+/// the listeners of the stop (Jakarta Servlet 6.0, sections 2.3.4, 6.2.1 and 11.3.4). A journal that breaks does not
+/// interrupt it.
 pub fn end_all<S: Servlet, F: Filter, L: Listener>(
     alloc: Global,
     context: &str,
@@ -71,7 +72,7 @@ pub fn end_all<S: Servlet, F: Filter, L: Listener>(
     parts.tell(alloc, context, &Event::ContextDestroyed, journal);
 }
 
-// Destroys the components at the places, the last first.
+// Destroys the components at these places in reverse order.
 fn destroy_back<S: Servlet, F: Filter, L: Listener>(
     alloc: Global,
     context: &str,
@@ -99,7 +100,7 @@ fn is_in_service(standings: &[Standing], place: Place) -> bool
     }
 }
 
-// How the servlet at the place stands; one that is not there is gone.
+// Returns the availability of the servlet at an index. A servlet that does not exist is gone.
 fn standing_at(standings: &[Standing], place: usize) -> Standing
     ensures { result ≡ standing_at standings.now place }
 {

@@ -1,4 +1,4 @@
--- The id of a login among those that a context gave.
+-- The id of a login differs from all ids that the context gave before.
 use Rattle.std.proofs.Common.{◌≡◌, ◌≢◌, ℕ, zero, suc, ◌+◌, ◌<◌, ◌==◌, false, not, inl, inr, List, [], ◌∷◌, ◌++◌, length, get_or, Option, Some, None, refl, sym, ◌∙◌, ap, subst, append_assoc, length-append, arith}
 use Rattle.std.specs.List.{All, AllPairs}
 use Rattle.std.specs.Option.{option_map_or}
@@ -12,7 +12,7 @@ use Rattle.sv_session.specs.Store.{IsOrderly, Store, empty_store}
 use Rattle.sv_login.specs.Login.{has_no_session}
 use Rattle.sv_login.specs.Session.{living}
 
--- ---- the last of a list
+-- ---- The last item of a list.
 front_at : (xs : List (List ℕ)) (y : List ℕ) (k : ℕ) (d : List ℕ) → k < length xs → get_or (xs ++ y ∷ []) k d ≡ get_or xs k d
 front_at [] y k d within = absurd (omega arith)
 front_at (x ∷ xs) y zero d within = refl
@@ -26,7 +26,7 @@ last_differs : (ids : List (List ℕ)) (id : List ℕ) → AllPairs (λ a b. a �
 last_differs ids id pairs k d within = λ same.
     pairs k (length ids) d within (omega (arith, length-append ids (id ∷ []))) (front_at ids id k d within ∙ same ∙ sym (last_at ids id d))
 
--- ---- one call more
+-- ---- One more call.
 given_last : (calls : List Call) (call : Call) (id : List ℕ) (store : Store) → id_given call (left_after calls store) ≡ id ∷ []
     → ids_given (calls ++ call ∷ []) store ≡ ids_given calls store ++ id ∷ []
 given_last [] call id store gives = ap (λ (ids : List (List ℕ)). ids ++ []) gives
@@ -38,7 +38,7 @@ pub orderly_after : CallsLeaveOrder → (calls : List Call) (store : Store) → 
 orderly_after order [] store orderly = orderly
 orderly_after order (call ∷ calls) store orderly = orderly_after order calls (left_by call store) (order call store orderly)
 
--- ---- the call that gives a login its id
+-- ---- The call that gives a login its id.
 none_faults : (faults : List SessionFault) → not (length faults == 0) ≡ false → faults ≡ []
 none_faults [] none = refl
 none_faults (fault ∷ faults) none = elim (cases_Bool (length (fault ∷ faults) == 0)) [

@@ -20,7 +20,7 @@ abbrev number_in : LoginOutcome → ℕ
 number_in (Passed number target) = number
 number_in outcome = 0
 
--- only the last row of the table passes
+-- A login passes only by the last row of the table.
 record Passes (is_post : Bool) (user : Option ℕ) (refused : Bool) : Type 0 where
   someone : ℕ
   user_is : user ≡ Some someone

@@ -1,4 +1,4 @@
--- The session of a login among those of its context.
+-- The session of a login, among the sessions of its context.
 use Rattle.std.proofs.Common.{◌≡◌, ℕ, ◌+◌, ◌<◌, ◌≤◌, Bool, true, false, inl, inr, List, [], ◌∷◌, ◌++◌, Option, Some, None, refl, sym, ◌∙◌, ap, subst, eqb, eq-eqb, arith}
 use Rattle.std.specs.Bool.{then_some}
 use Rattle.std.specs.List.{find}
@@ -11,7 +11,7 @@ use Rattle.sv_session.specs.Lists.{on_first}
 use Rattle.sv_session.specs.Store.{IsOrderly, NumbersRise, Session, Store, changed, is_numbered, numbered}
 use Rattle.sv_login.specs.Session.{living, logged_in, session_number, with_session}
 
--- ---- the first session of a number
+-- ---- The first session with a number.
 find_changed : (number : ℕ) (change : Session → Session) → ((session : Session) → (change session).number ≡ session.number)
     → (sessions : List Session) → find (is_numbered number) (on_first (is_numbered number) change sessions) ≡ option_map change (find (is_numbered number) sessions)
 find_changed number change keeps [] = refl
@@ -51,7 +51,7 @@ none_above number low high (x ∷ xs) rises above =
     let other : eqb x.number number ≡ false = ne_eqb x.number number (λ equal. omega (arith, equal, bound, above)) in
     rw other (none_above number x.number high xs rises.1 above)
 
--- ---- a held session that lives
+-- ---- A held session that is live.
 lives_as : (number wanted : ℕ) (store : Store) (found : Option Session) → numbered number store ≡ found → then_some (is_some found) number ≡ Some wanted
     → (session : Session) × (numbered wanted store ≡ Some session)
 lives_as number wanted store None is same = absurd (none-some wanted same)
@@ -61,7 +61,7 @@ lives : (held : Option ℕ) (store : Store) (wanted : ℕ) → living held store
 lives None store wanted living_as = absurd (none-some wanted living_as)
 lives (Some number) store wanted living_as = lives_as number wanted store (numbered number store) refl living_as
 
--- ---- the session of a login
+-- ---- The session of a login.
 module _ (held : Option ℕ) (words : ℕ × ℕ) (now : ℕ) (store : Store) where
   by_living : (found : Option ℕ) → living held store ≡ found
       → (session : Session) × (numbered (unwrap_or found (store.serial + 1)) (option_map_or (λ number. renamed number words store) found (opened words now store)) ≡ Some session)
@@ -76,7 +76,7 @@ module _ (held : Option ℕ) (words : ℕ × ℕ) (now : ℕ) (store : Store) wh
   there : (session : Session) × (numbered (session_number held store) (with_session held words now store) ≡ Some session)
   there = by_living (living held store) refl
 
-  -- it holds the caller
+  -- The session holds the caller.
   pub entered : (user : Option ℕ) → (session : Session) × (numbered (session_number held store) (logged_in user held words now store) ≡ Some session) × (session.caller ≡ user)
   entered user = (
     record there.0 { saved = None; caller = user },
@@ -88,7 +88,7 @@ module _ (held : Option ℕ) (words : ℕ × ℕ) (now : ℕ) (store : Store) wh
     refl,
   )
 
-  -- and has the next id
+  -- The session has the next id.
   new_by_living : IsOrderly store → (found : Option ℕ) → living held store ≡ found
       → (session : Session) × (numbered (unwrap_or found (store.serial + 1)) (option_map_or (λ number. renamed number words store) found (opened words now store)) ≡ Some session)
       × (session.id ≡ id_text words (store.serial + 1))

@@ -1,4 +1,4 @@
--- Jakarta Servlet 6.0, section 13.6.3: what a login step answers and leaves.
+-- The outcome of a login step, and the sessions after it (Jakarta Servlet 6.0, section 13.6.3).
 use Rattle.std.specs.Prelude.{ℕ, Bool, not, cond, List, [], ◌∷◌, Option, is_none, length, ◌==◌}
 use Rattle.sv_realm.specs.declared.user.User.{User}
 use Rattle.sv_session.specs.Store.{Store}
@@ -7,16 +7,16 @@ use Rattle.sv_login.specs.declared.outcome.LoginOutcome.TheVariants.{NotLogin, P
 use Rattle.sv_login.specs.Post.{Post, is_login, user_sent}
 use Rattle.sv_login.specs.Session.{logged_in, saved_target, session_faults, session_number}
 
--- the answer of the first row whose test holds, or else the last answer
+-- The answer of the first row whose test holds, or the last answer if none does.
 abbrev pub first_case : {A : Type 0} → List (Bool × A) → A → A
 first_case [] last = last
 first_case (row ∷ rows) last = cond row.0 row.1 (first_case rows last)
 
--- whether neither a held session gets another id nor one is opened
+-- Whether the live session cannot get a new id, or there is none and none can be opened.
 abbrev pub has_no_session : Option ℕ → Store → Bool
 has_no_session held store = not (length (session_faults held store) == 0)
 
--- the outcome, and what becomes of the sessions: credentials are judged before a session is sought
+-- The outcome, and the sessions after the step. The credentials are checked before the session is looked up.
 abbrev pub login : List User → Post → Option ℕ → ℕ × ℕ → ℕ → Store → LoginOutcome × Store
 login users post held words now store = first_case
     ((not (is_login post), (NotLogin, store))

@@ -1,4 +1,4 @@
-//! The name and the password that a login post sends.
+//! The credentials of a login post.
 
 ghost use Rattle.std.specs.Prelude.{◌≡◌, [], ◌∷◌};
 ghost use Rattle.std.specs.Option.{option_copied};
@@ -13,7 +13,7 @@ use sv_parameters::is_form;
 use sv_realm::Realm;
 use sv_text::{NoMemory, Text};
 
-/// The name and the password that a login post sends (Jakarta Servlet 6.0, section 13.6.3.1), of which either may be missing.
+/// The name and the password that a login post sends (Jakarta Servlet 6.0, section 13.6.3.1). Either may be missing.
 #[derive(Drop)]
 pub struct Credentials {
     pub name: Option<Text>,
@@ -21,7 +21,7 @@ pub struct Credentials {
 }
 
 impl Credentials {
-    /// The first `j_username` and the first `j_password` of a body, which has none where it is no form.
+    /// Returns the first `j_username` and the first `j_password` of a body. Both are missing if the body is not a form.
     pub fn of_body(
         alloc: Global,
         method: &str,
@@ -39,7 +39,7 @@ impl Credentials {
         Credentials::of_form(alloc, body)
     }
 
-    /// The same of a form, which is read once.
+    /// Returns the first `j_username` and the first `j_password` of a form, in one pass.
     fn of_form(alloc: Global, form: &[u8]) -> Result<Credentials, NoMemory>
         ensures { GivesAnswer result (credentials_in (parameters_of form.now)) }
     {
@@ -53,7 +53,8 @@ impl Credentials {
         Ok(Credentials { name, password })
     }
 
-    /// The number of the user whom they fit. None where one of them is missing; an empty one is judged.
+    /// Returns the number of the user that the name and the password fit, or none if there is no such user. Also
+    /// returns none if either is missing; an empty one is checked like any other.
     pub fn user(&self, realm: &Realm) -> Option<u32>
         ensures { result ≡ user_of realm.now self.now.name self.now.password }
     {
@@ -64,7 +65,7 @@ impl Credentials {
     }
 }
 
-/// The value that was seen, or else that of a field where it has the name.
+/// Returns the value found before, or otherwise the value of a field if it has the name.
 fn value_or(
     alloc: Global,
     seen: Option<Text>,

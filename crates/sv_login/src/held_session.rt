@@ -6,10 +6,11 @@ ghost use Rattle.sv_login.specs.Session.{living, session_faults, session_number,
 
 use sv_session::{SessionFault, Sessions};
 
-/// Gives the held session another id, where it lives, or opens a session, and gives its number (Jakarta Servlet 6.0, section 7.1).
+/// Gives the held session a new id if it is live, or otherwise opens a session, and returns its number (Jakarta Servlet
+/// 6.0, section 7.1).
 ///
 /// # Errors
-/// The fault of the rename or of the opening; nothing has changed.
+/// The fault of the rename or of the opening. The sessions are unchanged.
 pub fn renewed(
     sessions: &mut Sessions,
     held: Option<u64>,
@@ -29,7 +30,7 @@ pub fn renewed(
     }
 }
 
-/// The held session, where it lives.
+/// Returns the number of the held session if it is live.
 fn living(sessions: &Sessions, held: Option<u64>) -> Option<u64>
     ensures { result ≡ living held sessions.now }
 {

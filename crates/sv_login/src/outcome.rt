@@ -1,21 +1,22 @@
-//! What a login step answers.
+//! The outcome of a login step.
 
 use sv_text::Text;
 
-/// What a login step answers (Jakarta Servlet 6.0, section 13.6.3). All but `Passed` leave the sessions as they were.
+/// The outcome of a login step (Jakarta Servlet 6.0, section 13.6.3). All but `Passed` leave the sessions unchanged.
 #[derive(Drop)]
 pub enum LoginOutcome {
-    /// The request is no login post: it is answered as any other.
+    /// The request is not a login post, and is handled like any other.
     NotLogin,
     /// A name or a password is missing, no user has the name, or the password does not fit the user.
     WrongUser,
-    /// Name and password fit, but the held session can get no other id, or there is none and none can be opened.
+    /// The name and the password fit, but the live session cannot get a new id, or there is none and none can be
+    /// opened.
     NoSession,
-    /// The caller has entered.
+    /// The login passed.
     Passed {
         /// The number of the session that holds the caller.
         number: u64,
-        /// The target that was saved in the session, which holds it no more: where the client is sent.
+        /// The target saved in the session, if any, to which the client is sent. It was removed from the session.
         target: Option<Text>,
     },
 }

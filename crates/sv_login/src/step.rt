@@ -19,16 +19,17 @@ use sv_session::{SessionFault, Sessions};
 use sv_text::NoMemory;
 use sv_uri::path::Canon;
 
-/// The login step of a request (Jakarta Servlet 6.0, section 13.6.3), whose `canon` holds the path in its context; whether the context has form
-/// login is the caller's test.
+/// Performs the login step of a request (Jakarta Servlet 6.0, section 13.6.3). `canon` has its path within the context.
+/// The caller must check that the context has form login.
 ///
-/// A login post is a `POST` whose path ends in `/j_security_check`. Its credentials are the first `j_username` and the first `j_password` of a body
-/// of the type of a form; a missing one is a wrong user, an empty one is judged. They are judged before a session is sought: the one of the number
-/// `held`, where it lives, gets an id of the two random words, or one is opened at the moment `now`, in seconds. It then holds the caller, and the
-/// target that was saved in it is taken out.
+/// A login post is a `POST` whose path ends in `/j_security_check`. Its credentials are the first `j_username` and the
+/// first `j_password` of a form body. If either is missing, the outcome is `WrongUser`; an empty one is checked like any
+/// other. The credentials are checked before the session is looked up. If the session with the number `held` is live,
+/// it gets a new id from the two random words. Otherwise a session is opened at the time `now`, in seconds. The session
+/// then holds the caller, and its saved target is removed.
 ///
 /// # Errors
-/// [`NoMemory`] where a growth was refused; the sessions are as they were.
+/// [`NoMemory`] if memory runs out. The sessions are unchanged.
 pub fn login_step(
     alloc: Global,
     canon: &Canon,
@@ -63,7 +64,7 @@ fn is_login(method: &str, path: &[u8]) -> bool
     method == "POST" && path.ends_with(b"/j_security_check")
 }
 
-/// Lets a user of the realm enter.
+/// Logs in a user of the realm.
 fn enter(
     sessions: &mut Sessions,
     held: Option<u64>,

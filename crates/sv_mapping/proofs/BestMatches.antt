@@ -24,7 +24,7 @@ outranks-order = record {
   chain = λ x y z. is_above-chain (rank x).0 (rank x).1 (rank y).0 (rank y).1 (rank z).0 (rank z).1;
 }
 
--- whether a further pattern is a better match than the best one of those before it
+-- Whether a further pattern is a better match than the best one before it.
 abbrev pub takes_over : List ℕ → Option (List ℕ) → List ℕ → Bool
 takes_over path held pattern = matches pattern path && option_map_or (λ other. outranks pattern other) held true
 
@@ -34,14 +34,14 @@ best_pattern-push patterns path pattern = found-push (λ p. matches p path) outr
 pub best-push : (patterns : List (List ℕ)) (path pattern : List ℕ) → best (patterns ++ pattern ∷ []) path ≡ cond (takes_over path (best_pattern patterns path) pattern) (Some (length patterns)) (best patterns path)
 best-push patterns path pattern = place-push (λ p. matches p path) outranks outranks-order patterns pattern
 
--- the best match is one of the patterns, and it matches
+-- The best match is one of the patterns, and it matches.
 pub best_pattern-member : (patterns : List (List ℕ)) (path pattern : List ℕ) → best_pattern patterns path ≡ Some pattern → Contains patterns pattern × IsTrue (matches pattern path)
 best_pattern-member patterns path pattern found = (
   found_in (is_best patterns path) patterns pattern found,
   (and_parts (matches pattern path) _ (found_passes (is_best patterns path) patterns pattern found)).0,
 )
 
--- no pattern of the list that matches outranks a best one
+-- No pattern of the list that matches outranks a best one.
 pub unbeaten_by_member : (patterns : List (List ℕ)) (path pattern other : List ℕ) → is_best patterns path pattern ≡ true → Contains patterns other → matches other path ≡ true → outranks other pattern ≡ false
 unbeaten_by_member patterns path pattern other tops member matching =
     elim (cases_Bool (outranks other pattern)) [
@@ -66,7 +66,7 @@ filter-one : (matching : Bool) (pattern : List ℕ) (found : Option (List ℕ)) 
 filter-one true pattern found known was = rw (← was) (found-push (λ _. true) outranks outranks-order known pattern)
 filter-one false pattern found known was = rw append-nil was
 
--- what was found alone
+-- Without further patterns, the best match is the one found before.
 pub best_with-none : (found : Option (List ℕ)) (path : List ℕ) → found ≡ best_with found [] path
 best_with-none None path = refl
 best_with-none (Some pattern) path = rw (unbeaten_by_itself (λ _. true) outranks outranks-order pattern) refl

@@ -1,4 +1,4 @@
--- The best match stands at the least place of its text.
+-- The place of the best match is the least place of its text.
 use Rattle.std.proofs.Common.{◌≡◌, ℕ, ◌+◌, Bool, true, List, [], ◌∷◌, refl, sym, ◌∙◌, ap, arith, Option, Some, None, inl, inr}
 use Rattle.std.specs.List.{Contains, find, position, position_from}
 use Rattle.std.specs.Option.{option_and_then}

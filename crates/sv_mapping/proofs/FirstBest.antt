@@ -1,4 +1,4 @@
--- The first element of a list that passes a test and that none of those which pass beats, while the list grows at its end.
+-- The first element of a list that passes a test and that no passing element beats, while the list grows at its end.
 use Rattle.std.proofs.Common.{◌≡◌, ℕ, ◌+◌, ◌<◌, ltb, Bool, true, false, cond, not, ◌&&◌, ◌||◌, inl, inr, List, [], ◌∷◌, ◌++◌, length, refl, sym, ◌∙◌, ap, add-zero, zero-add, append-nil, append_assoc, arith, Option, Some, None}
 use Rattle.std.specs.Cmp.{IsStrictWeakOrder}
 use Rattle.std.specs.List.{Contains, HoldsAt, find, list_any, position, position_from, position_or_len, slice_get}
@@ -17,7 +17,7 @@ list_any_weaker t u (x ∷ xs) weaker h =
     let parts = or_parts (u x) (list_any u xs) h in
     or_from (t x) (list_any t xs) (weaker x parts.0) (list_any_weaker t u xs weaker parts.1)
 
--- what was found passes, is in the list, and fails each test that nothing in the list passes
+-- An element that was found passes, is in the list, and fails each test that nothing in the list passes.
 pub found_passes : {X : Type 0} (t : X → Bool) (xs : List X) (x : X) → find t xs ≡ Some x → t x ≡ true
 found_passes t [] x h = cc
 found_passes t (y ∷ ys) x h = elim (cases_Bool (t y)) [ inl e ↦ cc | inr e ↦ found_passes t ys x (rw e at h) ]
@@ -33,7 +33,7 @@ found_fails t u (y ∷ ys) x h none =
     let parts = or_parts (u y) (list_any u ys) none in
     elim (cases_Bool (t y)) [ inl e ↦ cc | inr e ↦ found_fails t u ys x (rw e at h) parts.1 ]
 
--- the element at the place of the first one is the first one
+-- The element at the first place that passes is the first element that passes.
 pub get-position : {X : Type 0} (t : X → Bool) (xs : List X) → option_and_then (λ i. slice_get xs i) (position t xs) ≡ find t xs
 get-position t xs =
     elim (cases_Bool (ltb (position_or_len t xs) (length xs))) [ inl e ↦ rw e (sym (find_at t xs)) | inr e ↦ rw e (sym (find_at t xs ∙ slice_get_past xs _ (ltb-false _ _ e))) ]
@@ -48,7 +48,7 @@ position_holds t P xs holds = go (position t xs) refl
     go None e = tt
     go (Some i) e = λ d. holds _ (position-Some t xs i d e).1
 
--- ---- what g makes of the first element that passes, and of its place
+-- ---- a function g of the first element that passes and of its place
 abbrev first : {X Y : Type 0} → (ℕ → X → Y) → (X → Bool) → ℕ → List X → Option Y
 first g t i [] = None
 first g t i (x ∷ xs) = cond (t x) (Some (g i x)) (first g t (i + 1) xs)
@@ -76,11 +76,11 @@ module _ {X Y : Type 0} (g : ℕ → X → Y) (t : X → Bool) where
   first_stays i (y ∷ ys) x other h = elim (cases_Bool (t y)) [ inl e ↦ rw e refl | inr e ↦ rw e (first_stays (i + 1) ys x other (rw e at h)) ]
 
 module _ {X : Type 0} (P : X → Bool) (beats : X → X → Bool) where
-  -- x passes, and nothing of the list that passes beats it
+  -- x passes, and no element of the list that passes beats it.
   abbrev pub top : List X → X → Bool
   top xs x = P x && not (list_any (λ y. P y && beats y x) xs)
 
-  -- x passes, and beats what was found before
+  -- x passes, and beats the element found before, if there is one.
   abbrev pub takes : Option X → X → Bool
   takes held x = P x && option_map_or (λ y. beats x y) held true
 
@@ -98,7 +98,7 @@ module _ {X : Type 0} (P : X → Bool) (beats : X → X → Bool) where
   failing_is_no_top : (xs : List X) (y : X) → P y ≡ false → top xs y ≡ false
   failing_is_no_top xs y fails = rw fails refl
 
-  -- an element that fails changes no top
+  -- An element that fails changes no top.
   same_where_failing : (xs : List X) (x : X) → P x ≡ false → top (xs ++ x ∷ []) ≡ top xs
   same_where_failing xs x fails = λ i y. unchanged y i
     where
@@ -109,15 +109,15 @@ module _ {X : Type 0} (P : X → Bool) (beats : X → X → Bool) where
     pub unbeaten_by_itself : (x : X) → beats x x ≡ false
     unbeaten_by_itself x = elim (cases_Bool (beats x x)) [ inl e ↦ order.one_way x x e | inr e ↦ e ]
 
-    -- what beats h beats all that does not beat h
+    -- An element that beats h beats each element that does not beat h.
     beats_rest : (x y h : X) → beats x h ≡ true → beats y h ≡ false → beats x y ≡ true
     beats_rest x y h over under = elim (cases_Bool (beats x y)) [ inl e ↦ e | inr e ↦ absurd (both_ways _ (order.chain x y h e under) over) ]
 
-    -- a new element that passes and that nothing beats is a top
+    -- A new element that passes and that nothing beats is a top.
     last_is_top : (xs : List X) (x : X) → P x ≡ true → list_any (λ y. P y && beats y x) xs ≡ false → top (xs ++ x ∷ []) x ≡ true
     last_is_top xs x passes none = rw (top-push xs x x, passes, unbeaten_by_itself x, none) refl
 
-    -- one that does not beat a top changes no top
+    -- One that does not beat a top changes no top.
     same_where_under : (xs : List X) (x h : X) → find (top xs) xs ≡ Some h → P x ≡ true → beats x h ≡ false → top (xs ++ x ∷ []) ≡ top xs
     same_where_under xs x h e passes under = λ i y. unchanged y i
       where
@@ -140,7 +140,7 @@ module _ {X : Type 0} (P : X → Bool) (beats : X → X → Bool) where
       abbrev grown : List X
       grown = xs ++ x ∷ []
 
-      -- x takes over where no other is a top of the longer list
+      -- x takes over if no earlier element is a top of the longer list.
       taken : P x ≡ true → list_any (λ y. P y && beats y x) xs ≡ false → list_any (top grown) xs ≡ false → first g (top grown) 0 grown ≡ Some (g (length xs) x)
       taken passes none lost = first-push g (top grown) 0 xs x ∙ rw (first_none g (top grown) 0 xs lost, last_is_top xs x passes none, zero-add) refl
 
@@ -185,7 +185,7 @@ module _ {X : Type 0} (P : X → Bool) (beats : X → X → Bool) where
     never true x h e = cc
     never false x h e = cc
 
-    -- where there is no top, nothing passes
+    -- If there is no top, nothing passes.
     none_passes_along : (before rest : List X) → (find (top before) before ≡ None → list_any P before ≡ false) → find (top (before ++ rest)) (before ++ rest) ≡ None → list_any P (before ++ rest) ≡ false
     none_passes_along before [] known none = rw append-nil (known (rw append-nil at none))
     none_passes_along before (x ∷ rest) known none =
@@ -213,7 +213,7 @@ module _ {X : Type 0} (P : X → Bool) (beats : X → X → Bool) where
               | inr none ↦ absurd (both_ways _ (found_fails (top xs) P xs h e none) (and_parts (P h) (not (list_any (λ y. P y && beats y h) xs)) (found_passes (top xs) xs h e)).0)
             ]
 
-    -- the first top of a list that grows at its end, and its place
+    -- The first top of a list that grows at its end, and its place.
     pub found-push : (xs : List X) (x : X) → find (top (xs ++ x ∷ [])) (xs ++ x ∷ []) ≡ cond (takes (find (top xs) xs) x) (Some x) (find (top xs) xs)
     found-push xs x = find_grows xs x (none_passes xs)
 

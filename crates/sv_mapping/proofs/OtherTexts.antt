@@ -1,4 +1,5 @@
--- The texts that are tried for a path without a slash at its front are all accepted patterns that match it, in falling order of rank.
+-- The texts tried for a path without a slash at its front are all accepted patterns that match it, in falling order of
+-- rank.
 use Rattle.std.proofs.Common.{◌≡◌, ℕ, true, false, List, [], ◌∷◌, ◌++◌, eqb, length, drop, cond, refl, sym, ◌∙◌, ap, arith, inl, inr}
 use Rattle.std.specs.List.{list_all, starts_with}
 use Rattle.std.specs.Str.{bytes_eq}
@@ -29,7 +30,7 @@ slashed text accepted some starless =
       ]
     ]
 
--- a text has not the form of another one
+-- Texts of different forms differ.
 not_of : (text other : List ℕ) (f g : Form) → form text ≡ f → form other ≡ g → (f ≡ g → ⊥) → text ≡ other → ⊥
 not_of text other f g h k apart e = apart (sym h ∙ (ap form e ∙ k))
 
@@ -62,7 +63,7 @@ all_falls path = elim (cases_Bool (bytes_eq path [])) [ inl e ↦ rw e ((λ y h.
 class_all : (path text : List ℕ) → In text (all_texts path) → (rank text).0 ≡ 2
 class_all path text h = rw (all_form path text h).0 refl
 
--- ---- a text is tried exactly where it matches
+-- ---- a text is tried exactly if it matches
 other_sound : (path text : List ℕ) → In text (other_texts path) → matches text path ≡ true
 other_sound path text h =
     elim (In-cases text (all_texts path) _ h) [

@@ -1,4 +1,4 @@
--- What the tests of the code say of texts, in the words of the definitions.
+-- The tests of the code, in terms of the definitions.
 use Rattle.std.proofs.Common.{◌≡◌, ℕ, ◌+◌, ◌-◌, ◌<◌, ◌≤◌, true, false, not, List, [], ◌∷◌, ◌++◌, length, take, drop, get_or, eqb, refl, sym, ◌∙◌, ap, append_assoc, add-zero, append-nil, arith, length-append, length-drop, Some, None, inl, inr}
 use Rattle.std.specs.List.{starts_with, suffix_len, after_last, list_any}
 use Rattle.std.specs.Str.{bytes_eq, IsCharBoundary, NoCharPasses}
@@ -33,7 +33,7 @@ empty_test : (text : List ℕ) → bytes_eq text [] ≡ eqb (length text) 0
 empty_test [] = refl
 empty_test (x ∷ xs) = sym (ne_eqb (length (x ∷ xs)) 0 (λ e. absurd (omega arith)))
 
--- what `strip_prefix` and `strip_suffix` leave
+-- The rest that `strip_prefix` and `strip_suffix` return.
 pub stripped_front : (front text rest : List ℕ) → StripsPrefix (FindsTextPrefix front) text rest → text ≡ front ++ rest
 stripped_front front text rest h = h.1.1 ∙ ap (λ r. front ++ r) (sym h.2)
 
@@ -63,7 +63,7 @@ within_none prefix path none =
     or_from _ _ (false_from_ne_true _ (λ same. none [] ((bytes_eq-Decides path prefix).0 same ∙ sym (append-nil prefix))))
     (starts_not path (prefix ++ 47 ∷ []) (λ rest k. none (47 ∷ rest) (k ∙ append_assoc prefix (47 ∷ []) rest)))
 
--- the path begins with the prefix, and may be cut behind it
+-- The path begins with the prefix, and may be cut after it.
 pub within_front : (prefix path : List ℕ) → is_at_or_below prefix path ≡ true → take (length prefix) path ≡ prefix
 within_front prefix path h =
     elim (or_cases _ _ h) [
@@ -85,8 +85,8 @@ within_boundary prefix path h =
           IsCharBoundary-before_ascii path (length prefix) (omega (arith, ap length rest, length-drop (length prefix) path)) (omega (arith, slash))
     ]
 
--- ---- after the last of a character
--- the character stands at i, the last time, and what follows it begins at j
+-- ---- after the last occurrence of a character
+-- The last occurrence of the character is at i, and the rest after it begins at j.
 record LastAt (c : ℕ) (text : List ℕ) (i j : ℕ) : Type 0 where
   here : get_or text i 0 ≡ c
   next : j ≡ i + 1
@@ -124,7 +124,7 @@ has_at c text i j small found fits =
 has_none : (c : ℕ) (text : List ℕ) → c < 128 → NoCharPasses (λ d. eqb d c) text → list_any (λ b. eqb b c) text ≡ false
 has_none c text small none = list_any_none (λ b. eqb b c) text (λ k d within. ne_eqb _ c (λ same. NoCharPasses-char c text k none small within (sym (get_or_default_zero text k d within) ∙ same)))
 
--- what `rsplit_once` leaves behind the last of a character
+-- The rest that `rsplit_once` returns after the last occurrence of a character.
 pub after_split : (c : ℕ) (text front back : List ℕ) → c < 128 → SplitsAroundMatch (RFindsChar c) text front back → after_last (λ b. eqb b c) text ≡ back
 after_split c text front back small h = after_last_at c text h.0 h.1 small h.2 (omega (arith, h.7)) ∙ sym h.4
 

@@ -12,7 +12,7 @@ use Rattle.sv_mapping.proofs.BestMatches.{best_pattern-member, outranks-order, u
 use Rattle.sv_mapping.proofs.FirstBest.{found_passes, top_exists}
 use Rattle.sv_mapping.proofs.Texts.{same_bytes}
 
--- y is one of the list
+-- y is one of the list.
 abbrev pub In : {X : Type 0} → X → List X → Type 0
 In y [] = ⊥
 In y (x ∷ xs) = (y ≡ x) ⊎ In y xs
@@ -41,7 +41,7 @@ In-map_from f z [] h = absurd h
 In-map_from f z (x ∷ xs) (inl e) = (x, inl refl, e)
 In-map_from f z (x ∷ xs) (inr h) = let k = In-map_from f z xs h in (k.0, inr k.1, k.2)
 
--- R holds of each element and each later one
+-- R holds of each element and each later one.
 abbrev pub Falls : {X : Type 0} → (X → X → Type 0) → List X → Type 0
 Falls R [] = Unit {0}
 Falls {X} R (x ∷ xs) = ((y : X) → In y xs → R x y) × Falls R xs
@@ -59,7 +59,7 @@ Falls-map R S f (x ∷ xs) keeps h =
 some_same : {X : Type 0} {x y : X} → Some x ≡ Some y → x ≡ y
 some_same e = cc
 
--- what was found is first among those that pass
+-- An element that was found comes before all others that pass.
 pub found_first : {X : Type 0} (R : X → X → Type 0) (t : X → Bool) (xs : List X) (x y : X) → Falls R xs → find t xs ≡ Some x → In y xs → t y ≡ true → (y ≡ x) ⊎ R x y
 found_first R t [] x y f h k passes = absurd k
 found_first R t (z ∷ zs) x y f h (inl e) passes = let here : t z ≡ true = rw e at passes in let same : z ≡ x = some_same (rw here at h) in inl (e ∙ same)
@@ -94,13 +94,13 @@ among-Contains patterns text h =
 Contains-among : (patterns : List (List ℕ)) (text : List ℕ) → Contains patterns text → among patterns text ≡ true
 Contains-among patterns text h = list_any-from_Any (λ pattern. bytes_eq pattern text) patterns (h.0, text, h.1, h.2, (bytes_eq-Decides text text).1 refl)
 
--- texts that match a path, with all that do and meet P, in falling order of rank
+-- Texts that match a path, with all that match it and satisfy P, in falling order of rank.
 pub record Tries (P : List ℕ → Type 0) (path : List ℕ) (texts : List (List ℕ)) : Type 0 where
   pub sound : (text : List ℕ) → In text texts → matches text path ≡ true
   pub complete : (text : List ℕ) → P text → matches text path ≡ true → In text texts
   pub falls : Falls (λ a b. outranks a b ≡ true) texts
 
--- texts that are all the patterns that match a path, in falling order of rank
+-- All patterns that match a path, in falling order of rank.
 abbrev pub TriesInOrder : List ℕ → List (List ℕ) → Type 0
 TriesInOrder path texts = Tries (λ _. Unit {0}) path texts
 

@@ -1,4 +1,4 @@
--- The texts that are tried for a path are all the patterns that match it, in falling order of rank.
+-- The texts tried for a path are all patterns that match it, in falling order of rank.
 use Rattle.std.proofs.Common.{◌≡◌, ℕ, ◌<◌, true, false, List, [], ◌∷◌, ◌++◌, map, length, eqb, refl, sym, ◌∙◌, ap, append_assoc, arith, length-append, cond, Option, Some, None, inl, inr, ◌⊎◌}
 use Rattle.std.specs.List.{ends_with}
 use Rattle.std.specs.Option.{option_map_or, option_to_list}
@@ -40,7 +40,7 @@ fronts_complete : (front path : List ℕ) → Within front path → In front (fr
 fronts_complete front path (inl whole) = rw whole (fronts_whole front)
 fronts_complete front path (inr below) = rw below.1 (fronts_below front below.0)
 
--- the last front, before a first slash
+-- The last front, before a first slash.
 last_front : (b : ℕ) (front : List ℕ) → In front (cond (eqb b 47) ([] ∷ []) []) → (b ≡ 47) × (front ≡ [])
 last_front b front h = go (cases_Bool (eqb b 47))
   where
@@ -77,7 +77,7 @@ fronts_fall (b ∷ bs) =
     alone (inl e) = rw e ((λ y h. absurd h), tt)
     alone (inr e) = rw e tt
 
--- ---- the forms of the texts that are tried
+-- ---- the forms of the texts tried
 pub heads : (b c : ℕ) (bs cs : List ℕ) → b ∷ bs ≡ c ∷ cs → b ≡ c
 heads b c bs cs e = cc
 
@@ -115,13 +115,13 @@ some_bytes path rest slash = rw slash (ne_eqb _ 0 (λ e. absurd (omega arith)))
 no_star : (path rest : List ℕ) → path ≡ 47 ∷ rest → (r : List ℕ) → path ≡ 42 ∷ 46 ∷ r → ⊥
 no_star path rest slash r k = absurd (omega (arith, heads 47 42 rest (46 ∷ r) (sym slash ∙ k)))
 
--- a path that begins with a slash is an exact pattern, unless it is `/` or ends as a prefix pattern does
+-- A path that begins with a slash is an exact pattern, unless it is `/` or ends like a prefix pattern.
 form-path : (path rest : List ℕ) → path ≡ 47 ∷ rest → bytes_eq path (47 ∷ []) ≡ false → ends_with eqb path (47 ∷ 42 ∷ []) ≡ false → form path ≡ Exact path
 form-path path rest slash other end =
     form-exact path (some_bytes path rest slash) other (no_star path rest slash)
     (λ front k. both_ways _ end ((ends_is Decides-eqb path (47 ∷ 42 ∷ []) _ refl).1 front k))
 
--- ---- what each step tries
+-- ---- the texts that each step tries
 exact_form : (path rest text : List ℕ) → path ≡ 47 ∷ rest → In text (exact_texts path) → ((form text ≡ Root) × (path ≡ 47 ∷ [])) ⊎ (form text ≡ Exact path)
 exact_form path rest text slash h =
     elim (cases_Bool (bytes_eq path (47 ∷ []))) [
@@ -158,7 +158,7 @@ last_sound path text h =
       | inr k ↦ rw (last_form text k) refl
     ]
 
--- a text is tried exactly where it matches
+-- A text is tried exactly if it matches.
 tried_sound : (path rest text : List ℕ) → path ≡ 47 ∷ rest → In text (tried_texts path) → matches text path ≡ true
 tried_sound path rest text slash h =
     elim (In-cases text (exact_texts path) _ h) [

@@ -1,4 +1,4 @@
--- Two patterns that match a path and of which neither outranks the other have one text.
+-- If two patterns match a path and neither outranks the other, they have the same text.
 use Rattle.std.proofs.Common.{◌≡◌, ℕ, true, false, ◌&&◌, ◌||◌, List, [], ◌∷◌, take, eqb, ltb, refl, sym, ◌∙◌, ap, arith, Option, Some, None, inl, inr}
 use Rattle.std.specs.List.{starts_with, ends_with}
 use Rattle.std.specs.Option.{option_map_or}
@@ -27,7 +27,7 @@ form_text-form text =
       ]
     ]
 
--- the text `/` is the default pattern and never exact
+-- The text `/` is the default pattern and never exact.
 pub exact_is_no_slash : (text : List ℕ) → form text ≡ Exact (47 ∷ []) → ⊥
 unfolding form
 exact_is_no_slash text e =
@@ -43,7 +43,7 @@ same_extension wanted other (Some found) h k = sym (same_bytes found wanted h) �
 not_above : (a b c d : ℕ) → (ltb c a || (eqb a c && ltb d b)) ≡ false → (ltb a c || (eqb c a && ltb b d)) ≡ false → (a ≡ c) × (b ≡ d)
 not_above a b c d h k = grind (arith, nat_tests)
 
--- two forms of one rank that match one path are one, unless one of them is the exact `/`
+-- Two forms of the same rank that match the same path are equal, unless one of them is the exact `/`.
 same_form : (f g : Form) (path : List ℕ) → ¬ (f ≡ Exact (47 ∷ [])) → ¬ (g ≡ Exact (47 ∷ [])) → form_matches f path ≡ true → form_matches g path ≡ true → (form_rank f).0 ≡ (form_rank g).0 → (form_rank f).1 ≡ (form_rank g).1 → f ≡ g
 same_form Root Root path p q m n c l = refl
 same_form Default Default path p q m n c l = refl
@@ -60,6 +60,6 @@ same_text a b path m n over under =
     let one = same_form (form a) (form b) path (exact_is_no_slash a) (exact_is_no_slash b) m n ranks.0 ranks.1 in
     sym (form_text-form a) ∙ (ap form_text one ∙ form_text-form b)
 
--- a form that was read off a text says that text
+-- The form of a text determines the text.
 pub says_text : (text : List ℕ) (seen : Form) → seen ≡ form text → form_text seen ≡ text
 says_text text seen h = ap form_text h ∙ form_text-form text

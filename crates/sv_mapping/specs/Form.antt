@@ -1,9 +1,9 @@
--- The form of a pattern as the code holds it, with borrowed texts.
+-- The form of a pattern in the code, with borrowed texts.
 use Rattle.sv_mapping.specs.Pattern as spec
 use Rattle.sv_mapping.specs.declared.form.Form.{Form}
 use Rattle.sv_mapping.specs.declared.form.Form.TheVariants.{Root, Default, Extension, Prefix, Exact}
 
--- the form that it stands for
+-- The same form in the definitions.
 abbrev pub form_seen : Form → spec.Form
 form_seen Root = spec.Root
 form_seen Default = spec.Default

@@ -1,4 +1,4 @@
--- The ranks of the code as the numbers of the definition.
+-- The ranks of the code as the numbers in the definitions.
 use Rattle.std.specs.Prelude.{ℕ}
 use Rattle.sv_mapping.specs.declared.rank.Rank.{Rank}
 use Rattle.sv_mapping.specs.declared.rank.Rank.TheVariants.{Default, Extension, Prefix, Exact}

@@ -1,4 +1,4 @@
--- How a match splits the path into servlet path and path info (Jakarta Servlet 6.0, section 3.5).
+-- The split of a matched path into servlet path and path info (Jakarta Servlet 6.0, section 3.5).
 use Rattle.std.specs.Prelude.{ℕ, nat_lt, List, [], length, drop, codes, if◌then◌else◌, Option, Some, None}
 use Rattle.sv_mapping.specs.Pattern.{Form, Root, Default, Extension, Prefix, Exact, form}
 
@@ -9,7 +9,7 @@ form_servlet_path (Extension wanted) path = path
 form_servlet_path (Prefix prefix) path = prefix
 form_servlet_path (Exact text) path = path
 
--- what follows the first bytes, where something does
+-- The rest after the first bytes, unless it is empty.
 abbrev pub rest_from : ℕ → List ℕ → Option (List ℕ)
 rest_from len path = if nat_lt len (length path) then Some (drop len path) else None
 

@@ -8,9 +8,9 @@ ghost use Rattle.sv_mapping.specs.Pattern.{matches};
 
 use crate::pattern::Pattern;
 
-/// The place of the best match for a path: of the patterns that match it, the one that none of them outranks. An exact
-/// match comes first, then the longest prefix, then an extension, then the default pattern; of equal patterns the first.
-/// It is `None` where no pattern matches.
+/// Returns the place of the best match for a path: the first pattern that matches it and that no other matching pattern
+/// outranks. An exact match comes first, then the longest prefix, then an extension, then the default pattern. Returns
+/// `None` if no pattern matches.
 pub fn best(patterns: &[Pattern], path: &str) -> Option<usize>
     ensures place { result ≡ best patterns.now path.now }
     ensures within { IfSome result (λ place. place < length patterns.now) }
@@ -28,9 +28,9 @@ pub fn best(patterns: &[Pattern], path: &str) -> Option<usize>
     best
 }
 
-/// The best match among further patterns and one that was found before, which counts as a match whatever the path: of it
-/// and those of these that match, the first that none of them outranks. Where it was the best of what came before, the
-/// result is the best of all, so that lists of patterns are searched one after another.
+/// Returns the best of a pattern found before and those of these patterns that match the path: the first that none of
+/// them outranks. The pattern found before counts as a match, whatever the path. If it was the best of earlier
+/// patterns, the result is the best of all, so that lists can be searched one after another.
 pub fn better<'a>(
     found: Option<&'a Pattern>,
     patterns: &'a [Pattern],
@@ -48,7 +48,7 @@ pub fn better<'a>(
     held
 }
 
-/// Whether a further pattern is a better match than the best one of those before it.
+/// Returns whether a pattern matches the path and outranks the best match before it, if there is one.
 fn takes_over(pattern: &Pattern, held: Option<&Pattern>, path: &str) -> bool
     ensures { result ≡ (matches pattern.now path.now && option_map_or (λ other. outranks pattern.now other) (option_copied held.entry) true) }
 {

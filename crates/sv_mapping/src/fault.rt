@@ -1,4 +1,4 @@
-//! Why a text was not read as a URL pattern.
+//! Faults of parsing URL patterns.
 
 ghost use Rattle.std.specs.Prelude.{Some};
 ghost use Rattle.sv_mapping.specs.Fault.{pattern_fault_text};
@@ -7,12 +7,13 @@ use std::error::Error;
 use std::fmt;
 use sv_text::NoMemory;
 
-/// Why [`Pattern::parse`](crate::Pattern::parse) gave no pattern. It is printed as its name, want of memory as `no memory`.
+/// The reason why [`Pattern::parse`](crate::Pattern::parse) returned no pattern. `BadPattern` is printed as its name,
+/// and `NoMemory` as `no memory`.
 #[derive(Clone, Copy, Debug, PartialEq, Eq)]
 pub enum PatternFault {
-    /// The text is no URL pattern. It is answered for every such text, with memory or without.
+    /// The text is not a URL pattern. This is reported even if there is no memory.
     BadPattern = 1,
-    /// The text is a URL pattern, and there was no memory to keep it; the same call may succeed later.
+    /// The text is a URL pattern, but there is no memory for a copy. The same call may succeed later.
     NoMemory = 2,
 }
 

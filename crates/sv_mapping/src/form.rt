@@ -1,14 +1,14 @@
-//! The forms of URL patterns, and which paths each matches.
+//! The forms of URL patterns, and the paths that each matches.
 
 ghost use Rattle.std.specs.Prelude.{◌≡◌};
 ghost use Rattle.std.specs.Option.{option_copied};
 ghost use Rattle.sv_mapping.specs.Form.{form_seen};
 ghost use Rattle.sv_mapping.specs.Pattern.{form, form_matches, has_extension, is_at_or_below, last_segment, extension};
 
-/// What a pattern's text says (Jakarta Servlet 6.0, section 12.2).
+/// The meaning of a pattern's text (Jakarta Servlet 6.0, section 12.2).
 #[derive(Clone, Copy)]
 pub enum Form<'a> {
-    /// `""`: the context root alone.
+    /// `""`: only the context root.
     Root,
     /// `/`: every path.
     Default,
@@ -16,12 +16,12 @@ pub enum Form<'a> {
     Extension(&'a str),
     /// This prefix and `/*`.
     Prefix(&'a str),
-    /// This path alone.
+    /// Only this path.
     Exact(&'a str),
 }
 
 impl<'a> Form<'a> {
-    /// The form of a pattern's text.
+    /// Returns the form of a pattern's text.
     pub(crate) fn of(text: &'a str) -> Form<'a>
         ensures { form_seen result ≡ form text.now }
     {
@@ -40,7 +40,7 @@ impl<'a> Form<'a> {
         }
     }
 
-    /// Whether a pattern of this form matches the path.
+    /// Returns whether a pattern of this form matches the path.
     pub(crate) fn matches(self, path: &str) -> bool
         ensures { result ≡ form_matches (form_seen self.entry) path.now }
     {
@@ -54,7 +54,7 @@ impl<'a> Form<'a> {
     }
 }
 
-/// Whether the path is the prefix or lies below it: what follows the prefix is nothing, or begins with `/`.
+/// Returns whether the path is the prefix or lies below it: the rest after the prefix is empty or begins with `/`.
 pub fn is_at_or_below(prefix: &str, path: &str) -> bool
     ensures { result ≡ is_at_or_below prefix.now path.now }
 {
@@ -73,8 +73,8 @@ fn has_extension(path: &str, wanted: &str) -> bool
     }
 }
 
-/// The extension of a path: what follows the last dot of its last segment, where it has one (Jakarta Servlet 6.0,
-/// section 12.1).
+/// Returns the extension of a path, if it has one: the text after the last dot of its last segment (Jakarta Servlet
+/// 6.0, section 12.1).
 pub fn extension(path: &str) -> Option<&str>
     ensures { option_copied result ≡ extension path.now }
 {

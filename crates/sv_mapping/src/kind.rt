@@ -5,8 +5,8 @@ ghost use Rattle.sv_mapping.specs.Kind.{kind_name};
 
 use std::fmt;
 
-/// How a request comes to a servlet: the standard's `DispatcherType` (Jakarta Servlet 6.0, section 6.2.5). It is printed as
-/// a descriptor names it.
+/// How a request reaches a servlet: the standard's `DispatcherType` (Jakarta Servlet 6.0, section 6.2.5). It is printed
+/// as descriptors name it.
 #[derive(Clone, Copy, Debug, PartialEq, Eq)]
 pub enum Kind {
     /// From a client.

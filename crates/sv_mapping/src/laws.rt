@@ -1,11 +1,11 @@
-//! What holds of the best match: each law is the contract of a function that does nothing.
+//! The laws of the best match. Each is the contract of an empty function.
 
 ghost use Rattle.std.specs.Prelude.{◌≡◌};
 ghost use Rattle.sv_mapping.specs.BestMatch.{BestExists, BestIsAMatch, BestIsUnique, BestStandsFirst};
 ghost use Rattle.sv_mapping.specs.MatchOrder.{BestIsFirstTried, BestOfOthers};
 ghost use Rattle.sv_mapping.specs.declared.limits.TheConstants.{MAX_PATTERN_BYTES};
 
-/// There is a best match exactly where a pattern matches the path.
+/// There is a best match exactly if a pattern matches the path.
 pub fn best_exists()
     ensures { BestExists }
 {}
@@ -20,14 +20,14 @@ pub fn best_is_unique()
     ensures { BestIsUnique }
 {}
 
-/// The best match is the first pattern that is found by trying the exact pattern for the path, then its prefixes from the
-/// longest to the shortest, then its extension, then the default pattern.
+/// For a path that begins with a slash, the best match is the first pattern found by trying the exact pattern for the
+/// path, its prefixes from the longest to the shortest, its extension, and the default pattern.
 pub fn best_is_first_tried()
     ensures { BestIsFirstTried }
 {}
 
-/// For a path that does not begin with a slash the best match is the first pattern that is found by trying `/*`, if the path
-/// is empty, then its extension, then the default pattern.
+/// For a path that does not begin with a slash, the best match is the first pattern found by trying `/*` if the path is
+/// empty, then its extension, then the default pattern.
 pub fn best_of_others()
     ensures { BestOfOthers }
 {}
@@ -37,7 +37,7 @@ pub fn best_stands_first()
     ensures { BestStandsFirst }
 {}
 
-/// The limits of this crate as numbers.
+/// The limits of this crate, as numbers.
 pub fn limits_are_as_stated()
     ensures pattern { MAX_PATTERN_BYTES ≡ 1024 }
 {}

@@ -1,4 +1,4 @@
-//! URL patterns of a servlet mapping, the best match among them, and how a match splits the path.
+//! URL patterns of a servlet mapping, the best match among them, and the split of a matched path.
 #![tactic(auto)]
 
 mod best_match;

@@ -1,4 +1,4 @@
 //! The limits of this crate.
 
-/// How many bytes the text of a URL pattern may have.
+/// The greatest length of a URL pattern's text, in bytes.
 pub const MAX_PATTERN_BYTES: usize = 1024;

@@ -3,8 +3,8 @@
 /// The parts of a path within its context.
 #[derive(Clone, Copy)]
 pub struct Split<'a> {
-    /// What the pattern claims of the path.
+    /// The part of the path that the pattern claims.
     pub servlet_path: &'a str,
-    /// What follows the prefix of a prefix pattern, if something does, and `/` for the pattern `""`.
+    /// The rest after the prefix of a prefix pattern, unless it is empty, or `/` for the pattern `""`.
     pub path_info: Option<&'a str>,
 }

@@ -33,12 +33,12 @@ impl Model for Pattern {
 }
 
 impl Pattern {
-    /// Reads a URL pattern of at most [`MAX_PATTERN_BYTES`] bytes: the empty text, a text that begins with `/`,
-    /// or `*.` and a text without `/` (Jakarta Servlet 6.0, section 12.2).
+    /// Reads a URL pattern of at most [`MAX_PATTERN_BYTES`] bytes: the empty text, a text that begins with `/`, or `*.`
+    /// and a text without `/` (Jakarta Servlet 6.0, section 12.2).
     ///
     /// # Errors
-    /// [`PatternFault::BadPattern`] for every other text, and [`PatternFault::NoMemory`] where there was no memory
-    /// to keep the text of a pattern.
+    /// [`PatternFault::BadPattern`] for any other text, and [`PatternFault::NoMemory`] if there is no memory for a copy
+    /// of the pattern's text.
     pub fn parse(alloc: Global, text: &str) -> Result<Pattern, PatternFault>
         ensures gives { Gives text_fault result (pattern_read text.now) }
         ensures refused { IsErrOf result PatternFault.BadPattern ↔ IsTrue (not (is_pattern text.now)) }
@@ -51,7 +51,7 @@ impl Pattern {
         })
     }
 
-    /// The text that the pattern was read from.
+    /// Returns the text of the pattern.
     pub fn text(&self) -> &str
         ensures value { result.now ≡ self.now }
         ensures accepted { IsTrue (is_pattern result.now) }
@@ -59,22 +59,22 @@ impl Pattern {
         self.text.as_str()
     }
 
-    /// Whether the pattern matches a path within its context (Jakarta Servlet 6.0, sections 12.1 and 12.2). The path
-    /// is any text that begins with `/`, canonical or not, and is compared with case.
+    /// Returns whether the pattern matches a path within its context (Jakarta Servlet 6.0, sections 12.1 and 12.2). The
+    /// path may be any text, canonical or not, and is compared with case.
     pub fn matches(&self, path: &str) -> bool
         ensures { result ≡ matches self.now path.now }
     {
         self.form().matches(path)
     }
 
-    /// Whether the pattern stands before the other one where both match a path.
+    /// Returns whether the pattern is chosen before the other one if both match a path.
     pub(crate) fn outranks(&self, other: &Pattern) -> bool
         ensures { result ≡ outranks self.now other.now }
     {
         Rank::of(self.form()).is_above(Rank::of(other.form()))
     }
 
-    /// What the pattern's text says. No two texts have one form.
+    /// Returns the form of the pattern's text. No two texts have the same form.
     pub fn form(&self) -> Form<'_>
         ensures form { form_seen result ≡ form self.now }
         ensures text { form_text (form_seen result) ≡ self.now }

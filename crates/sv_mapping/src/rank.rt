@@ -7,18 +7,18 @@ ghost use Rattle.sv_mapping.specs.Rank.{rank_number};
 
 use crate::form::Form;
 
-/// The ranks of patterns in rising order (Jakarta Servlet 6.0, section 12.1).
+/// The ranks of patterns, in rising order (Jakarta Servlet 6.0, section 12.1).
 #[derive(Clone, Copy, PartialEq, Eq, PartialOrd, Ord)]
 pub enum Rank {
     Default,
     Extension,
-    /// Of prefixes the longer one, by its bytes.
+    /// A prefix of this length in bytes. Longer prefixes rank higher.
     Prefix(usize),
     Exact,
 }
 
 impl Rank {
-    /// The rank of a form.
+    /// Returns the rank of a form.
     pub fn of(form: Form<'_>) -> Rank
         ensures { rank_number result ≡ form_rank (form_seen form.entry) }
     {
@@ -30,7 +30,7 @@ impl Rank {
         }
     }
 
-    /// Whether a pattern of this rank is chosen before one of the other.
+    /// Returns whether a pattern of this rank is chosen before one of the other rank.
     pub fn is_above(self, other: Rank) -> bool
         ensures { result ≡ is_above (rank_number self) (rank_number other) }
     {

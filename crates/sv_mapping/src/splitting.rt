@@ -1,4 +1,4 @@
-//! How a match splits the path into servlet path and path info (Jakarta Servlet 6.0, section 3.5).
+//! Splitting a matched path into servlet path and path info (Jakarta Servlet 6.0, section 3.5).
 
 ghost use Rattle.std.specs.Prelude.{◌≡◌, [], ◌++◌, IsTrue, take, unwrap_or};
 ghost use Rattle.std.specs.Option.{option_copied};

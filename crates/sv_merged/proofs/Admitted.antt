@@ -1,4 +1,4 @@
--- The least number of the constraints that admit a caller, from the numbers kept for roles.
+-- The least number of the constraints that admit a caller, computed from the numbers of the roles.
 use Rattle.std.proofs.Common.{arith, subst, ◌≡◌, ℕ, ◌+◌, ◌<◌, ◌≤◌, length, take, get_or, Bool, true, false, ◌||◌, List, [], ◌∷◌, ◌++◌, map, refl, ap, sym, ◌∙◌, min, Option, None, Some, cond, codes}
 use Rattle.std.specs.Borrow.{Bor}
 use Rattle.std.specs.Prelude.{filter, fold}
@@ -27,7 +27,7 @@ use Rattle.sv_merged.specs.declared.merged.Merged.{Merged}
 min_assoc : (n m k : ℕ) → min (min n m) k ≡ min n (min m k)
 min_assoc n m k = grind arith
 
--- the least number of one constraint and others
+-- The least number of one constraint and others.
 fold_min : (n m : ℕ) (ns : List ℕ) → fold min (min n m) ns ≡ min n (fold min m ns)
 fold_min n m [] = refl
 fold_min n m (k ∷ ns) = ap (λ x. fold min x ns) (min_assoc n m k) ∙ fold_min n (min m k) ns
@@ -66,7 +66,7 @@ either_at true false n x y = sym (lesser_assoc (Some n) x y)
 either_at false true n x y = sym (lesser_assoc (Some n) x y) ∙ ap (λ z. lesser z y) (lesser_comm (Some n) x) ∙ lesser_assoc x (Some n) y
 either_at false false n x y = refl
 
--- the least number of those that pass one of two tests
+-- The least number of the constraints that pass one of two tests.
 least_either : (p q : Constraint → Bool) (members : List Constraint) → least_where (λ c. p c || q c) members ≡ lesser (least_where p members) (least_where q members)
 least_either p q [] = refl
 least_either p q (c ∷ members) =
@@ -83,7 +83,7 @@ or_assoc : (a b c : Bool) → ((a || b) || c) ≡ (a || (b || c))
 or_assoc true b c = refl
 or_assoc false b c = refl
 
--- the least of the numbers of several tests, after one that came before
+-- The least of the numbers for several tests, after that of an earlier test.
 least_any : {R : Type 0} (kept : R → Option ℕ) (passes : R → Constraint → Bool) (members : List Constraint) → ((role : R) → kept role ≡ least_where (passes role) members) → (held : List R) (before : Constraint → Bool)
     → fold (λ least role. lesser least (kept role)) (least_where before members) held ≡ least_where (λ c. before c || list_any (λ role. passes role c) held) members
 least_any kept passes members is [] before = least_same before (λ c. before c || false) (λ c. or_nothing (before c)) members
@@ -92,7 +92,7 @@ least_any kept passes members is (role ∷ held) before =
     ∙ least_any kept passes members is held (λ c. before c || passes role c)
     ∙ least_same (λ c. (before c || passes role c) || list_any (λ other. passes other c) held) (λ c. before c || (passes role c || list_any (λ other. passes other c) held)) (λ c. or_assoc (before c) (passes role c) (list_any (λ other. passes other c) held)) members
 
--- a role of one list is in the other, whichever is gone over first
+-- Whether two lists of roles overlap does not depend on which of them is searched first.
 either_none : {X : Type 0} (xs : List X) → list_any (λ x. false) xs ≡ false
 either_none [] = refl
 either_none (x ∷ xs) = either_none xs
@@ -127,7 +127,7 @@ nobody_admitted : (rules : Rules) (members : List Constraint) → None ≡ least
 nobody_admitted rules [] = refl
 nobody_admitted rules (c ∷ members) = nobody_admitted rules members
 
--- the least number of those that admit the caller
+-- The least number of the constraints that admit the caller.
 admitting_is : (rules : Rules) (members : List Constraint) (merged : Merged) (caller : Option Caller) → IsMerged rules members merged → admitting merged caller ≡ least_where (admits_caller rules caller) members
 admitting_is rules members merged None is = nobody_admitted rules members
 admitting_is rules members merged (Some caller) is =
@@ -135,14 +135,14 @@ admitting_is rules members merged (Some caller) is =
     ∙ least_any (number_of merged.roles) (grants rules) members is.roles caller.roles admits_everyone
     ∙ least_same (λ c. admits_everyone c || list_any (λ role. grants rules role c) caller.roles) (admits_caller rules (Some caller)) (λ c. admits_auth rules caller c.auth) members
 
--- what is found for a caller
+-- The findings for a caller.
 pub found_for : (rules : Rules) (members : List Constraint) (merged : Merged) (caller : Option Caller) (admitted : Option ℕ) → IsMerged rules members merged → admitted ≡ admitting merged caller
     → record { covering = merged.found.covering; precluding = merged.found.precluding; permits_plain = merged.found.permits_plain; unauthenticated = merged.found.unauthenticated; admitting = admitted } ≡ findings_of rules caller members
 found_for rules members merged caller admitted is is_admitted =
     ap (λ (x : Findings). record { covering = x.covering; precluding = x.precluding; permits_plain = x.permits_plain; unauthenticated = x.unauthenticated; admitting = admitted }) is.found
     ∙ ap (λ y. record { covering = (findings_of rules caller members).covering; precluding = (findings_of rules caller members).precluding; permits_plain = (findings_of rules caller members).permits_plain; unauthenticated = (findings_of rules caller members).unauthenticated; admitting = y }) (is_admitted ∙ admitting_is rules members merged caller is)
 
--- what is merged with one more constraint
+-- The merge after one more constraint.
 pub merged_more : LeastOfOneMore → FindingsOfOneMore → (rules : Rules) (members : List Constraint) (c : Constraint) (before after : Merged) → IsMerged rules members before
     → after.found ≡ with_one rules None c before.found
     → after.everyone ≡ lesser before.everyone (then_some (admits_everyone c) c.number)
@@ -155,7 +155,7 @@ merged_more least_where_more found_more rules members c before after is found ev
 }
 
 module _ (rules : Rules) (test : Constraint → Bool) (members : List (Bor Constraint)) (i : ℕ) (m : Bor Constraint) (before final : Merged) (within : i < length members) (at_i : m ≡ get_or members i m) (is : IsMerged rules (filter test (map (λ member. member.now) (take i members))) before) where
-  -- one more constraint, which passes the test and is merged, or does not
+  -- The merge after one more constraint, which passes the test and is merged, or is skipped.
   pub gathered : (after : Merged) → test m.now ≡ true → ((ms : List Constraint) → IsMerged rules ms before → IsMerged rules (ms ++ m.now ∷ []) after) → final ≡ after → IsMerged rules (filter test (map (λ member. member.now) (take (i + 1) members))) final
   gathered after passes more is_after =
       subst (λ x. IsMerged rules (filter test x) final) (sym (seen_more (λ member. member.now) members i m within at_i))
@@ -168,6 +168,6 @@ module _ (rules : Rules) (test : Constraint → Bool) (members : List (Bor Const
       (subst (λ x. IsMerged rules x final) (sym (filter_stop test (map (λ member. member.now) (take i members)) m.now stops))
       (subst (IsMerged rules (filter test (map (λ member. member.now) (take i members)))) (sym is_before) is))
 
--- every constraint was gone over
+-- The merge after all constraints.
 pub gathered_all : (rules : Rules) (test : Constraint → Bool) (members : List (Bor Constraint)) (i : ℕ) (merged : Merged) → length members ≤ i → IsMerged rules (filter test (map (λ member. member.now) (take i members))) merged → IsMerged rules (filter test (map (λ member. member.now) members)) merged
 gathered_all rules test members i merged ended is = subst (λ x. IsMerged rules (filter test (map (λ member. member.now) x)) merged) (gone_over members i ended) is

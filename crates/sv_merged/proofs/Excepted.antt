@@ -1,4 +1,4 @@
--- The named methods that are covered where the others are not, or the other way round.
+-- The named methods that are covered if the unnamed ones are not, or uncovered if the unnamed ones are covered.
 use Rattle.std.proofs.Common.{◌≡◌, ℕ, Bool, true, false, ◌||◌, List, [], ◌∷◌, ◌++◌, map, refl, ap, sym, ◌∙◌, Option, Some, cond, nat_cmp, Less, string_bytes, string_cmp, String, Global}
 use Rattle.std.specs.Prelude.{filter}
 use Rattle.std.specs.BTreeMap.{is_at}
@@ -25,11 +25,11 @@ Entry = String Global × Box Merged Global
 abbrev pub is_exception : Merged → Entry → Bool
 is_exception rest entry = differ (is_bare entry.1.value) (is_bare rest)
 
--- the names of the entries that differ from the rest
+-- The names of the entries that differ from the entry for all other methods.
 abbrev pub excepted : Merged → List Entry → List (List ℕ)
 excepted rest entries = map (λ entry. string_bytes entry.0) (filter (is_exception rest) entries)
 
--- with one more entry, which differs or does not
+-- The names after one more entry, which differs or does not.
 more_at : (rest : Merged) (before : List Entry) (entry : Entry) (is : Bool) → map (λ e. string_bytes e.0) (filter (is_exception rest) before ++ cond is (entry ∷ []) []) ≡ excepted rest before ++ cond is (string_bytes entry.0 ∷ []) []
 more_at rest before entry true = map-append (λ e. string_bytes e.0) (filter (is_exception rest) before) (entry ∷ [])
 more_at rest before entry false = map-append (λ e. string_bytes e.0) (filter (is_exception rest) before) []
@@ -40,7 +40,7 @@ one_at rest entry = refl
 pub excepted_more : (rest : Merged) (before : List Entry) (entry : Entry) → excepted rest (before ++ entry ∷ []) ≡ excepted rest before ++ cond (is_exception rest entry) (string_bytes entry.0 ∷ []) []
 excepted_more rest before entry = ap (map (λ e. string_bytes e.0)) (filter-append (is_exception rest) before (entry ∷ [])) ∙ more_at rest before entry (is_exception rest entry)
 
--- a name before all keys stands before the names
+-- A name that sorts before all keys sorts before all names.
 above_at : (k : List ℕ) (e : Entry) (rest : List Entry) (is : Bool) → slice_cmp nat_cmp k (string_bytes e.0) ≡ Less → AllByRecursion (λ other. slice_cmp nat_cmp k other ≡ Less) (map (λ x. string_bytes x.0) rest) → AllByRecursion (λ other. slice_cmp nat_cmp k other ≡ Less) (map (λ x. string_bytes x.0) (cond is (e ∷ rest) rest))
 above_at k e rest true less above = (less, above)
 above_at k e rest false less above = above
@@ -54,7 +54,7 @@ unfolding IsStrictlySortedBy
 rises_at e rest true above rises = (above, rises)
 rises_at e rest false above rises = rises
 
--- the names rise as the keys do
+-- The names are strictly ascending if the keys are.
 pub excepted_rises : (rest : Merged) (es : List Entry) → IsStrictlySortedBy string_cmp (keys_of es) → IsStrictlySortedBy (slice_cmp nat_cmp) (excepted rest es)
 unfolding IsStrictlySortedBy
 excepted_rises rest [] sorted = tt
@@ -84,7 +84,7 @@ lists_at rest e es method false at above more =
     ((λ h. sym ((bytes_eq-Decides method (string_bytes e.0)).0 h)), (λ h. (bytes_eq-Decides method (string_bytes e.0)).1 (sym h))) ∙ at)
     more
 
--- a method is among the names where its entry differs from the rest
+-- A method is among the names exactly if it has an entry that differs from the entry for all other methods.
 pub excepted_lists : (rest : Merged) (es : List Entry) (method : List ℕ) → IsStrictlySortedBy string_cmp (keys_of es) → lists (excepted rest es) method ≡ differing rest (lookup (is_at (λ k. slice_cmp nat_cmp method (string_bytes k))) es)
 unfolding IsStrictlySortedBy
 excepted_lists rest [] method sorted = refl

@@ -1,4 +1,4 @@
--- A loop's step over tests, filters and joined lists.
+-- Loop steps over tests, filters and joined lists.
 use Rattle.std.proofs.Common.{◌≡◌, ℕ, ◌+◌, ◌<◌, ◌≤◌, Bool, true, false, ◌||◌, List, [], ◌∷◌, ◌++◌, length, take, get_or, map, refl, ap, sym, ◌∙◌, append-nil, cond}
 use Rattle.std.specs.Prelude.{filter}
 use Rattle.std.specs.List.{list_any, flat_map}
@@ -6,27 +6,27 @@ use Rattle.std.proofs.lemmas.List.{take_more, take_all, map-append}
 use Rattle.std.proofs.lemmas.List.Elements.{filter-append}
 use Rattle.std.proofs.lemmas.List.Folds.{list_any-append, list_any_more}
 
--- whether one of the first items and the next one passes
+-- Whether one of the first items or the next one passes.
 pub any_more : {X : Type 0} (test : X → Bool) (xs : List X) (i : ℕ) (x : X) → i < length xs → x ≡ get_or xs i x → list_any test (take (i + 1) xs) ≡ (list_any test (take i xs) || test x)
 any_more test xs i x within at_i = list_any_more test xs i x within ∙ ap (λ y. list_any test (take i xs) || test y) (sym at_i)
 
--- the items behind references, one by one
+-- The referenced items, one at a time.
 pub seen_more : {A X : Type 0} (now : A → X) (xs : List A) (i : ℕ) (x : A) → i < length xs → x ≡ get_or xs i x → map now (take (i + 1) xs) ≡ map now (take i xs) ++ now x ∷ []
 seen_more now xs i x within at_i =
     ap (map now) (take_more xs i x within) ∙ map-append now (take i xs) (get_or xs i x ∷ []) ∙ ap (λ y. map now (take i xs) ++ now y ∷ []) (sym at_i)
 
--- the items of a list that was gone over to its end
+-- The items after a loop has reached the end of the list.
 pub gone_over : {X : Type 0} (xs : List X) (i : ℕ) → length xs ≤ i → take i xs ≡ xs
 gone_over xs i ended = take_all i xs ended
 
--- a filter over one more item, which passes, or does not
+-- A filter after one more item, which passes or does not.
 pub filter_pass : {X : Type 0} (test : X → Bool) (xs : List X) (x : X) → test x ≡ true → filter test (xs ++ x ∷ []) ≡ filter test xs ++ x ∷ []
 filter_pass test xs x passes = filter-append test xs (x ∷ []) ∙ ap (λ b. filter test xs ++ cond b (x ∷ []) []) passes
 
 pub filter_stop : {X : Type 0} (test : X → Bool) (xs : List X) (x : X) → test x ≡ false → filter test (xs ++ x ∷ []) ≡ filter test xs
 filter_stop test xs x stops = filter-append test xs (x ∷ []) ∙ ap (λ b. filter test xs ++ cond b (x ∷ []) []) stops ∙ append-nil (filter test xs)
 
--- tests that agree on every item leave the same
+-- Filters with tests that agree on every item keep the same items.
 pub filter_same : {X : Type 0} (p q : X → Bool) → ((x : X) → p x ≡ q x) → (xs : List X) → filter p xs ≡ filter q xs
 filter_same p q same [] = refl
 filter_same p q same (x ∷ xs) = ap (λ b. cond b (x ∷ filter p xs) (filter p xs)) (same x) ∙ ap (λ rest. cond (q x) (x ∷ rest) rest) (filter_same p q same xs)
@@ -35,7 +35,7 @@ pub any_same : {X : Type 0} (p q : X → Bool) → ((x : X) → p x ≡ q x) →
 any_same p q same [] = refl
 any_same p q same (x ∷ xs) = ap (λ b. b || list_any p xs) (same x) ∙ ap (λ rest. q x || rest) (any_same p q same xs)
 
--- a test finds an item in a joined list where it finds one in a part
+-- The joined list has an item that passes the test exactly if one of the parts has.
 pub any_of_joined : {X A : Type 0} (test : A → Bool) (f : X → List A) (xs : List X) → list_any test (flat_map f xs) ≡ list_any (λ x. list_any test (f x)) xs
 any_of_joined test f [] = refl
 any_of_joined test f (x ∷ xs) = list_any-append test (f x) (flat_map f xs) ∙ ap (λ found. list_any test (f x) || found) (any_of_joined test f xs)

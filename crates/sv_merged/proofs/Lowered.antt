@@ -1,4 +1,4 @@
--- The lesser of numbers that are kept where a test holds.
+-- The lesser of a stored number and a new one that counts only if a test holds.
 use Rattle.std.proofs.lemmas.Bool.{false≢true}
 use Rattle.std.proofs.Common.{arith, ◌≡◌, ℕ, Bool, true, false, ◌||◌, List, refl, ap, sym, ◌∙◌, min, Option, None, Some, cond}
 use Rattle.std.specs.Prelude.{nat_le}
@@ -18,7 +18,7 @@ min_twice k n = grind arith
 min_same : (n : ℕ) → min n n ≡ n
 min_same n = grind arith
 
--- two tests one after the other keep the number where one of them holds
+-- Counting a number under two tests, one after the other, counts it if one of them holds.
 pub lesser_twice : (found : Option ℕ) (a b : Bool) (n : ℕ) → lesser (lesser found (then_some a n)) (then_some b n) ≡ lesser found (then_some (a || b) n)
 lesser_twice None true true n = ap Some (min_same n)
 lesser_twice None true false n = refl
@@ -33,7 +33,7 @@ lesser_assoc (Some n) None c = refl
 lesser_assoc (Some n) (Some m) None = refl
 lesser_assoc (Some n) (Some m) (Some k) = ap Some (grind arith)
 
--- at most this number is kept
+-- Whether there is a stored number and it is at most this one.
 abbrev pub at_most : Option ℕ → ℕ → Bool
 at_most held number = option_map_or (λ kept. nat_le kept number) held false
 
@@ -43,12 +43,12 @@ min_below k n below = grind arith
 min_above : (k n : ℕ) → nat_le k n ≡ false → n ≡ min k n
 min_above k n above = grind arith
 
--- a number that is no lower than the one kept changes nothing
+-- A number that is not below the stored one changes nothing.
 kept_same : (held : Option ℕ) (number : ℕ) → at_most held number ≡ true → held ≡ lesser held (Some number)
 kept_same None number below = absurd (false≢true below)
 kept_same (Some k) number below = ap Some (min_below k number below)
 
--- and every other one takes its place
+-- Any other number replaces the stored one.
 put_same : (held : Option ℕ) (number : ℕ) → at_most held number ≡ false → Some number ≡ lesser held (Some number)
 put_same None number above = refl
 put_same (Some k) number above = ap Some (min_above k number above)

@@ -1,4 +1,4 @@
--- A method that is not named is covered where the methods that are not named are.
+-- A method that is not named is covered exactly if the unnamed methods are.
 use Rattle.std.proofs.lemmas.Bool.{false≢true}
 use Rattle.std.proofs.Common.{◌≡◌, ℕ, Bool, true, false, not, ◌||◌, ◌&&◌, List, [], ◌∷◌, refl, ap, sym, ◌∙◌, Some, None, cond}
 use Rattle.std.specs.Prelude.{filter}
@@ -44,7 +44,7 @@ module _ (pattern method : List ℕ) where
       ap (λ first. first || list_any (λ c. collection_covers_unnamed c pattern) collections) (listed_split (lists collection.patterns pattern) collection (filter (λ c. lists c.patterns pattern) collections) unnamed)
       ∙ ap (λ rest. collection_covers collection pattern method || rest) (unnamed_collections collections (listed_rest (lists collection.patterns pattern) collection (filter (λ c. lists c.patterns pattern) collections) unnamed))
 
-  -- so the same constraints cover both
+  -- The same constraints cover a method that is not named and the unnamed methods.
   pub unnamed_members : (members : List Constraint) → lists (named_methods members pattern) method ≡ false → filter (λ member. covers_at member pattern None) members ≡ filter (λ member. covers_at member pattern (Some method)) members
   unnamed_members [] unnamed = refl
   unnamed_members (member ∷ members) unnamed =

@@ -1,4 +1,4 @@
--- Texts in the order of their bytes.
+-- Texts in byte order.
 use Rattle.std.proofs.lemmas.Bool.{false≢true}
 use Rattle.std.proofs.Common.{◌≡◌, ℕ, Bool, true, false, ◌||◌, ◌&&◌, List, [], ◌∷◌, refl, ap, sym, subst, ◌∙◌, Ordering, Less, Equal, Greater, nat_cmp, is_eq}
 use Rattle.std.specs.Prelude.{filter, fold}
@@ -21,7 +21,7 @@ cmp = slice_cmp nat_cmp
 abbrev Rises : List (List ℕ) → Type 0
 Rises texts = IsStrictlySortedBy (slice_cmp nat_cmp) texts
 
--- all of the texts stand behind this one
+-- All of the texts sort after this one.
 abbrev Above : List ℕ → List (List ℕ) → Type 0
 Above text texts = AllByRecursion (λ other. slice_cmp nat_cmp text other ≡ Less) texts
 
@@ -35,7 +35,7 @@ above_through : (x y : List ℕ) (ys : List (List ℕ)) → cmp x y ≡ Less →
 above_through x y [] e above = tt
 above_through x y (z ∷ ys) e above = (nat_list_cmp_total.trans x y z e above.0, above_through x y ys e above.1)
 
--- a text that stands before all others is none of them
+-- A text that sorts before all others differs from each of them.
 pub absent_below : (x : List ℕ) (ys : List (List ℕ)) → Above x ys → lists ys x ≡ false
 absent_below x [] above = refl
 absent_below x (y ∷ ys) above = ap (λ b. b || lists ys x) (differs_at x y above.0) ∙ absent_below x ys above.1
@@ -99,7 +99,7 @@ none_rise : Rises []
 unfolding IsStrictlySortedBy
 none_rise = tt
 
--- the texts in order rise, and are the same texts
+-- Sorted texts are strictly ascending, and are the same texts.
 pub rising_rises : (texts : List (List ℕ)) → Rises (rising texts)
 rising_rises texts = rises_from [] texts none_rise
 
@@ -115,7 +115,7 @@ here x xs = ap (λ b. b || lists xs x) (same_text x)
 absent_from : (x y : List ℕ) (ys : List (List ℕ)) → cmp x y ≡ Less → Above y ys → lists (y ∷ ys) x ≡ false
 absent_from x y ys e above = absent_below x (y ∷ ys) (e, above_through x y ys e above)
 
--- the first of two lists with the same texts
+-- Strictly ascending lists of the same texts have the same first text.
 heads_at : (x y : List ℕ) (xs ys : List (List ℕ)) (at : Ordering) → cmp x y ≡ at → Above x xs → Above y ys → ((text : List ℕ) → lists (x ∷ xs) text ≡ lists (y ∷ ys) text) → x ≡ y
 heads_at x y xs ys Less e above_x above_y same = absurd (false≢true (sym (absent_from x y ys e above_y) ∙ sym (same x) ∙ here x xs))
 heads_at x y xs ys Equal e above_x above_y same = (bytes_eq-Decides x y).0 (same_at x y e)
@@ -128,7 +128,7 @@ tails_at x text xs ys true is above_xs above_ys same =
     ap (lists xs) (sym there) ∙ absent_below x xs above_xs ∙ sym (absent_below x ys above_ys) ∙ ap (lists ys) there
 tails_at x text xs ys false is above_xs above_ys same = same
 
--- rising lists of the same texts are the same
+-- Strictly ascending lists of the same texts are equal.
 pub rising_same : (xs ys : List (List ℕ)) → Rises xs → Rises ys → ((text : List ℕ) → lists xs text ≡ lists ys text) → xs ≡ ys
 unfolding IsStrictlySortedBy
 rising_same [] [] rises_x rises_y same = refl
@@ -140,7 +140,7 @@ rising_same (x ∷ xs) (y ∷ ys) rises_x rises_y same =
     ∙ ap (λ zs. y ∷ zs) (rising_same xs ys rises_x.1 rises_y.1 (λ text. tails_at x text xs ys (bytes_eq x text) refl rises_x.0 (subst (λ z. Above z ys) (sym heads) rises_y.0)
     (same text ∙ ap (λ z. bytes_eq z text || lists ys text) (sym heads))))
 
--- a text is among those that pass a test where it is among them and passes
+-- A text is in a filtered list exactly if it is in the list and passes the test.
 pub passing_lists : (test : List ℕ → Bool) (texts : List (List ℕ)) (other : List ℕ) → lists (filter test texts) other ≡ (lists texts other && test other)
 passing_lists test texts other =
     any-filter_same (λ listed. bytes_eq listed other) test (test other) (λ listed same. ap test ((bytes_eq-Decides listed other).0 same)) texts

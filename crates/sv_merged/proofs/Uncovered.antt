@@ -1,4 +1,4 @@
--- The methods that are uncovered at a pattern.
+-- The uncovered methods at a pattern.
 use Rattle.std.proofs.lemmas.Bool.{false≢true}
 use Rattle.std.proofs.Common.{arith, ◌≡◌, ℕ, zero, suc, ◌+◌, ◌<◌, Bool, true, false, not, ◌||◌, ◌&&◌, List, [], ◌∷◌, ◌++◌, length, refl, ap, ap₂, sym, ◌∙◌, Option, Some, None, cond, is_none, nat_cmp, ◌==◌}
 use Rattle.std.specs.Prelude.{filter, unwrap_or}
@@ -23,7 +23,7 @@ use Rattle.sv_merged.specs.Merged.{IsMerged}
 use Rattle.sv_merged.specs.Uncovered.{IsRising, are_others_uncovered, differ, is_bare, is_uncovered, rising, uncovered_methods}
 use Rattle.sv_merged.specs.declared.merged.Merged.{Merged}
 
--- a text that is none of these
+-- A text that is not in a list, since it is longer than all its texts together.
 abbrev total : List (List ℕ) → ℕ
 total [] = 0
 total (text ∷ texts) = length text + total texts
@@ -50,7 +50,7 @@ fresh texts = zeros (suc (total texts))
 fresh_absent : (texts : List (List ℕ)) → lists texts (fresh texts) ≡ false
 fresh_absent texts = longer_absent texts (fresh texts) (let whole : length (zeros (suc (total texts))) ≡ suc (total texts) = length_zeros (suc (total texts)) in omega (arith, whole))
 
--- nothing is merged of no constraint alone
+-- There is no least number exactly if there are no constraints.
 none_least : (members : List Constraint) → is_none (least_number members) ≡ (length members == 0)
 none_least [] = refl
 none_least (c ∷ members) = grind arith
@@ -82,7 +82,7 @@ differ_false : (a : Bool) → differ a false ≡ a
 differ_false true = refl
 differ_false false = refl
 
--- a method that is not named is uncovered where the others are
+-- A method that is not named is uncovered exactly if the unnamed methods are.
 unnamed_uncovered : (constraints : List Constraint) (pattern method : List ℕ) → lists (named_methods constraints pattern) method ≡ false → is_uncovered constraints pattern method ≡ are_others_uncovered constraints pattern
 unnamed_uncovered constraints pattern method unnamed =
     ap (λ members. length members == 0) (sym (unnamed_members pattern method constraints unnamed))
@@ -106,11 +106,11 @@ held_at constraints pattern method false true is named =
 held_at constraints pattern method false false is named =
     listed_at constraints pattern method (is_uncovered constraints pattern) ∙ ap (λ b. b && is_uncovered constraints pattern method) named ∙ sym (unnamed_uncovered constraints pattern method named ∙ is)
 
--- the uncovered methods hold just those that are uncovered
+-- The uncovered methods are exactly those that no constraint covers.
 pub uncovered_exact : (constraints : List Constraint) (pattern method : List ℕ) → covers_method (uncovered_methods constraints pattern) method ≡ is_uncovered constraints pattern method
 uncovered_exact constraints pattern method = held_at constraints pattern method (are_others_uncovered constraints pattern) (lists (named_methods constraints pattern) method) refl refl
 
--- the names of uncovered methods rise
+-- The names of the uncovered methods are strictly ascending.
 names_rise : (constraints : List Constraint) (pattern : List ℕ) (others : Bool)
     → IsRising (method_names (cond others (Except (filter (λ m. not (is_uncovered constraints pattern m)) (rising (named_methods constraints pattern)))) (Only (filter (is_uncovered constraints pattern) (rising (named_methods constraints pattern))))))
 names_rise constraints pattern true = IsStrictlySortedBy-filter (slice_cmp nat_cmp) (λ m. not (is_uncovered constraints pattern m)) (rising (named_methods constraints pattern)) (rising_rises (named_methods constraints pattern))
@@ -123,7 +123,7 @@ module _ (rules : Rules) (constraints : List Constraint) (pattern : List ℕ) (g
   bare_uncovered : (method : List ℕ) → is_bare (unwrap_or (get method) rest) ≡ is_uncovered constraints pattern method
   bare_uncovered method = bare_at rules (filter (λ c. covers c pattern method) constraints) (unwrap_or (get method) rest) (whole method)
 
-  -- the rest is bare where the others are uncovered
+  -- The entry for all other methods is empty exactly if the unnamed methods are uncovered.
   rest_at : (names : List (List ℕ)) → ((method : List ℕ) → lists names method ≡ option_map_or (λ entry. differ (is_bare entry) (is_bare rest)) (get method) false) → (method : List ℕ) → lists (named_methods constraints pattern) method ≡ false → (found : Option Merged) → get method ≡ found → lists names method ≡ false → is_bare rest ≡ are_others_uncovered constraints pattern
   rest_at names are method unnamed None at absent =
       ap (λ found. is_bare (unwrap_or found rest)) (sym at) ∙ bare_uncovered method ∙ unnamed_uncovered constraints pattern method unnamed
@@ -180,6 +180,7 @@ module _ (rules : Rules) (constraints : List Constraint) (pattern : List ℕ) (g
         ap Only (names_are ∙ filter_same is_exceptional (is_uncovered constraints pattern) (λ m. ap (differ (is_uncovered constraints pattern m)) is ∙ differ_false (is_uncovered constraints pattern m)) (rising (named_methods constraints pattern)))
         ∙ ap (λ b. cond b (Except (filter (λ m. not (is_uncovered constraints pattern m)) (rising (named_methods constraints pattern)))) (Only (filter (is_uncovered constraints pattern) (rising (named_methods constraints pattern))))) (sym is)
 
-    -- the names that differ from the rest are all methods that are uncovered, or all that are not
+    -- The entries that differ from the one for all other methods are exactly the covered named methods, or exactly the
+    -- uncovered ones.
     pub uncovered_is : (bare : Bool) → is_bare rest ≡ bare → cond bare (Except names) (Only names) ≡ uncovered_methods constraints pattern
     uncovered_is bare is = uncovered_at bare (sym rest_others ∙ is)

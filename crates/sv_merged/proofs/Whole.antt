@@ -1,4 +1,4 @@
--- A table by named methods, and one rule for the rest, is whole.
+-- A table with an entry for each named method and one for all others is complete.
 use Rattle.std.proofs.lemmas.Bool.{false≢true}
 use Rattle.std.proofs.Common.{subst, ◌≡◌, ℕ, ◌+◌, ◌<◌, ◌≤◌, Bool, true, false, ◌||◌, List, [], ◌∷◌, ◌++◌, length, take, get_or, map, refl, ap, sym, ◌∙◌, Option, Some, None, cond, Global}
 use Rattle.std.specs.Borrow.{Bor}
@@ -17,7 +17,7 @@ use Rattle.sv_merged.specs.Covering.{covers_at, named_methods}
 use Rattle.sv_merged.specs.Merged.{IsMerged}
 use Rattle.sv_merged.specs.declared.merged.Merged.{Merged}
 
--- what is in boxes
+-- The contents of boxes.
 pub boxed_some : (found : Option (Box Merged Global)) → is_some (option_map (λ entry. entry.value) found) ≡ is_some found
 boxed_some None = refl
 boxed_some (Some entry) = refl
@@ -31,7 +31,7 @@ pub boxed_put : (found after : Option (Box Merged Global)) (same : Bool) (entry 
 boxed_put found after same entry merged is put =
     ap (option_map (λ kept. kept.value)) put ∙ put_boxed found same entry ∙ ap (λ m. cond same (Some m) (option_map (λ kept. kept.value) found)) is
 
--- each of the names has an entry, which is right
+-- Each of the names has an entry, and every entry is correct.
 abbrev Entered : (List ℕ → Merged → Type 0) → (List ℕ → Option Merged) → List (List ℕ) → Type 0
 Entered right get names = (method : List ℕ) → MatchOption (get method) (lists names method ≡ false) (right method)
 
@@ -44,7 +44,7 @@ module _ (right : List ℕ → Merged → Type 0) (get : List ℕ → Option Mer
   put_at method false entry is fits None had = names_more method false had refl
   put_at method false entry is fits (Some held) had = had
 
-  -- with one more entry
+  -- The entries after adding one.
   pub entered_put : (after : List ℕ → Option Merged) (entry : Merged) → right name entry → ((method : List ℕ) → after method ≡ cond (bytes_eq name method) (Some entry) (get method)) → Entered right after (names ++ name ∷ [])
   entered_put after entry fits updated = λ method.
       subst (λ found. MatchOption found (lists (names ++ name ∷ []) method ≡ false) (right method)) (sym (updated method))
@@ -56,13 +56,13 @@ module _ (right : List ℕ → Merged → Type 0) (get : List ℕ → Option Mer
   keep_at method false is had None found entry = names_more method false entry refl
   keep_at method same is had (Some held) found entry = entry
 
-  -- with one more name that has an entry
+  -- The entries after one more name that already has one.
   pub entered_kept : is_some (get name) ≡ true → Entered right get (names ++ name ∷ [])
   entered_kept had = λ method.
       subst (λ b. MatchOption (get method) (b ≡ false) (right method)) (sym (list_any-append (λ listed. bytes_eq listed method) names (name ∷ [])))
       (keep_at method (bytes_eq name method) (λ same. (bytes_eq-Decides name method).0 same) had (get method) refl (entered method))
 
--- the names of a loop with its next one
+-- The names of a loop and the next one.
 pub entered_more : (right : List ℕ → Merged → Type 0) (get : List ℕ → Option Merged) (items : List (Bor (List ℕ))) (i : ℕ) (name : Bor (List ℕ)) → i < length items → name ≡ get_or items i name → Entered right get (map (λ n. n.now) (take i items) ++ name.now ∷ []) → Entered right get (map (λ n. n.now) (take (i + 1) items))
 entered_more right get items i name within at_i entered =
     subst (Entered right get) (sym (seen_more (λ n. n.now) items i name within at_i)) entered
@@ -75,7 +75,7 @@ module _ (rules : Rules) (pattern : List ℕ) (members : List Constraint) (get :
   entry_at method None unnamed = subst (λ covered. IsMerged rules covered rest) (unnamed_members pattern method members unnamed) rested
   entry_at method (Some entry) entered = entered
 
-  -- an entry for every named method, and the rule for the rest, serve every method
+  -- With an entry for every named method and one for all others, every method has a correct entry.
   pub whole : (items : List (Bor (List ℕ))) (i : ℕ) → length items ≤ i → map (λ n. n.now) items ≡ named_methods members pattern → Entered right get (map (λ n. n.now) (take i items)) → (method : List ℕ) → right method (unwrap_or (get method) rest)
   whole items i ended named entered = λ method.
       entry_at method (get method) (subst (λ names. Entered right get names) (ap (map (λ n. n.now)) (gone_over items i ended) ∙ named) entered method)

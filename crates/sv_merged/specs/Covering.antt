@@ -1,4 +1,5 @@
--- Jakarta Servlet 6.0, section 13.8.1: the methods that constraints name at a pattern, and who covers the others.
+-- The methods that constraints name at a pattern, and the constraints that cover the others (Jakarta Servlet 6.0,
+-- section 13.8.1).
 use Rattle.std.specs.Prelude.{ℕ, Bool, true, false, not, ◌&&◌, List, [], filter, Option, None, Some}
 use Rattle.std.specs.List.{list_any, flat_map}
 use Rattle.sv_constraints.specs.Covering.{covers, lists}
@@ -7,20 +8,20 @@ use Rattle.sv_constraints.specs.declared.constraint.Constraint.{Constraint}
 use Rattle.sv_constraints.specs.declared.constraint.Methods.{Methods}
 use Rattle.sv_constraints.specs.declared.constraint.Methods.TheVariants.{All, Only, Except}
 
--- the methods that are named, whether they are covered or left out
+-- The methods that are named, whether they are covered or excluded.
 abbrev pub method_names : Methods → List (List ℕ)
 method_names All = []
 method_names (Only methods) = methods
 method_names (Except methods) = methods
 
--- the methods that collections name at the pattern, and those that constraints name
+-- The methods that collections name at the pattern, and those that constraints name.
 abbrev pub listed_methods : List Collection → List ℕ → List (List ℕ)
 listed_methods collections pattern = flat_map (λ collection. method_names collection.methods) (filter (λ collection. lists collection.patterns pattern) collections)
 
 abbrev pub named_methods : List Constraint → List ℕ → List (List ℕ)
 named_methods constraints pattern = flat_map (λ constraint. listed_methods constraint.collections pattern) constraints
 
--- whether a method that is not named is covered
+-- Whether the methods that are not named are left uncovered.
 abbrev pub leaves_others_open : Methods → Bool
 leaves_others_open All = false
 leaves_others_open (Only methods) = true
@@ -32,7 +33,7 @@ collection_covers_unnamed collection pattern = lists collection.patterns pattern
 abbrev pub covers_unnamed : Constraint → List ℕ → Bool
 covers_unnamed constraint pattern = list_any (λ collection. collection_covers_unnamed collection pattern) constraint.collections
 
--- whether the constraint covers the method at the pattern, or, without a method, those that are not named there
+-- Whether the constraint covers the method at the pattern or, without a method, the methods that are not named there.
 abbrev pub covers_at : Constraint → List ℕ → Option (List ℕ) → Bool
 covers_at constraint pattern None = covers_unnamed constraint pattern
 covers_at constraint pattern (Some method) = covers constraint pattern method

@@ -1,4 +1,4 @@
--- Jakarta Servlet 6.0, section 13.8.1: what constraints come to at a pattern, by method.
+-- The constraints on a pattern, merged by method (Jakarta Servlet 6.0, section 13.8.1).
 use Rattle.std.specs.Prelude.{◌≡◌, ℕ, false, List, String, filter, Option, MatchOption, unwrap_or}
 use Rattle.std.proofs.Common.{Global}
 use Rattle.std.specs.BTreeMap.{BTreeMap, get_by_text}
@@ -11,20 +11,21 @@ use Rattle.sv_merged.specs.Merged.{IsMerged}
 use Rattle.sv_merged.specs.declared.entries.Entries.{Entries}
 use Rattle.sv_merged.specs.declared.merged.Merged.{Merged}
 
--- each of the methods has an entry, which is what the constraints that cover it at the pattern come to
+-- Each of the methods has an entry, and each entry is the merge of the constraints that cover its method at the
+-- pattern.
 abbrev pub HasEntries : Rules → List Constraint → List ℕ → (List ℕ → Option Merged) → List (List ℕ) → Type 0
 HasEntries rules constraints pattern get methods = (method : List ℕ) → MatchOption (get method)
     (lists methods method ≡ false)
     (IsMerged rules (filter (λ constraint. covers constraint pattern method) constraints))
 
--- the entry that is kept for the method
+-- The stored entry of the method, if any.
 abbrev pub entry_in : BTreeMap (String Global) (Box Merged Global) → List ℕ → Option Merged
 entry_in methods method = option_map (λ entry. entry.value) (get_by_text methods method)
 
--- the entry of the method, or the rule for the rest
+-- The entry of the method, or the entry for all other methods.
 abbrev pub entry_for : Entries → List ℕ → Merged
 entry_for entries method = unwrap_or (entry_in entries.methods method) entries.rest
 
--- the entry of every method is what the constraints that cover it at the pattern come to
+-- The entry of every method is the merge of the constraints that cover it at the pattern.
 abbrev pub AreEntries : Rules → List Constraint → List ℕ → Entries → Type 0
 AreEntries rules constraints pattern entries = (method : List ℕ) → IsMerged rules (filter (λ constraint. covers constraint pattern method) constraints) (entry_for entries method)

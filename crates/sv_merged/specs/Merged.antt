@@ -1,4 +1,4 @@
--- Jakarta Servlet 6.0, section 13.8.1: what constraints come to together, for every caller at once.
+-- Merged constraints, for all callers at once (Jakarta Servlet 6.0, section 13.8.1).
 use Rattle.std.specs.Prelude.{◌≡◌, ℕ, Bool, false, List, fold, Option, None, Some, codes}
 use Rattle.std.specs.HashMap.{get_by_text}
 use Rattle.sv_realm.specs.declared.caller.Caller.{Caller}
@@ -13,12 +13,12 @@ use Rattle.sv_constraints.specs.declared.rules.Rules.{Rules}
 use Rattle.sv_merged.specs.declared.merged.Merged.{Merged}
 use Rattle.sv_merged.specs.declared.role_numbers.RoleNumbers.{RoleNumbers}
 
--- whether an authorization constraint names every authenticated caller
+-- Whether an authorization constraint names every authenticated caller.
 abbrev pub names_everyone : Auth → Bool
 names_everyone Absent = false
 names_everyone (Roles names) = lists names (codes "**")
 
--- whether it names the role, by its names as they are read
+-- Whether it names the role, directly or by `*`.
 abbrev pub names_role : List (List ℕ) → List ℕ → Auth → Bool
 names_role declared role Absent = false
 names_role declared role (Roles names) = lists (roles_read declared names) role
@@ -29,17 +29,17 @@ admits_everyone constraint = names_everyone constraint.auth
 abbrev pub grants : Rules → List ℕ → Constraint → Bool
 grants rules role constraint = names_role rules.declared role constraint.auth
 
--- the number kept for a role
+-- The number of a role.
 abbrev pub number_of : RoleNumbers → List ℕ → Option ℕ
 number_of kept role = get_by_text kept.numbers role
 
--- the least number of the constraints is kept for each kind, and for each role
+-- The merge has the least number of the constraints of each kind, and of those that name each role.
 pub record IsMerged (rules : Rules) (members : List Constraint) (merged : Merged) : Type 0 where
   pub found : merged.found ≡ findings_of rules None members
   pub everyone : merged.everyone ≡ least_where admits_everyone members
   pub roles : (role : List ℕ) → number_of merged.roles role ≡ least_where (grants rules role) members
 
--- the least of the numbers kept for the caller's roles, and for every caller
+-- The least of the number for every caller and the numbers of the caller's roles.
 abbrev pub admitting : Merged → Option Caller → Option ℕ
 admitting merged None = None
 admitting merged (Some caller) = fold (λ least role. lesser least (number_of merged.roles role)) merged.everyone caller.roles

@@ -1,4 +1,4 @@
--- Jakarta Servlet 6.0, section 13.8.4: the methods that no constraint covers at a pattern.
+-- The methods that no constraint covers at a pattern (Jakarta Servlet 6.0, section 13.8.4).
 use Rattle.std.specs.Prelude.{ℕ, Bool, true, not, ◌==◌, List, [], length, filter, fold, Some, is_none, if◌then◌else◌}
 use Rattle.std.specs.BTreeSet.{insert_key}
 use Rattle.std.specs.Cmp.Lexicographic.{slice_cmp}
@@ -12,22 +12,22 @@ use Rattle.sv_constraints.specs.declared.constraint.Methods.TheVariants.{All, On
 use Rattle.sv_merged.specs.Covering.{covers_unnamed, named_methods}
 use Rattle.sv_merged.specs.declared.merged.Merged.{Merged}
 
--- the texts in the order of their bytes, each once
+-- The texts in byte order, without duplicates.
 abbrev pub rising : List (List ℕ) → List (List ℕ)
 rising texts = fold (insert_key (slice_cmp nat_cmp)) [] texts
 
 abbrev pub IsRising : List (List ℕ) → Type 0
 IsRising texts = IsStrictlySortedBy (slice_cmp nat_cmp) texts
 
--- whether no constraint covers the method at the pattern
+-- Whether no constraint covers the method at the pattern.
 abbrev pub is_uncovered : List Constraint → List ℕ → List ℕ → Bool
 is_uncovered constraints pattern method = length (covering constraints (Some pattern) method) == 0
 
--- whether no constraint covers the methods that none of them names there
+-- Whether no constraint covers the methods that none of them names there.
 abbrev pub are_others_uncovered : List Constraint → List ℕ → Bool
 are_others_uncovered constraints pattern = not (list_any (λ constraint. covers_unnamed constraint pattern) constraints)
 
--- the uncovered methods: all but the covered ones of those that are named, or just the uncovered ones of those
+-- The uncovered methods: all except the covered ones among the named methods, or only the uncovered ones among them.
 abbrev pub uncovered_methods : List Constraint → List ℕ → Methods
 uncovered_methods constraints pattern =
     let named = rising (named_methods constraints pattern) in
@@ -35,16 +35,16 @@ uncovered_methods constraints pattern =
     then Except (filter (λ method. not (is_uncovered constraints pattern method)) named)
     else Only (filter (is_uncovered constraints pattern) named)
 
--- whether there are such methods
+-- Whether there are any such methods.
 abbrev pub has_methods : Methods → Bool
 has_methods All = true
 has_methods (Only methods) = not (length methods == 0)
 has_methods (Except methods) = true
 
--- whether just one of the two holds
+-- Whether exactly one of the two is true.
 abbrev pub differ : Bool → Bool → Bool
 differ a b = if a then not b else b
 
--- whether nothing was merged for the methods of an entry
+-- Whether no constraint was merged into an entry.
 abbrev pub is_bare : Merged → Bool
 is_bare merged = is_none merged.found.covering

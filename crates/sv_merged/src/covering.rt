@@ -1,4 +1,4 @@
-//! Which constraints cover a method at a pattern, where it may be a method that none of them names.
+//! The constraints that cover a method at a pattern, or the methods that no constraint names there.
 
 ghost use Rattle.std.specs.Prelude.{◌≡◌, ◌++◌, map, OnOk, IfOk};
 ghost use Rattle.std.specs.Option.{option_copied};
@@ -10,14 +10,14 @@ use sv_constraints::{Collection, Constraint, Methods, covers};
 use sv_mapping::Pattern;
 use sv_text::{NoMemory, Text};
 
-/// Whether a pattern with this text is among the patterns.
+/// Returns whether a pattern with this text is among the patterns.
 fn lists_pattern(patterns: &[Pattern], text: &str) -> bool
     ensures { result ≡ lists patterns.now text.now }
 {
     patterns.iter().any(|listed| listed.text() == text)
 }
 
-/// Whether a collection covers the methods that no constraint names at the pattern.
+/// Returns whether a collection covers the methods that no constraint names at the pattern.
 fn collection_covers_unnamed(collection: &Collection, pattern: &str) -> bool
     ensures { result ≡ collection_covers_unnamed collection.now pattern.now }
 {
@@ -25,7 +25,7 @@ fn collection_covers_unnamed(collection: &Collection, pattern: &str) -> bool
         && !matches!(collection.methods, Methods::Only(_))
 }
 
-/// Whether a constraint covers the methods that no constraint names at the pattern.
+/// Returns whether a constraint covers the methods that no constraint names at the pattern.
 fn covers_unnamed(constraint: &Constraint, pattern: &str) -> bool
     ensures { result ≡ covers_unnamed constraint.now pattern.now }
 {
@@ -34,7 +34,8 @@ fn covers_unnamed(constraint: &Constraint, pattern: &str) -> bool
     ))
 }
 
-/// Whether a constraint covers the method at the pattern, or, without a method, those that no constraint names there.
+/// Returns whether a constraint covers the method at the pattern or, without a method, the methods that no constraint
+/// names there.
 pub fn covers_at(constraint: &Constraint, pattern: &str, method: Option<&str>) -> bool
     ensures { result ≡ covers_at constraint.now pattern.now (option_copied method.entry) }
 {
@@ -44,7 +45,7 @@ pub fn covers_at(constraint: &Constraint, pattern: &str, method: Option<&str>) -
     }
 }
 
-/// The methods that constraints name at the pattern, in their order, with repetitions.
+/// Returns the methods that constraints name at the pattern, in order and with duplicates.
 pub fn named_methods<'a>(
     alloc: Global,
     members: &[&'a Constraint],

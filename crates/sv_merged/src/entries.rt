@@ -1,4 +1,5 @@
-//! What constraints come to at a pattern, by method. The pattern itself is not kept, so that patterns may share it.
+//! The constraints on a pattern, merged by method. The pattern itself is not stored, so that several patterns may share
+//! the entries.
 
 ghost use Rattle.std.specs.Prelude.{◌≡◌, ◌++◌, ◌∷◌, [], ℕ, List, IfOk, OnOk, map, false};
 ghost use Rattle.std.specs.Option.{option_map_or};
@@ -14,16 +15,16 @@ use std::collections::BTreeMap;
 use sv_constraints::{Constraint, Methods, Rules};
 use sv_text::{Listed, NoMemory, Text};
 
-/// What constraints come to at a pattern: an entry for each method that one of them names there, and one rule for all other
+/// The constraints on a pattern, merged: an entry for each method that one of them names there, and one for all other
 /// methods.
 #[derive(Drop)]
 pub struct Entries {
-    /// Each entry stands in a box, since a map takes room for fifteen at once.
+    /// The entries are boxed, since a map node allocates space for fifteen at once.
     methods: BTreeMap<String, Box<Merged>>,
     rest: Merged,
 }
 
-/// Sees that a method has an entry.
+/// Adds the entry of a method, unless it has one.
 fn enter(
     methods: &mut BTreeMap<String, Box<Merged>>,
     alloc: Global,
@@ -44,7 +45,7 @@ fn enter(
     Ok(())
 }
 
-/// Whether just one of the two holds.
+/// Returns whether exactly one of the two is true.
 fn differ(one: bool, other: bool) -> bool
     ensures { result ≡ differ one other }
 {
@@ -73,7 +74,7 @@ impl Entries {
         Ok(Entries { methods, rest })
     }
 
-    /// The entry of a method.
+    /// Returns the entry of a method, or the entry for all other methods if it has none of its own.
     pub fn of(&self, method: &str) -> &Merged
         ensures { result.now ≡ entry_for self.now method.now }
     {
@@ -83,8 +84,8 @@ impl Entries {
         }
     }
 
-    /// The methods that no constraint covers at the pattern: those that are listed, or all but those. The list rises by
-    /// bytes.
+    /// Returns the methods that no constraint covers at the pattern: the listed ones, or all except the listed ones.
+    /// The names are in ascending byte order.
     pub fn uncovered(&self, alloc: Global) -> Result<Methods, NoMemory>
         ensures { (rules : Rules) (constraints : List Constraint) (pattern : List ℕ) → AreEntries rules constraints pattern self.now →
             GivesAnswer result (uncovered_methods constraints pattern) }
@@ -97,7 +98,8 @@ impl Entries {
         }
     }
 
-    /// The named methods that are covered where the others are not, or the other way round.
+    /// Returns the named methods that are covered if the unnamed ones are not, or uncovered if the unnamed ones are
+    /// covered.
     fn exceptions(&self, alloc: Global) -> Result<Listed<Text>, NoMemory>
         ensures rising { IfOk result (λ names. IsRising names) }
         ensures names { IfOk result (λ names. (method : List ℕ) → lists names method ≡

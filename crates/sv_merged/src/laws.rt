@@ -1,15 +1,17 @@
-//! Laws of uncovered methods and of texts in their order, each the contract of a function that does nothing.
+//! Theorems about uncovered methods and sorted texts, each the contract of a function with an empty body.
 
 ghost use Rattle.sv_merged.specs.Laws.{RisingHasTheTexts, RisingIsAlone, RisingRises, UncoveredIsExact, UncoveredRises};
 
-/// Texts in the order of their bytes rise, are the same texts, and no other list rises and has the same texts.
+/// Sorting texts by bytes gives a strictly ascending list of the same texts, and no other list is strictly ascending
+/// and has the same texts.
 pub fn rising_is_in_order()
     ensures rises { RisingRises }
     ensures texts { RisingHasTheTexts }
     ensures alone { RisingIsAlone }
 {}
 
-/// The uncovered methods at a pattern are just those that no constraint covers there, and the names that are listed rise.
+/// The uncovered methods at a pattern are exactly those that no constraint covers there, and the listed names are
+/// strictly ascending.
 pub fn uncovered_methods_are_exact()
     ensures exact { UncoveredIsExact }
     ensures rises { UncoveredRises }

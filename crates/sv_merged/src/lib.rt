@@ -1,5 +1,5 @@
-//! Merged tables: what the constraints on one pattern come to for each method and every caller
-//! (Jakarta Servlet 6.0, section 13.8.1).
+//! Merged tables: the constraints on one pattern, combined for each method and every caller (Jakarta Servlet 6.0,
+//! section 13.8.1).
 #![tactic(auto)]
 
 mod covering;

@@ -1,4 +1,4 @@
-//! What the constraints that cover a method come to, for every caller at once.
+//! The constraints that cover a method, merged for all callers at once.
 
 ghost use Rattle.std.specs.Prelude.{◌≡◌, ◌++◌, ◌∷◌, [], List, IfOk, OnOk, filter, map};
 ghost use Rattle.std.specs.Option.{option_copied};
@@ -16,18 +16,18 @@ use sv_constraints::{
 use sv_realm::Caller;
 use sv_text::NoMemory;
 
-/// What constraints come to together: the least number of each kind, for whichever caller.
+/// Merged constraints: the least number of each kind, for any caller.
 #[derive(Drop)]
 pub struct Merged {
-    /// What is found without a caller.
+    /// The findings without a caller.
     found: Findings,
-    /// The least number of those that admit every authenticated caller.
+    /// The least number of the constraints that admit every authenticated caller.
     everyone: Option<u64>,
-    /// The least number of those that name each role.
+    /// The least number of the constraints that name each role.
     roles: RoleNumbers,
 }
 
-/// Whether every authenticated caller may pass.
+/// Returns whether every authenticated caller may pass.
 fn names_everyone(auth: &Auth) -> bool
     ensures { result ≡ names_everyone auth.now }
 {
@@ -41,7 +41,7 @@ impl Merged {
     ghost use Rattle.sv_constraints.specs.declared.constraint.Constraint.{Constraint};
     ghost use Rattle.sv_constraints.specs.declared.rules.Rules.{Rules};
 
-    /// What no constraints come to.
+    /// Returns the merge of no constraints.
     fn none(alloc: Global) -> Merged
         ensures { (rules : Rules) → IsMerged rules [] result }
     {
@@ -52,7 +52,7 @@ impl Merged {
         }
     }
 
-    /// Merges one more constraint. Where memory is wanted it may be merged in part.
+    /// Merges one more constraint. If memory runs out, it may be merged in part.
     fn add(&mut self, alloc: Global, rules: &Rules, constraint: &Constraint) -> Result<(), NoMemory>
         ensures { OnOk result ((members : List Constraint) → IsMerged rules.now members self.old →
             IsMerged rules.now (members ++ constraint.now ∷ []) self.new) }
@@ -65,8 +65,8 @@ impl Merged {
         Ok(())
     }
 
-    /// Merges those constraints that cover the method at the pattern, or, without a method, those that cover the
-    /// methods that none of them names there.
+    /// Merges the constraints that cover the method at the pattern or, without a method, the methods that none of them
+    /// names there.
     pub fn gather(
         alloc: Global,
         rules: &Rules,
@@ -86,14 +86,14 @@ impl Merged {
         Ok(merged)
     }
 
-    /// Whether nothing was merged.
+    /// Returns whether no constraint was merged.
     pub fn is_bare(&self) -> bool
         ensures { result ≡ is_bare self.now }
     {
         self.found.covering.is_none()
     }
 
-    /// What there is to find for a caller, without taking memory.
+    /// Returns the findings for a caller. Allocates no memory.
     pub fn findings(&self, caller: Option<&Caller>) -> Findings
         ensures { (rules : Rules) (members : List Constraint) → IsMerged rules members self.now →
             result ≡ findings_of rules (option_copied caller.entry) members }
@@ -104,7 +104,7 @@ impl Merged {
         }
     }
 
-    /// The least number of the constraints that admit the caller.
+    /// Returns the least number of the constraints that admit the caller.
     fn admitting(&self, caller: Option<&Caller>) -> Option<u64>
         ensures { result ≡ admitting self.now (option_copied caller.entry) }
     {

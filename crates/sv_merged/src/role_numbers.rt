@@ -14,14 +14,14 @@ use std::collections::HashMap;
 use sv_constraints::{Auth, Constraint, EVERY_CALLER, EVERY_ROLE, Rules};
 use sv_text::{NoMemory, Text};
 
-/// The least number of the constraints that name each role, as its names are read: `*` stands for every declared role.
-/// After a refusal of memory some numbers may be lowered and others not.
+/// The least number of the constraints that name each role; `*` names every declared role. After a failed allocation,
+/// some numbers may be lowered and others not.
 #[derive(Drop)]
 pub struct RoleNumbers {
     numbers: HashMap<String, u64>,
 }
 
-/// Whether there is a number, and it is at most this one.
+/// Returns whether there is a number and it is at most this one.
 fn is_at_most(held: Option<u64>, number: u64) -> bool
     ensures { result ≡ option_map_or (λ kept. nat_le kept number) held false }
 {
@@ -29,7 +29,7 @@ fn is_at_most(held: Option<u64>, number: u64) -> bool
 }
 
 impl RoleNumbers {
-    /// No role is named.
+    /// Returns the numbers of no constraints.
     pub fn new(alloc: Global) -> RoleNumbers
         ensures { (role : List ℕ) → number_of result role ≡ None }
     {
@@ -38,14 +38,14 @@ impl RoleNumbers {
         }
     }
 
-    /// The number of a role, none where it is not named.
+    /// Returns the number of a role, or none if no constraint names it.
     pub fn of(&self, role: &str) -> Option<u64>
         ensures { result ≡ number_of self.now role.now }
     {
         self.numbers.get(role).copied()
     }
 
-    /// Names the roles that a constraint names.
+    /// Lowers the numbers of the roles that a constraint names.
     pub fn name_all(
         &mut self,
         alloc: Global,
@@ -66,7 +66,7 @@ impl RoleNumbers {
         }
     }
 
-    /// Names the roles that these names stand for.
+    /// Lowers the numbers of the roles that these names mean.
     fn name_read(
         &mut self,
         alloc: Global,
@@ -83,7 +83,7 @@ impl RoleNumbers {
         Ok(())
     }
 
-    /// Names the roles that a name stands for.
+    /// Lowers the numbers of the roles that a name means.
     fn name_one(
         &mut self,
         alloc: Global,

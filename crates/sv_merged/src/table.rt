@@ -16,13 +16,13 @@ use sv_mapping::Pattern;
 use sv_realm::Caller;
 use sv_text::NoMemory;
 
-/// What the constraints on a pattern come to: an entry for each method that one of them names there, and one rule for all
-/// other methods. Tables of several patterns may share their entries.
+/// The constraints on a pattern, merged: an entry for each method that one of them names there, and one for all other
+/// methods. Tables of several patterns may share their entries.
 #[derive(Drop)]
 pub struct Table {
     /// The pattern.
     pub pattern: Pattern,
-    /// The number that the maker of the entries gave them, to know them again by.
+    /// A number given by the maker of the entries, used to find tables that may share them.
     pub mark: u64,
     entries: Rc<Entries>,
 }
@@ -51,7 +51,7 @@ impl Table {
         })
     }
 
-    /// A table of another pattern with the same entries, which both share.
+    /// Returns a table of another pattern that shares the entries of this one.
     pub fn sharing(&self, pattern: Pattern) -> Result<Table, NoMemory>
         ensures entries { IfOk result (λ table. table.entries.value ≡ self.now.entries.value) }
         ensures pattern { IfOk result (λ table. table.pattern ≡ pattern) }
@@ -64,8 +64,8 @@ impl Table {
         })
     }
 
-    /// What there is to find in the merged constraints that cover the method at the pattern, by one look-up by method, and
-    /// one for each role of the caller. It takes no memory.
+    /// Returns the findings for the merged constraints that cover the method at the pattern. Looks up the method once,
+    /// and each role of the caller once. Allocates no memory.
     pub fn findings(&self, method: &str, caller: Option<&Caller>) -> Findings
         ensures { (rules : Rules) (constraints : List Constraint) → IsTable rules constraints self.now →
             result ≡ findings_of rules (option_copied caller.entry) (covering constraints (Some self.now.pattern) method.now) }
@@ -73,8 +73,8 @@ impl Table {
         self.entries.of(method).findings(caller)
     }
 
-    /// The methods that no constraint covers at the pattern: those that are listed, or all but those. The list rises by
-    /// bytes.
+    /// Returns the methods that no constraint covers at the pattern: the listed ones, or all except the listed ones.
+    /// The names are in ascending byte order.
     pub fn uncovered(&self, alloc: Global) -> Result<Methods, NoMemory>
         ensures { (rules : Rules) (constraints : List Constraint) → IsTable rules constraints self.now →
             GivesAnswer result (uncovered_methods constraints self.now.pattern) }

@@ -4,17 +4,17 @@ use Rattle.sv_message.specs.Chunking.{flushed_content}
 use Rattle.sv_message.specs.declared.body.Body.{Body}
 use Rattle.sv_message.specs.declared.body.Body.TheVariants.{Whole, Flushed}
 
--- the body as it is sent
+-- The body as it is sent.
 abbrev pub content : Body → List ℕ
 content (Whole bytes) = bytes
 content (Flushed pieces chunked broken) = flushed_content pieces chunked broken
 
--- whether the body says itself where it ends, by a length or by chunks
+-- Whether the body marks its own end, by a length or by chunks.
 abbrev pub has_own_end : Body → Bool
 has_own_end (Whole bytes) = true
 has_own_end (Flushed pieces chunked broken) = chunked
 
--- whether nothing can follow the body on its connection: it ends with the connection, or its end is missing
+-- Whether nothing can follow the body on its connection: it ends with the connection, or its end is missing.
 abbrev pub ends_connection : Body → Bool
 ends_connection (Whole bytes) = false
 ends_connection (Flushed pieces chunked broken) = not chunked || broken

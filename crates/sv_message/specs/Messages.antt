@@ -2,6 +2,6 @@
 use Rattle.std.specs.Prelude.{ℕ, List}
 use Rattle.sv_message.specs.declared.message.Message.{Message}
 
--- a message with its body
+-- The message with the given body.
 abbrev pub with_body : List ℕ → Message → Message
 with_body bytes message = record message { body = bytes }

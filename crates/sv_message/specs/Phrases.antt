@@ -1,7 +1,7 @@
--- The phrases of statuses (RFC 9110, section 15).
+-- The reason phrases of status codes (RFC 9110, section 15).
 use Rattle.std.specs.Prelude.{ℕ, List, [], unwrap_or}
 use Rattle.http.specs.StatusCode.{reason_phrase}
 
--- the phrase of a status, empty where it has none
+-- The phrase of a status code, empty if it has none.
 unfoldable pub phrase_of : ℕ → List ℕ
 phrase_of status = unwrap_or (reason_phrase status) []

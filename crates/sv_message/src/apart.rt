@@ -1,4 +1,4 @@
-//! A value in memory of its own.
+//! A value in its own memory.
 
 ghost use Rattle.std.specs.Prelude.{◌≡◌};
 ghost use Rattle.sv_text.specs.Gives.{GivesAnswer};
@@ -7,7 +7,7 @@ use std::alloc::Global;
 use std::marker::Model;
 use sv_text::NoMemory;
 
-/// A value in memory of its own: what holds it stays small, and is moved at less cost. Contracts see the value.
+/// A value in its own memory. Its owner stays small and is cheaper to move. Contracts see the value.
 #[derive(Debug, Drop)]
 pub struct Apart<T> {
     inner: Box<T>,
@@ -20,7 +20,7 @@ impl<T> Model for Apart<T> {
 }
 
 impl<T> Apart<T> {
-    /// The value.
+    /// Returns the value.
     pub fn get(&self) -> &T
         ensures { result.now ≡ self.now }
     {
@@ -29,7 +29,7 @@ impl<T> Apart<T> {
 }
 
 impl<T: Drop> Apart<T> {
-    /// Keeps a value.
+    /// Moves a value into its own memory.
     pub fn new(alloc: Global, value: T) -> Result<Apart<T>, NoMemory>
         ensures { GivesAnswer result value }
     {

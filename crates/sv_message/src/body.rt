@@ -13,22 +13,23 @@ const LAST_CHUNK: &[u8] = b"0\r\n\r\n";
 /// The body of a response (RFC 9112, section 6).
 #[derive(Drop)]
 pub enum Body {
-    /// The whole body, whose length is stated.
+    /// The whole body, with a stated length.
     Whole(Bytes),
-    /// A body that leaves in pieces, of which none knows how many will follow.
+    /// A body that is sent in pieces, without a stated length.
     Flushed {
-        /// What was written up to each flush, and behind the last one.
+        /// The bytes written up to each flush, and after the last one.
         pieces: Pieces,
-        /// Whether the client reads chunks, as one of HTTP/1.1 does. To any other the body ends with the connection.
+        /// Whether the client reads chunks, as an HTTP/1.1 client does. For any other client the body ends with the
+        /// connection.
         chunked: bool,
-        /// Whether the body broke off, so that its end is missing.
+        /// Whether the body is truncated, so that its end is missing.
         broken: bool,
     },
 }
 
 impl Body {
-    /// Whether nothing can follow the body on its connection: it ends with the connection, or its end is missing (RFC 9112, sections 6.3
-    /// and 8).
+    /// Returns whether nothing can follow the body on its connection: it ends with the connection, or its end is
+    /// missing (RFC 9112, sections 6.3 and 8).
     pub fn ends_connection(&self) -> bool
         ensures { result ≡ ends_connection self.now }
     {
@@ -42,7 +43,7 @@ impl Body {
         }
     }
 
-    /// Whether the body says itself where it ends, by a length or by chunks.
+    /// Returns whether the body marks its own end, by a length or by chunks.
     pub fn has_own_end(&self) -> bool
         ensures { result ≡ has_own_end self.now }
     {
@@ -53,7 +54,7 @@ impl Body {
     }
 }
 
-/// The text of a body in pieces.
+/// Returns the bytes of a body in pieces, as they are sent.
 pub fn flushed_content(
     alloc: Global,
     pieces: &Pieces,
@@ -72,7 +73,7 @@ pub fn flushed_content(
     Ok(text)
 }
 
-// Appends what ends the chunks of a body that did not break off.
+// Appends the last chunk, unless the body is truncated.
 fn push_last_chunk(text: &mut Vec<u8>, broken: bool) -> Result<(), AllocError>
     ensures { OnOk result (text.new.items ≡ text.old.items ++ last_chunk broken) }
 {

@@ -1,4 +1,4 @@
-//! How the session cookie of a context is set.
+//! The settings of a context's session cookie.
 
 ghost use Rattle.sv_text.specs.Gives.{GivesAnswer};
 ghost use Rattle.sv_message.specs.Cookies.{standard_settings};
@@ -6,22 +6,22 @@ ghost use Rattle.sv_message.specs.Cookies.{standard_settings};
 use std::alloc::Global;
 use sv_text::{NoMemory, Text};
 
-/// How the session cookie of a context is set (Jakarta Servlet 6.0, section 7.1.1; RFC 6265, section 4.1).
+/// The settings of a context's session cookie (Jakarta Servlet 6.0, section 7.1.1; RFC 6265, section 4.1).
 #[derive(Drop)]
 pub struct CookieSettings {
     /// The cookie's name.
     pub name: Text,
-    /// The path below which the cookie is sent back; where there is none it is the context's.
+    /// The path under which the client sends the cookie back; `None` for the context's path.
     pub path: Option<Text>,
-    /// Whether the cookie is kept from scripts.
+    /// Whether the cookie is hidden from scripts.
     pub http_only: bool,
-    /// How many seconds the cookie is kept; where there is no such number, until the client ends.
+    /// The lifetime of the cookie in seconds; `None` if it lasts until the client ends.
     pub max_age: Option<u32>,
 }
 
 impl CookieSettings {
-    /// The settings of a descriptor that says nothing of its cookie: the name `JSESSIONID`, the context's path, kept from scripts, and
-    /// kept until the client ends.
+    /// Returns the settings for a descriptor without a cookie configuration. The name is `JSESSIONID` and the path is
+    /// the context's. The cookie is hidden from scripts and lasts until the client ends.
     pub fn standard(alloc: Global) -> Result<CookieSettings, NoMemory>
         ensures { GivesAnswer result standard_settings }
     {

@@ -1,4 +1,4 @@
-//! A request, as the container handles it.
+//! A request in the form that the container handles.
 
 ghost use Rattle.std.specs.Prelude.{◌≡◌};
 ghost use Rattle.sv_message.specs.Messages.{with_body};
@@ -17,13 +17,13 @@ pub struct Message {
     /// The fields in the order of their lines.
     pub fields: Listed<Field>,
     pub body: Bytes,
-    /// Whether a further request may follow on the connection (RFC 9112, section 9.3). After a message that says no
-    /// the inbox is spent.
+    /// Whether another request may follow on the connection (RFC 9112, section 9.3). If not, the inbox is spent after
+    /// the message.
     pub keep: bool,
 }
 
 impl Message {
-    /// The message with that body.
+    /// Returns the message with the given body.
     pub fn with_body(self, body: Bytes) -> Message
         ensures { result ≡ with_body body self }
     {
@@ -31,11 +31,11 @@ impl Message {
     }
 }
 
-/// What a request asks for (RFC 9112, section 3.2).
+/// The target of a request (RFC 9112, section 3.2).
 #[derive(Drop)]
 pub enum Target {
     /// `*`: the server itself.
     Star,
-    /// A path with its query, as it was sent. It may share the text of the head that it was read from.
+    /// A path with its query, as it was sent. It may share the text of the head.
     Path(bytes::Bytes),
 }

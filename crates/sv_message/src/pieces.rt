@@ -7,7 +7,7 @@ use std::alloc::{AllocError, Global};
 use std::marker::Model;
 use sv_text::Bytes;
 
-/// The pieces of a body in the order in which they leave. Contracts see their list.
+/// The pieces of a body, in the order in which they are sent. Contracts see their list.
 #[derive(Drop)]
 pub struct Pieces {
     flushed: Vec<Bytes>,
@@ -24,14 +24,15 @@ impl Model for Pieces {
 }
 
 impl Pieces {
-    /// The pieces that were flushed, and behind them what was written since, without taking memory. Where nothing was, it is no piece.
+    /// Returns the flushed pieces, followed by the bytes written since the last flush, without taking memory. If
+    /// nothing was written since, there is no last piece.
     pub fn of(flushed: Vec<Bytes>, rest: Vec<u8>) -> Pieces
         ensures { result ≡ flushed.items ++ piece_of rest.items }
     {
         Pieces { flushed, rest }
     }
 
-    /// Appends the pieces one behind another. After a refusal of memory some may be there.
+    /// Appends the pieces, concatenated. On an error, some of them may have been appended.
     pub(crate) fn push_joined(&self, text: &mut Vec<u8>) -> Result<(), AllocError>
         ensures { OnOk result (text.new.items ≡ text.old.items ++ joined self.now) }
     {
@@ -40,7 +41,7 @@ impl Pieces {
         Ok(())
     }
 
-    /// Appends the pieces as chunks. After a refusal of memory some may be there.
+    /// Appends the pieces as chunks. On an error, some of them may have been appended.
     pub(crate) fn push_chunks(&self, alloc: Global, text: &mut Vec<u8>) -> Result<(), AllocError>
         ensures { OnOk result (text.new.items ≡ text.old.items ++ chunks self.now) }
     {
@@ -82,7 +83,7 @@ fn push_chunk(alloc: Global, text: &mut Vec<u8>, piece: &[u8]) -> Result<(), All
     Ok(())
 }
 
-// Appends the line of a chunk's size.
+// Appends the line with a chunk's size.
 fn push_size_line(alloc: Global, text: &mut Vec<u8>, size: usize) -> Result<(), AllocError>
     ensures { OnOk result (text.new.items ≡ text.old.items ++ size_line size) }
 {

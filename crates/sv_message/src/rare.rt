@@ -1,4 +1,4 @@
-//! A value that is seldom there.
+//! A value that is seldom present.
 
 ghost use Rattle.std.specs.Prelude.{◌≡◌, None, Some};
 ghost use Rattle.std.specs.Option.{option_copied};
@@ -8,7 +8,8 @@ use std::alloc::Global;
 use std::marker::Model;
 use sv_text::NoMemory;
 
-/// A value that is seldom there, in memory of its own: what holds it stays small, and is moved at less cost. Contracts see an option.
+/// A value that is seldom present, in its own memory. Its owner stays small and is cheaper to move. Contracts see an
+/// option.
 #[derive(Debug, Drop)]
 pub struct Rare<T> {
     inner: Option<Box<T>>,
@@ -24,14 +25,14 @@ impl<T> Model for Rare<T> {
 }
 
 impl<T> Rare<T> {
-    /// No value. It takes no memory.
+    /// Returns no value. Takes no memory.
     pub fn none() -> Rare<T>
         ensures { result ≡ None }
     {
         Rare { inner: None }
     }
 
-    /// The value, where there is one.
+    /// Returns the value, if there is one.
     pub fn get(&self) -> Option<&T>
         ensures { option_copied result ≡ self.now }
     {
@@ -43,7 +44,7 @@ impl<T> Rare<T> {
 }
 
 impl<T: Drop> Rare<T> {
-    /// Keeps a value.
+    /// Moves a value into its own memory.
     pub fn some(alloc: Global, value: T) -> Result<Rare<T>, NoMemory>
         ensures { GivesAnswer result (Some value) }
     {

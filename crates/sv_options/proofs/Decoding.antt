@@ -1,4 +1,4 @@
--- Words are those of one list of settings alone.
+-- Words are the words of only one list of settings.
 use Rattle.std.proofs.Common.{◌≡◌, ℕ, List, [], ◌∷◌, ◌++◌, Option, Some, None, refl, sym, ap, ◌∙◌, append_assoc, if◌then◌else◌}
 use Rattle.std.specs.Prelude.{codes}
 use Rattle.std.specs.List.{flat_map}
@@ -37,7 +37,7 @@ key_word_injective a b same = let e : Some a ≡ Some b = sym (key_at-key_word a
 pub no_key_is_same_seed : (key : Key) → key_word key ≡ codes "--same-seed" → ⊥
 no_key_is_same_seed key same = let e : Some key ≡ None = sym (key_at-key_word key) ∙ ap key_at same ∙ key_at-same_seed in cc
 
--- where words begin with those of two settings, these are one
+-- if words begin with those of two settings, the settings are equal
 two_keyed : (a b : Key) (v w : List ℕ) (xs ys : List (List ℕ)) → key_word a ∷ v ∷ xs ≡ key_word b ∷ w ∷ ys → (Keyed a v ≡ Keyed b w) × (xs ≡ ys)
 two_keyed a b v w xs ys same =
     let key : key_word a ≡ key_word b = cc in
@@ -70,7 +70,7 @@ pub settings_of_no_words : (settings : List Setting) → [] ≡ flat_map setting
 settings_of_no_words [] same = refl
 settings_of_no_words (s ∷ settings) same = absurd (no_words s (flat_map setting_words settings) same)
 
--- where words begin with those of settings, they are the words of these and of what is more
+-- if words begin with those of some settings, the rest are the words of the remaining settings
 pub split : (done settings : List Setting) (rest : List (List ℕ)) → flat_map setting_words settings ≡ flat_map setting_words done ++ rest
     → (more : List Setting) × (settings ≡ done ++ more) × (rest ≡ flat_map setting_words more)
 split [] settings rest same = (settings, refl, sym same)

@@ -1,4 +1,4 @@
--- How far the arguments were read.
+-- The arguments read so far.
 use Rattle.std.proofs.Common.{◌≡◌, ℕ, List, [], ◌∷◌, ◌++◌, map, sym, ap, subst, ◌∙◌, append-nil, append_assoc}
 use denote.Ref.{Bor}
 use Rattle.std.proofs.lemmas.Grind.{flat_map-append}
@@ -9,7 +9,7 @@ use Rattle.sv_options.specs.Reading.{IsRead}
 use Rattle.sv_options.specs.Settings.{Setting, setting_words}
 use Rattle.sv_options.specs.declared.run_options.RunOptions.{RunOptions}
 
--- the arguments up to the rest are the server file's name and the words of settings, which say what was read
+-- the arguments before the rest are the server file's name and the words of the settings read so far
 abbrev pub IsReached : List (List ℕ) → RunOptions → List (List ℕ) → Type 0
 IsReached arguments options rest =
     (done : List Setting) × (arguments ≡ options.config.now ∷ (flat_map setting_words done ++ rest)) × AreSet done options
@@ -32,7 +32,7 @@ goes_on arguments words rest before after reached read = (
   read.3 reached.0 reached.2,
 )
 
--- where the arguments ask for anything, what stands next is read
+-- if the arguments are valid, the next word is read
 pub is_read : (Told : Type 0) (arguments words : List (List ℕ)) (before asked : RunOptions) → IsReached arguments before words → IsAsked arguments asked
     → ((done more : List Setting) (any : RunOptions) → AreSet done before → words ≡ flat_map setting_words more → AreSet (done ++ more) any → Told)
     → Told
@@ -43,7 +43,7 @@ is_read Told arguments words before asked reached is finds =
     let Are : List Setting → Type 0 = λ settings. AreSet settings asked in
     finds reached.0 cut.0 asked reached.2 cut.2 (subst Are cut.1 is.2)
 
--- the words of items that begin with one
+-- the words of items after the first one
 pub behind_is : {A : Type 0} (text : A → List ℕ) (items : List A) (x : A) (rest : List A) (seen : List ℕ) → items ≡ x ∷ rest → seen ≡ text x
     → map text items ≡ seen ∷ map text rest
 behind_is text items x rest seen shape shown = ap (map text) shape ∙ ap (λ (word : List ℕ). word ∷ map text rest) (sym shown)

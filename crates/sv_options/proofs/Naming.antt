@@ -8,7 +8,7 @@ use Rattle.sv_options.specs.Values.{Finds}
 use Rattle.sv_options.specs.declared.run_options.RunOptions.{RunOptions}
 
 module _ (words : List (List ℕ)) where
-  -- nothing else is named so
+  -- no other command has these arguments
   only_run : ((any : RunOptions) → IsAsked words any → ⊥) → (command : Command) → IsNamed (codes "run" ∷ words) command → ⊥
   only_run none (First deny) named = cc
   only_run none (Policy question) named = cc

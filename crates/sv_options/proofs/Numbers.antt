@@ -20,6 +20,6 @@ number_read : {E : Type 0} (text : List ℕ) (r : Result ℕ E) → OkIff r ((0 
 number_read text (Ok value) (fits, is) = sym is
 number_read text (Err fault) refused = λ some fits. refused (some, fits)
 
--- what is parsed of digits is the number that they are
+-- parsing digits gives the number that they write
 pub number_parsed : {E : Type 0} (text : List ℕ) (r : Result ℕ E) → list_all is_ascii_digit text ≡ true → ParsesUnsigned 32 10 text r → IsNumber text (result_ok r)
 number_parsed text r digits parsed = number_read text r (parse_digits model 32 text r parsed (digits_alone text ∙ digits))

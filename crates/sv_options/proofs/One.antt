@@ -1,4 +1,4 @@
--- Arguments ask for one thing only.
+-- Arguments have only one meaning.
 use Rattle.std.proofs.Common.{◌≡◌, ℕ, Bool, true, false, List, [], ◌∷◌, ◌++◌, Option, Some, None, refl, sym, ap, subst, ◌∙◌, append-nil, if◌then◌else◌}
 use denote.Ref.{Bor}
 use Rattle.std.proofs.NetLemmas.Theorems.{IsSocketText_unique}

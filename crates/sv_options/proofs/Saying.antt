@@ -1,9 +1,9 @@
--- A word behind an option that is asked for.
+-- The word of an option.
 use Rattle.std.proofs.Common.{ℕ, List, [], ◌∷◌, ◌++◌, Option, Some, None, refl}
 use Rattle.std.specs.Prelude.{IsSome}
 use Rattle.sv_options.specs.Values.{Says, Takes}
 
--- what is asked is taken
+-- a word with a meaning is taken
 pub is_taken : {A : Type 0} (means : List ℕ → A → Type 0) (words more : List (List ℕ)) (word : List ℕ) (before asked found : Option A)
     → Takes means before word found → Says means words before → Says means (words ++ word ∷ more) asked → IsSome found
 is_taken means [] [] word None (Some value) found takes said says = takes.1 value refl says

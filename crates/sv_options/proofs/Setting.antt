@@ -1,4 +1,4 @@
--- One setting more.
+-- One more setting.
 use Rattle.std.proofs.Common.{◌≡◌, ℕ, Bool, true, false, List, [], ◌∷◌, ◌++◌, Option, length, map, refl, sym, ap, subst, arith, ◌∙◌, append-nil, if◌then◌else◌}
 use Rattle.std.proofs.lemmas.Bool.{false≢true, true≢false}
 use Rattle.std.proofs.lemmas.Slice.Eq.{bytes_eq-Decides}
@@ -15,7 +15,7 @@ use Rattle.sv_options.specs.declared.key.Key.{Key}
 use Rattle.sv_options.specs.declared.key.Key.TheVariants.{Connections, Control, HeldMebibytes, IdleSeconds, Journal, Listen}
 use Rattle.sv_options.specs.declared.run_options.RunOptions.{RunOptions}
 
--- words behind a key, by one setting more
+-- the words after a key, with one more setting
 behind_more : (key : Key) (done : List Setting) (setting : Setting) → words_behind key (done ++ setting ∷ []) ≡ words_behind key done ++ word_behind key setting
 behind_more key done setting =
     flat_map-append (word_behind key) done (setting ∷ []) ∙ ap (λ (words : List (List ℕ)). words_behind key done ++ words) (append-nil (word_behind key setting))
@@ -51,7 +51,7 @@ none_before : (b : Bool) (settings : List Setting) → settings ≡ seeds b → 
 none_before true settings is none = absurd (true≢false none)
 none_before false settings is none = is
 
--- the same seed is one setting more
+-- the same seed is one more setting
 seed_set : (done : List Setting) (before : RunOptions) → before.same_seed ≡ false → AreSet done before
     → AreSet (done ++ SameSeed ∷ []) (record before { same_seed = true })
 seed_set done before none set = (
@@ -66,7 +66,7 @@ pub seed_more : (done : List Setting) (before after : RunOptions) → before.sam
 seed_more done before after none is set =
     let Are : RunOptions → Type 0 = λ options. AreSet (done ++ SameSeed ∷ []) options in subst Are (sym is) (seed_set done before none set)
 
--- an option with a word is one setting more
+-- an option with a word is one more setting
 pub keyed_more : (key : Key) (word : List ℕ) (done : List Setting) (before after : RunOptions) → Sets key word before after
     → AreSet done before → AreSet (done ++ Keyed key word ∷ []) after
 keyed_more key word done before after sets set = (
@@ -82,7 +82,7 @@ one_or_two more same = cc
 none_or_two : (more : List Setting) → SameSeed ∷ SameSeed ∷ more ≡ [] → ⊥
 none_or_two more same = cc
 
--- the same seed is asked for once
+-- the same seed is set only once
 one_seed : (b a : Bool) (settings more : List Setting) → settings ≡ seeds b → settings ++ SameSeed ∷ more ≡ seeds a → b ≡ false
 one_seed false a settings more is one = refl
 one_seed true true settings more is one =
@@ -106,14 +106,14 @@ key_there word after [] found other finds same = absurd (some_word word after (s
 key_there word after (Keyed key value ∷ more) found other finds same = finds key (same_heads word (key_word key) after (value ∷ flat_map setting_words more) same).0
 key_there word after (SameSeed ∷ more) found other finds same = absurd (other (same_heads word (codes "--same-seed") after (flat_map setting_words more) same).0)
 
--- and a word stands behind it
+-- a word follows it
 pub value_there : (word : List ℕ) (more : List Setting) → (word ≡ codes "--same-seed" → ⊥) → word ∷ [] ≡ flat_map setting_words more → ⊥
 value_there word [] other same = some_word word [] (sym same)
 value_there word (Keyed key value ∷ more) other same =
     some_word value (flat_map setting_words more) (same_heads word (key_word key) [] (value ∷ flat_map setting_words more) same).1
 value_there word (SameSeed ∷ more) other same = other (same_heads word (codes "--same-seed") [] (flat_map setting_words more) same).0
 
--- which says what it should, where nothing was said before
+-- the word is valid, and the option was not given before
 pub set_there : (key : Key) (word value : List ℕ) (after : List (List ℕ)) (done more : List Setting) (before asked : RunOptions) (found : Option RunOptions)
     → word ≡ key_word key
     → ((words others : List (List ℕ)) (any : RunOptions) → IsSet key words before → IsSet key (words ++ value ∷ others) any → IsSome found)
@@ -133,11 +133,11 @@ set_there key word value after done (Keyed other text ∷ more) before asked fou
     let Is : List (List ℕ) → Type 0 = λ all. IsSet key all asked in
     finds (words_behind key done) (words_behind key more) asked (set.0 key) (subst Is words (sets.0 key))
 
--- the words of an option with what stands behind it
+-- the words of an option and its value
 pub keyed_words : (key : Key) (word value : List ℕ) (after rest : List (List ℕ)) → word ≡ key_word key → after ≡ value ∷ rest → word ∷ after ≡ key_word key ∷ value ∷ rest
 keyed_words key word value after rest named behind = ap (λ (first : List ℕ). first ∷ after) named ∙ ap (λ (others : List (List ℕ)). key_word key ∷ others) behind
 
--- what a test of two words tells
+-- the results of comparing two words
 pub same_word : (word other : List ℕ) (test : Bool) → test ≡ bytes_eq word other → test ≡ true → word ≡ other
 same_word word other test is so = (bytes_eq-Decides word other).0 (sym is ∙ so)
 

@@ -1,4 +1,4 @@
--- What the arguments of the command `run` ask for.
+-- The meaning of the arguments of the command `run`.
 use Rattle.std.specs.Prelude.{◌≡◌, ℕ, List, [], ◌∷◌, if◌then◌else◌}
 use Rattle.std.specs.List.{filter, flat_map}
 use Rattle.sv_options.specs.Settings.{Setting, SameSeed, is_same_seed, setting_words, words_behind}
@@ -7,7 +7,7 @@ use Rattle.sv_options.specs.declared.key.Key.{Key}
 use Rattle.sv_options.specs.declared.key.Key.TheVariants.{Connections, Control, HeldMebibytes, IdleSeconds, Journal, Listen}
 use Rattle.sv_options.specs.declared.run_options.RunOptions.{RunOptions}
 
--- the words behind the option say what is asked
+-- the words after an option give its value
 abbrev pub IsSet : Key → List (List ℕ) → RunOptions → Type 0
 IsSet Control words options = Says IsName words options.control
 IsSet Journal words options = Says IsName words options.journal
@@ -16,13 +16,13 @@ IsSet Connections words options = Says (IsCount 1024) words options.connections
 IsSet IdleSeconds words options = Says (IsCount 86400) words options.idle_seconds
 IsSet HeldMebibytes words options = Says (IsCount 1048576) words options.held_mebibytes
 
--- each option stands there once at most, and they say what is asked
+-- each option occurs at most once, and the settings give these options
 abbrev pub AreSet : List Setting → RunOptions → Type 0
 AreSet settings options =
     ((key : Key) → IsSet key (words_behind key settings) options)
     × (filter is_same_seed settings ≡ if options.same_seed then SameSeed ∷ [] else [])
 
--- the arguments are the name of the server file, and behind it the words of settings in any order, which say what is asked
+-- the arguments are the name of the server file, then the words of settings in any order, which give these options
 abbrev pub IsAsked : List (List ℕ) → RunOptions → Type 0
 IsAsked arguments options =
     (settings : List Setting) × (arguments ≡ options.config.now ∷ flat_map setting_words settings) × AreSet settings options

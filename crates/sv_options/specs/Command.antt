@@ -8,7 +8,7 @@ use Rattle.sv_options.specs.declared.command.Command.TheVariants.{First, Policy,
 use Rattle.sv_program.specs.Arguments.{name_words}
 use Rattle.sv_program.specs.FirstLine.{first_options}
 
--- the arguments are this word, and what stands behind it asks for this
+-- the arguments are this word, followed by arguments with this meaning
 abbrev pub IsBehind : {A : Type 0} → List ℕ → (List (List ℕ) → A → Type 0) → List (List ℕ) → A → Type 0
 IsBehind word asks arguments asked = (rest : List (List ℕ)) × (arguments ≡ word ∷ rest) × asks rest asked
 

@@ -1,4 +1,4 @@
--- Laws of what arguments ask for.
+-- Laws of the meaning of arguments.
 use Rattle.std.specs.Prelude.{◌≡◌, ℕ, List, option_copied}
 use Rattle.sv_options.specs.Asked.{IsAsked}
 use Rattle.sv_options.specs.declared.run_options.RunOptions.{RunOptions}

@@ -1,4 +1,4 @@
--- What the command `serve` is asked.
+-- The arguments of the command `serve`.
 use Rattle.std.specs.Prelude.{ℕ, List, [], ◌∷◌}
 use Rattle.sv_options.specs.declared.counted.Count.{Count}
 use Rattle.sv_options.specs.declared.service.Service.{Service}

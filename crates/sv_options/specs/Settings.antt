@@ -4,7 +4,7 @@ use Rattle.std.specs.List.{flat_map}
 use Rattle.sv_options.specs.declared.key.Key.{Key}
 use Rattle.sv_options.specs.declared.key.Key.TheVariants.{Connections, Control, HeldMebibytes, IdleSeconds, Journal, Listen}
 
--- an option with the word behind it, or the one option that has none
+-- an option with its word, or the only option without one
 pub data Setting : Type 0 where
   Keyed : Key → List ℕ → Setting
   SameSeed : Setting
@@ -21,7 +21,7 @@ abbrev pub setting_words : Setting → List (List ℕ)
 setting_words (Keyed key word) = key_word key ∷ word ∷ []
 setting_words SameSeed = codes "--same-seed" ∷ []
 
--- the word behind a key, where the setting has that key
+-- the word after a key, if the setting has that key
 abbrev pub word_behind : Key → Setting → List (List ℕ)
 word_behind Control (Keyed Control word) = word ∷ []
 word_behind Journal (Keyed Journal word) = word ∷ []

@@ -1,4 +1,4 @@
--- What the words behind options say.
+-- The meaning of the words after options.
 use Rattle.std.specs.Prelude.{◌≡◌, ℕ, ◌<◌, ◌≤◌, ◌^◌, true, List, [], ◌∷◌, length, Option, Some, None, IfSome, IsSome}
 use denote.Ref.{Bor}
 use Rattle.std.specs.Char.{is_ascii_digit}
@@ -15,26 +15,26 @@ IsName word name = name.now ≡ word
 abbrev pub IsAddress : List ℕ → SocketAddr → Type 0
 IsAddress word address = IsSocketText word address
 
--- the word is decimal digits alone, and they write this number, which is one from 1 to the limit
+-- the word consists of decimal digits, and they write this number from 1 to the limit
 abbrev pub IsCount : ℕ → List ℕ → ℕ → Type 0
 IsCount limit word count = (list_all is_ascii_digit word ≡ true) × (digits_value 10 word ≡ count) × (0 < count) × (count ≤ limit)
 
--- no word says nothing, and one word says what it means
+-- no word gives no value, and one word gives its meaning
 abbrev pub Says : {A : Type 0} → (List ℕ → A → Type 0) → List (List ℕ) → Option A → Type 0
 Says means [] None = Unit {0}
 Says means (word ∷ []) (Some value) = means word value
 Says means words found = ⊥
 
--- what is found is asked for, and where anything is asked for it is found
+-- the result has this property, and there is a result if any value has it
 abbrev pub Finds : {A : Type 0} → (A → Type 0) → Option A → Type 0
 Finds {A} asked found = IfSome found asked × ((any : A) → asked any → IsSome found)
 
--- what the word means is taken, where nothing was said before
+-- the meaning of the word is taken, if there was no value before
 abbrev pub Takes : {A : Type 0} → (List ℕ → A → Type 0) → Option A → List ℕ → Option A → Type 0
 Takes {A} means before word found =
     IfSome found (λ value. (before ≡ None) × means word value) × ((value : A) → before ≡ None → means word value → IsSome found)
 
--- the number that decimal digits write is found, unless there are none or it does not fit 32 bits
+-- the number that decimal digits write, unless there are no digits or it does not fit 32 bits
 abbrev pub IsNumber : List ℕ → Option ℕ → Type 0
 IsNumber word (Some number) = digits_value 10 word ≡ number
 IsNumber word None = 0 < length word → digits_value 10 word < 2 ^ 32 → ⊥

@@ -13,28 +13,30 @@ use sv_program::denies_uncovered;
 /// A command of the program.
 #[derive(Clone, Copy)]
 pub enum Command<'a> {
-    /// `first [deny]`: prints what the example policy decides for the first request on standard input.
+    /// `first [deny]`: prints the decision of the example policy on the first request on standard input.
     First {
         /// Whether uncovered methods are denied (Jakarta Servlet 6.0, section 13.8.4.2).
         deny_uncovered: bool,
     },
-    /// `policy CONFIG METHOD TARGET [USER]`: prints what the container of a server says of a request.
+    /// `policy CONFIG METHOD TARGET [USER]`: prints the decision of a server's container on a request.
     Policy(Question<'a>),
-    /// `uncovered CONFIG`: prints which methods the constraints of a server's contexts leave uncovered.
+    /// `uncovered CONFIG`: prints the methods that the constraints of a server's contexts leave uncovered.
     Uncovered {
         /// The name of the server file.
         config: &'a str,
     },
-    /// `replay CONFIG`: runs the script on standard input over a server's container, and prints what comes of it.
+    /// `replay CONFIG`: runs the script on standard input on a server's container, and prints the results.
     Replay {
         /// The name of the server file.
         config: &'a str,
     },
-    /// `serve CONFIG N`: serves so many connections, one after another.
+    /// `serve CONFIG N`: serves N connections, one after another.
     Serve(Service<'a>),
-    /// `run CONFIG [OPTION ..]`: serves all connections that come, many at once. [`RunOptions::parse`] names the options.
+    /// `run CONFIG [OPTION ..]`: serves any number of connections, many at once. [`RunOptions::parse`] lists the
+    /// options.
     Run(RunOptions<'a>),
-    /// `selftest CONFIG`: asks a server's container once over a connection of its own, and prints the first line of the answer.
+    /// `selftest CONFIG`: sends one request to a server's container over its own connection, and prints the first line
+    /// of the response.
     SelfTest {
         /// The name of the server file.
         config: &'a str,
@@ -46,7 +48,7 @@ pub enum Command<'a> {
 }
 
 impl<'a> Command<'a> {
-    /// The command that these arguments name, the program's own name left out, or none.
+    /// Parses the arguments, without the program's own name. Returns none if they name no command.
     pub fn parse(arguments: &'a [String]) -> Option<Command<'a>>
         ensures { Finds (IsNamed (map string_bytes arguments.now)) result }
     {
@@ -86,7 +88,7 @@ impl<'a> Command<'a> {
     }
 }
 
-/// The one argument, the name of the server file.
+/// Returns the only argument, the name of the server file.
 fn config_in(arguments: &[String]) -> Option<&str>
     ensures { Names name_words (map string_bytes arguments.now) result }
 {
@@ -98,7 +100,7 @@ fn config_in(arguments: &[String]) -> Option<&str>
     }
 }
 
-// The command `run` with the options that its arguments ask for, or none.
+// Returns the command `run` with the options in its arguments, or none.
 fn run_in(arguments: &[String]) -> Option<Command<'_>>
     ensures { Finds (IsNamed (codes "run" ∷ map string_bytes arguments.now)) result }
 {
@@ -108,7 +110,7 @@ fn run_in(arguments: &[String]) -> Option<Command<'_>>
     }
 }
 
-/// The command, where there are no arguments for it.
+/// Returns the command if it has no arguments.
 fn alone<'a>(arguments: &[String], command: Command<'a>) -> Option<Command<'a>>
     ensures it { IfSome result (λ found. (found ≡ command.entry) × (map string_bytes arguments.now ≡ [])) }
     ensures some { map string_bytes arguments.now ≡ [] → IsSome result }

@@ -1,9 +1,9 @@
-//! A number among the arguments, with its digits.
+//! A number in the arguments, with its digits.
 
 ghost use Rattle.std.specs.Prelude.{◌≡◌, Some};
 ghost use Rattle.sv_script.specs.Fields.{number};
 
-/// A text of decimal digits, and the number that it is.
+/// A text of decimal digits, and its number.
 #[derive(Clone, Copy)]
 pub struct Count<'a> {
     pub(crate) text: &'a str,
@@ -12,7 +12,7 @@ pub struct Count<'a> {
 }
 
 impl Count<'_> {
-    /// The number.
+    /// Returns the number.
     pub fn value(&self) -> u64
         ensures { result ≡ self.now.value }
     {

@@ -1,27 +1,27 @@
-//! The options that have a word behind them.
+//! The options that take a word.
 
 ghost use Rattle.std.specs.Prelude.{◌≡◌, IfSome, IsSome};
 ghost use Rattle.sv_options.specs.Settings.{key_word};
 
-/// An option that has a word behind it.
+/// An option that takes a word.
 #[derive(Clone, Copy)]
 pub enum Key {
-    /// `--control SOCKET`: the name of the socket file at which the server is asked and stopped.
+    /// `--control SOCKET`: the name of the control socket file, for queries and for stopping the server.
     Control,
     /// `--journal FILE`: the name of the file to which the journal is appended.
     Journal,
-    /// `--listen ADDRESS:PORT`: where the server listens.
+    /// `--listen ADDRESS:PORT`: the address that the server listens on.
     Listen,
-    /// `--connections N`: how many connections are served at once.
+    /// `--connections N`: maximum number of connections that are served at once.
     Connections,
-    /// `--idle-seconds N`: after how many seconds a connection that nothing moves on is closed.
+    /// `--idle-seconds N`: idle timeout of a connection, in seconds.
     IdleSeconds,
-    /// `--held-mebibytes N`: how many mebibytes are held for all connections.
+    /// `--held-mebibytes N`: maximum number of mebibytes that all connections hold together.
     HeldMebibytes,
 }
 
 impl Key {
-    /// The option that this word names, none where it names none that has a word behind it.
+    /// Returns the option of this word, or none if no option that takes a word has it.
     pub(crate) fn named(word: &str) -> Option<Key>
         ensures it { IfSome result (λ key. word.now ≡ key_word key) }
         ensures found { (key : Key) → word.now ≡ key_word key → IsSome result }

@@ -1,8 +1,8 @@
-//! Laws of what arguments ask for.
+//! Laws of the meaning of arguments.
 
 ghost use Rattle.sv_options.specs.Laws.{AskForOne};
 
-/// Arguments ask for one thing only.
+/// Arguments have only one meaning.
 pub fn arguments_ask_for_one_thing()
     ensures { AskForOne }
 {}

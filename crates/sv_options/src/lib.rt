@@ -1,4 +1,4 @@
-//! The command that the program's arguments name, with what it is asked.
+//! The command that the program's arguments name, with its options.
 #![tactic(auto)]
 
 mod command;

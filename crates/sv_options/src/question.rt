@@ -1,10 +1,10 @@
-//! What the command `policy` is asked.
+//! The arguments of the command `policy`.
 
 ghost use Rattle.std.specs.Prelude.{map, string_bytes};
 ghost use Rattle.sv_options.specs.Question.{question_words};
 ghost use Rattle.sv_program.specs.Arguments.{Names, optional_words};
 
-/// A request and who sends it, and the server that it is for.
+/// A request, its user, and the server that receives it.
 #[derive(Clone, Copy)]
 pub struct Question<'a> {
     /// The name of the server file.
@@ -13,12 +13,12 @@ pub struct Question<'a> {
     pub method: &'a str,
     /// The request's target.
     pub target: &'a str,
-    /// The name of the user who sends it, none for a request without a caller.
+    /// The name of the user that sends it, or none for a request without a caller.
     pub user: Option<&'a str>,
 }
 
 impl<'a> Question<'a> {
-    /// The question that these arguments ask, `CONFIG METHOD TARGET [USER]`, or none where they are not as many.
+    /// Parses the arguments `CONFIG METHOD TARGET [USER]`. Returns none if there are too few or too many.
     pub fn parse(arguments: &'a [String]) -> Option<Question<'a>>
         ensures { Names question_words (map string_bytes arguments.now) result }
     {
@@ -35,7 +35,7 @@ impl<'a> Question<'a> {
     }
 }
 
-/// The user that the arguments behind the target name, who may be left out; none where there are more of them.
+/// Returns the optional user in the arguments after the target, or none if there are too many.
 fn user_in(arguments: &[String]) -> Option<Option<&str>>
     ensures { Names optional_words (map string_bytes arguments.now) result }
 {

@@ -1,36 +1,36 @@
-//! What the command `run` is asked.
+//! The arguments of the command `run`.
 
 use crate::key::Key;
 use crate::taking::{address_once, count_once, name_once};
 use std::net::SocketAddr;
 
-/// How many connections may be asked for at once.
+/// Maximum value of `--connections`.
 const MAX_CONNECTIONS: u32 = 1024;
 
-/// How many idle seconds may be asked for: a day.
+/// Maximum value of `--idle-seconds`: a day.
 const MAX_IDLE_SECONDS: u32 = 86_400;
 
-/// How many held mebibytes may be asked for: a tebibyte.
+/// Maximum value of `--held-mebibytes`: a tebibyte.
 const MAX_HELD_MEBIBYTES: u32 = 1_048_576;
 
-/// A server, and how it runs.
+/// A server, and the options of its run.
 #[derive(Clone, Copy)]
 pub struct RunOptions<'a> {
     /// The name of the server file.
     pub config: &'a str,
-    /// The name of the socket file at which the server is asked and stopped, none where there is to be none.
+    /// The name of the control socket file, for queries and for stopping the server, if there is one.
     pub control: Option<&'a str>,
-    /// The name of the file to which the journal is appended, none where there is to be none.
+    /// The name of the file to which the journal is appended, if there is one.
     pub journal: Option<&'a str>,
-    /// Where the server listens, none where that is the server file's port on this machine.
+    /// The address that the server listens on, or none for 127.0.0.1 with the server file's port.
     pub listen: Option<SocketAddr>,
-    /// Whether random words come of the server file's seed alone.
+    /// Whether random words are derived only from the server file's seed.
     pub same_seed: bool,
-    /// How many connections are served at once, none where nothing is said.
+    /// Maximum number of connections that are served at once, or none for the default.
     pub connections: Option<u32>,
-    /// After how many seconds a connection that nothing moves on is closed, none where nothing is said.
+    /// Idle timeout of a connection in seconds, or none for the default.
     pub idle_seconds: Option<u32>,
-    /// How many mebibytes are held for all connections, none where nothing is said.
+    /// Maximum number of mebibytes that all connections hold together, or none for the default.
     pub held_mebibytes: Option<u32>,
 }
 
@@ -42,9 +42,10 @@ impl<'a> RunOptions<'a> {
     ghost use Rattle.sv_options.specs.Settings.{Setting, setting_words};
     ghost use Rattle.sv_options.specs.Values.{Finds};
 
-    /// What these arguments ask for: the name of the server file and behind it, in any order and each once at most, `--control SOCKET`, `--journal FILE`,
-    /// `--listen ADDRESS:PORT`, `--same-seed`, `--connections N` (1 to 1,024), `--idle-seconds N` (1 to 86,400) and `--held-mebibytes N` (1 to
-    /// 1,048,576). None where they ask for nothing.
+    /// Parses the arguments: the name of the server file, followed by options in any order, each at most once. The
+    /// options are `--control SOCKET`, `--journal FILE`, `--listen ADDRESS:PORT`, `--same-seed`, `--connections N` (1
+    /// to 1,024), `--idle-seconds N` (1 to 86,400) and `--held-mebibytes N` (1 to 1,048,576). Returns none if the
+    /// arguments are invalid.
     pub fn parse(arguments: &'a [String]) -> Option<RunOptions<'a>>
         ensures { Finds (IsAsked (map string_bytes arguments.now)) result }
     {
@@ -59,7 +60,7 @@ impl<'a> RunOptions<'a> {
         Some(options)
     }
 
-    // A server with no options.
+    // Returns a server without options.
     fn plain(config: &'a str) -> RunOptions<'a>
         ensures server { result.config ≡ config.entry }
         ensures set { AreSet [] result }
@@ -76,7 +77,8 @@ impl<'a> RunOptions<'a> {
         }
     }
 
-    // With the option that begins with this word, and the arguments behind it; none where it is no option, was said before, or its word does not say what it should.
+    // Reads the option that begins with this word, and returns the options and the remaining arguments. Returns none if
+    // the word is not an option, the option was given before, or its value is missing or invalid.
     fn read(self, word: &'a str, after: &'a [String]) -> Option<(RunOptions<'a>, &'a [String])>
         ensures it { IfSome result (λ next. IsRead self.entry (word.now ∷ map string_bytes after.now) next.0 (map string_bytes next.1.now)) }
         ensures shorter { IfSome result (λ next. length next.1.now ≤ length after.now) }
@@ -107,7 +109,7 @@ impl<'a> RunOptions<'a> {
         }
     }
 
-    // With an option that has a word behind it.
+    // Sets an option that takes a word.
     fn with(self, key: Key, word: &'a str) -> Option<RunOptions<'a>>
         ensures it { IfSome result (Sets key word.now self.entry) }
         ensures found { (words more : List (List ℕ)) (asked : RunOptions) → IsSet key words self.entry → IsSet key (words ++ word.now ∷ more) asked → IsSome result }

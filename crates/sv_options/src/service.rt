@@ -1,4 +1,4 @@
-//! What the command `serve` is asked.
+//! The arguments of the command `serve`.
 
 ghost use Rattle.std.specs.Prelude.{◌≡◌, true, map, string_bytes};
 ghost use Rattle.std.specs.Char.{is_ascii_digit};
@@ -10,17 +10,17 @@ ghost use Rattle.sv_script.specs.Fields.{number};
 use crate::count::has_digits_alone;
 use crate::counted::Count;
 
-/// A server, and how many connections it serves.
+/// A server, and the number of connections that it serves.
 #[derive(Clone, Copy)]
 pub struct Service<'a> {
     /// The name of the server file.
     pub config: &'a str,
-    /// How many connections are served.
+    /// The number of connections to serve.
     pub connections: Count<'a>,
 }
 
 impl<'a> Service<'a> {
-    /// The service that these arguments ask for, `CONFIG N`, or none.
+    /// Parses the arguments `CONFIG N`. Returns none if they are invalid.
     pub fn parse(arguments: &'a [String]) -> Option<Service<'a>>
         ensures { Names service_words (map string_bytes arguments.now) result }
     {
@@ -33,7 +33,7 @@ impl<'a> Service<'a> {
     }
 }
 
-// The count that the one argument is: decimal digits of a number that fits.
+// Returns the count in the only argument: decimal digits of a number that fits.
 fn count_in(arguments: &[String]) -> Option<Count<'_>>
     ensures { Names count_words (map string_bytes arguments.now) result }
 {
@@ -49,7 +49,7 @@ fn count_in(arguments: &[String]) -> Option<Count<'_>>
     }
 }
 
-// The number that a text of decimal digits is, where it fits.
+// Returns the number that a text of decimal digits writes, if it fits.
 fn number_in(text: &str) -> Option<u64>
     ensures { result ≡ number text.now }
 {

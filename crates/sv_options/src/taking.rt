@@ -1,11 +1,11 @@
-//! What the word behind an option says, where nothing was said before.
+//! The value of an option's word, if the option was not given before.
 
 ghost use Rattle.sv_options.specs.Values.{IsAddress, IsCount, IsName, Takes};
 
 use crate::count::count_in;
 use std::net::SocketAddr;
 
-/// The name that the word is.
+/// Returns the name that the word gives.
 pub(crate) fn name_once<'a>(before: Option<&'a str>, word: &'a str) -> Option<&'a str>
     ensures { Takes IsName before.entry word.now result }
 {
@@ -15,7 +15,7 @@ pub(crate) fn name_once<'a>(before: Option<&'a str>, word: &'a str) -> Option<&'
     }
 }
 
-/// The address with its port that the word writes.
+/// Returns the address with its port that the word writes.
 pub(crate) fn address_once(before: Option<SocketAddr>, word: &str) -> Option<SocketAddr>
     ensures { Takes IsAddress before word.now result }
 {
@@ -34,7 +34,7 @@ fn address_in(word: &str) -> Option<SocketAddr>
     }
 }
 
-/// The number from 1 to the limit that the word writes.
+/// Returns the number from 1 to the limit that the word writes.
 pub(crate) fn count_once(before: Option<u32>, word: &str, limit: u32) -> Option<u32>
     ensures { Takes (IsCount limit) before word.now result }
 {

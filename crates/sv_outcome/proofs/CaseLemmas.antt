@@ -1,4 +1,4 @@
--- The case of a message's outcome holds, and no other.
+-- The condition of the outcome of a message holds, and no other.
 use Rattle.std.proofs.Common.{◌≡◌, Bool, true, false, inl, inr, Option, Some, None, refl, subst}
 use Rattle.sv_constraints.specs.declared.owned_decision.OwnedDecision.{OwnedDecision}
 use Rattle.sv_constraints.specs.declared.owned_decision.OwnedDecision.TheVariants as decisions
@@ -9,7 +9,7 @@ use Rattle.sv_outcome.specs.declared.outcome.Outcome.TheVariants.{Protected, Log
 use Rattle.sv_outcome.specs.Outcome.{Findings, outcome}
 use Rattle.sv_outcome.specs.Laws.{IsCase}
 
--- the case of the outcome holds
+-- The condition of the outcome holds.
 holds_by : (is_protected : Bool) (login : Option LoginOutcome) (verdict : OwnedDecision)
     → IsCase (record { is_protected = is_protected; login = login; verdict = verdict }) (outcome (record { is_protected = is_protected; login = login; verdict = verdict }))
 holds_by true login verdict = refl
@@ -26,13 +26,13 @@ holds_by false None (decisions.Denied why) = ((refl, inl refl), refl)
 pub holds : (found : Findings) (other : Outcome) → outcome found ≡ other → IsCase found other
 holds found other same = subst (IsCase found) same (holds_by found.is_protected found.login found.verdict)
 
--- what is found, put in the outcome
+-- The outcome is determined by the values of the findings.
 from_parts : (found : Findings) (is_protected : Bool) (login : Option LoginOutcome) (verdict : OwnedDecision)
     → found.is_protected ≡ is_protected → found.login ≡ login → found.verdict ≡ verdict
     → outcome found ≡ outcome (record { is_protected = is_protected; login = login; verdict = verdict })
 from_parts found is_protected login verdict p l v = rw (p, l, v) refl
 
--- a case that holds is that of the outcome
+-- A condition that holds is that of the outcome.
 pub tells : (found : Findings) (other : Outcome) → IsCase found other → outcome found ≡ other
 tells found Protected case = from_parts found true found.login found.verdict case refl refl
 tells found (LoggedIn number target) case = from_parts found false (Some (logins.Passed number target)) found.verdict case.0 case.1 refl

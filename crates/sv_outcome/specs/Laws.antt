@@ -1,4 +1,5 @@
--- Jakarta Servlet 6.0, sections 10.5, 13.6.3 and 13.8: the cases of a message, each by itself.
+-- The conditions of the outcomes of a message, independent of their order (Jakarta Servlet 6.0, sections 10.5, 13.6.3
+-- and 13.8).
 use Rattle.std.specs.Prelude.{◌≡◌, ◌↔◌, ◌⊎◌, true, false, None, Some}
 use Rattle.sv_constraints.specs.declared.owned_decision.OwnedWhy.{OwnedWhy}
 use Rattle.sv_constraints.specs.declared.owned_decision.OwnedDecision.TheVariants as decisions
@@ -8,15 +9,15 @@ use Rattle.sv_outcome.specs.declared.outcome.Outcome.{Outcome}
 use Rattle.sv_outcome.specs.declared.outcome.Outcome.TheVariants.{Protected, LoggedIn, LoginFailed, NoSession, Entered, SentToLogin, NoLogin, Denied}
 use Rattle.sv_outcome.specs.Outcome.{Findings, outcome}
 
--- a login post that the login step answers so, to a path that is not protected
+-- A path that is not protected, and a login step with this outcome.
 abbrev pub IsLogin : Findings → LoginOutcome → Type 0
 IsLogin found login = (found.is_protected ≡ false) × (found.login ≡ Some login)
 
--- neither a protected path nor a login post
+-- Neither a protected path nor a login post.
 abbrev pub IsOrdinary : Findings → Type 0
 IsOrdinary found = (found.is_protected ≡ false) × ((found.login ≡ None) ⊎ (found.login ≡ Some logins.NotLogin))
 
--- when a message has that outcome
+-- The condition of an outcome.
 abbrev pub IsCase : Findings → Outcome → Type 0
 IsCase found Protected = found.is_protected ≡ true
 IsCase found (LoggedIn number target) = IsLogin found (logins.Passed number target)
@@ -27,7 +28,7 @@ IsCase found (SentToLogin why) = IsLogin found logins.NotLogin × (found.verdict
 IsCase found (NoLogin why) = (found.is_protected ≡ false) × (found.login ≡ None) × (found.verdict ≡ decisions.Login why)
 IsCase found (Denied why) = IsOrdinary found × (found.verdict ≡ decisions.Denied why)
 
--- just the case of the outcome holds
+-- A condition holds exactly if it is that of the outcome.
 abbrev pub JustOneCaseHolds : Type 0
 JustOneCaseHolds = (found : Findings) (other : Outcome) → IsCase found other ↔ (outcome found ≡ other)
 

@@ -1,4 +1,4 @@
--- What the journal says of a message that has reached its context (Jakarta Servlet 6.0, sections 10.5, 13.6.3 and 13.8).
+-- The journal entry of a message that has reached its context (Jakarta Servlet 6.0, sections 10.5, 13.6.3 and 13.8).
 use Rattle.std.specs.Prelude.{ℕ, List}
 use Rattle.sv_journal.specs.declared.entry.Entry.{Entry}
 use Rattle.sv_journal.specs.declared.entry.Entry.TheVariants as entries
@@ -6,7 +6,7 @@ use Rattle.sv_journal.specs.declared.refusal_cause.RefusalCause.TheVariants as c
 use Rattle.sv_outcome.specs.declared.outcome.Outcome.{Outcome}
 use Rattle.sv_outcome.specs.declared.outcome.Outcome.TheVariants as outcomes
 
--- the entry of an outcome, case by case; the path is that in the context
+-- The entry of each outcome. The path is that within the context.
 abbrev pub outcome_entry : List ℕ → List ℕ → Outcome → Entry
 outcome_entry context path outcomes.Protected = entries.Hidden causes.Protected
 outcome_entry context path (outcomes.LoggedIn number target) = entries.Refused causes.LoggedIn

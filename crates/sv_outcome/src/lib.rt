@@ -1,4 +1,4 @@
-//! What becomes of a message that has reached its context (Jakarta Servlet 6.0, sections 10.5, 13.6.3 and 13.8).
+//! The outcome of a message that has reached its context (Jakarta Servlet 6.0, sections 10.5, 13.6.3 and 13.8).
 #![tactic(auto)]
 
 mod laws;

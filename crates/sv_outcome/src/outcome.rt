@@ -7,10 +7,11 @@ use sv_constraints::{OwnedDecision, OwnedWhy};
 use sv_login::LoginOutcome;
 use sv_text::Text;
 
-/// What becomes of a message that has reached its context. The tests stand in the order of the variants, and the first that holds decides.
+/// The outcome of a message that has reached its context. The tests are made in the order of the variants, and the
+/// first that holds decides.
 #[derive(Drop)]
 pub enum Outcome {
-    /// The path leads into a folder that is served to no client (Jakarta Servlet 6.0, section 10.5).
+    /// The path is in a folder that is served to no client (Jakarta Servlet 6.0, section 10.5).
     Protected,
     /// The message was a login that passed (section 13.6.3).
     LoggedIn {
@@ -19,22 +20,22 @@ pub enum Outcome {
         /// The target that was saved in the session.
         target: Option<Text>,
     },
-    /// The message was a login of a wrong user.
+    /// The message was a login with a wrong or missing name or password.
     LoginFailed,
-    /// The message was a login, and no session could be had.
+    /// The message was a login with correct credentials, but no session was available.
     NoSession,
     /// The message enters the filters and servlets of the context (section 13.8).
     Entered,
-    /// The client is shown the login page, and this is why.
+    /// The client is sent to the login page, for this reason.
     SentToLogin(OwnedWhy),
-    /// The constraints ask for a login, and the context has none.
+    /// The constraints require a login, and the context has no form login.
     NoLogin(OwnedWhy),
     /// The constraints deny the message.
     Denied(OwnedWhy),
 }
 
 impl Outcome {
-    /// The outcome of a login step, and none where the message is no login post: the constraints decide it then.
+    /// Returns the outcome of a login step, or none if the message is not a login post: the constraints then decide.
     pub fn of_login(login: LoginOutcome) -> Option<Outcome>
         ensures { result ≡ login_outcome login }
     {
@@ -46,7 +47,7 @@ impl Outcome {
         }
     }
 
-    /// The outcome of what the constraints decide, in a context that has form login or not.
+    /// Returns the outcome of a decision of the constraints. `has_login` says whether the context has form login.
     pub fn of_decision(decision: OwnedDecision, has_login: bool) -> Outcome
         ensures { result ≡ verdict_outcome has_login decision }
     {

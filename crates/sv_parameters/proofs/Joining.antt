@@ -1,4 +1,4 @@
--- The first parameter of a name in lists that stand one behind the other.
+-- The first parameter with a name in two concatenated lists.
 use Rattle.std.proofs.Common.{◌≡◌, ℕ, List, ◌++◌, Option, None, Some, refl, ◌∙◌, ap}
 use Rattle.std.specs.Prelude.{bytes_eq, find}
 use Rattle.std.specs.Option.{option_map, option_or}

@@ -5,15 +5,16 @@ ghost use Rattle.sv_parameters.specs.Form.{before_parameters, is_form_type, medi
 
 use sv_head::trim_blanks;
 
-/// Whether the value of a Content-Type names a form (RFC 9110, section 8.3.1), whatever its parameters.
+/// Returns whether the value of a Content-Type names the media type of forms, with any parameters (RFC 9110, section
+/// 8.3.1).
 pub(crate) fn is_form_type(value: &[u8]) -> bool
     ensures { result ≡ is_form_type value.now }
 {
     media_type(value).eq_ignore_ascii_case(b"application/x-www-form-urlencoded")
 }
 
-/// The media type that the value of a Content-Type names, without its parameters and the blanks around it, in the case in which it came (RFC 9110,
-/// section 8.3.1).
+/// Returns the media type in the value of a Content-Type, without its parameters and the blanks around it. Its case is
+/// kept (RFC 9110, section 8.3.1).
 pub fn media_type(value: &[u8]) -> &[u8]
     ensures { result.now ≡ media_type value.now }
 {

@@ -11,8 +11,8 @@ use crate::query::first_of_query;
 use std::alloc::Global;
 use sv_text::{NoMemory, Text};
 
-/// Whether the body of a request with that method and that value of a Content-Type is a form (Jakarta Servlet 6.0, section 3.1.1): that of a
-/// POST, of the media type of forms in any case and with any parameters.
+/// Returns whether the body of a request with the method and the Content-Type is a form (Jakarta Servlet 6.0, section
+/// 3.1.1). It is one if the method is POST and the media type is that of forms, in any case and with any parameters.
 pub fn is_form(method: &str, content_type: Option<&[u8]>) -> bool
     ensures { result ≡ is_form method.now (option_copied content_type.entry) }
 {
@@ -22,11 +22,11 @@ pub fn is_form(method: &str, content_type: Option<&[u8]>) -> bool
     }
 }
 
-/// The value of the first parameter of that name, with case, in the form that a body is; `None` where there is none (Jakarta Servlet 6.0,
-/// section 3.1.1). A body that is no form has no parameters.
+/// Returns the value of the first parameter with the name, which is case-sensitive, in a body that is a form. Returns
+/// `None` if there is none (Jakarta Servlet 6.0, section 3.1.1). A body that is not a form has no parameters.
 ///
 /// # Errors
-/// [`NoMemory`]: a growth was refused.
+/// [`NoMemory`]: an allocation failed.
 pub fn first_of_form(
     alloc: Global,
     method: &str,

@@ -1,4 +1,4 @@
-//! The parameters of a request: what its queries and its form name.
+//! The parameters of a request, from its queries and its form.
 #![tactic(auto)]
 
 mod content_type;

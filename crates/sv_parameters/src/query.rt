@@ -8,11 +8,12 @@ use form_urlencoded::{decode, raw_pairs};
 use std::alloc::Global;
 use sv_text::{NoMemory, Text};
 
-/// The value of the first parameter of that name, with case, in a query or a form; `None` where there is none (URL Standard, section 5.1). A
-/// `+` stands for a blank, escapes are decoded, a bad escape stays as it is, and bytes that are no UTF-8 become U+FFFD.
+/// Returns the value of the first parameter with the name, which is case-sensitive, in a query or a form. Returns
+/// `None` if there is none (URL Standard, section 5.1). A `+` means a space, escapes are decoded, a bad escape is kept
+/// as it is, and invalid UTF-8 becomes U+FFFD.
 ///
 /// # Errors
-/// [`NoMemory`]: a growth was refused.
+/// [`NoMemory`]: an allocation failed.
 pub fn first_of_query(alloc: Global, query: &[u8], name: &str) -> Result<Option<Text>, NoMemory>
     ensures { GivesAnswer result (first_named name.now (parameters_of query.now)) }
 {
@@ -24,7 +25,7 @@ pub fn first_of_query(alloc: Global, query: &[u8], name: &str) -> Result<Option<
     Ok(None)
 }
 
-// Whether the name that is written so is that one.
+// Returns whether an encoded name decodes to the given one.
 fn is_named(alloc: Global, key: &[u8], name: &str) -> Result<bool, NoMemory>
     ensures { GivesAnswer result (bytes_eq (text_of key.now) name.now) }
 {
@@ -32,10 +33,10 @@ fn is_named(alloc: Global, key: &[u8], name: &str) -> Result<bool, NoMemory>
     Ok(key.as_str() == name)
 }
 
-/// The text that is written so in a query or a form (URL Standard, section 5.1).
+/// Decodes a text of a query or a form (URL Standard, section 5.1).
 ///
 /// # Errors
-/// [`NoMemory`]: a growth was refused.
+/// [`NoMemory`]: an allocation failed.
 pub fn text_of(alloc: Global, written: &[u8]) -> Result<Text, NoMemory>
     ensures { GivesAnswer result (text_of written.now) }
 {

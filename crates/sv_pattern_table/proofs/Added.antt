@@ -1,4 +1,4 @@
--- What is found once a pattern is added behind all others.
+-- The results of lookups after a pattern is added to the end of the patterns.
 use Rattle.std.proofs.Common.{◌≡◌, ◌≢◌, ℕ, ◌-◌, Bool, true, false, cond, List, [], ◌∷◌, ◌++◌, eqb, length, take, drop, refl, sym, subst, ◌∙◌, ap, arith, Option, Some, None, Result, Ok, Err, OnOk, inl, inr}
 use Rattle.std.specs.HashMap.{get_by_text}
 use Rattle.std.specs.Option.{option_or}
@@ -20,7 +20,7 @@ use Rattle.sv_pattern_table.proofs.Places.{place-push}
 use Rattle.sv_pattern_table.proofs.Paths.{path_of}
 use Rattle.sv_pattern_table.proofs.Rooted.{rooted_back, rooted_front, rooted_pattern}
 
--- what a trie keeps of the kind f for each rooted path
+-- The nodes keep these places of the kind f for rooted paths.
 abbrev Keeps : (List Node → ℕ → Option ℕ) → List Node → (List ℕ → Option ℕ) → Type 0
 Keeps f nodes places = (path : List ℕ) → is_rooted path ≡ true → kept (child nodes) (f nodes) (segments_of path) ≡ places path
 
@@ -39,7 +39,7 @@ gained old new f g target n before after test adds rooted_target keeps pushed te
           ∙ (keeps path rooted ∙ (sym (or_none (before path)) ∙ (ap (λ t. option_or (before path) (one n t)) (sym (tests path rooted ∙ e)) ∙ sym (pushed path))))
     ]
 
--- where the pattern is not the one, nothing changes
+-- If the test fails, nothing changes.
 unmoved : (n : ℕ) (before after : Option ℕ) (test : Bool) → after ≡ option_or before (one n test) → test ≡ false → before ≡ after
 unmoved n before after test pushed none = sym (or_none before) ∙ (ap (λ t. option_or before (one n t)) (sym none) ∙ sym pushed)
 
@@ -63,7 +63,7 @@ module _ (patterns : List (List ℕ)) (pattern : List ℕ) where
   still text none = unmoved (length patterns) (place_of patterns text) (place_of grown text) (bytes_eq pattern text) (place-push patterns pattern text) none
 
   module _ (old new : Index) (finds : Finds old patterns) (accepted : is_pattern pattern ≡ true) where
-    -- the pattern is exact for the path `target`
+    -- The pattern is exact for the path `target`.
     pub finds_exact : (target : List ℕ) → is_rooted target ≡ true → Adds old.trie.nodes.items new.trie.nodes.items (segments_of target) (length patterns) exact prefix
         → ((wanted : List ℕ) → get_by_text new.extensions wanted ≡ get_by_text old.extensions wanted) → new.default ≡ old.default
         → ((path : List ℕ) → fits_exactly pattern path ≡ bytes_eq path target) → ((path : List ℕ) → bytes_eq pattern (below path) ≡ false) → ((wanted : List ℕ) → bytes_eq pattern (42 ∷ 46 ∷ wanted) ≡ false) → bytes_eq pattern (47 ∷ []) ≡ false
@@ -77,7 +77,7 @@ module _ (patterns : List (List ℕ)) (pattern : List ℕ) where
       default = default ∙ (finds.default ∙ still (47 ∷ []) no_default);
     }
 
-    -- the pattern is the prefix pattern of `front`
+    -- The pattern is the prefix pattern of `front`.
     pub finds_prefix : (front : List ℕ) → pattern ≡ below front → is_rooted front ≡ true → Adds old.trie.nodes.items new.trie.nodes.items (segments_of front) (length patterns) prefix exact
         → ((wanted : List ℕ) → get_by_text new.extensions wanted ≡ get_by_text old.extensions wanted) → new.default ≡ old.default
         → ((wanted : List ℕ) → pattern ≡ 42 ∷ 46 ∷ wanted → ⊥) → (pattern ≡ 47 ∷ [] → ⊥)
@@ -91,7 +91,7 @@ module _ (patterns : List (List ℕ)) (pattern : List ℕ) where
       default = default ∙ (finds.default ∙ still (47 ∷ []) (unequal pattern (47 ∷ []) no_slash));
     }
 
-    -- the trie stays
+    -- The trie is unchanged.
     aside : (keeps : List ℕ → Option ℕ) (after : List ℕ → Option ℕ) (f : List Node → ℕ → Option ℕ) → new.trie ≡ old.trie → Keeps f old.trie.nodes.items keeps → ((path : List ℕ) → is_rooted path ≡ true → keeps path ≡ after path) → Keeps f new.trie.nodes.items after
     aside keeps after f same before moved path rooted = rw same (before path rooted ∙ moved path rooted)
 
@@ -129,8 +129,8 @@ pub on_ok : {A E P Q : Type 0} (r : Result A E) → OnOk r P → (P → Q) → O
 on_ok (Ok a) h f = f h
 on_ok (Err e) h f = tt
 
--- ---- what the form of a text says of it
--- it has not the form of another text
+-- ---- texts by their forms
+-- Texts of different forms differ.
 not_of : (text other : List ℕ) (f g : Form) → f ≡ form text → g ≡ form other → (f ≡ g → ⊥) → text ≡ other → ⊥
 not_of text other f g h k apart e = apart (h ∙ (ap form e ∙ sym k))
 
@@ -146,7 +146,7 @@ form-starred : (rest : List ℕ) → Extension rest ≡ form (42 ∷ 46 ∷ rest
 unfolding form
 form-starred rest = refl
 
--- an exact pattern does not end as a prefix pattern does
+-- An exact pattern does not end like a prefix pattern.
 exact_end : (text t : List ℕ) → Exact t ≡ form text → ends_with eqb text (47 ∷ 42 ∷ []) ≡ false
 unfolding form
 exact_end text t h =

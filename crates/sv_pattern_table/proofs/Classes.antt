@@ -1,4 +1,4 @@
--- For which paths a text is the exact pattern, the prefix pattern, the extension pattern or the default pattern.
+-- The paths for which a text is the exact pattern, the prefix pattern, the extension pattern or the default pattern.
 use Rattle.std.proofs.Common.{◌≡◌, ℕ, ◌<◌, Bool, true, false, cond, List, [], ◌∷◌, ◌++◌, eqb, length, refl, sym, ◌∙◌, ap, arith, length-append, Option, Some, None, inl, inr}
 use Rattle.std.specs.List.{ends_with}
 use Rattle.std.specs.Option.{option_or}
@@ -11,7 +11,7 @@ use Rattle.sv_pattern_table.specs.Segments.{is_rooted}
 use Rattle.sv_pattern_table.proofs.Places.{place-push}
 use Rattle.sv_pattern_table.proofs.Rooted.{rooted_cases}
 
--- the pattern is the exact one for the path
+-- The pattern is the exact one for the path.
 abbrev pub fits_exactly : List ℕ → List ℕ → Bool
 fits_exactly pattern [] = false
 fits_exactly pattern (b ∷ bs) = cond (bytes_eq (b ∷ bs) (47 ∷ [])) (bytes_eq pattern []) (cond (ends_with eqb (b ∷ bs) (47 ∷ 42 ∷ [])) false (bytes_eq pattern (b ∷ bs)))

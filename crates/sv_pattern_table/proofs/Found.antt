@@ -1,4 +1,4 @@
--- What is found for a path is its best match.
+-- The place found for a path is that of its best match.
 use Rattle.std.proofs.Common.{◌≡◌, ℕ, ◌≤◌, Bool, true, false, not, cond, List, [], ◌∷◌, ◌++◌, eqb, length, map, refl, sym, ◌∙◌, ap, arith, Option, Some, None, inl, inr, ◌⊎◌}
 use Rattle.std.specs.HashMap.{get_by_text}
 use Rattle.std.specs.List.{list_all}
@@ -57,7 +57,7 @@ beside patterns path =
     first_place-append patterns (extension_texts path) ((47 ∷ []) ∷ [])
     ∙ (ap (λ o. option_or o (first_place patterns ((47 ∷ []) ∷ []))) (extension_place patterns (extension path)) ∙ ap (option_or (option_and_then (λ wanted. place_of patterns (42 ∷ 46 ∷ wanted)) (extension path))) (or_none (place_of patterns (47 ∷ []))))
 
--- the laws of the best match give its place
+-- The laws of the best match give its place.
 module _ (tried : BestIsFirstTried) (others : BestOfOthers) (stands : BestStandsFirst) (patterns : List (List ℕ)) where
   slashed : (rest : List ℕ) → best patterns (47 ∷ rest) ≡ option_or (option_or (exact_place patterns (47 ∷ rest)) (first_place patterns (prefix_texts (47 ∷ rest)))) (beside_trie patterns (47 ∷ rest))
   slashed rest =
@@ -84,7 +84,7 @@ module _ (tried : BestIsFirstTried) (others : BestOfOthers) (stands : BestStands
         rungs (inl e) = rw e (other [] refl ∙ (ap (option_or (place_of patterns (47 ∷ 42 ∷ []))) (or_none (place_of patterns (47 ∷ []))) ∙ ap (λ o. option_or o (place_of patterns (47 ∷ []))) (sym (or_none (place_of patterns (47 ∷ 42 ∷ []))))))
         rungs (inr e) = rw e.1 (slashed e.0)
 
--- what the index has where the trie has nothing
+-- The place in the index if the trie has none.
 same_beside : (index : Index) (patterns : List (List ℕ)) → Finds index patterns → (path : List ℕ) → option_or (option_and_then (λ wanted. get_by_text index.extensions wanted) (extension path)) index.default ≡ beside_trie patterns path
 same_beside index patterns finds path =
     ap (λ (places : List ℕ → Option ℕ). option_or (option_and_then places (extension path)) index.default) (λ i wanted. finds.extensions wanted i)
@@ -115,7 +115,7 @@ found_beside law index patterns path e x found finds exactly longest none is =
     is ∙ (same_beside index patterns finds path
     ∙ sym (law patterns path finds.accepted ∙ none_first (in_trie patterns path) (beside_trie patterns path) (both_known patterns path e x exactly longest ∙ none)))
 
--- a path has no more segments than slashes
+-- A path has no more segments than slashes.
 pub segments_most : (path : List ℕ) → length (segments_of path) ≤ segments path
 segments_most [] = omega arith
 segments_most (b ∷ bs) = elim (cases_Bool (eqb b 47)) [ inl e ↦ rw (eqb-true b 47 e) (omega (arith, segments_counted bs)) | inr e ↦ rw e (omega arith) ]

@@ -1,4 +1,4 @@
--- What the trie keeps while nodes are added to it.
+-- The places in a trie while nodes are added to it.
 use Rattle.std.proofs.Common.{◌≡◌, ℕ, ◌<◌, ◌≤◌, cond, List, [], ◌∷◌, ◌++◌, eqb, length, refl, sym, ◌∙◌, ap, arith, append_assoc, Option, Some, None}
 use Rattle.std.specs.Option.{option_and_then}
 use Rattle.std.proofs.lemmas.Option.{slice_get_past}
@@ -6,13 +6,13 @@ use Rattle.sv_pattern_table.specs.declared.node.Node.{Node}
 use Rattle.sv_pattern_table.specs.Trie.{Enters, Grows, child, exact, prefix, reached}
 use Rattle.sv_pattern_table.proofs.Trees.{Joins, here, kept_stays, reached-further, reached_stays, tree_grows}
 
--- the segments behind `done` are still to be entered
+-- The segments `done` lead to `at`, and the rest must still be entered.
 pub record Entering (old new : List Node) (segments rest : List (List ℕ)) (at : ℕ) : Type 0 where
   pub done : List (List ℕ)
   pub whole : done ++ rest ≡ segments
   pub enters : Enters old new done at
 
--- a child is there
+-- The child exists.
 pub entering_child : (old new : List Node) (segments rest behind : List (List ℕ)) (segment : List ℕ) (at next : ℕ) → Entering old new segments rest at → rest ≡ segment ∷ behind → child new at segment ≡ Some next → Entering old new segments behind next
 entering_child old new segments rest behind segment at next e cut found = record {
   done = e.done ++ segment ∷ [];
@@ -43,7 +43,7 @@ joins_from old new at segment next grows free within = record {
   apart = omega (arith, grows.is_next);
 }
 
--- a child is made
+-- The child is added.
 pub entering_new : (old new newer : List Node) (segments rest behind : List (List ℕ)) (segment : List ℕ) (at next : ℕ) → Entering old new segments rest at → rest ≡ segment ∷ behind → child new at segment ≡ None → Grows new newer at segment next → Entering old newer segments behind next
 entering_new old new newer segments rest behind segment at next e cut free grows = record {
   done = e.done ++ segment ∷ [];

@@ -1,4 +1,4 @@
--- What the nodes of a trie keep after one is added or changed.
+-- The contents of the nodes of a trie after one is added or changed.
 use Rattle.std.proofs.Common.{◌≡◌, ◌≤◌, ◌≢◌, ℕ, ◌+◌, ◌<◌, cond, List, [], ◌∷◌, ◌++◌, eqb, ltb, length, get_or, slice_set, refl, sym, ◌∙◌, ap, arith, zero, suc, length-append, Option, Some, None, inl, inr}
 use Rattle.std.specs.HashMap.{get_by_text}
 use Rattle.std.specs.List.{slice_get}
@@ -50,7 +50,7 @@ read-set_same f nodes at node within = rw (set_same nodes at node within) refl
 pub read-set_other : {X : Type 0} (f : Node → Option X) (nodes : List Node) (at i : ℕ) (node : Node) → i ≢ at → read f (slice_set nodes at node) i ≡ read f nodes i
 read-set_other f nodes at i node apart = rw (set_other nodes at i node apart) refl
 
--- where the reading stays, it stays for all
+-- If the reading of the changed node stays the same, all readings do.
 pub read-set_kept : {X : Type 0} (f : Node → Option X) (nodes : List Node) (at i : ℕ) (was node : Node) → at < length nodes → was ≡ get_or nodes at was → f node ≡ f was → read f (slice_set nodes at node) i ≡ read f nodes i
 read-set_kept f nodes at i was node within is same =
     elim (cases_Bool (eqb i at)) [
@@ -100,12 +100,12 @@ looked_some nodes at next rest behind segment cut some = rw (cut, some) refl
 pub looked_least : (child : ℕ → List ℕ → Option ℕ) (at : ℕ) (rest behind : List (List ℕ)) (segment : List ℕ) → rest ≡ segment ∷ behind → 1 ≤ looked_up child at rest
 looked_least child at rest behind segment cut = rw cut (omega arith)
 
--- no more segments are looked up than there are
+-- At most as many segments are looked up as there are.
 pub looked_most : (child : ℕ → List ℕ → Option ℕ) (at : ℕ) (segments : List (List ℕ)) → looked_up child at segments ≤ length segments
 looked_most child at [] = omega arith
 looked_most child at (s ∷ ss) = elim (cases_Option (child at s)) [ inl e ↦ rw e (omega arith) | inr e ↦ rw e.1 (omega (arith, looked_most child e.0 ss)) ]
 
--- ---- a place is kept by the node to which segments lead
+-- ---- the node that segments lead to keeps a place
 tree_same : (child other : ℕ → List ℕ → Option ℕ) (count others : ℕ) (paths : ℕ → List (List ℕ)) → child ≡ other → count ≡ others → IsTree other others paths → IsTree child count paths
 tree_same child other count others paths e f tree = rw (e, f) tree
 

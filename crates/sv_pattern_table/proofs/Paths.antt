@@ -8,11 +8,11 @@ use Rattle.sv_mapping.specs.Pattern.{is_slash}
 use Rattle.sv_pattern_table.specs.Segments.{between_slashes, segments_of}
 use Rattle.sv_pattern_table.proofs.Cuts.{first_segment, one_segment}
 
--- the path of these segments
+-- The path of these segments.
 abbrev pub path_of : List (List ℕ) → List ℕ
 path_of segments = flat_map (λ segment. 47 ∷ segment) segments
 
--- no segment holds a slash
+-- No segment holds a slash.
 abbrev pub Clean : List (List ℕ) → Type 0
 Clean [] = Unit {0}
 Clean (segment ∷ segments) = (list_any is_slash segment ≡ false) × Clean segments
@@ -40,7 +40,7 @@ pub path_between : (text : List ℕ) → path_of (between_slashes text) ≡ 47 �
 path_between [] = refl
 path_between (b ∷ bs) = elim (cases_Bool (eqb b 47)) [ inl e ↦ rw e (ap (λ r. 47 ∷ r) (path_between bs ∙ ap (λ c. c ∷ bs) (sym (eqb-true b 47 e)))) | inr e ↦ rw e (onto_path b (between_slashes bs) bs (path_between bs)) ]
 
--- the segments of a path tell it
+-- The segments of a path determine it.
 pub path_back : (rest : List ℕ) → path_of (segments_of (47 ∷ rest)) ≡ 47 ∷ rest
 path_back rest = path_between rest
 
@@ -54,7 +54,7 @@ front_plain : (segment : List ℕ) → list_any is_slash segment ≡ false → f
 front_plain [] h = refl
 front_plain (b ∷ bs) h = let parts = or_parts (eqb b 47) (list_any is_slash bs) h in rw (parts.0, front_plain bs parts.1) refl
 
--- one more segment is one more front
+-- One more segment is one more front.
 pub fronts_further : (path segment : List ℕ) → list_any is_slash segment ≡ false → fronts (path ++ 47 ∷ segment) ≡ (path ++ 47 ∷ segment) ∷ fronts path
 fronts_further [] segment h = rw (front_plain segment h) refl
 fronts_further (b ∷ bs) segment h = rw (fronts_further bs segment h) refl

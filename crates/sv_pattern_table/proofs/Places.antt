@@ -8,7 +8,7 @@ use Rattle.std.proofs.lemmas.Iterator.Adapters.{position_from-zero}
 use Rattle.sv_mapping.specs.BestMatch.{BestStandsFirst, best, best_pattern}
 use Rattle.sv_pattern_table.specs.Places.{first_place, place_of}
 
--- ---- the first place at which a test passes
+-- ---- the first place that passes a test
 module _ {X : Type 0} (t : X → Bool) where
   from_none : (i : ℕ) (xs : List X) → list_any t xs ≡ false → position_from t i xs ≡ None
   from_none i [] h = refl
@@ -22,7 +22,7 @@ module _ {X : Type 0} (t : X → Bool) where
   from_push i [] x = rw add-zero refl
   from_push i (y ∷ ys) x = elim (cases_Bool (t y)) [ inl e ↦ rw e refl | inr e ↦ rw (e, from_push (i + 1) ys x) (ap (λ n. option_or (position_from t (i + 1) ys) (cond (t x) (Some n) None)) (omega arith)) ]
 
--- one more pattern
+-- One more pattern.
 pub place-push : (patterns : List (List ℕ)) (pattern text : List ℕ) → place_of (patterns ++ pattern ∷ []) text ≡ option_or (place_of patterns text) (cond (bytes_eq pattern text) (Some (length patterns)) None)
 place-push patterns pattern text =
     position_from-zero _ (patterns ++ pattern ∷ []) ∙ (from_push (λ p. bytes_eq p text) 0 patterns pattern
@@ -30,7 +30,7 @@ place-push patterns pattern text =
     ∙ ap (λ o. option_or o (cond (bytes_eq pattern text) (Some (length patterns)) None)) (sym (position_from-zero _ patterns))))
 
 -- ---- the first place of several texts
--- a text is among the patterns
+-- A text is among the patterns.
 abbrev among : List (List ℕ) → List ℕ → Bool
 among patterns text = list_any (λ pattern. bytes_eq pattern text) patterns
 
@@ -56,6 +56,6 @@ first_place-append patterns (text ∷ texts) back = or_apart (place_of patterns 
     or_apart None a b c h = h
     or_apart (Some n) a b c h = refl
 
--- where the best match is the first of several texts that is among the patterns, its place is their first place
+-- If the best match is the first of several texts that is among the patterns, its place is their first place.
 pub placed : BestStandsFirst → (patterns : List (List ℕ)) (path : List ℕ) (texts : List (List ℕ)) → best_pattern patterns path ≡ find (among patterns) texts → best patterns path ≡ first_place patterns texts
 placed stands patterns path texts found = stands patterns path ∙ (ap (option_and_then (place_of patterns)) found ∙ sym (first_found patterns texts))

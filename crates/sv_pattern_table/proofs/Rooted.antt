@@ -26,7 +26,7 @@ rooted_back path h = elim (rooted_cases path h) [ inl e ↦ rw e refl | inr e �
 heads : (b c : ℕ) (bs cs : List ℕ) → b ∷ bs ≡ c ∷ cs → b ≡ c
 heads b c bs cs e = cc
 
--- the front of a rooted path is rooted
+-- The front of a rooted path is rooted.
 pub rooted_front : (front back : List ℕ) → is_rooted (front ++ back) ≡ true → is_rooted front ≡ true
 rooted_front [] back h = refl
 rooted_front (b ∷ bs) back h =
@@ -35,7 +35,7 @@ rooted_front (b ∷ bs) back h =
       | inr e ↦ slashed_rooted (b ∷ bs) bs (ap (λ c. c ∷ bs) (heads b 47 (bs ++ back) e.0 e.1))
     ]
 
--- a pattern that is no extension pattern is rooted
+-- A pattern that is not an extension pattern is rooted.
 pub rooted_pattern : (text : List ℕ) → is_pattern text ≡ true → ((rest : List ℕ) → text ≡ 42 ∷ 46 ∷ rest → ⊥) → is_rooted text ≡ true
 rooted_pattern text h other =
     elim (or_cases _ _ (and_parts _ _ h).1) [

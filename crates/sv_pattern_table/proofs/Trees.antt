@@ -1,4 +1,4 @@
--- What holds of a tree of nodes while it grows.
+-- Properties of a tree of nodes while it grows.
 use Rattle.std.proofs.Common.{◌≡◌, ◌≢◌, ℕ, ◌+◌, ◌<◌, false, cond, ◌&&◌, List, [], ◌∷◌, ◌++◌, eqb, refl, sym, ◌∙◌, ap, arith, append-nil, append_assoc, Option, Some, None, inl, inr, ◌⊎◌}
 use Rattle.std.specs.Option.{option_and_then}
 use Rattle.std.specs.Str.{bytes_eq}
@@ -12,7 +12,7 @@ cases_Option None = inl refl
 cases_Option (Some x) = inr (x, refl)
 
 module _ (child : ℕ → List ℕ → Option ℕ) where
-  -- one more segment leads to a child
+  -- One more segment leads to a child.
   pub reached-further : (at : ℕ) (segments : List (List ℕ)) (segment : List ℕ) → reached child at (segments ++ segment ∷ []) ≡ option_and_then (λ next. child next segment) (reached child at segments)
   reached-further at [] segment = whole (child at segment)
     where
@@ -30,11 +30,11 @@ module _ (child : ℕ → List ℕ → Option ℕ) where
           | inr e ↦ path_from e.0 to ss (rw e.1 at h) ∙ (ap (λ p. p ++ ss) (tree.edges at e.0 s e.1).1 ∙ append_assoc (paths at) (s ∷ []) ss)
         ]
 
-    -- a node tells the segments that lead to it
+    -- A node determines the segments that lead to it.
     pub path_reached : (to : ℕ) (segments : List (List ℕ)) → reached child 0 segments ≡ Some to → paths to ≡ segments
     path_reached to segments h = path_from 0 to segments h ∙ ap (λ p. p ++ segments) tree.root
 
--- `next` becomes the child of `at` by the segment, and had no child
+-- `next` becomes the child of `at` by the segment, and had no child.
 pub record Joins (old new : ℕ → List ℕ → Option ℕ) (at : ℕ) (segment : List ℕ) (next : ℕ) : Type 0 where
   pub children : (from : ℕ) (name : List ℕ) → new from name ≡ cond (eqb from at && bytes_eq segment name) (Some next) (old from name)
   pub free : old at segment ≡ None
@@ -45,7 +45,7 @@ module _ (old new : ℕ → List ℕ → Option ℕ) (at : ℕ) (segment : List 
   pub here : new at segment ≡ Some next
   here = rw (joins.children at segment, eq-eqb at at refl, (bytes_eq-Decides segment segment).1 refl) refl
 
-  -- an edge that was there stays
+  -- Existing edges stay.
   stays : (from to : ℕ) (name : List ℕ) → old from name ≡ Some to → new from name ≡ Some to
   stays from to name h =
       elim (cases_Bool (eqb from at && bytes_eq segment name)) [
@@ -56,7 +56,7 @@ module _ (old new : ℕ → List ℕ → Option ℕ) (at : ℕ) (segment : List 
             absurd (none-some to (sym lost ∙ h))
       ]
 
-  -- an edge was there, or is the one that was made
+  -- An edge existed before or is the new one.
   edge : (from to : ℕ) (name : List ℕ) → new from name ≡ Some to → (old from name ≡ Some to) ⊎ ((from ≡ at) × (segment ≡ name) × (to ≡ next))
   edge from to name h =
       elim (cases_Bool (eqb from at && bytes_eq segment name)) [
@@ -80,7 +80,7 @@ module _ (old new : ℕ → List ℕ → Option ℕ) (at : ℕ) (segment : List 
         | inr e ↦ rw (stays from e.0 s e.1) (reached_stays e.0 to ss (rw e.1 at h))
       ]
 
-  -- the new node is a leaf and keeps nothing, so nothing else is found
+  -- The new node is a leaf without places, so nothing else is found.
   pub kept_stays : (places : ℕ → Option ℕ) → places next ≡ None → (from : ℕ) (segments : List (List ℕ)) → option_and_then places (reached new from segments) ≡ option_and_then places (reached old from segments)
   kept_stays places none from [] = refl
   kept_stays places none from (s ∷ ss) =
@@ -99,7 +99,7 @@ module _ (old new : ℕ → List ℕ → Option ℕ) (at : ℕ) (segment : List 
       nothing [] = none
       nothing (s ∷ ss) = rw (leaf_stays s) refl
 
-  -- a tree stays one
+  -- A tree stays a tree.
   pub tree_grows : (count : ℕ) (paths : ℕ → List (List ℕ)) → count ≡ next → IsTree old count paths → IsTree new (count + 1) (λ node. cond (eqb node next) (paths at ++ segment ∷ []) (paths node))
   tree_grows count paths last tree = record {
     some = omega arith;
@@ -115,7 +115,7 @@ module _ (old new : ℕ → List ℕ → Option ℕ) (at : ℕ) (segment : List 
       apart_from : (from to : ℕ) (name : List ℕ) → old from name ≡ Some to → eqb from next ≡ false
       apart_from from to name was = ne_eqb from next (λ same. absurd (none-some to (sym (ap (λ n. old n name) same ∙ joins.leaf name) ∙ was)))
 
--- a place that one node keeps further
+-- A place that one more node keeps.
 pub kept_here : (child : ℕ → List ℕ → Option ℕ) (places : ℕ → Option ℕ) (at : ℕ) (segments : List (List ℕ)) → reached child 0 segments ≡ Some at → kept child places segments ≡ places at
 kept_here child places at segments h = rw h refl
 

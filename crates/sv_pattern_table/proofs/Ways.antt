@@ -1,4 +1,4 @@
--- What is found on the way along the segments of a path.
+-- The places found along the segments of a path.
 use Rattle.std.proofs.Common.{◌≡◌, ℕ, false, List, [], ◌∷◌, ◌++◌, map, refl, sym, ◌∙◌, ap, append-nil, append_assoc, Option, Some, None, inl, inr}
 use Rattle.std.specs.List.{list_any}
 use Rattle.std.specs.Option.{option_and_then, option_or}
@@ -10,11 +10,11 @@ use Rattle.sv_pattern_table.proofs.Paths.{Clean, fronts_further, path_of}
 use Rattle.sv_pattern_table.proofs.Trees.{cases_Option}
 
 module _ (patterns : List (List ℕ)) where
-  -- the place of the prefix pattern for all below this path
+  -- The place of the prefix pattern for this path and all paths below it.
   abbrev below : List ℕ → Option ℕ
   below path = place_of patterns (path ++ 47 ∷ 42 ∷ [])
 
-  -- the place of the longest prefix pattern for a path
+  -- The place of the longest prefix pattern for a path.
   abbrev pub longest : List ℕ → Option ℕ
   longest path = first_place patterns (prefix_texts path)
 
@@ -25,7 +25,7 @@ module _ (patterns : List (List ℕ)) where
   or_none None = refl
   or_none (Some n) = refl
 
-  -- no prefix pattern further on changes the longest
+  -- If no path further on has a prefix pattern, the longest stays the same.
   longest_stays : (path : List ℕ) (segments : List (List ℕ)) → Clean segments → ((others : List (List ℕ)) → Clean others → below (path ++ path_of others) ≡ None) → longest (path ++ path_of segments) ≡ longest path
   longest_stays path [] clean none = ap longest (append-nil path)
   longest_stays path (s ∷ ss) clean none =
@@ -35,7 +35,7 @@ module _ (patterns : List (List ℕ)) where
       ∙ (longest_stays (path ++ 47 ∷ s) ss clean.1 (λ others c. ap below (append_assoc path (47 ∷ s) (path_of others)) ∙ none (s ∷ others) (clean.0, c))
       ∙ (longest-further path s clean.0 ∙ ap (λ o. option_or o (longest path)) here))
 
-  -- what the nodes from `at` on keep is what the patterns have from this path on
+  -- The nodes from `at` on keep the places that the patterns have from this path on.
   pub record Stands (child : ℕ → List ℕ → Option ℕ) (exact prefix : ℕ → Option ℕ) (at : ℕ) (path : List ℕ) : Type 0 where
     pub exacts : (segments : List (List ℕ)) → Clean segments → option_and_then exact (reached child at segments) ≡ exact_place patterns (path ++ path_of segments)
     pub prefixes : (segments : List (List ℕ)) → Clean segments → option_and_then prefix (reached child at segments) ≡ below (path ++ path_of segments)

@@ -1,4 +1,4 @@
--- What the look-ups of compiled patterns find (Jakarta Servlet 6.0, section 12.1).
+-- The results of lookups in compiled patterns (Jakarta Servlet 6.0, section 12.1).
 use Rattle.std.specs.Prelude.{◌≡◌, ℕ, List, ◌++◌, codes, IsTrue}
 use Rattle.std.specs.HashMap.{get_by_text}
 use Rattle.std.specs.List.{list_all}
@@ -8,7 +8,7 @@ use Rattle.sv_pattern_table.specs.Places.{exact_place, place_of}
 use Rattle.sv_pattern_table.specs.Segments.{is_rooted, segments_of}
 use Rattle.sv_pattern_table.specs.Trie.{IsTrie, child, exact, prefix, kept}
 
--- all texts are patterns, and the trie, the extensions and the default have their least places
+-- All texts are patterns, and the trie, the extensions and the default hold their least places.
 pub record Finds (index : Index) (patterns : List (List ℕ)) : Type 0 where
   pub accepted : IsTrue (list_all is_pattern patterns)
   pub trie : IsTrie index.trie.nodes.items

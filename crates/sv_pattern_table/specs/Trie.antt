@@ -1,32 +1,32 @@
--- A trie over the segments of paths: to which node segments lead, and what the nodes keep.
+-- A trie over the segments of paths: the nodes that segments lead to, and the contents of the nodes.
 use Rattle.std.specs.Prelude.{◌≡◌, ◌≢◌, ℕ, ◌+◌, ◌<◌, ◌==◌, ◌&&◌, List, [], ◌∷◌, ◌++◌, length, if◌then◌else◌, Option, Some, None, slice_get}
 use Rattle.std.specs.HashMap.{get_by_text}
 use Rattle.std.specs.Option.{option_and_then, option_map_or, option_or}
 use Rattle.std.specs.Str.{bytes_eq}
 use Rattle.sv_pattern_table.specs.declared.node.Node.{Node}
 
--- the node one segment further
+-- The node one segment further.
 abbrev pub child : List Node → ℕ → List ℕ → Option ℕ
 child nodes at segment = option_and_then (λ node. get_by_text node.children segment) (slice_get nodes at)
 
--- the place that a node keeps of the pattern for its path alone
+-- The place in a node of the pattern that matches only its path.
 abbrev pub exact : List Node → ℕ → Option ℕ
 exact nodes at = option_and_then (λ node. node.exact) (slice_get nodes at)
 
--- the place that it keeps of the pattern for its path and all below
+-- The place in a node of the pattern that matches its path and all paths below it.
 abbrev pub prefix : List Node → ℕ → Option ℕ
 prefix nodes at = option_and_then (λ node. node.prefix) (slice_get nodes at)
 
--- the node to which segments lead
+-- The node that segments lead to.
 abbrev pub reached : (ℕ → List ℕ → Option ℕ) → ℕ → List (List ℕ) → Option ℕ
 reached child at [] = Some at
 reached child at (segment ∷ segments) = option_and_then (λ next. reached child next segments) (child at segment)
 
--- the place that is kept by the node to which segments lead from the root
+-- The place in the node that segments lead to from the root.
 abbrev pub kept : (ℕ → List ℕ → Option ℕ) → (ℕ → Option ℕ) → List (List ℕ) → Option ℕ
 kept child places segments = option_and_then places (reached child 0 segments)
 
--- each node but the root is the child of one node by one segment: `paths` says which segments lead to it
+-- Each node except the root is the child of one node by one segment. `paths` gives the segments that lead to each node.
 pub record IsTree (child : ℕ → List ℕ → Option ℕ) (count : ℕ) (paths : ℕ → List (List ℕ)) : Type 0 where
   pub some : 0 < count
   pub root : paths 0 ≡ []
@@ -35,7 +35,7 @@ pub record IsTree (child : ℕ → List ℕ → Option ℕ) (count : ℕ) (paths
 abbrev pub IsTrie : List Node → Type 0
 IsTrie nodes = (paths : ℕ → List (List ℕ)) × IsTree (child nodes) (length nodes) paths
 
--- the node `number` is new, a child of `at`, and keeps nothing
+-- The node `number` is new and a child of `at`, and keeps nothing.
 pub record Grows (old new : List Node) (at : ℕ) (segment : List ℕ) (number : ℕ) : Type 0 where
   pub is_next : number ≡ length old
   pub count : length new ≡ length old + 1
@@ -43,7 +43,7 @@ pub record Grows (old new : List Node) (at : ℕ) (segment : List ℕ) (number :
   pub exacts : (from : ℕ) → exact new from ≡ exact old from
   pub prefixes : (from : ℕ) → prefix new from ≡ prefix old from
 
--- segments lead to `at`, and whatever any segments led to keeps what it kept
+-- The segments lead to `at`, and all sequences of segments lead to the same places as before.
 pub record Enters (old new : List Node) (segments : List (List ℕ)) (at : ℕ) : Type 0 where
   pub trie : IsTrie new
   pub within : at < length new
@@ -51,20 +51,21 @@ pub record Enters (old new : List Node) (segments : List (List ℕ)) (at : ℕ) 
   pub exacts : (others : List (List ℕ)) → kept (child new) (exact new) others ≡ kept (child old) (exact old) others
   pub prefixes : (others : List (List ℕ)) → kept (child new) (prefix new) others ≡ kept (child old) (prefix old) others
 
--- the node to which segments lead keeps the place, unless it kept one; `gains` is what was added to, and `spared` was not
+-- The node that the segments lead to keeps the place, unless it had one. `gains` is the kind of place that was added,
+-- and `spared` the other kind.
 pub record Adds (old new : List Node) (segments : List (List ℕ)) (place : ℕ) (gains spared : List Node → ℕ → Option ℕ) : Type 0 where
   pub trie : IsTrie new
   pub here : kept (child new) (gains new) segments ≡ option_or (kept (child old) (gains old) segments) (Some place)
   pub others : (others : List (List ℕ)) → others ≢ segments → kept (child new) (gains new) others ≡ kept (child old) (gains old) others
   pub stays : (others : List (List ℕ)) → kept (child new) (spared new) others ≡ kept (child old) (spared old) others
 
--- what is found on the way along segments: what the last node keeps for its path alone, if all segments lead on, and the
--- last place that a node on the way keeps for all below it
+-- The places found along segments: the exact place of the last node, if all segments lead on, and the last prefix place
+-- of a node on the way.
 abbrev pub along : (ℕ → List ℕ → Option ℕ) → (ℕ → Option ℕ) → (ℕ → Option ℕ) → ℕ → Option ℕ → List (List ℕ) → Option ℕ × Option ℕ
 along child exact prefix at held [] = (exact at, held)
 along child exact prefix at held (segment ∷ segments) = option_map_or (λ next. along child exact prefix next (option_or (prefix next) held) segments) (child at segment) (None, held)
 
--- how many segments are looked up: those that lead on, and the first that does not
+-- The number of segments looked up: those that lead on, and the first that does not.
 abbrev pub looked_up : (ℕ → List ℕ → Option ℕ) → ℕ → List (List ℕ) → ℕ
 looked_up child at [] = 0
 looked_up child at (segment ∷ segments) = 1 + option_map_or (λ next. looked_up child next segments) (child at segment) 0

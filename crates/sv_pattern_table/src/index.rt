@@ -1,4 +1,4 @@
-//! The places of patterns, kept for look-ups.
+//! An index of the places of patterns.
 
 ghost use Rattle.std.specs.Prelude.{◌≡◌, ℕ, ◌≤◌, ◌+◌, [], ◌∷◌, ◌++◌, List, length, IfOk, IfNone, OnOk, IsTrue, None, Some, if◌then◌else◌};
 ghost use Rattle.std.specs.HashMap.{get_by_text};
@@ -20,16 +20,17 @@ use std::collections::HashMap;
 use sv_mapping::{Form, Pattern, extension};
 use sv_text::NoMemory;
 
-/// The best match for a path, and what it took to find it.
+/// The best match for a path, and the cost of finding it.
 #[derive(Clone, Copy, Debug, PartialEq, Eq)]
 pub struct Looked {
     /// The place of the pattern.
     pub best: Option<usize>,
-    /// How many segments and extensions were looked up.
+    /// The number of segments looked up, plus one if the trie had no match.
     pub probes: usize,
 }
 
-/// Exact and prefix patterns by their segments, extension patterns by their extensions, and the default pattern.
+/// An index of exact and prefix patterns by their segments and of extension patterns by their extensions, with the
+/// default pattern.
 #[derive(Drop)]
 pub(crate) struct Index {
     trie: Trie,
@@ -38,7 +39,7 @@ pub(crate) struct Index {
 }
 
 impl Index {
-    /// The index of no patterns.
+    /// Creates an index of no patterns.
     pub(crate) fn new(alloc: Global) -> Result<Index, NoMemory>
         ensures { IfOk result (λ index. Finds index []) }
     {
@@ -49,7 +50,7 @@ impl Index {
         })
     }
 
-    /// Adds the pattern that stands at the place behind all others.
+    /// Adds the next pattern. Its place is the number of patterns before it.
     pub(crate) fn add(
         &mut self,
         alloc: Global,
@@ -91,7 +92,7 @@ impl Index {
         Ok(())
     }
 
-    /// The best match for a path.
+    /// Returns the best match for a path.
     pub(crate) fn find(&self, path: &str) -> Looked
         requires { IsTrie self.now.trie.nodes.items }
         ensures best { (patterns : List (List ℕ)) → Finds self.now patterns → result.best ≡ best patterns path.now }

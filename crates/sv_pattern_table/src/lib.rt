@@ -1,4 +1,4 @@
-//! URL patterns compiled for look-ups: a trie over the segments of paths, a map of extensions, and a default.
+//! URL patterns compiled for lookups: a trie over the segments of paths, a map of extensions, and a default.
 #![tactic(auto)]
 
 mod index;

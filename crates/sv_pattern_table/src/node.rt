@@ -1,4 +1,4 @@
-//! A node of the trie: it stands for the front of paths that leads to it.
+//! The nodes of the trie.
 
 ghost use Rattle.std.specs.Prelude.{◌≡◌, ℕ, List, None, Some, if◌then◌else◌, OnOk};
 ghost use Rattle.std.specs.HashMap.{get_by_text};
@@ -8,19 +8,19 @@ use std::alloc::Global;
 use std::collections::HashMap;
 use sv_text::NoMemory;
 
-/// A front of paths.
+/// A node of the trie. The segments that lead to it are the front of a path.
 #[derive(Drop)]
 pub(crate) struct Node {
-    /// The numbers of the nodes one segment further, by that segment.
+    /// The numbers of the child nodes, by segment.
     children: HashMap<String, usize>,
-    /// The place of the pattern that matches the front alone.
+    /// The place of the pattern that matches only the front.
     pub(crate) exact: Option<usize>,
-    /// The place of the pattern that matches the front and all below it.
+    /// The place of the pattern that matches the front and all paths below it.
     pub(crate) prefix: Option<usize>,
 }
 
 impl Node {
-    /// A front that no pattern has and that leads to no other.
+    /// Creates a node without places and children.
     pub(crate) fn new(alloc: Global) -> Node
         ensures children { (segment : List ℕ) → get_by_text result.children segment ≡ None }
         ensures exact { result.exact ≡ None }
@@ -33,14 +33,14 @@ impl Node {
         }
     }
 
-    /// The number of the node one segment further.
+    /// Returns the number of the child node for a segment, if there is one.
     pub(crate) fn child(&self, segment: &str) -> Option<usize>
         ensures { result ≡ get_by_text self.now.children segment.now }
     {
         self.children.get(segment).copied()
     }
 
-    /// Makes a node the one that this segment leads to.
+    /// Sets the child node for a segment.
     pub(crate) fn add_child(
         &mut self,
         alloc: Global,

@@ -12,8 +12,8 @@ use std::marker::Model;
 use sv_mapping::Pattern;
 use sv_text::{Listed, NoMemory, Text};
 
-/// URL patterns compiled for look-ups, whose price does not grow with the number of patterns. Contracts see the list of
-/// the patterns' texts.
+/// URL patterns compiled for lookups. The cost of a lookup does not grow with the number of patterns. Contracts see the
+/// list of the patterns' texts.
 #[derive(Drop)]
 pub struct PatternTable {
     texts: Listed<Text>,
@@ -32,7 +32,7 @@ impl Model for PatternTable {
 }
 
 impl PatternTable {
-    /// Compiles patterns, of which it keeps the texts.
+    /// Compiles patterns, and keeps copies of their texts.
     pub fn compile(alloc: Global, patterns: &[Pattern]) -> Result<PatternTable, NoMemory>
         ensures { GivesAnswer result patterns.now }
     {
@@ -49,16 +49,17 @@ impl PatternTable {
         })
     }
 
-    /// The texts of the patterns, in their order.
+    /// Returns the texts of the patterns, in order.
     pub fn texts(&self) -> &[Text]
         ensures { result.now ≡ self.now }
     {
         self.texts.as_slice()
     }
 
-    /// The best match for a path: the place of the pattern that [`best`](sv_mapping::best) finds. An exact match comes first,
-    /// then the longest prefix, then an extension, then the default pattern; of equal patterns the first. It takes no memory,
-    /// and at most one look-up for each slash of the path, and one more. Among no patterns nothing is looked up.
+    /// Returns the best match for a path, which is the place of the pattern that [`best`](sv_mapping::best) finds. An
+    /// exact match comes first, then the longest prefix, then an extension, then the default pattern, and of equal
+    /// patterns the first. Allocates no memory. Makes at most one lookup for each slash of the path and one more, and
+    /// none if there are no patterns.
     pub fn lookup(&self, path: &str) -> Looked
         ensures best { result.best ≡ best self.now path.now }
         ensures within { IfSome result.best (λ place. place < length self.now) }

@@ -1,4 +1,4 @@
-//! A trie over the segments of paths, which keeps the places of exact patterns and of prefix patterns.
+//! A trie over the segments of paths that keeps the places of exact patterns and of prefix patterns.
 
 ghost use Rattle.std.specs.Prelude.{◌≡◌, ℕ, ◌<◌, List, length, map, Some, None, IfOk, OnOk};
 ghost use Rattle.std.specs.Option.{option_or};
@@ -11,25 +11,25 @@ use crate::segments::{behind_root, split_segment};
 use std::alloc::Global;
 use sv_text::NoMemory;
 
-/// The fronts of paths as nodes. The first node is the root, which stands for the empty path.
+/// The fronts of paths as nodes. The first node is the root, for the empty path.
 #[derive(Drop)]
 pub(crate) struct Trie {
     nodes: Vec<Node>,
 }
 
-/// What was found on the way along the segments of a path.
+/// The places found along the segments of a path.
 #[derive(Clone, Copy)]
 pub(crate) struct Way {
-    /// The place of the pattern that matches the path alone.
+    /// The place of the pattern that matches only the path.
     pub(crate) exact: Option<usize>,
     /// The place of the longest prefix pattern that matches the path.
     pub(crate) prefix: Option<usize>,
-    /// How many segments were looked up.
+    /// The number of segments looked up.
     pub(crate) probes: usize,
 }
 
 impl Trie {
-    /// A trie with a root that keeps nothing.
+    /// Creates a trie with a root that keeps no place.
     pub(crate) fn new(alloc: Global) -> Result<Trie, NoMemory>
         ensures root { IfOk result (λ trie. length trie.nodes.items ≡ 1) }
         ensures children { IfOk result (λ trie. (at : ℕ) (segment : List ℕ) → spec.child trie.nodes.items at segment ≡ None) }
@@ -51,7 +51,7 @@ impl Trie {
         Ok(number)
     }
 
-    /// The node to which the segments of a path lead, which is made where there is none.
+    /// Returns the node that the segments of a path lead to. Adds the missing nodes.
     fn enter(&mut self, alloc: Global, path: &str) -> Result<usize, NoMemory>
         requires { IsTrie self.old.nodes.items }
         ensures { IfOk result (Enters self.old.nodes.items self.new.nodes.items (segments_of path.now)) }
@@ -69,7 +69,7 @@ impl Trie {
         Ok(at)
     }
 
-    /// Keeps the place of a pattern that matches a path alone, unless one is kept.
+    /// Records the place of a pattern that matches only this path, unless the path has one already.
     pub(crate) fn add_exact(
         &mut self,
         alloc: Global,
@@ -84,7 +84,7 @@ impl Trie {
         Ok(())
     }
 
-    /// Keeps the place of a pattern that matches a path and all below it, unless one is kept.
+    /// Records the place of a pattern that matches this path and all paths below it, unless the path has one already.
     pub(crate) fn add_prefix(
         &mut self,
         alloc: Global,
@@ -99,7 +99,7 @@ impl Trie {
         Ok(())
     }
 
-    /// Finds what the trie keeps on the way along the segments of a path.
+    /// Finds the places along the segments of a path.
     pub(crate) fn walk(&self, path: &str) -> Way
         requires { IsTrie self.now.nodes.items }
         ensures found { let nodes = self.now.nodes.items in

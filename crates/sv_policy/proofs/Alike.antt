@@ -1,4 +1,4 @@
--- Patterns on which the same constraints stand in the same way have the same constraints at each method.
+-- Patterns that are listed by the same collections of the same constraints have the same constraints for each method.
 use Rattle.std.proofs.lemmas.Bool.{false≢true}
 use Rattle.std.proofs.Common.{arith, subst, ◌≡◌, ℕ, ◌≤◌, Bool, true, false, not, ◌||◌, ◌&&◌, ◌==◌, List, [], ◌∷◌, length, refl, ap, ap₂, sym, ◌∙◌, cond}
 use Rattle.std.specs.Borrow.{Bor}
@@ -36,7 +36,7 @@ fails_before true b w is = absurd (false≢true (sym is ∙ w refl))
 fails_before false b w is = refl
 
 module _ (pattern other : List ℕ) where
-  -- collections that list both patterns or neither
+  -- If each collection lists both patterns or neither, one of them lists the first exactly if one lists the other.
   listed_alike : (collections : List Collection) → list_any (λ c. differ (lists c.patterns pattern) (lists c.patterns other)) collections ≡ false
       → list_any (λ c. lists c.patterns pattern) collections ≡ list_any (λ c. lists c.patterns other) collections
   listed_alike [] alike = refl
@@ -45,7 +45,7 @@ module _ (pattern other : List ℕ) where
       (both_same (lists c.patterns pattern) (lists c.patterns other) (first_false (differ (lists c.patterns pattern) (lists c.patterns other)) (list_any (λ d. differ (lists d.patterns pattern) (lists d.patterns other)) cs) alike))
       (listed_alike cs (second_false (differ (lists c.patterns pattern) (lists c.patterns other)) (list_any (λ d. differ (lists d.patterns pattern) (lists d.patterns other)) cs) alike))
 
-  -- cover the same methods at both
+  -- Such collections cover the same methods at both patterns.
   covered_alike : (method : List ℕ) (collections : List Collection) → list_any (λ c. differ (lists c.patterns pattern) (lists c.patterns other)) collections ≡ false
       → list_any (λ c. lists c.patterns pattern && covers_method c.methods method) collections ≡ list_any (λ c. lists c.patterns other && covers_method c.methods method) collections
   covered_alike method [] alike = refl
@@ -77,7 +77,7 @@ module _ (pattern other : List ℕ) where
   fewer_at c ps qs false true w fewer = omega (arith, fewer)
   fewer_at c ps qs false false w fewer = fewer
 
-  -- constraints on the pattern that do not tell the two apart are on the other, too
+  -- Constraints on the pattern that do not distinguish the two patterns are also on the other.
   fewer : (cs : List Constraint) → list_any apart (filter on cs) ≡ false → length (filter on cs) ≤ length (filter on_other cs)
   fewer [] alike = omega arith
   fewer (c ∷ cs) alike =
@@ -125,7 +125,7 @@ not_so false h = refl
 same_count : (m n : ℕ) → (m == n) ≡ true → m ≡ n
 same_count m n h = grind (arith, h)
 
--- so the entries of one are those of the other
+-- The entries of one pattern are correct for the other.
 pub table_alike : (rules : Rules) (constraints members others : List Constraint) (pattern : List ℕ) (other table : Table) → members ≡ filter (λ c. lists_pattern c pattern) constraints → others ≡ filter (λ c. lists_pattern c other.pattern) constraints
     → are_alike members others pattern other.pattern ≡ true → table.entries.value ≡ other.entries.value → table.pattern ≡ pattern → IsTable rules constraints other → IsTable rules constraints table
 table_alike rules constraints members others pattern other table are are_others alike same is whole =
@@ -144,7 +144,7 @@ table_alike rules constraints members others pattern other table are are_others 
 counts_same : (m n : ℕ) → m ≡ n → true ≡ (m == n)
 counts_same m n h = grind (arith, h)
 
--- members behind references, as many on either side
+-- Referenced members, equally many on either side.
 pub alike_is : (members others : List (Bor Constraint)) (pattern other : List ℕ) (told : Bool) → told ≡ list_any (λ member. tells_apart member.now pattern other) members → length members ≡ length others
     → not told ≡ are_alike (map (λ member. member.now) members) (map (λ member. member.now) others) pattern other
 alike_is members others pattern other told is same =

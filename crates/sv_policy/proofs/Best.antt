@@ -1,4 +1,4 @@
--- The best match depends on which patterns are listed, and not on their order.
+-- The best match depends only on the set of patterns, not on their order.
 use Rattle.std.proofs.lemmas.Bool.{false≢true}
 use Rattle.std.proofs.Common.{◌≡◌, ℕ, Bool, true, false, not, ◌||◌, ◌&&◌, List, [], ◌∷◌, refl, ap, sym, ◌∙◌, Option, Some, None, cond, is_some, arith}
 use Rattle.std.specs.Prelude.{Contains, find}
@@ -21,7 +21,7 @@ module _ (test : List ℕ → Bool) where
   any_at y x xs true at there passes below = ap (λ b. b || list_any test xs) (ap test ((bytes_eq-Decides y x).0 at) ∙ passes)
   any_at y x xs false at there passes below = or_right (test y) (list_any test xs) (below there)
 
-  -- one of the listed texts passes
+  -- One of the listed texts passes.
   any_in : (xs : List (List ℕ)) (x : List ℕ) → lists xs x ≡ true → test x ≡ true → list_any test xs ≡ true
   any_in [] x there passes = absurd (false≢true there)
   any_in (y ∷ xs) x there passes = any_at y x xs (bytes_eq y x) refl there passes (λ below. any_in xs x below passes)
@@ -60,7 +60,7 @@ module _ (test : List ℕ → Bool) where
   found_in [] x found = absurd (false≢true (ap is_some found))
   found_in (y ∷ xs) x found = found_at y x xs (test y) refl found (found_in xs x)
 
-  -- where just one text can pass, the order plays no part
+  -- If only one text can pass, the order does not matter.
   find_at : (xs others : List (List ℕ)) (a b : Option (List ℕ)) → find test xs ≡ a → find test others ≡ b → ((text : List ℕ) → lists xs text ≡ lists others text) → ((x y : List ℕ) → lists xs x ≡ true → lists xs y ≡ true → test x ≡ true → test y ≡ true → x ≡ y) → a ≡ b
   find_at xs others None None at there same one = refl
   find_at xs others None (Some y) at there same one = absurd (false≢true (sym (ap is_some at) ∙ some_found xs ∙ any_listed xs others same ∙ sym (some_found others) ∙ ap is_some there))
@@ -81,7 +81,7 @@ module _ (x : List ℕ) where
   listed_contains [] there = absurd (false≢true there)
   listed_contains (y ∷ xs) there = contains_at y xs (bytes_eq y x) refl there (listed_contains xs)
 
--- patterns with the same texts have the same best match, since no two texts match best
+-- Patterns with the same texts have the same best match, since at most one text matches best.
 pub best_same : BestIsUnique → BestIsOfTexts
 best_same unique patterns others path same =
     find_at (is_best patterns path) patterns others (find (is_best patterns path) patterns) (find (is_best patterns path) others) refl refl same

@@ -1,4 +1,4 @@
--- Tables of other patterns than the edited ones stay as they are.
+-- Tables of patterns other than the edited ones are unchanged.
 use Rattle.std.proofs.Common.{arith, subst, ◌≡◌, ℕ, zero, suc, ◌+◌, ◌<◌, Bool, true, false, not, ◌||◌, ◌&&◌, List, [], ◌∷◌, ◌++◌, length, take, get_or, map, refl, ap, ap₂, sym, ◌∙◌, cond, ◌==◌}
 use Rattle.std.specs.Borrow.{Bor}
 use Rattle.std.specs.Prelude.{All, filter, remove}
@@ -22,14 +22,14 @@ use Rattle.sv_policy.specs.Patterns.{different, listed_in, lists_pattern}
 use Rattle.sv_policy.specs.Rebuilt.{AreSameElsewhere}
 use Rattle.sv_policy.proofs.Steps.{filter_pass, filter_stop, passing_lists, seen_more}
 
--- ---- a constraint more or less leaves the other patterns alone
+-- ---- Adding or removing a constraint does not affect other patterns.
 pub same_with : (constraints : List Constraint) (added : Constraint) → AreSameElsewhere constraints (constraints ++ added ∷ []) (listed_in added.collections)
 same_with constraints added = λ text absent. sym (filter_stop (λ c. lists_pattern c text) constraints added (sym (listed_by text added) ∙ absent))
 
 filter_here : {X : Type 0} (test : X → Bool) (x : X) (xs : List X) → test x ≡ false → filter test (x ∷ xs) ≡ filter test xs
 filter_here test x xs stops = ap (λ b. cond b (x ∷ filter test xs) (filter test xs)) stops
 
--- a list without an item that does not pass
+-- Removing an item that does not pass a test does not change the filtered list.
 filter_without : {X : Type 0} (test : X → Bool) (xs : List X) (k : ℕ) (x : X) → k < length xs → x ≡ get_or xs k x → test x ≡ false → filter test xs ≡ filter test (remove xs k)
 filter_without test [] k x within at stops = let impossible : ⊥ = omega (arith, within) in absurd impossible
 filter_without test (y ∷ xs) zero x within at stops = filter_here test y xs (ap test (sym at) ∙ stops)
@@ -38,7 +38,7 @@ filter_without test (y ∷ xs) (suc k) x within at stops = ap (λ rest. cond (te
 pub same_without : (constraints : List Constraint) (place : ℕ) (withdrawn : Constraint) → place < length constraints → withdrawn ≡ get_or constraints place withdrawn → AreSameElsewhere constraints (remove constraints place) (listed_in withdrawn.collections)
 same_without constraints place withdrawn within at = λ text absent. filter_without (λ c. lists_pattern c text) constraints place withdrawn within at (sym (listed_by text withdrawn) ∙ absent)
 
--- ---- a loop's next table of another pattern
+-- ---- The next table of another pattern in a loop.
 pub others_kept : {A : Type 0} (test : Table → Bool) (value : A → Table) (tables : List A) (i : ℕ) (x : A) (before after : List A) (copy : A) → i < length tables → x ≡ get_or tables i x → map value before ≡ filter test (map value (take i tables))
     → test (value x) ≡ true → value copy ≡ value x → after ≡ before ++ copy ∷ [] → map value after ≡ filter test (map value (take (i + 1) tables))
 others_kept test value tables i x before after copy within at_i was passes same pushed =
@@ -53,7 +53,7 @@ pub among_texts : (patterns : List (Bor (List ℕ))) (text p : List ℕ) (among 
 among_texts patterns text p among is same =
     any_seen (λ listed. bytes_eq listed p) (λ q. q.now) patterns ∙ ap (λ t. list_any (λ q. bytes_eq q.now t) patterns) (sym same) ∙ sym is
 
--- ---- the tables behind an edit are whole
+-- ---- The tables after an edit are correct and complete.
 all_tail : {X : Type 0} (P : X → Type 0) (x : X) (xs : List X) → All P (x ∷ xs) → All P xs
 all_tail P x xs all = λ k d within. all (suc k) d (omega (arith, within))
 
@@ -114,16 +114,16 @@ module _ (rules : Rules) (old new : List Constraint) (patterns : List (List ℕ)
       (passing_lists (lists (all_patterns new)) patterns text)
       ∙ text_at text (lists patterns text) (lists (map (λ t. t.pattern) tables) text) refl (were text)
 
--- what is the same but for listed patterns is so but for each of them once
+-- Lists that agree except on some patterns agree except on the same patterns without duplicates.
 pub same_once : (old new : List Constraint) (patterns : List (List ℕ)) → AreSameElsewhere old new patterns → AreSameElsewhere old new (different patterns)
 same_once old new patterns same = λ text absent. same text (sym (different_lists patterns text) ∙ absent)
 
--- the kept tables are whole
+-- The kept tables are correct.
 pub kept_whole : {A : Type 0} (value : A → Table) (rules : Rules) (old new : List Constraint) (patterns : List (List ℕ)) (tables kept : List A) → AreSameElsewhere old new patterns → AreCompiled rules old (map value tables)
     → map value kept ≡ filter (is_other patterns) (map value tables) → All (IsTable rules new) (map value kept)
 kept_whole value rules old new patterns tables kept same compiled are = subst (All (IsTable rules new)) (sym are) (kept_tables rules old new patterns same (map value tables) compiled.whole)
 
--- and with the tables of the edited patterns all are there
+-- The kept tables and those of the edited patterns are all tables.
 pub all_whole : {A : Type 0} (value : A → Table) (rules : Rules) (old new : List Constraint) (patterns : List (List ℕ)) (tables kept after : List A) → AreSameElsewhere old new patterns → AreCompiled rules old (map value tables)
     → map value kept ≡ filter (is_other patterns) (map value tables) → map (λ t. (value t).pattern) after ≡ map (λ t. (value t).pattern) kept ++ filter (λ text. lists (all_patterns new) text) patterns → All (IsTable rules new) (map value after)
     → AreCompiled rules new (map value after)

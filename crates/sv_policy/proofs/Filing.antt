@@ -1,4 +1,4 @@
--- Tables are put in the order of their patterns.
+-- Tables are stored in the order of their patterns.
 use Rattle.std.proofs.Common.{subst, ◌≡◌, ℕ, ◌+◌, ◌<◌, zero, suc, List, [], ◌∷◌, ◌++◌, length, take, get_or, map, refl, ap, sym, ◌∙◌, Ordering, Less, Equal, Greater, nat_cmp, is_eq, arith}
 use Rattle.std.specs.Borrow.{Bor}
 use Rattle.std.specs.Prelude.{All, Contains}
@@ -29,7 +29,7 @@ keys_at k v e es put keys Less is = refl
 keys_at k v e es put keys Equal is = refl
 keys_at k v e es put keys Greater is = ap (λ rest. e.0.now ∷ rest) is
 
--- the texts of the keys, with one more
+-- The texts of the keys after one more.
 keys_put : (k : Bor (List ℕ)) (v : Bor Table) (es : List Entry) → map (λ x. x.0.now) (insert_entry by_text es k v) ≡ insert_key (slice_cmp nat_cmp) (map (λ x. x.0.now) es) k.now
 keys_put k v [] = refl
 keys_put k v (e ∷ es) = keys_at k v e es (insert_entry by_text es k v) (insert_key (slice_cmp nat_cmp) (map (λ x. x.0.now) es) k.now) (by_text k e.0) (keys_put k v es)
@@ -40,7 +40,7 @@ module _ (P : Entry → Type 0) (k : Bor (List ℕ)) (v : Bor Table) (new : P (k
   all_at e es put Equal is first rest more = (kept e ((bytes_eq-Decides k.now e.0.now).0 (sym (is_eq-slice_cmp k.now e.0.now) ∙ ap is_eq is)), rest)
   all_at e es put Greater is first rest more = (first, more)
 
-  -- what holds of all entries, with one more
+  -- A property of all entries holds after adding one that has it.
   all_put : (es : List Entry) → AllByRecursion P es → AllByRecursion P (insert_entry by_text es k v)
   all_put [] all = (new, tt)
   all_put (e ∷ es) all = all_at e es (insert_entry by_text es k v) (by_text k e.0) refl all.0 all.1 (all_put es all.1)
@@ -64,7 +64,7 @@ pub length_map : {A X : Type 0} (f : A → X) (xs : List A) → length (map f xs
 length_map f [] = refl
 length_map f (x ∷ xs) = let below : length (map f xs) ≡ length xs = length_map f xs in grind (arith, below)
 
--- a loop's next table is filed
+-- The next table of a loop is stored.
 pub filed_next : {A : Type 0} (value : A → Table) (tables : List A) (i : ℕ) (x : A) (before after : List Entry) (k : Bor (List ℕ)) (v : Bor Table) → i < length tables → x ≡ get_or tables i x → IsFiled (map value tables) (map value (take i tables)) before
     → k.now ≡ (value x).pattern → v.now ≡ value x → after ≡ insert_entry by_text before k v → IsFiled (map value tables) (map value (take (i + 1) tables)) after
 filed_next value tables i x before after k v within at_i is text same put =
@@ -80,7 +80,7 @@ values_texts : (es : List Entry) → AllByRecursion (λ e. e.1.now.pattern ≡ e
 values_texts [] keyed = refl
 values_texts (e ∷ es) keyed = ap (λ p. p ∷ map (λ t. t.now.pattern) (map (λ x. x.1) es)) keyed.0 ∙ ap (λ rest. e.0.now ∷ rest) (values_texts es keyed.1)
 
--- the tables rise by their patterns, and are among all
+-- The tables are in ascending order of their patterns.
 pub ordered_texts : (all tables : List Table) (es : List Entry) (ordered : List (Bor Table)) → IsFiled all tables es → ordered ≡ map (λ e. e.1) es → map (λ t. t.now.pattern) ordered ≡ rising (map (λ t. t.pattern) tables)
 ordered_texts all tables es ordered is are = ap (map (λ t. t.now.pattern)) are ∙ values_texts es is.keyed ∙ is.texts
 

@@ -24,7 +24,7 @@ use Rattle.sv_policy.specs.Gaps.{GapsAreExact, GapsRise, gap_at, holds, is_all}
 use Rattle.sv_policy.specs.declared.gap.Gap.{Gap}
 use Rattle.sv_policy.proofs.Steps.{seen_more}
 
--- a table among whole ones is whole
+-- A table from a list of correct tables is correct.
 pub whole_among : (P : Table → Type 0) (all : List Table) (table : Table) → All P all → Contains all table → P table
 whole_among P all table every there = subst P there.2 (every there.0 table there.1)
 
@@ -32,7 +32,7 @@ pub among_at : (all : List Table) (ordered slice : List (Bor Table)) (i : ℕ) (
 among_at all ordered slice i t same within at_i every =
     subst (λ (x : Bor Table). Contains all x.now) (sym at_i) (subst (All (λ (x : Bor Table). Contains all x.now)) (sym same) every i t within)
 
--- a loop's next gap
+-- The next gap of a loop.
 pub gaps_more : (has : Gap → Bool) (make : List ℕ → Gap) (ordered : List (Bor Table)) (i : ℕ) (t : Bor Table) (before after : List Gap) → i < length ordered → t ≡ get_or ordered i t
     → before ≡ filter has (map make (map (λ table. table.now.pattern) (take i ordered))) → after ≡ before ++ cond (has (make t.now.pattern)) (make t.now.pattern ∷ []) []
     → after ≡ filter has (map make (map (λ table. table.now.pattern) (take (i + 1) ordered)))
@@ -42,11 +42,11 @@ gaps_more has make ordered i t before after within at_i was pushed =
     ∙ ap (filter has) (map-append make (map (λ table. table.now.pattern) (take i ordered)) (t.now.pattern ∷ []))
     ∙ filter-append has (map make (map (λ table. table.now.pattern) (take i ordered))) (make t.now.pattern ∷ []))
 
--- texts that are listed alike come in the same order
+-- Lists with the same texts have the same sorted list.
 pub same_rising : RisingRises → RisingHasTheTexts → RisingIsAlone → (xs ys : List (List ℕ)) → ((text : List ℕ) → lists xs text ≡ lists ys text) → rising xs ≡ rising ys
 same_rising rising_rises rising_lists rising_same xs ys same = rising_same (rising xs) (rising ys) (rising_rises xs) (rising_rises ys) (λ text. rising_lists xs text ∙ same text ∙ sym (rising_lists ys text))
 
--- every table was gone over
+-- The gaps after all tables.
 pub gaps_all : RisingRises → RisingHasTheTexts → RisingIsAlone → (has : Gap → Bool) (make : List ℕ → Gap) (slice ordered : List (Bor Table)) (i : ℕ) (found : List Gap) (texts patterns : List (List ℕ)) → length slice ≤ i → slice ≡ ordered
     → found ≡ filter has (map make (map (λ table. table.now.pattern) (take i slice))) → map (λ (table : Bor Table). table.now.pattern) ordered ≡ rising texts → ((text : List ℕ) → lists texts text ≡ lists patterns text)
     → found ≡ filter has (map make (rising patterns))
@@ -54,7 +54,7 @@ gaps_all rising_rises rising_lists rising_same has make slice ordered i found te
     is ∙ ap (λ (tables : List (Bor Table)). filter has (map make (map (λ table. table.now.pattern) tables))) (take_all i slice ended ∙ same)
     ∙ ap (λ ps. filter has (map make ps)) (are ∙ same_rising rising_rises rising_lists rising_same texts patterns listed)
 
--- ---- a gap holds just the uncovered methods of its pattern
+-- ---- A gap contains exactly the uncovered methods of its pattern.
 none_held : (found : Methods) (method : List ℕ) → has_methods found ≡ false → covers_method found method ≡ false
 none_held methods.All method none = absurd (false≢true (sym none))
 none_held (methods.Only []) method none = refl
@@ -90,7 +90,7 @@ gaps_exact rising_lists uncovered_exact constraints pattern method =
     held_in uncovered_exact constraints pattern method (rising (all_patterns constraints))
     ∙ ap (λ b. b && is_uncovered constraints pattern method) (rising_lists (all_patterns constraints) pattern)
 
--- ---- and they rise
+-- ---- The gaps are in ascending order.
 pattern_at : (gap : Gap) (has : Bool) (rest : List Gap) (others : List (List ℕ)) → map (λ g. g.pattern) rest ≡ others → map (λ (g : Gap). g.pattern) (cond has (gap ∷ rest) rest) ≡ cond has (gap.pattern ∷ others) others
 pattern_at gap true rest others is = ap (λ ps. gap.pattern ∷ ps) is
 pattern_at gap false rest others is = is

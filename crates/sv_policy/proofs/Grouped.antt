@@ -1,4 +1,4 @@
--- Constraints are put into the groups of their patterns.
+-- Constraints are added to the groups of their patterns.
 use Rattle.std.proofs.lemmas.Bool.{false≢true, or_parts}
 use Rattle.std.proofs.Common.{arith, subst, ◌≡◌, ℕ, zero, suc, ◌+◌, ◌<◌, ◌≤◌, Bool, true, false, not, ◌||◌, ◌&&◌, List, [], ◌∷◌, ◌++◌, length, take, get_or, map, refl, ap, ap₂, sym, ◌∙◌, cond, append-nil, ◌==◌, Option, None, Some, is_some}
 use Rattle.std.specs.Borrow.{Bor}
@@ -22,7 +22,7 @@ use Rattle.sv_policy.proofs.Steps.{filter_pass, filter_stop, passing_lists, seen
 turned : (a b : List ℕ) → bytes_eq a b ≡ bytes_eq b a
 turned a b = same_from_decides (bytes_eq a b) (bytes_eq b a) (bytes_eq-Decides a b) ((λ h. sym ((bytes_eq-Decides b a).0 h)), (λ e. (bytes_eq-Decides b a).1 (sym e)))
 
--- ---- each text once
+-- ---- Each text once.
 abbrev Once : List (List ℕ) → Type 0
 Once [] = ⊤
 Once (x ∷ xs) = (lists xs x ≡ false) × Once xs
@@ -51,7 +51,7 @@ not_at [] i x text absent within at = let impossible : ⊥ = omega (arith, withi
 not_at (y ∷ items) zero x text absent within at = ap (λ (p : Bor (List ℕ)). bytes_eq p.now text) at ∙ (or_parts (bytes_eq y.now text) (lists (map (λ p. p.now) items) text) absent).0
 not_at (y ∷ items) (suc i) x text absent within at = not_at items i x text ((or_parts (bytes_eq y.now text) (lists (map (λ p. p.now) items) text) absent).1) (omega (arith, within)) at
 
--- a text is not among those before it
+-- A text is not among those before it.
 once_take : (items : List (Bor (List ℕ))) (i : ℕ) (x : Bor (List ℕ)) → Once (map (λ p. p.now) items) → i < length items → x ≡ get_or items i x → lists (map (λ p. p.now) (take i items)) x.now ≡ false
 once_take [] i x once within at = let impossible : ⊥ = omega (arith, within) in absurd impossible
 once_take (y ∷ items) zero x once within at = refl
@@ -62,12 +62,12 @@ pub new_text : (items slice : List (Bor (List ℕ))) (i : ℕ) (x : Bor (List �
 new_text items slice i x texts same are within at =
     once_take slice i x (subst Once (sym (ap (map (λ (p : Bor (List ℕ)). p.now)) same ∙ are)) (different_once texts)) within at
 
--- ---- one more member
+-- ---- One more member.
 pub seen_pushed : (new old : List (Bor Constraint)) (same : Bool) (x : Bor Constraint) → new ≡ old ++ cond same (x ∷ []) [] → map (λ m. m.now) new ≡ map (λ m. m.now) old ++ cond same (x.now ∷ []) []
 seen_pushed new old true x is = ap (map (λ (m : Bor Constraint). m.now)) is ∙ map-append (λ m. m.now) old (x ∷ [])
 seen_pushed new old false x is = ap (map (λ (m : Bor Constraint). m.now)) is ∙ map-append (λ m. m.now) old []
 
--- ---- the patterns are those that have a group
+-- ---- The patterns are those that have a group.
 absorbed : (a : Bool) → a ≡ true → (a || true) ≡ a
 absorbed a is = ap (λ b. b || true) is ∙ sym is
 
@@ -88,7 +88,7 @@ module _ (has after : List ℕ → Bool) (patterns : List (Bor (List ℕ))) (tex
       more q ∙ ap₂ (λ a b. a || b) (are q) (turned q text ∙ ap (λ t. bytes_eq t q) (sym same) ∙ sym (or_none (bytes_eq p.now q)))
       ∙ sym (ap (λ (ps : List (Bor (List ℕ))). lists (map (λ x. x.now) ps) q) pushed ∙ ap (λ ps. lists ps q) (map-append (λ x. x.now) patterns (p ∷ [])) ∙ list_any-append (λ listed. bytes_eq listed q) (map (λ x. x.now) patterns) (p.now ∷ []))
 
--- ---- a constraint goes into the groups of its patterns
+-- ---- A constraint is added to the groups of its patterns.
 entered_at : (old : List Constraint) (c : Constraint) (listed same : Bool) (members : List Constraint) → members ≡ old ++ cond listed (c ∷ []) [] → (same ≡ true → listed ≡ false) → members ++ cond same (c ∷ []) [] ≡ old ++ cond (listed || same) (c ∷ []) []
 entered_at old c true true members is once = absurd (false≢true (sym (once refl)))
 entered_at old c true false members is once = append-nil members ∙ is
@@ -109,7 +109,7 @@ entered_all items slice i constraint old members q ended same are is =
     is ∙ ap (λ b. old ++ cond b (constraint ∷ []) [])
     (ap (λ (ps : List (Bor (List ℕ))). lists (map (λ x. x.now) ps) q) (take_all i slice ended ∙ same) ∙ ap (λ ps. lists ps q) are ∙ different_lists (listed_in constraint.collections) q ∙ listed_by q constraint)
 
--- the members of a group with one more constraint
+-- The members of a group after one more constraint.
 more_at : (text : List ℕ) (before : List Constraint) (c : Constraint) (listed : Bool) → lists_pattern c text ≡ listed → filter (λ x. lists_pattern x text) before ++ cond listed (c ∷ []) [] ≡ filter (λ x. lists_pattern x text) (before ++ c ∷ [])
 more_at text before c true is = sym (filter_pass (λ x. lists_pattern x text) before c is)
 more_at text before c false is = append-nil (filter (λ x. lists_pattern x text) before) ∙ sym (filter_stop (λ x. lists_pattern x text) before c is)
@@ -123,7 +123,7 @@ grouped_more constraints i c members after text within at was pushed =
     take_next : (xs : List Constraint) (k : ℕ) (x : Constraint) → k < length xs → x ≡ get_or xs k x → take (k + 1) xs ≡ take k xs ++ x ∷ []
     take_next xs k x below is = take_more xs k x below ∙ ap (λ y. take k xs ++ y ∷ []) (sym is)
 
--- ---- the patterns of groups are those of the constraints
+-- ---- The patterns of the groups are those of the constraints.
 has_at : {G : Type 0} (items : G → List (Bor Constraint)) (found : Option G) (members : List Constraint) → map (λ m. m.now) (option_map_or items found []) ≡ members → not (length members == 0) ≡ true → is_some found ≡ true
 has_at items None members is some = absurd (false≢true (ap (λ (ms : List Constraint). not (length ms == 0)) is ∙ some))
 has_at items (Some group) members is some = refl

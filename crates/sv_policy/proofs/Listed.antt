@@ -1,4 +1,4 @@
--- Which patterns constraints list.
+-- The patterns that constraints list.
 use Rattle.std.proofs.lemmas.Bool.{false≢true}
 use Rattle.std.proofs.Common.{arith, ◌≡◌, ℕ, Bool, true, false, not, ◌||◌, ◌&&◌, List, [], ◌∷◌, ◌++◌, length, map, refl, ap, sym, ◌∙◌, cond, ◌==◌}
 use Rattle.std.specs.Borrow.{Bor}
@@ -12,7 +12,7 @@ use Rattle.sv_constraints.specs.declared.constraint.Constraint.{Constraint}
 use Rattle.sv_policy.specs.Patterns.{different, kept_once, lists_pattern}
 use Rattle.sv_policy.proofs.Steps.{any_of_joined, any_same}
 
--- whether one of the items that f gives passes
+-- A mapped item passes a test exactly if the item passes the test after the map.
 pub any_seen : {A X : Type 0} (test : X → Bool) (f : A → X) (xs : List A) → list_any test (map f xs) ≡ list_any (λ x. test (f x)) xs
 any_seen test f [] = refl
 any_seen test f (x ∷ xs) = ap (λ rest. test (f x) || rest) (any_seen test f xs)
@@ -20,7 +20,7 @@ any_seen test f (x ∷ xs) = ap (λ rest. test (f x) || rest) (any_seen test f x
 pub listed_by : (text : List ℕ) (c : Constraint) → lists (patterns_in c) text ≡ lists_pattern c text
 listed_by text c = any_of_joined (λ listed. bytes_eq listed text) (λ collection. collection.patterns) c.collections
 
--- a pattern is listed where a constraint lists it
+-- A pattern is listed exactly if a constraint lists it.
 pub listed_any : (constraints : List Constraint) (text : List ℕ) → lists (all_patterns constraints) text ≡ list_any (λ c. lists_pattern c text) constraints
 listed_any constraints text =
     any_of_joined (λ listed. bytes_eq listed text) patterns_in constraints
@@ -38,7 +38,7 @@ pub length_seen : {A X : Type 0} (f : A → X) (xs : List A) → length (map f x
 length_seen f [] = refl
 length_seen f (x ∷ xs) = let below : length (map f xs) ≡ length xs = length_seen f xs in grind (arith, below)
 
--- so it is listed where there are members
+-- A pattern is listed exactly if it has members.
 pub listed_members : (constraints : List Constraint) (text other : List ℕ) (members : List (Bor Constraint)) → map (λ member. member.now) members ≡ filter (λ c. lists_pattern c text) constraints → text ≡ other → not (length members == 0) ≡ lists (all_patterns constraints) other
 listed_members constraints text other members are same =
     ap (λ n. not (n == 0)) (sym (length_seen (λ member. member.now) members) ∙ ap length are)
@@ -64,7 +64,7 @@ module _ {X : Type 0} (f g : X → Bool) (weaker : (x : X) → f x ≡ true → 
   passes_in true x rest w = refl
   passes_in false x rest w = stays_out (f x) x rest w
 
-  -- a filter after a weaker one
+  -- A filter after a weaker one.
   pub filter_within : (xs : List X) → filter f (filter g xs) ≡ filter f xs
   filter_within [] = refl
   filter_within (x ∷ xs) = passes_in (g x) x (filter g xs) (weaker x) ∙ ap (λ rest. cond (f x) (x ∷ rest) rest) (filter_within xs)
@@ -73,13 +73,13 @@ and_left : (a b : Bool) → (a && b) ≡ true → a ≡ true
 and_left true b h = refl
 and_left false b h = h
 
--- a constraint that covers a method at a pattern lists the pattern
+-- A constraint that covers a method at a pattern lists the pattern.
 pub covers_listed : (pattern method : List ℕ) (c : Constraint) → covers c pattern method ≡ true → lists_pattern c pattern ≡ true
 covers_listed pattern method c =
     any_weaker (λ collection. lists collection.patterns pattern && covers_method collection.methods method) (λ collection. lists collection.patterns pattern)
     (λ collection. and_left (lists collection.patterns pattern) (covers_method collection.methods method)) c.collections
 
--- a text is among the different ones where it is among all
+-- A text is among the different ones exactly if it is among all.
 absorbs : (a : Bool) → a ≡ true → a ≡ (a || true)
 absorbs true h = refl
 absorbs false h = h

@@ -1,4 +1,4 @@
--- What edits answer, and what stands then.
+-- The results of edits and the states after them.
 use Rattle.std.proofs.lemmas.Bool.{false≢true}
 use Rattle.std.proofs.Common.{arith, subst, ◌≡◌, ℕ, ◌+◌, ◌<◌, Bool, true, false, not, List, [], ◌∷◌, length, get_or, refl, ap, sym, ◌∙◌, cond, Option, Some, None, is_some, Result, Ok, Err, nat_lt, slice_get, one-add}
 use Rattle.std.specs.Prelude.{find, position}
@@ -10,7 +10,7 @@ use Rattle.sv_policy.specs.Edits.{GivesOutcome, has_number, place_of, withdraw_o
 use Rattle.sv_policy.specs.declared.edit_fault.EditFault.{EditFault}
 use Rattle.sv_policy.specs.declared.edit_fault.EditFault.TheVariants.{NoSuch}
 
--- ---- withdrawing
+-- ---- Withdrawing.
 module _ (test : Constraint → Bool) where
   found_at : (x : Constraint) (xs : List Constraint) (passes : Bool) → find test xs ≡ slice_get xs (position_or_len test xs) → cond passes (Some x) (find test xs) ≡ slice_get (x ∷ xs) (cond (not passes) (1 + position_or_len test xs) 0)
   found_at x xs true below = refl

@@ -1,4 +1,4 @@
--- A loop's step over tests, filters and joined lists.
+-- Loop steps over tests, filters and joined lists.
 use Rattle.std.proofs.Common.{◌≡◌, ℕ, ◌+◌, ◌<◌, Bool, true, false, ◌||◌, ◌&&◌, List, [], ◌∷◌, ◌++◌, length, take, get_or, map, refl, ap, sym, ◌∙◌, append-nil, cond}
 use Rattle.std.specs.Prelude.{filter}
 use Rattle.std.specs.List.{list_any, flat_map}
@@ -11,28 +11,28 @@ use Rattle.std.proofs.lemmas.Map.Views.{any-filter_same}
 use Rattle.std.proofs.lemmas.Slice.Eq.{bytes_eq-Decides}
 use Rattle.sv_constraints.specs.Covering.{lists}
 
--- the items behind references, one by one
+-- The referenced items, one at a time.
 pub seen_more : {A X : Type 0} (now : A → X) (xs : List A) (i : ℕ) (x : A) → i < length xs → x ≡ get_or xs i x → map now (take (i + 1) xs) ≡ map now (take i xs) ++ now x ∷ []
 seen_more now xs i x within at_i = map_more now xs i x within ∙ ap (λ y. map now (take i xs) ++ now y ∷ []) (sym at_i)
 
--- a filter over one more item, which passes, or does not
+-- A filter after one more item, which passes or does not.
 pub filter_pass : {X : Type 0} (test : X → Bool) (xs : List X) (x : X) → test x ≡ true → filter test (xs ++ x ∷ []) ≡ filter test xs ++ x ∷ []
 filter_pass test xs x passes = filter-append test xs (x ∷ []) ∙ ap (λ b. filter test xs ++ cond b (x ∷ []) []) passes
 
 pub filter_stop : {X : Type 0} (test : X → Bool) (xs : List X) (x : X) → test x ≡ false → filter test (xs ++ x ∷ []) ≡ filter test xs
 filter_stop test xs x stops = filter-append test xs (x ∷ []) ∙ ap (λ b. filter test xs ++ cond b (x ∷ []) []) stops ∙ append-nil (filter test xs)
 
--- tests that agree on every item find the same
+-- Tests that agree on every item give the same result.
 pub any_same : {X : Type 0} (p q : X → Bool) → ((x : X) → p x ≡ q x) → (xs : List X) → list_any p xs ≡ list_any q xs
 any_same p q same [] = refl
 any_same p q same (x ∷ xs) = ap (λ b. b || list_any p xs) (same x) ∙ ap (λ rest. q x || rest) (any_same p q same xs)
 
--- a test finds an item in a joined list where it finds one in a part
+-- The joined list has an item that passes the test exactly if one of the parts has.
 pub any_of_joined : {X A : Type 0} (test : A → Bool) (f : X → List A) (xs : List X) → list_any test (flat_map f xs) ≡ list_any (λ x. list_any test (f x)) xs
 any_of_joined test f [] = refl
 any_of_joined test f (x ∷ xs) = list_any-append test (f x) (flat_map f xs) ∙ ap (λ found. list_any test (f x) || found) (any_of_joined test f xs)
 
--- a text is among those that pass a test where it is among them and passes
+-- A text is in a filtered list exactly if it is in the list and passes the test.
 pub passing_lists : (test : List ℕ → Bool) (texts : List (List ℕ)) (other : List ℕ) → lists (filter test texts) other ≡ (lists texts other && test other)
 passing_lists test texts other =
     any-filter_same (λ listed. bytes_eq listed other) test (test other) (λ listed same. ap test ((bytes_eq-Decides listed other).0 same)) texts

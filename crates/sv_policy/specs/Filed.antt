@@ -5,7 +5,7 @@ use Rattle.std.specs.List.{AllByRecursion}
 use Rattle.sv_merged.specs.Uncovered.{rising}
 use Rattle.sv_merged.specs.declared.table.Table.{Table}
 
--- the entries are by the rising patterns of `tables`, each with a table of its pattern that is among `all`
+-- The keys are the sorted patterns of `tables`. Each has a table with its pattern, which is in `all`.
 pub record IsFiled (all tables : List Table) (entries : List (Bor (List ℕ) × Bor Table)) : Type 0 where
   pub texts : map (λ entry. entry.0.now) entries ≡ rising (map (λ table. table.pattern) tables)
   pub keyed : AllByRecursion (λ entry. entry.1.now.pattern ≡ entry.0.now) entries

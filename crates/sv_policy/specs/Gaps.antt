@@ -1,4 +1,4 @@
--- Jakarta Servlet 6.0, section 13.8.4: the methods that constraints leave uncovered, pattern by pattern.
+-- The methods that constraints leave uncovered, by pattern (Jakarta Servlet 6.0, section 13.8.4).
 use Rattle.std.specs.Prelude.{◌≡◌, ℕ, Bool, true, false, ◌&&◌, List, filter, map, All}
 use Rattle.std.specs.List.{list_any}
 use Rattle.std.specs.Str.{bytes_eq}
@@ -10,19 +10,19 @@ use Rattle.sv_merged.specs.Covering.{method_names}
 use Rattle.sv_merged.specs.Uncovered.{IsRising, has_methods, is_uncovered, rising, uncovered_methods}
 use Rattle.sv_policy.specs.declared.gap.Gap.{Gap}
 
--- the gap at a pattern
+-- The gap at a pattern.
 abbrev pub gap_at : List Constraint → List ℕ → Gap
 gap_at constraints pattern = record { pattern = pattern; methods = uncovered_methods constraints pattern }
 
--- a gap for each pattern of the constraints at which there are uncovered methods
+-- A gap for each pattern of the constraints that has uncovered methods.
 abbrev pub gaps : List Constraint → List Gap
 gaps constraints = filter (λ gap. has_methods gap.methods) (map (gap_at constraints) (rising (all_patterns constraints)))
 
--- whether one of the gaps stands at the pattern and holds the method
+-- Whether one of the gaps has the pattern and contains the method.
 abbrev pub holds : List Gap → List ℕ → List ℕ → Bool
 holds found pattern method = list_any (λ gap. bytes_eq gap.pattern pattern && covers_method gap.methods method) found
 
--- a gap holds a method just where a constraint lists the pattern and none covers the method there
+-- A gap contains a method exactly if a constraint lists the pattern and none covers the method there.
 abbrev pub GapsAreExact : Type 0
 GapsAreExact = (constraints : List Constraint) (pattern method : List ℕ) →
     holds (gaps constraints) pattern method ≡ (lists (all_patterns constraints) pattern && is_uncovered constraints pattern method)
@@ -32,7 +32,7 @@ is_all methods.All = true
 is_all (methods.Only listed) = false
 is_all (methods.Except listed) = false
 
--- patterns rise from gap to gap, and methods within each, which lists its methods or all but those
+-- The patterns of the gaps are strictly ascending, and so are the names in each gap. No gap has all methods.
 abbrev pub GapsRise : Type 0
 GapsRise = (constraints : List Constraint) →
     IsRising (map (λ gap. gap.pattern) (gaps constraints))

@@ -1,4 +1,4 @@
-//! Policies of constraints, and edits, that stay with their owner: what a policy keeps of them is copied.
+//! Compiling and editing policies from borrowed constraints and edits, which are copied.
 
 ghost use Rattle.std.specs.Prelude.{◌≡◌, IfOk};
 ghost use Rattle.sv_policy.specs.Compiled.{compiled};
@@ -16,10 +16,10 @@ use sv_mapping::Pattern;
 use sv_text::{Listed, NoMemory, Text, copied_texts};
 
 impl Policy {
-    /// Compiles copies of constraints, in any order and with any numbers, and of their rules.
+    /// Compiles copies of constraints and their rules. The constraints may be in any order and have any numbers.
     ///
     /// # Errors
-    /// `NoMemory` where a growth was refused.
+    /// `NoMemory` if memory runs out.
     pub fn compile_copies(
         alloc: Global,
         constraints: &[Constraint],
@@ -32,10 +32,10 @@ impl Policy {
         Policy::compile(alloc, constraints, rules)
     }
 
-    /// Makes an edit, and answers the number that was given or withdrawn. An appended constraint is copied.
+    /// Applies an edit and returns the number assigned or withdrawn. An appended constraint is copied.
     ///
     /// # Errors
-    /// Those of [`append`](Policy::append) and of [`withdraw`](Policy::withdraw). The policy is then as it was before.
+    /// Those of [`append`](Policy::append) and of [`withdraw`](Policy::withdraw). The policy is unchanged.
     pub fn edit_copy(&mut self, alloc: Global, edit: &Edit) -> Result<u64, EditFault>
         ensures { GivesOutcome self.old self.new result (edit_outcome self.old edit.now) }
     {
@@ -45,7 +45,7 @@ impl Policy {
         }
     }
 
-    // Appends a copy of a constraint, which is not made where it would be refused.
+    // Appends a copy of a constraint. The limits are checked before it is copied.
     fn append_copy(&mut self, alloc: Global, addition: &NewConstraint) -> Result<u64, EditFault>
         ensures { GivesOutcome self.old self.new result (append_outcome self.old addition.now) }
     {
@@ -66,7 +66,7 @@ impl NewConstraint {
     /// Copies a constraint that has no number yet.
     ///
     /// # Errors
-    /// `NoMemory` where a growth was refused.
+    /// `NoMemory` if memory runs out.
     pub fn copy_of(alloc: Global, addition: &NewConstraint) -> Result<NewConstraint, NoMemory>
         ensures { GivesAnswer result addition.now }
     {

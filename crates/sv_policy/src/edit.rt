@@ -6,19 +6,19 @@ use sv_text::Listed;
 /// A security constraint that has no number yet.
 #[derive(Drop)]
 pub struct NewConstraint {
-    /// What the constraint covers: what one of these covers.
+    /// The collections. The constraint covers a request if one of them does.
     pub collections: Listed<Collection>,
-    /// Who may pass.
+    /// The callers that it admits.
     pub auth: Auth,
-    /// The transport that the constraint asks for.
+    /// The transport that it requires.
     pub transport: Transport,
 }
 
-/// A change of the constraints as they stand.
+/// A change of the current constraints.
 #[derive(Drop)]
 pub enum Edit {
-    /// One more constraint, behind all others.
+    /// Appends a constraint after all others.
     Append(NewConstraint),
-    /// The constraint with this number is taken away.
+    /// Removes the first constraint with this number.
     Withdraw(u64),
 }

@@ -1,4 +1,4 @@
-//! Why a policy was not edited.
+//! Reasons why an edit is refused.
 
 ghost use Rattle.std.specs.Prelude.{Some};
 ghost use Rattle.sv_policy.specs.EditFault.{edit_fault_text};
@@ -7,17 +7,17 @@ use std::error::Error;
 use std::fmt;
 use sv_text::NoMemory;
 
-/// Why an edit was refused: the first cause that stands. The policy is as it was before. It is printed as its name, want of
-/// memory as `no memory`.
+/// The reason why an edit was refused: the first that applies. The policy is unchanged. The reason is printed as its
+/// name, except `NoMemory`, which is printed as `no memory`.
 #[derive(Clone, Copy, Debug, PartialEq, Eq)]
 pub enum EditFault {
     /// No constraint has the number.
     NoSuch = 1,
-    /// As many constraints stand as may, or the new one lists more patterns than it may.
+    /// The policy has its maximum number of constraints, or the new one lists too many patterns.
     TooMany = 2,
-    /// The greatest number was given.
+    /// The greatest possible number has been assigned.
     NumberSpent = 3,
-    /// There was no memory for the edit; the same call may succeed later.
+    /// Memory ran out; the same call may succeed later.
     NoMemory = 4,
 }
 

@@ -1,4 +1,4 @@
-//! Edits of a policy that is in use.
+//! Editing a policy.
 
 ghost use Rattle.std.specs.Prelude.{◌≡◌, Ok, OnErr, OnOk};
 ghost use Rattle.sv_policy.specs.Edits.{GivesOutcome, append_outcome, edit_outcome, edited, edited_all, is_too_many, lists_too_many, numbered, place_of, with_last, withdraw_outcome, without_place};
@@ -16,13 +16,14 @@ impl Policy {
     ghost use Rattle.std.specs.Prelude.{length, slice_index_or, ◌<◌};
     ghost use Rattle.sv_constraints.specs.declared.constraint.Constraint.{Constraint};
 
-    /// Appends a constraint behind all others, and answers its number, which is the one behind the greatest that was ever
-    /// given.
+    /// Appends a constraint after all others, and returns its number. This is one more than the greatest number
+    /// assigned so far.
     ///
     /// # Errors
-    /// [`EditFault::TooMany`] where [`MAX_CONSTRAINTS`] stand, or the new one lists more than
-    /// [`MAX_PATTERNS_OF_CONSTRAINT`] patterns, each place in its lists counted; else [`EditFault::NumberSpent`] where
-    /// the greatest number was given; else [`EditFault::NoMemory`]. The policy is then as it was before.
+    /// [`EditFault::TooMany`] if the policy has [`MAX_CONSTRAINTS`] or more, or the new one lists more than
+    /// [`MAX_PATTERNS_OF_CONSTRAINT`] patterns, with repeated ones counted each time. Otherwise
+    /// [`EditFault::NumberSpent`] if the greatest possible number has been assigned. Otherwise [`EditFault::NoMemory`].
+    /// The policy is unchanged.
     pub fn append(&mut self, alloc: Global, addition: NewConstraint) -> Result<u64, EditFault>
         ensures { GivesOutcome self.old self.new result (append_outcome self.old addition) }
     {
@@ -59,11 +60,11 @@ impl Policy {
         Ok(number)
     }
 
-    /// Takes a constraint away, and answers it. Its number is not given again.
+    /// Removes the first constraint with this number, and returns it. The number is not assigned again.
     ///
     /// # Errors
-    /// [`EditFault::NoSuch`] where no constraint has the number; else [`EditFault::NoMemory`]. The policy is then as it
-    /// was before.
+    /// [`EditFault::NoSuch`] if no constraint has the number. Otherwise [`EditFault::NoMemory`]. The policy is
+    /// unchanged.
     pub fn withdraw(&mut self, alloc: Global, number: u64) -> Result<Constraint, EditFault>
         ensures { GivesOutcome self.old self.new result (withdraw_outcome self.old number) }
     {
@@ -73,7 +74,7 @@ impl Policy {
         }
     }
 
-    /// Takes the constraint at a place away.
+    /// Removes the constraint at an index, and returns it.
     fn withdraw_at(&mut self, alloc: Global, place: usize) -> Result<Constraint, EditFault>
         requires { place < length self.old.constraints }
         ensures { (withdrawn : Constraint) → withdrawn ≡ slice_index_or self.old.constraints place withdrawn →
@@ -94,7 +95,7 @@ impl Policy {
         Ok(self.constraints.remove(place))
     }
 
-    /// Makes an edit, and answers the number that was given or withdrawn.
+    /// Applies an edit and returns the number assigned or withdrawn.
     ///
     /// # Errors
     /// Those of [`append`](Policy::append) and of [`withdraw`](Policy::withdraw).
@@ -110,8 +111,8 @@ impl Policy {
         }
     }
 
-    /// Makes edits, one after another; refused ones change nothing. Where memory is wanted the edits before it are made, and
-    /// no more.
+    /// Applies edits in order. Refused edits change nothing. If memory runs out, the edits before it are applied and
+    /// the others are not.
     pub fn edit_all(&mut self, alloc: Global, edits: Vec<Edit>) -> Result<(), NoMemory>
         ensures { OnOk result (self.new ≡ edited_all self.old edits.items) }
     {
@@ -121,7 +122,7 @@ impl Policy {
         Ok(())
     }
 
-    /// Makes an edit, if it is not refused.
+    /// Applies an edit, unless it is refused.
     fn make(&mut self, alloc: Global, edit: Edit) -> Result<(), NoMemory>
         ensures made { OnOk result (self.new ≡ edited self.old edit) }
         ensures unchanged { OnErr result (self.new ≡ self.old) }
@@ -135,7 +136,8 @@ impl Policy {
         }
     }
 
-    /// How many patterns were rebuilt by edits.
+    /// Returns the number of patterns affected by edits: the sum, over all edits, of the different patterns of the
+    /// edited constraint. The count saturates.
     pub fn rebuilt(&self) -> u64
         ensures { result ≡ self.now.rebuilt }
     {
@@ -143,14 +145,15 @@ impl Policy {
     }
 }
 
-/// Whether so many constraints stand that no more may, or one more, of these collections, lists too many patterns.
+/// Returns whether there is no room for another constraint, or a constraint with these collections lists too many
+/// patterns.
 pub(crate) fn is_too_many(constraints: &[Constraint], collections: &[Collection]) -> bool
     ensures { result ≡ is_too_many constraints.now collections.now }
 {
     constraints.len() >= MAX_CONSTRAINTS || lists_too_many(collections)
 }
 
-/// Whether collections list too many patterns, in all their places.
+/// Returns whether collections list too many patterns, with repeated ones counted each time.
 fn lists_too_many(collections: &[Collection]) -> bool
     ensures { result ≡ lists_too_many collections.now }
 {
@@ -161,7 +164,7 @@ fn lists_too_many(collections: &[Collection]) -> bool
     count > MAX_PATTERNS_OF_CONSTRAINT
 }
 
-/// The constraint with its number.
+/// Returns the constraint with its number.
 pub(crate) fn numbered(addition: NewConstraint, number: u64) -> Constraint
     ensures { result ≡ numbered addition number }
 {
@@ -173,7 +176,7 @@ pub(crate) fn numbered(addition: NewConstraint, number: u64) -> Constraint
     }
 }
 
-/// The place of the first constraint that has the number.
+/// Returns the index of the first constraint with this number.
 fn place_of(constraints: &[Constraint], number: u64) -> Option<usize>
     ensures { result ≡ place_of constraints.now number }
 {

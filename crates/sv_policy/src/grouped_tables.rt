@@ -1,4 +1,4 @@
-//! The tables of all patterns of constraints, which were grouped by the patterns that they list.
+//! The tables of all patterns, made from constraints that are grouped by pattern.
 
 ghost use Rattle.std.specs.Prelude.{◌≡◌, ◌++◌, ◌∷◌, [], List, map, filter, if◌then◌else◌, All, IfOk, OnOk};
 ghost use Rattle.sv_constraints.specs.Covering.{all_patterns, lists};
@@ -19,8 +19,8 @@ use sv_mapping::Pattern;
 use sv_merged::Table;
 use sv_text::NoMemory;
 
-/// The tables of constraints. Each is made of the constraints on its pattern, without going over the others, and patterns on
-/// which the same constraints stand in the same way share what was merged for one of them.
+/// Returns the tables of constraints. Each is made from the constraints on its pattern, without a search through the
+/// others. Patterns that are listed by the same collections of the same constraints can share their entries.
 pub fn tables_of(
     alloc: Global,
     rules: &Rules,
@@ -82,8 +82,8 @@ fn push_group(
     Ok(())
 }
 
-/// The table of a pattern that these constraints list. It shares entries with a table that is made, where the same constraints
-/// stand on both patterns in the same way.
+/// Returns the table of a pattern that these constraints list. It shares its entries with the last table made with the
+/// same mark, if both patterns are listed by the same collections of the same constraints.
 fn grouped_table(
     alloc: Global,
     rules: &Rules,

@@ -1,4 +1,4 @@
-//! Constraints by the patterns that they list.
+//! Constraints grouped by the patterns that they list.
 
 ghost use Rattle.std.specs.Prelude.{◌≡◌, ◌++◌, ◌∷◌, ◌||◌, [], ℕ, List, IfOk, MatchOption, OnOk, if◌then◌else◌, map};
 ghost use Rattle.std.specs.Str.{bytes_eq};
@@ -12,7 +12,7 @@ use sv_constraints::Constraint;
 use sv_mapping::Pattern;
 use sv_text::NoMemory;
 
-/// The constraints that list each pattern, so that a pattern's constraints are found without going over the others.
+/// The constraints that list each pattern. They are found by pattern, without a search through the others.
 #[derive(Drop)]
 pub struct Groups<'a> {
     /// The patterns.
@@ -60,7 +60,7 @@ impl<'a> Groups<'a> {
         Ok(())
     }
 
-    /// Adds a constraint to the group of a pattern, which is begun where there is none.
+    /// Adds a constraint to the group of a pattern, which is created if necessary.
     fn enter_at(&mut self, pattern: &'a Pattern, constraint: &'a Constraint) -> Result<(), NoMemory>
         ensures members { OnOk result ((q : List ℕ) → members_in self.new.members q ≡ members_in self.old.members q ++
             (if bytes_eq q pattern.now then constraint.now ∷ [] else [])) }
@@ -76,7 +76,7 @@ impl<'a> Groups<'a> {
         Ok(())
     }
 
-    /// The constraints that list a pattern, if there are any.
+    /// Returns the constraints that list a pattern, if any.
     pub fn on(&self, text: &str) -> Option<&Vec<&'a Constraint>>
         ensures { MatchOption result (members_in self.now.members text.now ≡ [])
             (λ members. map (λ member. member.now) members.now.items ≡ members_in self.now.members text.now) }

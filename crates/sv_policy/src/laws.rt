@@ -1,4 +1,4 @@
-//! What holds of best matches and of gaps: each law is the contract of a function that does nothing.
+//! Theorems about best matches and gaps, each the contract of a function that at most calls other theorems.
 
 ghost use Rattle.std.specs.Prelude.{◌≡◌};
 ghost use Rattle.sv_policy.specs.Gaps.{GapsAreExact, GapsRise};
@@ -8,14 +8,14 @@ ghost use Rattle.sv_policy.specs.declared.limits.TheConstants.{MAX_CONSTRAINTS, 
 use sv_mapping::laws::best_is_unique;
 use sv_merged::{rising_is_in_order, uncovered_methods_are_exact};
 
-/// Patterns with the same texts have the same best match for each path, in whichever order and however often they are listed.
+/// Patterns with the same texts have the same best match for each path, whatever their order and number.
 pub fn best_is_of_texts()
     ensures { BestIsOfTexts }
 {
     best_is_unique();
 }
 
-/// A gap holds a method just where a constraint lists its pattern and none covers the method there.
+/// A gap contains a method exactly if a constraint lists its pattern and none covers the method there.
 pub fn gaps_are_exact()
     ensures { GapsAreExact }
 {
@@ -23,7 +23,8 @@ pub fn gaps_are_exact()
     uncovered_methods_are_exact();
 }
 
-/// Patterns rise by bytes from gap to gap, and methods within each gap, which are never all methods.
+/// The patterns of the gaps are strictly ascending by bytes, and so are the method names in each gap. No gap has all
+/// methods.
 pub fn gaps_rise()
     ensures { GapsRise }
 {

@@ -1,5 +1,5 @@
-//! A compiled policy: security constraints merged for each pattern, so that a decision does not go over them
-//! (Jakarta Servlet 6.0, section 13.8).
+//! A compiled policy: security constraints merged by pattern, so that a decision does not iterate over them (Jakarta
+//! Servlet 6.0, section 13.8).
 #![tactic(auto)]
 
 mod copying;

@@ -1,4 +1,4 @@
-//! Patterns on which the same constraints stand in the same way.
+//! Patterns that are listed by the same collections of the same constraints.
 
 ghost use Rattle.std.specs.Prelude.{◌≡◌, map};
 ghost use Rattle.std.specs.List.{list_any};
@@ -9,10 +9,10 @@ ghost use Rattle.sv_policy.specs.Likeness.{are_alike, tells_apart};
 use crate::patterns::lists_pattern;
 use sv_constraints::{Collection, Constraint};
 
-/// An odd number of 64 bits, by which a mark is multiplied before a number is added to it.
+/// An odd factor. A mark is multiplied by it before a number is added.
 const MARK_FACTOR: u64 = 0x9E37_79B9_7F4A_7C15;
 
-/// Whether a collection lists just one of two patterns.
+/// Returns whether a collection lists exactly one of two patterns.
 fn lists_one(collection: &Collection, pattern: &str, other: &str) -> bool
     ensures { result ≡ differ (lists collection.now.patterns pattern.now) (lists collection.now.patterns other.now) }
 {
@@ -23,7 +23,7 @@ fn lists_one(collection: &Collection, pattern: &str, other: &str) -> bool
     }
 }
 
-/// Whether a collection of the constraint lists just one of two patterns.
+/// Returns whether a collection of the constraint lists exactly one of two patterns.
 fn tells_apart(constraint: &Constraint, pattern: &str, other: &str) -> bool
     ensures { result ≡ tells_apart constraint.now pattern.now other.now }
 {
@@ -34,7 +34,7 @@ fn tells_apart(constraint: &Constraint, pattern: &str, other: &str) -> bool
         .any(|collection| lists_one(collection, pattern, other))
 }
 
-/// Whether one of the constraints does so.
+/// Returns whether a collection of one of the constraints lists exactly one of two patterns.
 fn are_told_apart(members: &[&Constraint], pattern: &str, other: &str) -> bool
     ensures { result ≡ list_any (λ member. tells_apart member.now pattern.now other.now) members.now }
 {
@@ -43,8 +43,8 @@ fn are_told_apart(members: &[&Constraint], pattern: &str, other: &str) -> bool
         .any(|member| tells_apart(*member, pattern, other))
 }
 
-/// Whether the constraints that list a pattern are as many as those that list another, and none tells them apart: then the
-/// same constraints cover each method at both.
+/// Returns whether equally many constraints list two patterns, and no collection of those on the first lists exactly
+/// one of the two. If so, the same constraints cover each method at both patterns.
 pub fn are_alike(
     members: &[&Constraint],
     others: &[&Constraint],
@@ -56,14 +56,15 @@ pub fn are_alike(
     members.len() == others.len() && !are_told_apart(members, pattern, other)
 }
 
-/// A number that patterns have in common which the same collections of the same constraints list, and that others seldom have.
+/// Returns a hash of the collections and constraints that list a pattern. It is the same for patterns that are listed
+/// by the same collections of the same constraints, and seldom for others.
 pub fn mark_of(members: &[&Constraint], pattern: &str) -> u64 {
     members
         .iter()
         .fold(1, |mark, member| marked(mark, *member, pattern))
 }
 
-/// The mark with one more constraint.
+/// Returns the mark after one more constraint.
 fn marked(mark: u64, member: &Constraint, pattern: &str) -> u64 {
     let mut mark = mixed(mark, member.number);
     let mut place: u64 = 0;

@@ -1,7 +1,7 @@
 //! The limits of this crate.
 
-/// How many constraints may stand when one is appended.
+/// Maximum number of constraints after one is appended.
 pub const MAX_CONSTRAINTS: usize = 1000;
 
-/// How many patterns an appended constraint may list, in all its collections together.
+/// Maximum number of patterns of an appended constraint, in all its collections together.
 pub const MAX_PATTERNS_OF_CONSTRAINT: usize = 64;

@@ -1,4 +1,4 @@
-//! The tables of the patterns that an edit touches: the constraints of a pattern are sought among all.
+//! The tables of the patterns that an edit affects. The constraints on a pattern are found by a search through all.
 
 ghost use Rattle.std.specs.Prelude.{◌≡◌, ◌++◌, ◌∷◌, [], List, map, filter, if◌then◌else◌, All, IfOk, OnOk};
 ghost use Rattle.sv_constraints.specs.Covering.{all_patterns, lists};
@@ -15,7 +15,7 @@ use sv_mapping::Pattern;
 use sv_merged::Table;
 use sv_text::NoMemory;
 
-/// The constraints of two lists, one behind the other, that list a pattern.
+/// Returns the constraints of two lists, one after the other, that list a pattern.
 fn members_of<'a>(
     alloc: Global,
     front: &'a [Constraint],
@@ -47,8 +47,9 @@ fn push_members<'a>(
     Ok(())
 }
 
-/// The table of a pattern that constraints of two lists, one behind the other, list. It shares entries with a table that is
-/// made, where the same constraints stand on both patterns in the same way.
+/// Returns the table of a pattern that these members list, out of the constraints of two lists, one after the other. It
+/// shares its entries with the last table made with the same mark, if both patterns are listed by the same collections
+/// of the same constraints.
 fn listed_table(
     alloc: Global,
     rules: &Rules,
@@ -80,7 +81,8 @@ fn listed_table(
     }
 }
 
-/// Makes the tables of those patterns that constraints list: the constraints are those of two lists, one behind the other.
+/// Makes the tables of those patterns that constraints list. The constraints are those of two lists, one after the
+/// other.
 pub fn push_tables(
     making: &mut Making,
     alloc: Global,

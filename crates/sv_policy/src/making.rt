@@ -1,4 +1,4 @@
-//! The tables of patterns as they are made, and which of them may share their entries.
+//! Tables being made, and a lookup by mark of those that may share their entries.
 
 ghost use Rattle.std.specs.Prelude.{◌≡◌, ◌++◌, ◌∷◌, [], List, map, All, IfOk, IfSome, OnOk};
 ghost use Rattle.std.specs.Option.{option_and_then, option_copied};
@@ -11,7 +11,7 @@ use std::rc::Rc;
 use sv_merged::Table;
 use sv_text::NoMemory;
 
-/// Tables as they are made, and where the last one with each mark stands.
+/// The tables made so far, and the index of the last one with each mark.
 #[derive(Drop)]
 pub struct Making {
     /// The tables.
@@ -19,7 +19,7 @@ pub struct Making {
     places: HashMap<u64, usize>,
 }
 
-/// The places of the last tables with each mark.
+/// Returns the index of the last table with each mark.
 fn places_of(alloc: Global, tables: &[Rc<Table>]) -> Result<HashMap<u64, usize>, NoMemory> {
     let mut places = HashMap::new(alloc);
     for (place, table) in tables.iter().enumerate() {
@@ -28,7 +28,7 @@ fn places_of(alloc: Global, tables: &[Rc<Table>]) -> Result<HashMap<u64, usize>,
     Ok(places)
 }
 
-/// The table at a place.
+/// Returns the table at an index, if any.
 pub fn table_at(tables: &[Rc<Table>], place: Option<usize>) -> Option<&Table>
     ensures { option_copied result ≡ option_and_then (λ at. slice_get (map (λ table. table.value) tables.now) at) place }
 {
@@ -40,7 +40,7 @@ impl Making {
     ghost use Rattle.sv_constraints.specs.declared.constraint.Constraint.{Constraint};
     ghost use Rattle.sv_constraints.specs.declared.rules.Rules.{Rules};
 
-    /// Begins with these tables.
+    /// Starts with these tables.
     pub fn beginning(alloc: Global, tables: Vec<Rc<Table>>) -> Result<Making, NoMemory>
         ensures { IfOk result (λ making. making.tables ≡ tables) }
     {
@@ -48,7 +48,7 @@ impl Making {
         Ok(Making { tables, places })
     }
 
-    /// One more table, behind all others.
+    /// Appends a table.
     pub fn push(&mut self, alloc: Global, table: Table) -> Result<(), NoMemory>
         ensures { OnOk result (map (λ made. made.value) self.new.tables.items ≡ map (λ made. made.value) self.old.tables.items ++ table ∷ []) }
     {
@@ -57,7 +57,7 @@ impl Making {
         Ok(())
     }
 
-    /// A table with this mark, if one is known.
+    /// Returns the last table with this mark, if any.
     pub fn marked(&self, mark: u64) -> Option<&Table>
         ensures { (rules : Rules) (constraints : List Constraint) → All (λ table. IsTable rules constraints table.value) self.now.tables.items →
             IfSome (option_copied result) (IsTable rules constraints) }

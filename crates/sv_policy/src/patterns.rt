@@ -23,21 +23,21 @@ pub fn copied(alloc: Global, pattern: &Pattern) -> Result<Pattern, NoMemory>
     }
 }
 
-/// Whether a pattern with this text is among the patterns.
+/// Returns whether a pattern with this text is among the patterns.
 pub fn lists_pattern(patterns: &[Pattern], text: &str) -> bool
     ensures { result ≡ lists patterns.now text.now }
 {
     patterns.iter().any(|listed| listed.text() == text)
 }
 
-/// Whether a pattern with this text is among borrowed patterns.
+/// Returns whether a pattern with this text is among borrowed patterns.
 pub fn is_among(patterns: &[&Pattern], text: &str) -> bool
     ensures { result ≡ list_any (λ pattern. bytes_eq pattern.now text.now) patterns.now }
 {
     patterns.iter().any(|other| other.text() == text)
 }
 
-/// Whether a constraint lists a pattern with this text.
+/// Returns whether a constraint lists a pattern with this text.
 pub fn is_listed(constraint: &Constraint, text: &str) -> bool
     ensures { result ≡ lists_pattern constraint.now text.now }
 {
@@ -47,7 +47,7 @@ pub fn is_listed(constraint: &Constraint, text: &str) -> bool
     ))
 }
 
-/// The patterns of collections, each text once.
+/// Returns the patterns of collections, each text once.
 pub fn patterns_of(alloc: Global, collections: &[Collection]) -> Result<Vec<&Pattern>, NoMemory>
     ensures { IfOk result (λ patterns. map (λ pattern. pattern.now) patterns.items ≡ different (listed_in collections.now)) }
 {

@@ -26,7 +26,8 @@ use sv_pattern_table::PatternTable;
 use sv_realm::Caller;
 use sv_text::NoMemory;
 
-/// Security constraints, compiled for decisions. Contracts see the constraints as they stand.
+/// Security constraints, compiled for decisions. In contracts, its value is the current constraints, their rules, the
+/// greatest number assigned so far, and the count of patterns affected by edits.
 #[derive(Drop)]
 pub struct Policy {
     pub(crate) constraints: Vec<Constraint>,
@@ -55,16 +56,16 @@ impl Model for Policy {
         × (policy.index ≡ map (λ table. table.value.pattern) policy.tables.items) };
 }
 
-/// A decision, and what it took.
+/// A decision and the number of its lookups.
 #[derive(Clone, Copy)]
 pub struct Decided<'a> {
     /// The decision.
     pub decision: Decision<'a>,
-    /// How many segments, extensions and methods were looked up. Look-ups by role are not counted.
+    /// The number of segments, extensions and methods that were looked up. Lookups by role are not counted.
     pub probes: usize,
 }
 
-/// The greatest number of constraints, 0 where there are none.
+/// Returns the greatest number of constraints, or 0 if there are none.
 fn greatest_number(constraints: &[Constraint]) -> u64
     ensures { result ≡ greatest_number constraints.now }
 {
@@ -74,7 +75,7 @@ fn greatest_number(constraints: &[Constraint]) -> u64
 }
 
 impl Policy {
-    /// Compiles constraints, in any order and with any numbers. Where memory is wanted they are dropped.
+    /// Compiles constraints, in any order and with any numbers. If memory runs out, they are dropped.
     pub fn compile(
         alloc: Global,
         constraints: Vec<Constraint>,
@@ -94,17 +95,17 @@ impl Policy {
         })
     }
 
-    /// The gaps of the constraints as they stand: for each pattern of theirs at which they leave methods uncovered, these
-    /// methods. Whether uncovered methods are denied plays no part.
+    /// Returns the gaps of the current constraints: each of their patterns that has uncovered methods, with these
+    /// methods. Whether uncovered methods are denied does not matter.
     pub fn uncovered(&self, alloc: Global) -> Result<Vec<Gap>, NoMemory>
         ensures { IfOk result (λ found. found.items ≡ gaps self.now.constraints) }
     {
         gaps_of(alloc, self.tables.as_slice())
     }
 
-    /// Decides a request as [`decide_plain`](sv_constraints::decide_plain) does by the constraints as they stand, and counts
-    /// its look-ups. The path is any text, and is compared as it stands. It takes no memory, and the constraints are not
-    /// gone over.
+    /// Decides a request by the current constraints, as [`decide_plain`](sv_constraints::decide_plain) does, and counts
+    /// its lookups. The path is any text, and is compared unchanged. Allocates no memory, and does not iterate over the
+    /// constraints.
     #[inline(always)]
     pub fn decide<'a>(&'a self, method: &str, path: &str, caller: Option<&Caller>) -> Decided<'a>
         ensures decision { seen result.decision ≡ verdict self.now.constraints self.now.rules method.now path.now (option_copied caller.entry) }

@@ -1,4 +1,4 @@
-//! The tables of constraints of which one is edited: only those of its patterns are merged anew.
+//! The tables of constraints after one of them was edited. Only the tables of its patterns are made again.
 
 ghost use Rattle.std.specs.Prelude.{◌≡◌, ◌++◌, ◌∷◌, ◌<◌, [], List, filter, length, map, not, remove, slice_index_or, suc, drop, take, IfOk};
 ghost use Rattle.sv_constraints.specs.Covering.{lists};
@@ -23,15 +23,15 @@ use sv_text::NoMemory;
 /// The tables of edited constraints.
 #[derive(Drop)]
 pub struct Rebuilt {
-    /// The tables, of which those of other patterns are shared.
+    /// The tables. Those of other patterns are shared with the tables before the edit.
     pub tables: Vec<Rc<Table>>,
-    /// Their patterns.
+    /// The patterns of the tables.
     pub index: PatternTable,
-    /// How many patterns were merged anew.
+    /// The number of different patterns of the edited constraint.
     pub count: usize,
 }
 
-/// The tables of constraints with one more, which stands last.
+/// Returns the tables of constraints after one more is appended.
 pub fn rebuilt_with(
     alloc: Global,
     rules: &Rules,
@@ -53,7 +53,7 @@ pub fn rebuilt_with(
     )
 }
 
-/// The tables of constraints without the one at a place.
+/// Returns the tables of constraints without the one at an index.
 pub fn rebuilt_without(
     alloc: Global,
     rules: &Rules,
@@ -72,7 +72,7 @@ pub fn rebuilt_without(
     rebuilt_around(alloc, rules, tables, front, back, edited)
 }
 
-/// The constraints before the one at a place.
+/// Returns the constraints before the one at an index.
 fn before(constraints: &[Constraint], place: usize) -> &[Constraint]
     requires { place < length constraints.now }
     ensures { result.now ≡ take place constraints.now }
@@ -80,7 +80,7 @@ fn before(constraints: &[Constraint], place: usize) -> &[Constraint]
     &constraints[..place]
 }
 
-/// The constraints behind the one at a place.
+/// Returns the constraints after the one at an index.
 fn behind(constraints: &[Constraint], place: usize) -> &[Constraint]
     requires { place < length constraints.now }
     ensures { result.now ≡ drop (suc place) constraints.now }
@@ -88,8 +88,8 @@ fn behind(constraints: &[Constraint], place: usize) -> &[Constraint]
     &constraints[place + 1..]
 }
 
-/// The tables of the constraints of two lists, one behind the other, where those tables were of constraints that listed all
-/// but the edited patterns alike.
+/// Returns the tables of the constraints of two lists, one after the other. The given tables must be those of
+/// constraints that differ from these only on the edited patterns.
 fn rebuilt_around(
     alloc: Global,
     rules: &Rules,
@@ -113,7 +113,7 @@ fn rebuilt_around(
     })
 }
 
-/// The tables of other patterns, which are shared.
+/// Returns the tables of other patterns, which are shared.
 fn others(
     alloc: Global,
     tables: &[Rc<Table>],

@@ -16,7 +16,7 @@ use sv_merged::Table;
 use sv_pattern_table::PatternTable;
 use sv_text::NoMemory;
 
-/// The table of a pattern, merged of the constraints that list it.
+/// Returns the table of a pattern, merged from the constraints that list it.
 pub fn merged(
     alloc: Global,
     rules: &Rules,
@@ -32,8 +32,8 @@ pub fn merged(
     Ok(table)
 }
 
-/// The table of a pattern. It shares the entries of another table where the same constraints stand on both patterns in the
-/// same way; else it is merged of those that list its pattern.
+/// Returns the table of a pattern. It shares the entries of another table if both patterns are listed by the same
+/// collections of the same constraints. Otherwise it is merged from the constraints that list its pattern.
 pub fn table_like(
     alloc: Global,
     rules: &Rules,
@@ -55,7 +55,7 @@ pub fn table_like(
     merged(alloc, rules, pattern, mark, members)
 }
 
-/// Compiles the patterns of tables for look-ups.
+/// Compiles the patterns of tables for lookups.
 pub fn index_of(alloc: Global, tables: &[Rc<Table>]) -> Result<PatternTable, NoMemory>
     ensures { GivesAnswer result (map (λ table. table.value.pattern) tables.now) }
 {

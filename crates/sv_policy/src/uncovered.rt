@@ -18,7 +18,7 @@ use sv_constraints::Methods;
 use sv_merged::{Table, rising_is_in_order};
 use sv_text::NoMemory;
 
-/// The gaps of the constraints that the tables were merged of.
+/// Returns the gaps of the constraints that the tables were merged from.
 pub fn gaps_of(alloc: Global, tables: &[Rc<Table>]) -> Result<Vec<Gap>, NoMemory>
     ensures { (rules : Rules) (constraints : List Constraint) → AreCompiled rules constraints (map (λ table. table.value) tables.now) →
         IfOk result (λ found. found.items ≡ gaps constraints) }
@@ -31,7 +31,7 @@ pub fn gaps_of(alloc: Global, tables: &[Rc<Table>]) -> Result<Vec<Gap>, NoMemory
     Ok(found)
 }
 
-/// The tables in the order of their patterns' bytes, one for each pattern.
+/// Returns the tables in the byte order of their patterns, one for each pattern.
 fn rising_tables(alloc: Global, tables: &[Rc<Table>]) -> Result<Vec<&Table>, NoMemory>
     ensures texts { IfOk result (λ ordered. map (λ table. table.now.pattern) ordered.items ≡ rising (map (λ table. table.pattern) (map (λ table. table.value) tables.now))) }
     ensures tables { IfOk result (λ ordered. All (λ table. Contains (map (λ shared. shared.value) tables.now) table.now) ordered.items) }
@@ -40,7 +40,7 @@ fn rising_tables(alloc: Global, tables: &[Rc<Table>]) -> Result<Vec<&Table>, NoM
     Ok(filed.values().copied().collect(alloc)?)
 }
 
-/// The tables by their patterns.
+/// Returns the tables by pattern.
 fn filed(alloc: Global, tables: &[Rc<Table>]) -> Result<BTreeMap<&str, &Table>, NoMemory>
     ensures { IfOk result (λ filed. IsFiled (map (λ table. table.value) tables.now) (map (λ table. table.value) tables.now) filed.entries) }
 {
@@ -51,7 +51,7 @@ fn filed(alloc: Global, tables: &[Rc<Table>]) -> Result<BTreeMap<&str, &Table>, 
     Ok(filed)
 }
 
-/// Pushes the gap at a table's pattern, if there is one.
+/// Appends the gap at the pattern of a table, if any.
 fn push_gap(found: &mut Vec<Gap>, alloc: Global, table: &Table) -> Result<(), NoMemory>
     ensures { (rules : Rules) (constraints : List Constraint) → IsTable rules constraints table.now →
         OnOk result (found.new.items ≡ found.old.items ++
@@ -67,7 +67,7 @@ fn push_gap(found: &mut Vec<Gap>, alloc: Global, table: &Table) -> Result<(), No
     Ok(())
 }
 
-/// Whether these are any methods.
+/// Returns whether there are any such methods.
 fn has_methods(methods: &Methods) -> bool
     ensures { result ≡ has_methods methods.now }
 {

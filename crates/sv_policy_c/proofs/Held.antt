@@ -1,4 +1,4 @@
--- What is done where a handle holds nothing, and where what is done is always done.
+-- Statuses of a handle that holds nothing, and of calls that always succeed.
 use Rattle.std.proofs.Common.{◌≡◌, refl, sym, subst, ℕ, List, Option, Some, None}
 use Rattle.std.specs.Prelude.{IsUtf8}
 use Rattle.sv_policy_c.specs.Deciding.{IfHeld}
@@ -12,7 +12,7 @@ nothing_held does before none = subst (λ (held : Option Engine). IfHeld does he
 pub done_held : (before : Option Engine) (engine : Engine) → before ≡ Some engine → IfHeld (λ _ told. told ≡ status.Written) before status.Written
 done_held before engine some = subst (λ (held : Option Engine). IfHeld (λ _ told. told ≡ status.Written) held status.Written) (sym some) refl
 
--- what is done, or has nothing to be done to, does not call a text none
+-- the statuses `Nothing` and `Written` do not report a text as invalid
 pub nothing_calls : (text : List ℕ) → status.Nothing ≡ status.NotText → ¬ (IsUtf8 text)
 nothing_calls text same = absurd (cc)
 

@@ -1,4 +1,4 @@
--- What the exported functions do with an engine.
+-- The effects of the exported functions on an engine.
 use Rattle.std.specs.Prelude.{◌≡◌, ℕ, Bool, true, false, List, [], ◌∷◌, ◌++◌, Option, None, Some, IsSome, Ok, Err, IsUtf8}
 use Rattle.std.specs.Option.{option_map}
 use Rattle.sv_schema.specs.Fault.{Reads, descriptor_fault_text}
@@ -14,7 +14,7 @@ use Rattle.sv_policy_c.specs.declared.engine.Engine.{Engine}
 use Rattle.sv_policy_c.specs.declared.status.Status.{Status}
 use Rattle.sv_policy_c.specs.declared.status.Status.TheVariants as status
 
--- what is said of a request, as the status and the buffer tell it
+-- the answer to a request, in the status and the buffer
 abbrev pub WritesAnswer : Answer → List ℕ → List ℕ → ℕ → Status → Type 0
 WritesAnswer said old new size status.Written = (e : Explanation) × (said ≡ Ok e) × IsWritten (explanation_text e) old new size
 WritesAnswer said old new size status.Short = (e : Explanation) × (said ≡ Ok e) × IsShort (explanation_text e) old new size
@@ -28,7 +28,7 @@ abbrev pub written : Bool → Status
 written true = status.Written
 written false = status.Short
 
--- why a descriptor is not read, as the status and the buffer tell it
+-- the fault of a descriptor, in the status and the buffer
 abbrev pub RefusesDescriptor : Reads Engine → List ℕ → List ℕ → ℕ → Status → Type 0
 RefusesDescriptor read old new size status.Fault = (f : DescriptorFault) × (read ≡ Err f) × IsWritten (descriptor_fault_text f) old new size
 RefusesDescriptor read old new size status.Short = (f : DescriptorFault) × (read ≡ Err f) × IsShort (descriptor_fault_text f) old new size
@@ -42,16 +42,16 @@ abbrev pub refused : Bool → Status
 refused true = status.Fault
 refused false = status.Short
 
--- with a caller who has no roles, or without one
+-- with a caller that has no roles, or without a caller
 abbrev pub with_caller : Bool → Engine → Engine
 with_caller true engine = record { path = engine.path; policy = engine.policy; caller = Some [] }
 with_caller false engine = record { path = engine.path; policy = engine.policy; caller = None }
 
--- with one role more, where there is a caller
+-- with one more role, if there is a caller
 abbrev pub with_role : List ℕ → Engine → Engine
 with_role role engine = record { path = engine.path; policy = engine.policy; caller = option_map (λ roles. roles ++ (role ∷ [])) engine.caller }
 
--- where memory did not run out, the role is a text and there is a caller
+-- a role is added if it is UTF-8 and there is a caller, unless memory ran out
 abbrev pub AddsRole : List ℕ → Engine → Engine → Status → Type 0
 AddsRole role before after status.Written = IsSome before.caller × (after ≡ with_role role before)
 AddsRole role before after status.Nothing = (before.caller ≡ None) × (after ≡ before)
@@ -61,41 +61,41 @@ AddsRole role before after status.Fault = ⊥
 AddsRole role before after status.Method = ⊥
 AddsRole role before after status.Short = ⊥
 
--- what an exported function does where the handle holds an engine, and where it holds none
+-- the effect of an exported function on the engine; if the handle holds none, the status is `Nothing`
 abbrev pub IfHeld : (Engine → Status → Type 0) → Option Engine → Status → Type 0
 IfHeld does None told = told ≡ status.Nothing
 IfHeld does (Some engine) told = does engine told
 
--- a status that has no answer comes with nothing written
+-- for a status without an answer, nothing is written
 abbrev pub WritesForAnswer : List ℕ → List ℕ → ℕ → ℕ → Status → Type 0
 WritesForAnswer old new before size status.Written = Unit {0}
 WritesForAnswer old new before size status.Fault = Unit {0}
 WritesForAnswer old new before size status.Short = Unit {0}
 WritesForAnswer old new before size other = IsUntouched old new before size
 
--- of a descriptor that is read nothing is written, either
+-- for a descriptor that is read, nothing is written either
 abbrev pub WritesForFault : List ℕ → List ℕ → ℕ → ℕ → Status → Type 0
 WritesForFault old new before size status.Fault = Unit {0}
 WritesForFault old new before size status.Short = Unit {0}
 WritesForFault old new before size other = IsUntouched old new before size
 
--- only what is not UTF-8 is called no text
+-- only texts that are not UTF-8 are reported as `NotText`
 abbrev pub CallsNoText : List ℕ → Status → Type 0
 CallsNoText text told = told ≡ status.NotText → ¬ (IsUtf8 text)
 
 abbrev pub CallsNoTexts : List ℕ → List ℕ → Status → Type 0
 CallsNoTexts first second told = told ≡ status.NotText → ¬ (IsUtf8 first × IsUtf8 second)
 
--- the number is that of a status for which the fact holds
+-- the result is the number of a status for which the fact holds
 abbrev pub Returns : ℕ → (Status → Type 0) → Type 0
 Returns result fact = (told : Status) × (result ≡ number told) × fact told
 
--- the engine that the text is, or what was held before
+-- the engine for the text, or the engine held before
 abbrev pub Opens : Reads Engine → Option Engine → Option Engine → List ℕ → List ℕ → ℕ → Status → Type 0
 Opens read before after old new size status.Written = (engine : Engine) × (read ≡ Ok engine) × (after ≡ Some engine)
 Opens read before after old new size other = (after ≡ before) × RefusesDescriptor read old new size other
 
--- the engine with one role more
+-- the engine with one more role
 abbrev pub Gives : List ℕ → Option Engine → Option Engine → Status → Type 0
 Gives role before None told = (before ≡ None) × (told ≡ status.Nothing)
 Gives role before (Some after) told = (engine : Engine) × (before ≡ Some engine) × AddsRole role engine after told

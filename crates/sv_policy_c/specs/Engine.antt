@@ -1,4 +1,4 @@
--- The policy of one context, and who asks: Jakarta Servlet 6.0, section 13.8.
+-- The policy of one context, and the caller: Jakarta Servlet 6.0, section 13.8.
 use Rattle.std.specs.Prelude.{ℕ, List, [], ◌∷◌, codes, Option, None, Some, Ok}
 use Rattle.sv_text.specs.Steps.{◌>>=◌}
 use Rattle.sv_schema.specs.Fault.{Reads}
@@ -15,16 +15,16 @@ engine_of path text = do
   web_app ← descriptor_of text
   Ok (record { path = path; policy = compiled web_app.constraints web_app.rules; caller = None })
 
--- the users of the context: one, where there is a caller with these roles
+-- the users of the context: one with these roles, if there is a caller
 abbrev pub users_of : Option (List (List ℕ)) → List User
 users_of None = []
 users_of (Some roles) = record { name = codes "caller"; salt = []; digest = []; roles = roles } ∷ []
 
--- the name of the user who asks
+-- the name of the caller
 abbrev pub user_of : Option (List (List ℕ)) → Option (List ℕ)
 user_of None = None
 user_of (Some roles) = Some (codes "caller")
 
--- what becomes of a request: what a server with this one context would say of it
+-- the answer to a request: that of a server with only this context
 abbrev pub explained : Engine → List ℕ → List ℕ → Answer
 explained engine method target = explanation (policy engine.path engine.policy (users_of engine.caller) ∷ []) method target (user_of engine.caller)

@@ -1,4 +1,4 @@
--- What a handle owns.
+-- The memory that a handle owns.
 use mathlib.Core.Path.{◌≡◌}
 use base.Fml.{Fml, feq}
 use denote.RawPtr.{Ptr, null_ptr}
@@ -8,7 +8,7 @@ use Rattle.std_alloc.specs.Box.Ownership.{box_owns}
 use Rattle.sv_policy_c.specs.declared.engine.Engine.{Engine}
 use Rattle.sv_policy_c.specs.contracts.engine.Engine.{the_row}
 
--- nothing at null, and else the engine, with the right to free its block
+-- null owns nothing; any other pointer owns the engine, with the right to free its block
 abbrev pub holding : Option Engine → Ptr → Fml
 holding None p = feq Ptr p null_ptr
 holding (Some engine) p = box_owns chunk the_row p engine

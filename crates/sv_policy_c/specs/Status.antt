@@ -1,4 +1,4 @@
--- The numbers of what an exported function returns.
+-- The numbers that the exported functions return.
 use Rattle.std.specs.Prelude.{ℕ}
 use Rattle.sv_policy_c.specs.declared.status.Status.{Status}
 use Rattle.sv_policy_c.specs.declared.status.Status.TheVariants.{Written, Fault, Method, NoMemory, Short, NotText, Nothing}

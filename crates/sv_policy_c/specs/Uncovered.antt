@@ -1,4 +1,4 @@
--- What a descriptor leaves uncovered: Jakarta Servlet 6.0, section 13.8.4.
+-- The methods that a descriptor leaves uncovered: Jakarta Servlet 6.0, section 13.8.4.
 use Rattle.std.specs.Prelude.{◌≡◌, ℕ, List, [], ◌∷◌, Option, None, Some, Ok, Err}
 use Rattle.sv_schema.specs.Fault.{descriptor_fault_text}
 use Rattle.sv_program.specs.Configuration.{Step}
@@ -13,22 +13,22 @@ use Rattle.sv_policy_c.specs.declared.status.Status.TheVariants as status
 abbrev pub texts_of : List ℕ → List ℕ → ContextTexts
 texts_of path text = record { context = record { path = path; descriptor = []; files = []; users = None }; descriptor = Some text; users = None }
 
--- the lines of a server with this one context, or the fault of its descriptor
+-- the lines of a server with only this context, or the fault of its descriptor
 abbrev pub uncovered_in : List ℕ → List ℕ → Step (List ℕ)
 uncovered_in path text = uncovered_lines (texts_of path text ∷ [])
 
--- what is written of it
+-- the text for the lines or the fault
 abbrev pub said_text : Step (List ℕ) → List ℕ
 said_text (Ok lines) = lines
 said_text (Err (Descriptor path fault)) = descriptor_fault_text fault
 said_text (Err other) = []
 
--- the status where all of that is written
+-- the status if the whole text is written
 abbrev pub whole : Step (List ℕ) → Status
 whole (Ok lines) = status.Written
 whole (Err fault) = status.Fault
 
--- the lines or the fault, as the status and the buffer tell it
+-- the lines or the fault, in the status and the buffer
 abbrev pub Lists : Step (List ℕ) → List ℕ → List ℕ → ℕ → Status → Type 0
 Lists said old new size status.NoMemory = Unit {0}
 Lists said old new size status.NotText = Unit {0}

@@ -1,9 +1,10 @@
-//! A text for the caller's buffer.
+//! Texts in the caller's buffer.
 
 ghost use Rattle.std.specs.Prelude.{◌≡◌, length};
 ghost use Rattle.sv_policy_c.specs.Answer.{IsPut};
 
-/// Writes the text to the front of the buffer where there is room for it, and its length in any case. The bytes behind it stay.
+/// Writes the text to the front of the buffer if it fits, and returns whether it does. Sets the length in any case. The
+/// bytes after the text are unchanged.
 pub(crate) fn put(answer: &mut [u8], length: &mut usize, text: &str) -> bool
     ensures { IsPut text.now answer.old answer.new length.new result }
 {

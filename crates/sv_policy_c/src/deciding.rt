@@ -1,4 +1,4 @@
-//! What the exported functions do with an engine.
+//! The effects of the exported functions on an engine.
 
 ghost use Rattle.std.specs.Prelude.{◌≡◌, ◌≢◌, Ok, Err, IfOk, IfErr};
 ghost use Rattle.sv_policy_c.specs.Answer.{IsUntouched};
@@ -18,7 +18,7 @@ use sv_program::CommandFault;
 use sv_schema::{DescriptorFault, ReadFault};
 use sv_text::{Listed, Text};
 
-/// Writes what would become of a request.
+/// Writes the decision on a request.
 pub(crate) fn decide(
     alloc: Global,
     engine: &Engine,
@@ -58,7 +58,7 @@ fn write_explanation(
     }
 }
 
-/// Whether the answer was written.
+/// Returns the status of an answer that was written or did not fit.
 fn written(is_whole: bool) -> Status
     ensures { result ≡ spec.written is_whole }
 {
@@ -69,7 +69,7 @@ fn written(is_whole: bool) -> Status
     }
 }
 
-/// Reads the engine of a context with this path and this descriptor, or writes why not.
+/// Reads the engine of a context with this path and this descriptor, or writes the descriptor's fault.
 pub(crate) fn open(
     alloc: Global,
     path: &[u8],
@@ -122,7 +122,7 @@ fn write_fault(
     }
 }
 
-/// Whether the fault was written.
+/// Returns the status of a fault that was written or did not fit.
 fn refused(is_whole: bool) -> Status
     ensures { result ≡ spec.refused is_whole }
 {
@@ -133,7 +133,7 @@ fn refused(is_whole: bool) -> Status
     }
 }
 
-/// The engine with a caller who has no roles, or with none.
+/// Sets a caller that has no roles, or no caller.
 pub(crate) fn set_caller(alloc: Global, engine: &mut Engine, is_known: bool)
     ensures { engine.new ≡ spec.with_caller is_known engine.old }
 {
@@ -144,7 +144,7 @@ pub(crate) fn set_caller(alloc: Global, engine: &mut Engine, is_known: bool)
     };
 }
 
-/// Gives the caller one role more, where there is a caller.
+/// Adds a role to the caller, if there is one.
 pub(crate) fn add_role(alloc: Global, engine: &mut Engine, role: &[u8]) -> Status
     ensures { spec.AddsRole role.now engine.old engine.new result }
 {
@@ -167,7 +167,7 @@ pub(crate) fn add_role(alloc: Global, engine: &mut Engine, role: &[u8]) -> Statu
     }
 }
 
-/// Writes what the descriptor leaves uncovered, or why it is not read.
+/// Writes the methods that the descriptor leaves uncovered, or the descriptor's fault.
 pub(crate) fn list_uncovered(
     alloc: Global,
     path: &[u8],
@@ -202,7 +202,7 @@ fn list_lines(lines: &str, answer: &mut [u8], length: &mut usize) -> Status
     written(put(answer, length, lines))
 }
 
-/// Writes the fault of the descriptor of the context with this path.
+/// Writes the fault of the descriptor of the context at this path.
 fn list_fault(
     alloc: Global,
     _context: &str,

@@ -1,4 +1,4 @@
-//! What a handle holds: the policy of one context, and who asks.
+//! The contents of a handle: the policy of one context, and the caller.
 
 ghost use Rattle.std.specs.Prelude.{◌≡◌, IfOk, IfErr, Err, Ok, None, Some};
 ghost use Rattle.sv_explain.specs.Fault.{explain_fault};
@@ -17,19 +17,19 @@ use sv_realm::{Realm, User};
 use sv_schema::ReadFault;
 use sv_text::{Bytes, Listed, NoMemory, Text, copied_texts};
 
-/// The policy of one context, and who asks.
+/// The policy of one context, and the caller.
 #[derive(Drop)]
 pub struct Engine {
-    /// The context path: empty for the root context, and else a path that begins with `/` and does not end in one.
+    /// The context path: empty for the root context, or a path that begins with `/` and does not end with it.
     pub path: Text,
     /// The policy of the descriptor's constraints.
     pub policy: Policy,
-    /// The roles of the caller, none where there is no caller.
+    /// The roles of the caller, or none without a caller.
     pub caller: Option<Listed<Text>>,
 }
 
 impl Engine {
-    /// Reads the descriptor of a context with this path. There is no caller.
+    /// Reads the descriptor of the context at this path. The engine has no caller.
     ///
     /// # Errors
     /// The first fault of the descriptor, or [`ReadFault::NoMemory`].
@@ -45,7 +45,7 @@ impl Engine {
         })
     }
 
-    /// What would become of a request with this method and this target from the caller.
+    /// Returns the decision on a request of the caller with this method and this target.
     ///
     /// # Errors
     /// [`ExplainFault::BadMethod`], or [`ExplainFault::NoMemory`].
@@ -70,7 +70,7 @@ impl Engine {
     }
 }
 
-/// The users of the realm: one, with the roles of the caller, where there is a caller.
+/// Returns the users of the realm: one with the caller's roles, if there is a caller.
 fn users_of(alloc: Global, caller: &Option<Listed<Text>>) -> Result<Vec<User>, NoMemory>
     ensures { IfOk result (λ users. users.items ≡ spec.users_of caller.now) }
 {
@@ -86,7 +86,7 @@ fn users_of(alloc: Global, caller: &Option<Listed<Text>>) -> Result<Vec<User>, N
     Ok(users)
 }
 
-/// The context with its one user.
+/// The context and its user.
 #[derive(Drop)]
 struct Asked<'a> {
     engine: &'a Engine,

@@ -10,10 +10,11 @@ use crate::handle::PolicyHandle;
 use crate::status::Status;
 use std::alloc::Global;
 
-/// Reads a deployment descriptor, and holds the policy of a context with that path and these constraints, without a caller.
+/// Reads a deployment descriptor, and holds the policy of a context with this path and these constraints, without a
+/// caller.
 ///
-/// The path is empty for the root context, and else begins with `/` and does not end in one. What the handle held is freed.
-/// Where the text is no descriptor, the handle holds what it held, and the answer is the fault's name and its key.
+/// The path is empty for the root context, or begins with `/` and does not end with it. A policy held before is freed.
+/// If the descriptor has a fault, the handle keeps its policy, and the answer is the fault's name and key.
 #[unsafe(no_mangle)]
 pub extern "C" fn sv_policy_open(
     alloc: Global,
@@ -38,7 +39,7 @@ pub extern "C" fn sv_policy_open(
     }
 }
 
-/// Frees what the handle holds.
+/// Frees the policy that the handle holds.
 #[unsafe(no_mangle)]
 pub extern "C" fn sv_policy_close(alloc: Global, policy: &mut PolicyHandle)
     ensures { policy.new.value ≡ None }
@@ -46,7 +47,7 @@ pub extern "C" fn sv_policy_close(alloc: Global, policy: &mut PolicyHandle)
     drop(policy.take(alloc));
 }
 
-/// From now on requests come from a caller who has no roles, or from none.
+/// Sets the caller of further requests: one that has no roles, or none.
 #[unsafe(no_mangle)]
 pub extern "C" fn sv_policy_caller(alloc: Global, policy: &mut PolicyHandle, is_known: bool) -> u32
     ensures caller { policy.new.value ≡ option_map (spec.with_caller is_known) policy.old.value }
@@ -60,7 +61,7 @@ pub extern "C" fn sv_policy_caller(alloc: Global, policy: &mut PolicyHandle, is_
     Status::Written.number()
 }
 
-/// Gives the caller one role more.
+/// Adds a role to the caller.
 #[unsafe(no_mangle)]
 pub extern "C" fn sv_policy_role(alloc: Global, policy: &mut PolicyHandle, role: &[u8]) -> u32
     ensures { spec.Returns result (spec.Gives role.now policy.old.value policy.new.value) }
@@ -73,7 +74,7 @@ pub extern "C" fn sv_policy_role(alloc: Global, policy: &mut PolicyHandle, role:
     status.number()
 }
 
-/// Writes what would become of a request with this method and this target from the caller: the line that `sv policy` prints.
+/// Writes the decision on a request of the caller with this method and this target: the line that `sv policy` prints.
 #[unsafe(no_mangle)]
 pub extern "C" fn sv_policy_decide(
     alloc: Global,
@@ -97,8 +98,8 @@ pub extern "C" fn sv_policy_decide(
     status.number()
 }
 
-/// Writes which methods a deployment descriptor leaves uncovered in a context with that path: the lines that `sv uncovered` prints. Where the text is no descriptor, the answer is
-/// the fault's name and its key.
+/// Writes the methods that a deployment descriptor leaves uncovered in a context with this path, as `sv uncovered` does.
+/// If the descriptor has a fault, the answer is the fault's name and key.
 #[unsafe(no_mangle)]
 pub extern "C" fn sv_policy_uncovered(
     alloc: Global,

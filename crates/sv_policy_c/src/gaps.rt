@@ -1,4 +1,4 @@
-//! What a descriptor leaves uncovered.
+//! The methods that a descriptor leaves uncovered.
 
 ghost use Rattle.sv_policy_c.specs.Uncovered as spec;
 ghost use Rattle.sv_program.specs.CommandFault.{command_fault};
@@ -9,7 +9,7 @@ use sv_program::{CommandFault, ContextTexts, uncovered_lines};
 use sv_settings::ContextEntry;
 use sv_text::{NoMemory, Text};
 
-/// The lines that `sv uncovered` prints for a server with one context, of this path and with this descriptor.
+/// Returns the lines that `sv uncovered` prints for a server with one context, of this path and with this descriptor.
 ///
 /// # Errors
 /// The descriptor's first fault, [`CommandFault::Descriptor`], or [`CommandFault::NoMemory`].
@@ -20,7 +20,7 @@ pub fn uncovered(alloc: Global, path: &str, descriptor: &str) -> Result<Text, Co
     uncovered_lines(alloc, &texts)
 }
 
-/// The texts of that context.
+/// Returns the texts of this context.
 fn texts_of(alloc: Global, path: &str, descriptor: &str) -> Result<ContextTexts, NoMemory>
     ensures { GivesAnswer result (spec.texts_of path.now descriptor.now) }
 {

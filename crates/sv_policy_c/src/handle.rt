@@ -1,4 +1,4 @@
-//! What C holds of an engine.
+//! The C handle of an engine.
 
 ghost use Rattle.std.specs.Prelude.{◌≡◌, Option, None, Some};
 ghost use Rattle.std.specs.Option.{MatchOption};
@@ -12,9 +12,9 @@ use std::marker::Model;
 use std::mem;
 use std::ptr::null_mut;
 
-/// What C holds of an engine: a pointer that is null where it holds none. Contracts see the engine.
+/// The C handle of an engine: a pointer, which is null if it holds none. Contracts see the engine.
 ///
-/// It is let go as plain data. What it holds is freed by [`PolicyHandle::take`] alone.
+/// Dropping the handle does not free the engine. Only the box that [`PolicyHandle::take`] returns frees it.
 #[derive(Drop)]
 #[repr(C)]
 pub struct PolicyHandle {
@@ -27,7 +27,7 @@ impl Model for PolicyHandle {
 }
 
 impl PolicyHandle {
-    /// A handle that holds nothing.
+    /// Creates a handle that holds nothing.
     fn none() -> PolicyHandle
         ensures { result.value ≡ None }
     {
@@ -55,7 +55,7 @@ impl PolicyHandle {
         }
     }
 
-    /// Takes the engine out. The handle holds nothing then.
+    /// Takes the engine out of the handle, which then holds nothing.
     pub(crate) fn take(&mut self, alloc: Global) -> Option<Box<Engine>>
         ensures left { self.new.value ≡ None }
         ensures taken { MatchOption result (self.old.value ≡ None) (λ engine. self.old.value ≡ Some engine.value) }
@@ -67,7 +67,7 @@ impl PolicyHandle {
         }
     }
 
-    /// Holds the engine. What was held is not freed: [`PolicyHandle::take`] it first.
+    /// Holds the engine. An engine held before is not freed; call [`PolicyHandle::take`] first.
     pub(crate) fn hold(&mut self, engine: Box<Engine>)
         ensures { self.new.value ≡ Some engine.value }
     {

@@ -1,5 +1,5 @@
-//! The policy engine as a static library for C: a descriptor is read once, and then requests are decided by it
-//! (Jakarta Servlet 6.0, section 13.8). `policy.h` says how C calls it.
+//! The policy engine as a static library for C. A descriptor is read once, and then decides requests (Jakarta Servlet
+//! 6.0, section 13.8). `policy.h` documents the calls from C.
 #![tactic(auto)]
 
 mod answer;

@@ -7,7 +7,7 @@ use Rattle.sv_program.specs.declared.command_fault.CommandFault.{CommandFault}
 use Rattle.sv_program.specs.declared.command_fault.CommandFault.TheVariants.{Input, Output, File, Descriptor}
 use Rattle.sv_program.specs.declared.command_fault.CommandFault.TheVariants as command
 
--- a fault of a standard stream is none of the question's
+-- faults of standard streams are excluded
 abbrev pub IsAsked : CommandFault → Type 0
 IsAsked Input = ⊥
 IsAsked Output = ⊥

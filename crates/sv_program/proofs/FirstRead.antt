@@ -1,7 +1,7 @@
--- What the command `first` reads.
+-- The input of the command `first`.
 use Rattle.std.proofs.Common.{◌≡◌, ℕ, List, [], ◌++◌, Option, Some, None, take, IfSome, option_map}
 
--- a vector without items, after a read of a reader's first bytes to their end
+-- reading the first bytes of a stream into an empty vector
 pub read_front : (stream : Option (List ℕ)) (limit : ℕ) (before after : List ℕ)
     → before ≡ []
     → IfSome (option_map (take limit) stream) (λ bytes. after ≡ before ++ bytes)

@@ -1,4 +1,4 @@
--- The lines of the command `uncovered`, as far as a loop has come.
+-- The loop that collects the lines of the command `uncovered`.
 use Rattle.std.proofs.Common.{◌≡◌, ◌∙◌, ℕ, ◌+◌, ◌<◌, List, [], ◌∷◌, ◌++◌, flat_map, length, drop, get_or, drop-cons, add-one, Ok, Err, refl, suc, sym, ap, append_assoc, Option, Some, None, MatchOption, IsErrAnd}
 use Rattle.sv_text.specs.Steps.{◌>>=◌}
 use Rattle.sv_settings.specs.Server.{server_of}
@@ -17,7 +17,7 @@ use Rattle.sv_program.proofs.Faults.{FaultsAreAsked, descriptor_asked, done, eac
 further : (old mid new front back : List ℕ) → new ≡ mid ++ back → mid ≡ old ++ front → new ≡ old ++ (front ++ back)
 further old mid new front back h k = h ∙ (ap (λ t. t ++ back) k ∙ append_assoc old front back)
 
--- seven texts behind one another
+-- seven texts appended in order
 pub seven : (s0 s1 s2 s3 s4 s5 s6 s7 a b c d e f g : List ℕ) → s1 ≡ s0 ++ a → s2 ≡ s1 ++ b → s3 ≡ s2 ++ c → s4 ≡ s3 ++ d → s5 ≡ s4 ++ e → s6 ≡ s5 ++ f → s7 ≡ s6 ++ g
     → s7 ≡ s0 ++ (a ++ b ++ c ++ d ++ e ++ f ++ g)
 seven s0 s1 s2 s3 s4 s5 s6 s7 a b c d e f g h1 h2 h3 h4 h5 h6 h7 =
@@ -28,7 +28,7 @@ seven s0 s1 s2 s3 s4 s5 s6 s7 a b c d e f g h1 h2 h3 h4 h5 h6 h7 =
     (further s0 s2 s3 (a ++ b) c h3
     (further s0 s1 s2 a b h2 h1)))))
 
--- ---- one context more
+-- ---- one more context
 joined : (lines b : List ℕ) (rest : Step (List (List ℕ)))
     → ((rest >>= λ bs. Ok (flat_map (λ line. line) bs)) >>= λ more. Ok ((lines ++ b) ++ more)) ≡ (((rest >>= λ bs. Ok (b ∷ bs)) >>= λ bs. Ok (flat_map (λ line. line) bs)) >>= λ more. Ok (lines ++ more))
 joined lines b (Ok bs) = ap Ok (append_assoc lines b (flat_map (λ line. line) bs))

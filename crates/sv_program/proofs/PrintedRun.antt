@@ -1,4 +1,4 @@
--- A command's run, from the text that its parts find.
+-- A command's run, given the text that it prints.
 use Rattle.std.proofs.Common.{◌≡◌, ℕ, List, Option, Some, None, MatchOption, Result, Ok, Err, IsErrAnd}
 use Rattle.sv_program.specs.CommandFault.{command_fault}
 use Rattle.sv_program.specs.Configuration.{Step}
@@ -7,7 +7,7 @@ use Rattle.sv_program.specs.declared.command_fault.CommandFault.{CommandFault}
 use Rattle.sv_program.specs.declared.command_fault.CommandFault.TheVariants.{Input, Output, File, Server, Descriptor, Users, Class, Files, Start, Socket, Script, User, Method, NoMemory}
 use Rattle.sv_program.proofs.Faults.{FaultsAreAsked}
 
--- a fault that the text has ends the run
+-- a fault of the text ends the run
 ends : (fault : CommandFault) (text : Step (List ℕ)) (old : Option (List ℕ)) → FaultsAreAsked text → MatchOption (command_fault fault) (Unit {0}) (λ f. text ≡ Err f)
     → MatchOption (command_fault fault) (Unit {0}) (λ _. EndsBy text (Err fault) old old)
 ends Input text old asked h = absurd (asked Input h)
@@ -26,7 +26,7 @@ ends Method text old asked h = h
 ends NoMemory text old asked h = tt
 
 module _ {S : Type 0} (Is : Printing S) (are_asked : (text : Step (List ℕ)) (before after : S) → Is text before after → FaultsAreAsked text) where
-  -- a text with a fault ends the run by it
+  -- if the text has a fault, the run ends with that fault
   pub fault_prints : (fault : CommandFault) (result : Result (Unit {0}) CommandFault) (before after : S) (old : Option (List ℕ))
       → FindsText Is (Err fault) before after → IsErrAnd result (λ e. e ≡ fault)
       → Prints Is result before after old old

@@ -1,4 +1,4 @@
--- Readings behind one another.
+-- Readings in sequence.
 use Rattle.std.proofs.Common.{◌≡◌, ℕ, List, [], ◌∷◌, ◌++◌, flat_map, append-nil, subst}
 use Rattle.std.proofs.lemmas.Grind.{flat_map-append}
 use Rattle.sv_program.specs.ConfigurationFiles.{context_readings}

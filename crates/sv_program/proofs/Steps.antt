@@ -1,4 +1,4 @@
--- A step for each item of a list, as far as a loop has come.
+-- A loop that applies a step to each item of a list.
 use Rattle.std.proofs.Common.{◌≡◌, ◌∙◌, ℕ, ◌+◌, ◌<◌, List, [], ◌∷◌, ◌++◌, length, drop, get_or, drop-cons, add-one, Ok, Err, refl, suc, sym, ap, append_assoc}
 use Rattle.sv_text.specs.Steps.{◌>>=◌}
 use Rattle.sv_program.specs.Configuration.{Step, each}

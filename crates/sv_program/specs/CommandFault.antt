@@ -8,7 +8,7 @@ use Rattle.sv_uri.specs.ContextPath.{shown_context}
 use Rattle.sv_program.specs.declared.command_fault.CommandFault.{CommandFault}
 use Rattle.sv_program.specs.declared.command_fault.CommandFault.TheVariants.{Input, Output, File, Server, Descriptor, Users, Class, Files, Start, Socket, Script, User, Method, NoMemory}
 
--- the key at which a configuration file is wrong, `-` where the whole text is
+-- the key of the fault in a configuration file, or `-` if the fault concerns the whole text
 abbrev pub key_text : List ℕ → List ℕ
 key_text key = if bytes_eq key [] then codes "-" else key
 
@@ -33,7 +33,7 @@ fault_line User = codes "sv: user"
 fault_line Method = codes "sv: method"
 fault_line NoMemory = codes "sv: no memory"
 
--- the exit status: 1 for what the program stands on, 2 for what it is asked, 3 for want of memory
+-- the exit status: 1 for the configuration and the system, 2 for arguments and scripts, 3 if memory ran out
 abbrev pub status_of : CommandFault → ℕ
 status_of Input = 1
 status_of Output = 1
@@ -50,7 +50,7 @@ status_of User = 2
 status_of Method = 2
 status_of NoMemory = 3
 
--- the fault, apart from want of memory
+-- the fault, unless memory ran out
 abbrev pub command_fault : CommandFault → Option CommandFault
 command_fault NoMemory = None
 command_fault other = Some other

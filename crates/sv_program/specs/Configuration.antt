@@ -1,4 +1,5 @@
--- The contexts of a server, by the texts of its files: the server file, and for each context its descriptor and its users file.
+-- The contexts of a server, from the texts of its files: the server file, and the descriptor and users file of each
+-- context.
 use Rattle.std.specs.Prelude.{ℕ, List, [], ◌∷◌, Option, Some, None, Result, Ok, Err}
 use Rattle.std.specs.Option.{ok_or}
 use Rattle.sv_text.specs.Steps.{◌>>=◌}
@@ -14,11 +15,11 @@ use Rattle.sv_program.specs.declared.command_fault.CommandFault.{CommandFault}
 use Rattle.sv_program.specs.declared.command_fault.CommandFault.TheVariants as fault
 use Rattle.sv_program.specs.declared.configuration.ContextTexts.{ContextTexts}
 
--- what a step gives, or the fault that ends the command
+-- the result of a step, or the fault that ends the command
 abbrev pub Step : Type 0 → Type 0
 Step A = Result A CommandFault
 
--- a step for each, in order
+-- the results of a step for all items, in order, or the first fault
 abbrev pub each : {A B : Type 0} → (A → Step B) → List A → Step (List B)
 each step [] = Ok []
 each step (a ∷ rest) = do
@@ -26,11 +27,11 @@ each step (a ∷ rest) = do
   bs ← each step rest
   Ok (b ∷ bs)
 
--- the text of the file of this name, which may not be there
+-- the text of the file of this name, or the fault of a file that could not be read
 abbrev pub text_of : List ℕ → Option (List ℕ) → Step (List ℕ)
 text_of name text = ok_or text (fault.File name)
 
--- what was read of a file, and of which file a fault is
+-- the value read from a file, or its fault as a fault of this file
 abbrev pub told : {A : Type 0} → (DescriptorFault → CommandFault) → Reads A → Step A
 told of (Ok a) = Ok a
 told of (Err found) = Err (of found)
@@ -45,7 +46,7 @@ descriptor_in texts = do
   text ← text_of texts.context.descriptor texts.descriptor
   told (fault.Descriptor texts.context.path) (descriptor_of text)
 
--- the users of a context, none where it names no users file
+-- the users of a context; none if it names no users file
 abbrev pub users_named : List ℕ → Option (List ℕ) → Option (List ℕ) → Step (List User)
 users_named path None file = Ok []
 users_named path (Some name) file = do

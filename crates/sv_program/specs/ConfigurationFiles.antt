@@ -1,4 +1,5 @@
--- The configuration files of a server in the order in which they are asked for: the server file, then of each context the descriptor and the users file.
+-- The configuration files of a server in the order of their readings: the server file, then the descriptor and the
+-- users file of each context.
 use Rattle.std.specs.Prelude.{◌≡◌, ℕ, List, [], ◌∷◌, map, flat_map, Option, Some, None, Result, Ok, Err}
 use Rattle.std.specs.Path.{path_with_file_name}
 use Rattle.sv_text.specs.Gives.{Gives}
@@ -10,11 +11,12 @@ use Rattle.sv_program.specs.FileStore.{AreRead, Giving, Reading}
 use Rattle.sv_program.specs.declared.command_fault.CommandFault.{CommandFault}
 use Rattle.sv_program.specs.declared.configuration.ContextTexts.{ContextTexts}
 
--- of a file that the server file names: its name is the server file's with this one in the place of its last part, unless this one begins with a slash
+-- the reading of a file that the server file names; the name replaces the last segment of the server file's name,
+-- unless it begins with a slash
 abbrev pub reading_beside : List ℕ → List ℕ → Option (List ℕ) → Reading
 reading_beside config name text = record { name = path_with_file_name config name; text = text }
 
--- the reading of a file that may not be named
+-- the reading of a file whose name is optional
 abbrev pub named_readings : List ℕ → Option (List ℕ) → Option (List ℕ) → List Reading
 named_readings config None text = []
 named_readings config (Some name) text = reading_beside config name text ∷ []
@@ -26,17 +28,17 @@ context_readings config texts =
 abbrev pub readings : List ℕ → Option (List ℕ) → List ContextTexts → List Reading
 readings config file texts = record { name = config; text = file } ∷ flat_map (context_readings config) texts
 
--- the contexts of a server file, none where it is not one of its format
+-- the contexts of a server file; none if the file has a fault
 abbrev pub contexts_in : Step Server → List ContextEntry
 contexts_in (Ok server) = server.contexts
 contexts_in (Err fault) = []
 
--- the server file is read, and is this
+-- the server file is read, with this result
 abbrev pub ReadsServer : {S : Type 0} → Giving S → List ℕ → S → Result Server CommandFault → S → Type 0
 ReadsServer gives config before result after =
     UnlessNoMemory result ((file : Option (List ℕ)) × gives before config file after × Gives command_fault result (server_in config file))
 
--- the file is read where it is named
+-- the file is read if it has a name
 abbrev pub ReadsNamed : {S : Type 0} → Giving S → List ℕ → Option (List ℕ) → S → Option (List ℕ) → S → Type 0
 ReadsNamed gives config name before text after = AreRead gives before (named_readings config name text) after
 

@@ -7,7 +7,7 @@ use Rattle.sv_constraints.specs.declared.constraint.Auth.TheVariants.{Roles}
 use Rattle.sv_constraints.specs.declared.constraint.Transport.TheVariants.{Absent}
 use Rattle.sv_constraints.specs.declared.rules.Rules.{Rules}
 
--- the constraint of this number that asks for the role `manager` at one pattern, for these methods
+-- the constraint of this number that requires the role `manager` at one pattern, for these methods
 abbrev pub constraint_on : ℕ → List ℕ → Methods → Constraint
 constraint_on number pattern methods = record {
   number = number;
@@ -16,7 +16,7 @@ constraint_on number pattern methods = record {
   transport = Absent;
 }
 
--- `manager` everywhere, and below `/pub/` for GET alone
+-- `manager` everywhere, and below `/pub/` for GET only
 abbrev pub example_constraints : List Constraint
 example_constraints = constraint_on 1 (codes "/*") All ∷ constraint_on 2 (codes "/pub/*") (Only (codes "GET" ∷ [])) ∷ []
 

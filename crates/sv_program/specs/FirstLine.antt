@@ -1,4 +1,5 @@
--- The line of the command `first`: RFC 9112 reads the request, Jakarta Servlet 6.0 section 3.5 its path, section 13.8 decides.
+-- The line of the command `first`. RFC 9112 defines the reading of the request, Jakarta Servlet 6.0 section 3.5 its
+-- path, and section 13.8 the decision.
 use Rattle.std.specs.Prelude.{◌≡◌, ℕ, Bool, List, ◌∷◌, [], ◌++◌, Option, Some, None, Result, Ok, Err, codes, take, IfSome, if◌then◌else◌}
 use Rattle.std.specs.Io.KnownBytes.{Appends}
 use Rattle.sv_wire.specs.Reads.{Reads}
@@ -25,7 +26,7 @@ use Rattle.sv_program.specs.ExamplePolicy.{example_constraints, example_rules}
 abbrev pub first_options : Bool → List (List ℕ)
 first_options deny_uncovered = if deny_uncovered then codes "deny" ∷ [] else []
 
--- a request that is refused before a decision
+-- the line of a request that is refused before a decision
 abbrev pub refused_line : List ℕ → List ℕ
 refused_line cause = codes "refused cause=" ++ cause
 
@@ -53,17 +54,17 @@ item_line (Some (Refuse fault)) deny_uncovered = refused_line (wire_fault.fault_
 item_line (Some Continue) deny_uncovered = codes "none"
 item_line None deny_uncovered = codes "none"
 
--- the line for the first item of the stream's reading, which is unique
+-- the line for the first item of the stream; a stream has only one reading
 abbrev pub IsFirstLine : List ℕ → Bool → List ℕ → Type 0
 IsFirstLine stream deny_uncovered line =
     (items : List Item) × (owed : Option OwedHead) × (rest : List ℕ) × Reads None stream items owed rest × (line ≡ item_line (first_item items) deny_uncovered)
 
--- the writer's known bytes gain that line and a line feed
+-- the line and a line feed are appended to the known bytes of the writer
 abbrev pub WritesFirstLine : List ℕ → Bool → Option (List ℕ) → Option (List ℕ) → Type 0
 WritesFirstLine stream deny_uncovered old new =
     (line : List ℕ) × IsFirstLine stream deny_uncovered line × Appends old new (line ++ 10 ∷ [])
 
--- the faults of reading
+-- the faults of reading the input
 abbrev pub IsReadFault : CommandFault → Type 0
 IsReadFault Input = Unit {0}
 IsReadFault NoMemory = Unit {0}
@@ -74,7 +75,7 @@ abbrev pub IsFirstFault : CommandFault → Type 0
 IsFirstFault Output = Unit {0}
 IsFirstFault other = IsReadFault other
 
--- the command's run: of a reader's known bytes the first 65,536 are read
+-- a run of the command; it reads the first 65,536 bytes of the reader, if they are known
 abbrev pub RunsFirst : Bool → Result (Unit {0}) CommandFault → Option (List ℕ) → Option (List ℕ) → Option (List ℕ) → Type 0
 RunsFirst deny_uncovered (Ok done) stream old new = IfSome stream (λ bytes. WritesFirstLine (take 65536 bytes) deny_uncovered old new)
 RunsFirst deny_uncovered (Err fault) stream old new = IsFirstFault fault

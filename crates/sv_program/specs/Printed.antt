@@ -1,4 +1,4 @@
--- What a command prints, by the texts of the files that its store gives.
+-- The output of a command, from the texts of the files that its store gives.
 use Rattle.std.specs.Prelude.{◌≡◌, ℕ, List, Option, Result, Ok, Err}
 use Rattle.std.specs.Io.KnownBytes.{Appends}
 use Rattle.sv_text.specs.Gives.{Gives}
@@ -7,16 +7,17 @@ use Rattle.sv_program.specs.Configuration.{Step}
 use Rattle.sv_program.specs.declared.command_fault.CommandFault.{CommandFault}
 use Rattle.sv_program.specs.declared.command_fault.CommandFault.TheVariants as fault
 
--- which text, or which fault, is that of the readings that lead from one store to another
+-- the text, or the fault, that follows from the readings between two states of a store
 abbrev pub Printing : Type 0 → Type 1
 Printing S = Step (List ℕ) → S → S → Type 0
 
--- the text is found, unless memory ran out
+-- the result is the text or its fault, unless memory ran out
 abbrev pub FindsText : {S : Type 0} → Printing S → Step (List ℕ) → S → S → Type 0
 FindsText Is result before after =
     UnlessNoMemory result ((text : Step (List ℕ)) × Is text before after × Gives command_fault result text)
 
--- a run that ends well has written the text, one whose output fails has it, and any other ends by the fault of the files
+-- a run that succeeds has written the text; a run whose output fails had a text to write; any other run ends with the
+-- fault of the files
 abbrev pub EndsBy : Step (List ℕ) → Result (Unit {0}) CommandFault → Option (List ℕ) → Option (List ℕ) → Type 0
 EndsBy text (Ok done) old new = (written : List ℕ) × (text ≡ Ok written) × Appends old new written
 EndsBy text (Err fault.Output) old new = (written : List ℕ) × (text ≡ Ok written)

@@ -1,4 +1,5 @@
--- The lines of the command `uncovered`: the methods that security constraints leave uncovered (Jakarta Servlet 6.0, section 13.8.4).
+-- The lines of the command `uncovered`: the methods that security constraints leave uncovered (Jakarta Servlet 6.0,
+-- section 13.8.4).
 use Rattle.std.specs.Prelude.{◌≡◌, ℕ, List, [], ◌∷◌, ◌++◌, codes, flat_map, map, Option, None, Ok}
 use Rattle.sv_text.specs.Steps.{◌>>=◌}
 use Rattle.sv_constraints.specs.declared.constraint.Methods.{Methods}
@@ -13,11 +14,11 @@ use Rattle.sv_program.specs.FileStore.{AreRead, Giving}
 use Rattle.sv_program.specs.Printed.{Printing}
 use Rattle.sv_program.specs.declared.configuration.ContextTexts.{ContextTexts}
 
--- names with a comma in front of each
+-- names, each after a comma
 abbrev pub others_text : List (List ℕ) → List ℕ
 others_text names = flat_map (λ name. codes "," ++ name) names
 
--- names with commas between them
+-- names, separated by commas
 abbrev pub names_text : List (List ℕ) → List ℕ
 names_text [] = []
 names_text (name ∷ names) = name ++ others_text names
@@ -43,23 +44,23 @@ context_lines texts = do
   its_descriptor ← descriptor_in texts
   Ok (flat_map (gap_line texts.context.path) (gaps its_descriptor.constraints))
 
--- the lines of the contexts in their order
+-- the lines of the contexts, in order
 abbrev pub uncovered_lines : List ContextTexts → Step (List ℕ)
 uncovered_lines texts = do
   lines ← each context_lines texts
   Ok (flat_map (λ line. line) lines)
 
--- the lines for a server file with this text, if it could be read, and contexts with these
+-- the lines for a server file with this text, if it could be read, and contexts with these texts
 abbrev pub lines_for : List ℕ → Option (List ℕ) → List ContextTexts → Step (List ℕ)
 lines_for config file texts = do
   server ← server_in config file
   uncovered_lines texts
 
--- a context whose users file is not read
+-- a context without its users file
 abbrev pub without_users : ContextEntry → ContextEntry
 without_users context = record { path = context.path; descriptor = context.descriptor; files = context.files; users = None }
 
--- the lines are those for the server file and the descriptors that the store gives, and no other file is read
+-- the lines are those for the server file and the descriptors that the store gives; no other file is read
 abbrev pub AreLines : {S : Type 0} → Giving S → List ℕ → Printing S
 AreLines gives config lines before after =
     (file : Option (List ℕ)) × (texts : List ContextTexts)

@@ -1,4 +1,4 @@
-//! Why a command ended early: its line on standard error and its exit status.
+//! Faults that end a command early, with their lines on standard error and their exit statuses.
 
 ghost use Rattle.std.specs.Prelude.{◌≡◌, ◌++◌, Some};
 ghost use Rattle.sv_program.specs.CommandFault.{fault_line, fault_text, key_text, status_of};
@@ -11,66 +11,68 @@ use sv_schema::DescriptorFault;
 use sv_text::{NoMemory, Text};
 use sv_uri::shown_context;
 
-/// Why a command ended early. Its text is the line that the program writes on standard error. The faults of a start, of a socket and of a
-/// script come when something may have been written on standard output, as `Output` does; every other leaves it unwritten.
+/// A fault that ends a command early. Its text is the line that the program writes on standard error. Standard output
+/// may have been written before `Output`, `Start`, `Socket`, `Script` and `NoMemory`. Before any other fault it is
+/// unwritten.
 #[derive(Drop)]
 pub enum CommandFault {
     /// Standard input could not be read: `sv: file stdin`, status 1.
     Input,
     /// Standard output could not be written: `sv: file stdout`, status 1. A part of the output may have been written.
     Output,
-    /// A configuration file is missing, could not be read or is not UTF-8: `sv: file NAME`, status 1. The name is the one
-    /// in the arguments or in the server file.
+    /// A configuration file is missing, could not be read or is not UTF-8: `sv: file NAME`, status 1. The name is the
+    /// one in the arguments or in the server file.
     File(Text),
-    /// The server file is not one of its format: `sv: server CODE KEY`, status 1.
+    /// The server file does not have the required format: `sv: server CODE KEY`, status 1.
     Server(DescriptorFault),
-    /// The deployment descriptor of the context is not one of its format: `sv: descriptor CONTEXT CODE KEY`, status 1.
+    /// The deployment descriptor of the context does not have the required format: `sv: descriptor CONTEXT CODE KEY`,
+    /// status 1.
     Descriptor {
         /// The context path.
         context: Text,
         /// The first fault of the file.
         fault: DescriptorFault,
     },
-    /// The users file of the context is not one of its format: `sv: users CONTEXT CODE KEY`, status 1.
+    /// The users file of the context does not have the required format: `sv: users CONTEXT CODE KEY`, status 1.
     Users {
         /// The context path.
         context: Text,
         /// The first fault of the file.
         fault: DescriptorFault,
     },
-    /// The program has no class of the name for a component of its kind: `sv: class NAME`, status 1.
+    /// The program has no such class for a component of its kind: `sv: class NAME`, status 1.
     Class(Text),
     /// The files of the context are refused: `sv: files CONTEXT CODE`, status 1.
     Files {
         /// The context path.
         context: Text,
-        /// The number of the fault of the files, from 1 to 4.
+        /// The number of the fault, from 1 to 4.
         code: u8,
     },
     /// The container does not start: `sv: start CODE CONTEXT`, status 1.
     Start {
-        /// The number of the fault of the start, from 1 to 12.
+        /// The number of the fault, from 1 to 12.
         code: u8,
-        /// The path of the context at which it stands.
+        /// The path of the context at which the start failed.
         context: Text,
     },
-    /// A socket is not to be had, or fails: `sv: socket`, status 1.
+    /// A socket is not available, or failed: `sv: socket`, status 1.
     Socket,
-    /// A line of a script cannot be read, or asks for what a container refuses: `sv: script LINE`, status 2.
+    /// A line of a script is malformed, or requests something that the container refuses: `sv: script LINE`, status 2.
     Script {
         /// The number of the line, from 1.
         line: u64,
     },
-    /// The context has no user of the name: `sv: user`, status 2.
+    /// The context has no user of this name: `sv: user`, status 2.
     User,
-    /// The method is no token: `sv: method`, status 2.
+    /// The method is not a token: `sv: method`, status 2.
     Method,
     /// Memory ran out: `sv: no memory`, status 3.
     NoMemory,
 }
 
 impl CommandFault {
-    /// The exit status of a program that ends with this fault.
+    /// Returns the exit status of a program that ends with this fault.
     pub fn status(&self) -> u8
         ensures { result ≡ status_of self.now }
     {
@@ -100,7 +102,7 @@ impl fmt::Display for CommandFault {
 }
 
 impl CommandFault {
-    /// The line on standard error.
+    /// Returns the line on standard error.
     fn line(&self) -> Line<'_>
         ensures { line_text result ≡ fault_line self.now }
     {
@@ -154,9 +156,9 @@ impl CommandFault {
 #[derive(Clone, Copy)]
 struct Line<'a> {
     front: &'static str,
-    /// The name of a file or a class, or the path of a context, which stands next.
+    /// The name of a file or a class, or the path of a context, after the front.
     place: &'a str,
-    /// What stands last.
+    /// The end of the line.
     end: LineEnd<'a>,
 }
 
@@ -164,20 +166,20 @@ struct Line<'a> {
 #[derive(Clone, Copy)]
 enum LineEnd<'a> {
     Nothing,
-    /// A blank and a number.
+    /// A space and a number.
     Number(u64),
-    /// A blank, and a number with a word.
+    /// A space, a number and a word.
     Shown(Shown<'a>),
 }
 
-/// The line that is this text.
+/// Returns a line with only this text.
 fn plain(text: &'static str) -> Line<'static>
     ensures { line_text result ≡ text.now }
 {
     named(text, "")
 }
 
-/// The line of a text and a name behind it.
+/// Returns the line of a text followed by a name.
 fn named<'a>(front: &'static str, name: &'a str) -> Line<'a>
     ensures { line_text result ≡ front.now ++ name.now }
 {
@@ -200,7 +202,7 @@ impl fmt::Display for Line<'_> {
     }
 }
 
-/// A number with a word: the fault of a configuration file with its key, or that of a start with its context.
+/// A number and a word: the fault of a configuration file with its key, or the fault of a start with its context.
 #[derive(Clone, Copy)]
 struct Shown<'a> {
     code: u8,
@@ -215,7 +217,7 @@ impl fmt::Display for Shown<'_> {
     }
 }
 
-/// The number and the key of a fault.
+/// Returns the number and the key of a fault.
 fn numbered(fault: &DescriptorFault) -> Shown<'_>
     ensures { shown_text result ≡ fault_text fault.now }
 {
@@ -225,7 +227,7 @@ fn numbered(fault: &DescriptorFault) -> Shown<'_>
     }
 }
 
-/// The key, or `-` where it is empty.
+/// Returns the key, or `-` if it is empty.
 fn shown_key(key: &str) -> &str
     ensures { result.now ≡ key_text key.now }
 {

@@ -1,4 +1,4 @@
-//! The contexts of a server, by the texts of its files.
+//! The contexts of a server, from the texts of its files.
 
 ghost use Rattle.std.specs.Prelude.{Err, IfOk};
 ghost use Rattle.std.specs.Option.{option_copied};
@@ -19,18 +19,18 @@ use sv_text::Text;
 /// A context of a server file, with the texts of the files that it names.
 #[derive(Drop)]
 pub struct ContextTexts {
-    /// The context as the server file has it.
+    /// The context's entry in the server file.
     pub context: ContextEntry,
-    /// The text of the descriptor's file, none where it could not be read.
+    /// The text of the descriptor, or none if it could not be read.
     pub descriptor: Option<Text>,
-    /// The text of the users file, none where it could not be read. It is not looked at where the context names no such file.
+    /// The text of the users file, or none if it could not be read. It is ignored if the context names no users file.
     pub users: Option<Text>,
 }
 
-/// The server that the text of the file of this name is.
+/// Reads the server from the text of the file of this name.
 ///
 /// # Errors
-/// [`CommandFault::File`] where the file could not be read, [`CommandFault::Server`], or [`CommandFault::NoMemory`].
+/// [`CommandFault::File`] if the file could not be read, [`CommandFault::Server`], or [`CommandFault::NoMemory`].
 pub fn server_in(alloc: Global, name: &str, text: Option<&Text>) -> Result<Server, CommandFault>
     ensures gives { Gives command_fault result (spec.server_in name.now (option_copied text.entry)) }
     ensures well_formed { IfOk result IsWellFormedServer }
@@ -45,10 +45,10 @@ pub fn server_in(alloc: Global, name: &str, text: Option<&Text>) -> Result<Serve
     }
 }
 
-/// The descriptor of a context.
+/// Reads the descriptor of a context.
 ///
 /// # Errors
-/// [`CommandFault::File`] where its file could not be read, [`CommandFault::Descriptor`], or [`CommandFault::NoMemory`].
+/// [`CommandFault::File`] if its file could not be read, [`CommandFault::Descriptor`], or [`CommandFault::NoMemory`].
 pub fn descriptor_in(alloc: Global, texts: &ContextTexts) -> Result<Descriptor, CommandFault>
     ensures { Gives command_fault result (spec.descriptor_in texts.now) }
 {
@@ -65,10 +65,10 @@ pub fn descriptor_in(alloc: Global, texts: &ContextTexts) -> Result<Descriptor, 
     }
 }
 
-/// The users of a context, none where it names no users file.
+/// Reads the users of a context. There are none if it names no users file.
 ///
 /// # Errors
-/// [`CommandFault::File`] where its file could not be read, [`CommandFault::Users`], or [`CommandFault::NoMemory`].
+/// [`CommandFault::File`] if the file could not be read, [`CommandFault::Users`], or [`CommandFault::NoMemory`].
 pub fn realm_in(alloc: Global, texts: &ContextTexts) -> Result<Realm, CommandFault>
     ensures { Gives command_fault result (spec.users_in texts.now) }
 {
@@ -88,7 +88,7 @@ pub fn realm_in(alloc: Global, texts: &ContextTexts) -> Result<Realm, CommandFau
     }
 }
 
-/// The fault of a file that could not be read.
+/// Returns the fault of a file that could not be read.
 fn unread<T>(alloc: Global, name: &str) -> Result<T, CommandFault>
     ensures { Gives command_fault result (Err (File name.now)) }
 {

@@ -1,4 +1,4 @@
-//! The configuration files of a server, as a store gives them.
+//! The configuration files of a server, read from a store.
 
 ghost use Rattle.std.specs.Prelude.{IfOk};
 ghost use Rattle.std.specs.Path.{path_with_file_name};
@@ -29,8 +29,8 @@ pub fn read_server_file<S: FileStore>(
     server_in(alloc, config, text.as_ref())
 }
 
-/// Reads the files of the contexts of the server file `config` in their order, of each the descriptor and then the users
-/// file, where it names one.
+/// Reads the files of the contexts of the server file `config`, in order: the descriptor of each context, then its
+/// users file, if it names one.
 pub fn read_contexts<S: FileStore>(
     alloc: Global,
     store: &mut S,
@@ -63,7 +63,7 @@ fn read_context<S: FileStore>(
     })
 }
 
-/// The text of a file that may not be named.
+/// Reads the file of this name, if there is a name.
 fn read_named<S: FileStore>(
     alloc: Global,
     store: &mut S,
@@ -78,7 +78,7 @@ fn read_named<S: FileStore>(
     }
 }
 
-/// The text of a file that the server file `config` names: the name is taken from the folder of the server file.
+/// Reads a file that the server file `config` names. The name is relative to the folder of the server file.
 fn read_beside<S: FileStore>(
     alloc: Global,
     store: &mut S,

@@ -1,4 +1,4 @@
-//! The files of the operating system. What they hold is known to no contract.
+//! The files of the operating system. No contract describes their contents.
 
 ghost use Rattle.std.specs.Prelude.{◌≡◌};
 
@@ -9,21 +9,21 @@ use std::rt::Files;
 use std::{fs, io};
 use sv_text::{NoMemory, Text};
 
-/// The files that a handle opens, relative names from the folder where the program runs.
+/// The files that a handle opens. Relative names start at the working directory.
 #[derive(Clone, Copy)]
 pub struct Disk<'a, F> {
     files: &'a F,
 }
 
 impl<'a, F: Files> Disk<'a, F> {
-    /// The files that this handle opens.
+    /// Creates a store of the files that this handle opens.
     pub fn new(files: &'a F) -> Disk<'a, F>
         ensures { result.files ≡ files.entry }
     {
         Disk { files }
     }
 
-    /// The handle.
+    /// Returns the handle.
     pub fn handle(&self) -> &'a F
         ensures { result ≡ self.now.files }
     {

@@ -1,4 +1,4 @@
-//! The fixed policy that the command `first` decides by.
+//! The fixed policy of the command `first`.
 
 ghost use Rattle.std.specs.Prelude.{◌≡◌, [], ◌∷◌, IfOk, IsTrue};
 ghost use Rattle.sv_text.specs.Gives.{GivesAnswer};
@@ -10,8 +10,8 @@ use sv_constraints::{Auth, Collection, Constraint, Methods, Transport};
 use sv_mapping::{Pattern, PatternFault};
 use sv_text::{Listed, NoMemory, Text};
 
-/// The constraints of the example policy: the first asks for the role `manager` everywhere, the second
-/// asks for it below `/pub/`, for GET alone.
+/// Returns the constraints of the example policy. The first requires the role `manager` everywhere. The second requires
+/// it below `/pub/`, for GET only.
 pub fn example_constraints(alloc: Global) -> Result<Vec<Constraint>, NoMemory>
     ensures { IfOk result (λ policy. policy.items ≡ example_constraints) }
 {
@@ -22,7 +22,7 @@ pub fn example_constraints(alloc: Global) -> Result<Vec<Constraint>, NoMemory>
     Ok(policy)
 }
 
-/// The constraint of this number that asks for the role `manager` at one pattern.
+/// Returns the constraint of this number that requires the role `manager` at one pattern.
 fn constraint_on(
     alloc: Global,
     number: u64,
@@ -48,7 +48,7 @@ fn constraint_on(
     })
 }
 
-/// The list of one item.
+/// Returns a list of one item.
 fn one<T: Drop>(alloc: Global, item: T) -> Result<Listed<T>, NoMemory>
     ensures { GivesAnswer result (item ∷ []) }
 {

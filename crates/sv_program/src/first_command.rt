@@ -1,4 +1,4 @@
-//! The command `first`: what the example policy decides for the first request on a stream.
+//! The command `first`: the decision of the example policy on the first request of a stream.
 
 ghost use Rattle.std.specs.Prelude.{◌≡◌, ◌≢◌, map, take, string_bytes, option_copied, IfOk, IfErr, IfSome};
 ghost use Rattle.sv_wire.specs.Items.{first_item};
@@ -19,7 +19,8 @@ use sv_uri::canon;
 use sv_uri::fault::CanonFault;
 use sv_wire::{Inbox, Item};
 
-/// Whether the options of the command, `deny` or none, deny uncovered methods; none where they are others.
+/// Returns whether these options of the command deny uncovered methods. The option is `deny` or absent; for any other
+/// options the result is none.
 pub fn denies_uncovered(options: &[String]) -> Option<bool>
     ensures { Names first_options (map string_bytes options.now) result }
 {
@@ -33,12 +34,12 @@ pub fn denies_uncovered(options: &[String]) -> Option<bool>
     }
 }
 
-/// Reads `reader` to its end, but at most `MAX_INPUT_BYTES` bytes, and writes the line that `first_line` gives for
-/// them, and a line feed.
+/// Reads at most `MAX_INPUT_BYTES` bytes from `reader`, and writes the line that `first_line` returns for them, with a
+/// line feed.
 ///
 /// # Errors
-/// [`CommandFault::Input`] or [`CommandFault::NoMemory`], when nothing was written; [`CommandFault::Output`], when a part
-/// may have been.
+/// [`CommandFault::Input`] or [`CommandFault::NoMemory`], after which nothing was written; [`CommandFault::Output`],
+/// after which a part may have been written.
 pub fn first<R: Read + Drop, W: Write>(
     alloc: Global,
     reader: R,
@@ -65,9 +66,9 @@ fn read_input<R: Read + Drop>(alloc: Global, reader: R) -> Result<Vec<u8>, Comma
     }
 }
 
-/// The line that the command `first` prints for a stream that holds `input`: the decision of the example policy on
-/// the first request, `refused cause=NAME` where that request is refused before a decision, or `none` where the stream
-/// holds no whole request.
+/// Returns the line that the command `first` prints for a stream of these bytes. It is the decision of the example
+/// policy on the first request, or `refused cause=NAME` if that request is refused before a decision. If the stream
+/// contains no complete request, it is `none`.
 pub fn first_line(alloc: Global, input: &[u8], deny_uncovered: bool) -> Result<String, NoMemory>
     ensures { IfOk result (λ line. IsFirstLine input.now deny_uncovered (string_bytes line)) }
 {
@@ -77,7 +78,7 @@ pub fn first_line(alloc: Global, input: &[u8], deny_uncovered: bool) -> Result<S
     item_line(alloc, first_item(items.as_slice()), deny_uncovered)
 }
 
-/// The first item that is not a `Continue`.
+/// Returns the first item that is not a `Continue`.
 fn first_item(items: &[Item]) -> Option<&Item>
     ensures { option_copied result ≡ first_item items.now }
 {

@@ -1,4 +1,4 @@
-//! The limits in numbers, each a clause of a function that does nothing.
+//! Limits as numbers, each a clause of a function with an empty body.
 
 ghost use Rattle.std.specs.Prelude.{◌≡◌};
 

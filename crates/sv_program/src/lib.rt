@@ -1,4 +1,4 @@
-//! The commands of the program, over readers and writers.
+//! The commands of the program, with generic readers and writers.
 #![tactic(auto)]
 
 mod command_fault;

@@ -1,4 +1,4 @@
 //! The limits of the commands.
 
-/// The greatest number of bytes that the command `first` reads: the limit of a request's head.
+/// Maximum number of bytes that the command `first` reads: the limit of a request's head.
 pub const MAX_INPUT_BYTES: u64 = 65_536;

@@ -1,4 +1,4 @@
-//! Lines and texts on a writer.
+//! Writing lines and texts.
 
 ghost use Rattle.std.specs.Prelude.{◌≡◌, [], ◌∷◌, ◌++◌, IfErr, OnOk};
 ghost use Rattle.std.specs.Io.KnownBytes.{Appends};
@@ -10,7 +10,7 @@ use std::io::Write;
 /// Writes the line and a line feed, and flushes the writer.
 ///
 /// # Errors
-/// [`CommandFault::Output`], when a part may have been written.
+/// [`CommandFault::Output`], after which a part may have been written.
 pub fn print_line<W: Write>(writer: &mut W, line: &str) -> Result<(), CommandFault>
     ensures written { OnOk result (Appends (W.contents writer.old) (W.contents writer.new) (line.now ++ 10 ∷ [])) }
     ensures fault { IfErr result (λ fault. fault ≡ CommandFault.Output) }
@@ -31,7 +31,7 @@ fn write_line<W: Write>(writer: &mut W, line: &str) -> io::Result<()>
 /// Writes the text, and flushes the writer.
 ///
 /// # Errors
-/// [`CommandFault::Output`], when a part may have been written.
+/// [`CommandFault::Output`], after which a part may have been written.
 pub fn print_text<W: Write>(writer: &mut W, text: &str) -> Result<(), CommandFault>
     ensures written { OnOk result (Appends (W.contents writer.old) (W.contents writer.new) text.now) }
     ensures fault { IfErr result (λ fault. fault ≡ CommandFault.Output) }

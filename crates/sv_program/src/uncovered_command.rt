@@ -1,4 +1,4 @@
-//! The command `uncovered`: which methods the security constraints of a server's contexts leave uncovered.
+//! The command `uncovered`: the methods that the security constraints of a server's contexts leave uncovered.
 
 ghost use Rattle.std.specs.Prelude.{◌≡◌, ◌≢◌, ◌++◌, flat_map, map, IfErr, IfOk, OnOk};
 ghost use Rattle.std.specs.String.{string_bytes};
@@ -22,12 +22,13 @@ use sv_settings::ContextEntry;
 use sv_text::{Listed, NoMemory, Text};
 use sv_uri::shown_context;
 
-/// Reads the server file of this name and then the descriptor of each of its contexts, and writes what `uncovered_lines` gives
-/// for them. The names in the server file are taken from its folder; no other file is read.
+/// Reads the server file of this name, then the descriptor of each of its contexts, and writes the lines that
+/// `uncovered_lines` returns. Names in the server file are relative to its folder. No other file is read.
 ///
 /// # Errors
-/// The first fault: [`CommandFault::File`] or [`CommandFault::Server`] for the server file, and then those of
-/// [`uncovered_lines`]. After [`CommandFault::Output`] a part of the lines may have been written, after any other fault none.
+/// The first fault: [`CommandFault::File`] or [`CommandFault::Server`] for the server file, then the faults of
+/// [`uncovered_lines`]. After [`CommandFault::Output`] a part of the lines may have been written, after any other fault
+/// none.
 pub fn uncovered<S: FileStore, W: Write>(
     alloc: Global,
     store: &mut S,
@@ -41,7 +42,7 @@ pub fn uncovered<S: FileStore, W: Write>(
     print_text(writer, lines.as_str())
 }
 
-/// The lines of the server, by the files that the store gives.
+/// Returns the lines of the server, from the files that the store gives.
 fn lines_of<S: FileStore>(alloc: Global, store: &mut S, config: &str) -> Result<Text, CommandFault>
     ensures { FindsText (spec.AreLines S.gives_text config.now) result store.old store.new }
 {
@@ -51,7 +52,7 @@ fn lines_of<S: FileStore>(alloc: Global, store: &mut S, config: &str) -> Result<
     uncovered_lines(alloc, texts.as_slice())
 }
 
-/// The contexts without their users files.
+/// Removes the users files from the contexts.
 fn without_users(
     alloc: Global,
     contexts: Listed<ContextEntry>,
@@ -68,11 +69,11 @@ fn without_users(
     Ok(Listed::from_vec(bare))
 }
 
-/// The lines that the command `uncovered` prints where the contexts of the server file have descriptors of these texts: a line
-/// for each pattern of a context at which methods are uncovered, the patterns of each context in the order of their bytes.
+/// Returns the lines that the command `uncovered` prints for contexts whose descriptors have these texts. Each pattern
+/// that leaves methods uncovered has one line, and the patterns of a context are in the order of their bytes.
 ///
 /// # Errors
-/// The first fault of the descriptors in their order, [`CommandFault::File`] or [`CommandFault::Descriptor`]; or
+/// The first fault of the descriptors, in order: [`CommandFault::File`] or [`CommandFault::Descriptor`]. Or
 /// [`CommandFault::NoMemory`].
 pub fn uncovered_lines(alloc: Global, texts: &[ContextTexts]) -> Result<Text, CommandFault>
     ensures { Gives command_fault result (spec.uncovered_lines texts.now) }
@@ -85,7 +86,7 @@ pub fn uncovered_lines(alloc: Global, texts: &[ContextTexts]) -> Result<Text, Co
     Ok(Text::from_string(lines))
 }
 
-/// The lines of a context.
+/// Returns the lines of a context.
 fn context_lines(alloc: Global, texts: &ContextTexts) -> Result<Text, CommandFault>
     ensures { Gives command_fault result (spec.context_lines texts.now) }
 {
@@ -94,7 +95,7 @@ fn context_lines(alloc: Global, texts: &ContextTexts) -> Result<Text, CommandFau
     Ok(gap_lines(alloc, texts.context.path.as_str(), gaps.as_slice())?)
 }
 
-/// The gaps of a context's constraints.
+/// Returns the gaps in a context's constraints.
 fn gaps_of(alloc: Global, descriptor: Descriptor) -> Result<Vec<Gap>, NoMemory>
     ensures { IfOk result (λ found. found.items ≡ gaps descriptor.constraints) }
 {
@@ -102,10 +103,10 @@ fn gaps_of(alloc: Global, descriptor: Descriptor) -> Result<Vec<Gap>, NoMemory>
     Policy::compile(alloc, web_app.constraints.into_vec(), web_app.rules)?.uncovered(alloc)
 }
 
-/// The lines that the command `uncovered` prints of gaps in the context of this path.
+/// Returns the lines that the command `uncovered` prints for gaps in the context at this path.
 ///
 /// # Errors
-/// Memory ran out.
+/// Out of memory.
 pub fn gap_lines(alloc: Global, path: &str, gaps: &[Gap]) -> Result<Text, NoMemory>
     ensures { GivesAnswer result (flat_map (spec.gap_line path.now) gaps.now) }
 {
@@ -160,7 +161,7 @@ fn push_names(line: &mut String, names: &[Text]) -> Result<(), NoMemory>
     push_others(line, others)
 }
 
-/// Appends names with a comma in front of each.
+/// Appends names, each after a comma.
 fn push_others(line: &mut String, others: &[Text]) -> Result<(), NoMemory>
     ensures { OnOk result (string_bytes line.new ≡ string_bytes line.old ++ spec.others_text others.now) }
 {

@@ -1,11 +1,11 @@
--- A chunked body: there is one, and it stays as it is, whatever follows.
+-- A chunked body is unique, and more bytes after it do not change it.
 use Rattle.std.proofs.Common.{◌≡◌, ℕ, List, [], ◌∷◌, ◌++◌, sym, ap, ◌∙◌, subst, arith}
 use Rattle.sv_body.specs.Chunks.{chunk, complete, read_data, read_trailer}
 use Rattle.sv_read_back.specs.ChunkedBody.{BeginsWithBody, BeginsWithChunk, BeginsWithEnd}
 use Rattle.sv_read_back.proofs.DataLemmas.{IsData-from, IsData_more, IsTrailer-from, IsTrailer_more, read_data-is, read_trailer-is}
 use Rattle.sv_read_back.proofs.SizeLines.{BeginsWithSize-unique, BeginsWithSize_more}
 
--- ---- there is one
+-- ---- uniqueness
 
 no_end_at_chunk : (text data_bytes rest behind : List ℕ) → BeginsWithChunk text data_bytes rest → BeginsWithEnd text behind → ⊥
 no_end_at_chunk text data_bytes rest behind a b = omega (arith, a.3, (BeginsWithSize-unique text a.0 0 a.1 b.0 a.2 b.1).0)
@@ -33,7 +33,7 @@ body_unique text (d ∷ chunks) (e ∷ others) behind other a b =
     let rest = body_unique a.0 chunks others behind other a.2 (subst (λ t. BeginsWithBody t others other) (sym first.1) b.2) in
     (λ i. first.0 i ∷ rest.0 i, rest.1)
 
--- ---- whatever follows
+-- ---- more bytes
 
 chunk_more : (text data_bytes rest more : List ℕ) → BeginsWithChunk text data_bytes rest → BeginsWithChunk (text ++ more) data_bytes (rest ++ more)
 chunk_more text data_bytes rest more begins = (

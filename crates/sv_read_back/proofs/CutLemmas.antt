@@ -1,4 +1,4 @@
--- A text that is cut from its stream, whatever follows it.
+-- A cut from a stream does not change when more bytes follow.
 use Rattle.std.proofs.Common.{◌≡◌, ℕ, ◌≤◌, ◌⊎◌, Bool, List, ◌++◌, length, inl, inr, arith, length-take}
 use Rattle.sv_text.proofs.FrontLemmas.{cut-append, cut-whole}
 use Rattle.sv_text.specs.declared.front.Cut.TheVariants.{Whole, Unended}

@@ -16,7 +16,7 @@ use Rattle.sv_read_back.proofs.CutLemmas.{whole_fits, whole_stays}
 
 -- ---- the bytes of a chunk
 
--- so many bytes and a line end begin the text, and that stands behind them
+-- The text begins with this number of bytes and a line end, followed by the rest.
 abbrev pub IsData : ℕ → List ℕ → List ℕ → List ℕ → Type 0
 IsData size text data_bytes rest =
     (size + 2 ≤ length text) × (bytes_eq (take 2 (drop size text)) crlf_bytes ≡ true) × (data_bytes ≡ take size text) × (rest ≡ drop (size + 2) text)
@@ -43,7 +43,7 @@ module _ (size : ℕ) (text : List ℕ) where
       (last (broken BadChunk (drop (size + 2) text))) is.1
       ∙ (λ i. chunk (sym is.2 i) (sym is.3 i))
 
-  -- what is read of a chunk's bytes is no whole body
+  -- Reading the bytes of a chunk never gives a complete body.
   pub read_data-no_end : (bytes rest : List ℕ) → read_data size text ≡ last (complete bytes rest) → ⊥
   read_data-no_end bytes rest = by_test (ltb (length text) (size + 2))
     where
@@ -66,7 +66,7 @@ module _ (size : ℕ) (text : List ℕ) where
         ap (λ t. t ++ more) is.3 ∙ sym (drop-append-le (size + 2) text more is.0),
       )
 
--- a piece and a line end are the bytes of a chunk
+-- A piece and a line end are the bytes of a chunk.
 pub piece_is : (piece rest : List ℕ) → IsData (length piece) (piece ++ (13 ∷ 10 ∷ rest)) piece rest
 piece_is piece rest =
     let n = length piece in (
@@ -81,7 +81,7 @@ piece_is piece rest =
 abbrev ends_trailer : List ℕ → Bool
 ends_trailer text = bytes_eq text crlf_bytes || ends_with nat_eq text (crlf_bytes ++ crlf_bytes)
 
--- a trailer section begins the text, and that stands behind it
+-- The text begins with a trailer section, followed by the rest.
 abbrev pub IsTrailer : List ℕ → List ℕ → Type 0
 IsTrailer text rest = (len : ℕ) × (cut ends_trailer MAX_TRAILER_LEN text ≡ Whole len) × (rest ≡ drop len text)
 
@@ -104,6 +104,6 @@ IsTrailer_more text rest more is =
       ap (λ t. t ++ more) is.2 ∙ sym (drop-append-le is.0 text more fits),
     )
 
--- an empty line is a trailer section without fields
+-- An empty line is a trailer section without fields.
 pub empty_is : (rest : List ℕ) → IsTrailer (13 ∷ 10 ∷ rest) rest
 empty_is rest = (2, whole_stays ends_trailer MAX_TRAILER_LEN (13 ∷ 10 ∷ []) rest 2 refl, refl)

@@ -1,10 +1,10 @@
--- What the digits of a number are in base 16, and how many.
+-- The digits of a number in base 16, and how many there are.
 use Rattle.std.proofs.Common.{◌≡◌, ℕ, zero, suc, ◌+◌, ◌/◌, ◌%◌, ◌^◌, ◌<◌, ◌≤◌, Bool, true, false, cond, eqb, ltb, List, [], ◌∷◌, length, refl, arith, pow-suc, ltb-true, ltb-false}
 use Rattle.std.proofs.lemmas.Bool.{eqb-false}
 use Rattle.std.specs.Fmt.{digits, digits_onto, digit_glyph}
 use Rattle.std.specs.List.{AllByRecursion}
 
--- what holds of 0 to 9 and of a to f holds of each digit
+-- A property of 0 to 9 and of a to f is a property of each digit.
 glyph_is : (P : ℕ → Type 0) → ((c : ℕ) → 48 ≤ c → c < 58 → P c) → ((c : ℕ) → 97 ≤ c → c < 103 → P c) → (d : ℕ) → d < 16 → P (digit_glyph false d)
 glyph_is P digit letter d small = by_test (ltb d 10) refl
   where
@@ -27,7 +27,7 @@ module _ (P : ℕ → Type 0) (digit : (c : ℕ) → 48 ≤ c → c < 58 → P c
   unfolding digits
   digits_all n = onto_all 64 n [] tt
 
--- a number below 16 to some power has at most as many digits
+-- A number below a power of 16 has at most as many digits as the exponent.
 onto_length : (k i n : ℕ) (acc : List ℕ) → n < 16 ^ suc i → length (digits_onto k 16 false n acc) ≤ suc i + length acc
 onto_length zero i n acc small = omega arith
 onto_length (suc k) zero n acc small = by_test (eqb (n / 16) 0) refl

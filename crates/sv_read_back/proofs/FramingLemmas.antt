@@ -1,4 +1,4 @@
--- The field that says where a body ends, among other fields.
+-- The framing field of a body, among other fields.
 use Rattle.std.proofs.Common.{◌≡◌, ℕ, ◌^◌, ◌<◌, ◌≤◌, Bool, true, false, ◌&&◌, ◌||◌, not, leb, ltb, eqb, List, [], ◌∷◌, ◌++◌, length, map, reverse, filter, flat_map, codes, decimal, All, None, Some, refl, sym, ap, ap₂, ◌∙◌, arith, append-nil, le-leb, lt-ltb, eq-eqb, ne_eqb}
 use Rattle.std.specs.Char.{is_ascii_digit}
 use Rattle.std.specs.List.{list_all, list_any}
@@ -63,7 +63,7 @@ module _ (name : List ℕ) (one : Field) (before after : List Field) (first : Al
       ∙ ap₂ (λ xs ys. xs ++ ys) (none_kept (is_named name) before first) (cond-true (is_named name one) (one ∷ []) [] is))
       (none_kept (is_named name) after last))
 
--- the fields before and behind, by the one name and by the other
+-- The other fields have neither name.
 no_length : (fields : List Field) → All SaysNoEnd fields → All (λ x. is_named (codes "content-length") x ≡ false) fields
 no_length = All-weaker SaysNoEnd (λ x. is_named (codes "content-length") x ≡ false) (λ x other. other.0)
 
@@ -82,7 +82,7 @@ digits_pass (d ∷ ds) all =
 digit_low : (d : ℕ) → is_ascii_digit d ≡ true → 48 ≤ d
 digit_low d is = leb-true 48 d (and_parts (leb 48 d) (leb d 57) is).0
 
--- digits stay as they are where blanks are dropped, and are one part of a list
+-- Digits do not change when blanks are dropped, and are one part of a list.
 skip_ows_digits : (ds : List ℕ) → AllPass is_ascii_digit ds → skip_ows ds ≡ ds
 skip_ows_digits [] pass = refl
 skip_ows_digits (d ∷ ds) pass =
@@ -101,7 +101,7 @@ parts_of_digits ds pass =
     slice_split_none (λ b. eqb b 44) ds
     (All-weaker (λ d. is_ascii_digit d ≡ true) (λ b. eqb b 44 ≡ false) (λ d is. ne_eqb d 44 (λ same. omega (arith, digit_low d is))) ds pass)
 
--- the length that one value says, which are the digits of a number
+-- The length given by one value, the digits of a number.
 length_said : (n : ℕ) → n < 10 ^ MAX_LENGTH_DIGITS → the_length (map trim_ows (flat_map parts_of (decimal n ∷ []))) ≡ Some n
 length_said n small =
     let ds = decimal n in

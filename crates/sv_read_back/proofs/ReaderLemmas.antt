@@ -1,4 +1,4 @@
--- The chunked bodies that the reader of bodies reads are those within its limit.
+-- The reader of bodies reads exactly the chunked bodies within its limit.
 use Rattle.std.proofs.Common.{◌≡◌, ℕ, ◌+◌, ◌<◌, ◌≤◌, Bool, true, false, cond, eqb, ltb, ◌⊎◌, inl, inr, List, [], ◌∷◌, ◌++◌, length, take, drop, All, Option, None, Some, refl, sym, ap, ◌∙◌, subst, arith, append_assoc, append-nil, length-append, length-take, le-ltb, ltb-false, eqb-true}
 use Rattle.std.proofs.lemmas.Bool.{cond-false, eqb-false, ne_eqb}
 use Rattle.std.proofs.lemmas.List.Elements.{All-cons, All-nil}
@@ -17,9 +17,9 @@ use Rattle.sv_read_back.specs.Laws.{FitsMemory, ReaderAwaitsTheEnd, ReaderDecode
 use Rattle.sv_read_back.proofs.DataLemmas.{IsData-from, IsTrailer-from, read_data-no_end, read_trailer-is}
 use Rattle.sv_read_back.proofs.Written.{chunks_are_read_back}
 
--- ---- behind a size line
+-- ---- after a size line
 
--- what is read behind a size line, where the size is within the limit
+-- The reading after a size line, if the size is within the limit.
 within_line : (bytes : List ℕ) (size : ℕ) (text : List ℕ) → length bytes + size ≤ MAX_BODY_LEN
     → after_line bytes (Some size) text ≡ cond (eqb size 0) (last (read_trailer bytes text)) (read_data size text)
 within_line bytes size text fits =
@@ -121,7 +121,7 @@ end-Begins bytes text rest (behind, line, read) fits =
           ∙ ap last (read_trailer-is bytes behind rest trailer)),
     )
 
--- ---- whole bodies
+-- ---- complete bodies
 
 chunks-body : (bytes text : List ℕ) (chunks : List (List ℕ)) (whole behind : List ℕ) → ReadsChunks bytes text chunks (complete whole behind)
     → BeginsWithBody text chunks behind × (whole ≡ bytes ++ joined chunks) × (length whole ≤ MAX_BODY_LEN)
@@ -160,7 +160,7 @@ reader_decodes text bytes behind = (
   ),
 )
 
--- pieces that are within the limit when joined fit memory
+-- Pieces fit in memory if they are within the limit when joined.
 fit_memory : (pieces : List (List ℕ)) → length (joined pieces) ≤ MAX_BODY_LEN → All FitsMemory pieces
 fit_memory [] fits = All-nil FitsMemory
 fit_memory (piece ∷ pieces) fits =

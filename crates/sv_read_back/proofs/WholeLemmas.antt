@@ -1,4 +1,4 @@
--- A body by its length.
+-- Reading a body by its length.
 use Rattle.std.proofs.Common.{◌≡◌, [], ◌++◌, length, sym, ap, ◌∙◌, arith, append-nil, length-append}
 use Rattle.sv_body.specs.Body.{read_length}
 use Rattle.sv_body.specs.Chunks.{complete, unfinished}

@@ -1,4 +1,4 @@
--- What is written of pieces is a chunked body of them.
+-- The text written from pieces is a chunked body of them.
 use Rattle.std.proofs.Common.{◌≡◌, ℕ, ◌^◌, ◌<◌, Bool, true, false, cond, eqb, List, [], ◌∷◌, ◌++◌, length, All, refl, sym, ap, ◌∙◌, subst, arith, append_assoc, append-nil, length-append, eqb-true}
 use Rattle.std.proofs.lemmas.Bool.{eqb-false}
 use Rattle.std.proofs.lemmas.List.Elements.{All-head, All-tail}
@@ -9,7 +9,7 @@ use Rattle.sv_read_back.proofs.BodyLemmas.{body_more, body_unique}
 use Rattle.sv_read_back.proofs.DataLemmas.{empty_is, piece_is, read_data-is, read_trailer-is}
 use Rattle.sv_read_back.proofs.SizeLines.{size_line_begins, zero_line_begins}
 
--- the text begins with a chunked body whose bytes are those pieces joined, and that stands behind it
+-- The text begins with a chunked body of these pieces joined, followed by the rest.
 abbrev pub Holds : List ℕ → List (List ℕ) → List ℕ → Type 0
 Holds text pieces behind = (found : List (List ℕ)) × BeginsWithBody text found behind × (joined pieces ≡ joined found)
 
@@ -30,7 +30,7 @@ chunk_begins piece rest some small =
       read_data-is (length piece) (piece ++ (13 ∷ 10 ∷ rest)) piece rest (piece_is piece rest),
     )
 
--- a piece before others, of which the rest is written so
+-- A piece is put before others that are already written.
 one_more : (piece : List ℕ) (pieces : List (List ℕ)) (rest behind : List ℕ) → length piece < 2 ^ 64 → Holds rest pieces behind
     → Holds (chunk piece ++ rest) (piece ∷ pieces) behind
 one_more piece pieces rest behind small (found, begins, same) = by_test (eqb (length piece) 0) refl

@@ -1,4 +1,4 @@
-//! Bodies as they are written are read as what they were written from.
+//! Theorems that bodies are read back as they were written.
 #![tactic(auto)]
 
 mod laws;

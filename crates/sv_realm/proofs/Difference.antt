@@ -28,7 +28,7 @@ regrouped : (p q r : Bool) → ((p && q) && r) ≡ (p && (q && r))
 regrouped true q r = refl
 regrouped false q r = refl
 
--- no bit is left where none was before and the bytes are equal
+-- No difference is found exactly if none was found before and the bytes are equal.
 pub no_difference : (bits : ℕ) (xs ys : List ℕ) → length xs ≡ length ys
     → nat_eq (fold (λ seen pair. bit_or seen (bit_xor pair.0 pair.1)) bits (zip xs ys)) 0 ≡ (nat_eq bits 0 && bytes_eq xs ys)
 no_difference bits [] [] e = grind arith

@@ -27,15 +27,15 @@ then_some_some : {A : Type 0} (b : Bool) (x y : A) → then_some b x ≡ Some y 
 then_some_some true x y e = (refl, same_Some x y e)
 then_some_some false x y e = absurd (none-some y e)
 
--- whether a member of a numbered list of users has the name
+-- Whether a user of a numbered list has the name.
 abbrev has_name : List ℕ → ℕ × User → Bool
 has_name name member = bytes_eq member.1.name name
 
--- the place of the first user of a name, or how many users there are
+-- The position of the first user with a name, or the number of users if none has it.
 abbrev first_place : List User → List ℕ → ℕ
 first_place users name = position_or_len (has_name name) (enumerate_from 0 users)
 
--- no user before the first of a name has it
+-- No user before the first one with a name has it.
 earlier_differs : (users : List User) (name : List ℕ) (place : ℕ) (d : User)
     → place < length users → place < first_place users name → (get_or users place d).name ≢ name
 earlier_differs users name place d inside before same =
@@ -50,7 +50,7 @@ pub record IsFirst (users : List User) (name : List ℕ) (member : ℕ × User) 
   pub named : member.1.name ≡ name
   pub first : All (λ user. user.name ≢ name) (take member.0 users)
 
--- the user found by name has it and stands at their number, and no user before has it
+-- The user found by a name has it and is found again by their number, and no earlier user has it.
 named_is_first : (users : List User) (name : List ℕ) (member : ℕ × User) → user_named users name ≡ Some member
     → IsFirst users name member
 named_is_first users name member e =

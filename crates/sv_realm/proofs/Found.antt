@@ -21,7 +21,7 @@ find-map f p (x ∷ xs) =
       | false ↦ find-map f p xs
     ]
 
--- the first account of a name is the account of the first user of that name
+-- The first account with a name is the account of the first user with that name.
 account_found : (accounts : List Account) (users : List User) (name : List ℕ)
     → AreNumbered accounts → map user_of accounts ≡ users
     → find (λ account. bytes_eq account.caller.name name) accounts ≡ option_map account_of (user_named users name)
@@ -35,7 +35,7 @@ numbered_account : (place : ℕ) (found : Option User)
 numbered_account place None = refl
 numbered_account place (Some user) = ap (λ number. Some (account_of (number, user))) (zero-add place)
 
--- the account at a place is the account of the user at that place
+-- The account at a position is the account of the user at that position.
 account_at : (accounts : List Account) (users : List User) (place : ℕ)
     → AreNumbered accounts → map user_of accounts ≡ users
     → slice_get accounts place ≡ option_map (λ user. account_of (place, user)) (slice_get users place)

@@ -13,7 +13,7 @@ enumerate_more n [] x = ap (λ k. (k, x) ∷ []) (sym (add-zero n))
 enumerate_more n (y ∷ ys) x = ap (λ zs. (n, y) ∷ zs) (enumerate_more (n + 1) ys x
     ∙ ap (λ k. enumerate_from (n + 1) ys ++ (k, x) ∷ []) (omega arith))
 
--- a member of a numbered list has its place beside it
+-- Each item of an enumerated list is paired with its position, counted from `n`.
 pub slice_get-enumerate_from : {X : Type 0} (n : ℕ) (xs : List X) (i : ℕ)
     → slice_get (enumerate_from n xs) i ≡ option_map (λ x. (n + i, x)) (slice_get xs i)
 slice_get-enumerate_from n [] i = refl
@@ -21,12 +21,12 @@ slice_get-enumerate_from n (x ∷ xs) zero = ap (λ k. Some (k, x)) (sym (add-ze
 slice_get-enumerate_from n (x ∷ xs) (suc i) = slice_get-enumerate_from (n + 1) xs i
     ∙ ap (λ k. option_map (λ x. (k, x)) (slice_get xs i)) (omega arith)
 
--- the accounts of users are the users'
+-- The users of the accounts made from a list of users are these users.
 pub users_of_accounts : (n : ℕ) (users : List User) → map user_of (map account_of (enumerate_from n users)) ≡ users
 users_of_accounts n [] = refl
 users_of_accounts n (user ∷ users) = ap (λ others. user ∷ others) (users_of_accounts (n + 1) users)
 
--- one more account behind those of the users before
+-- Appending the account of the next user gives the accounts of all users so far.
 pub accounts_more : (accounts : List Account) (account : Account) (users : List User) (user : User) (number : ℕ)
     → accounts ≡ map account_of (enumerate_from 0 users) → account ≡ account_of (number, user) → number ≡ length users
     → accounts ++ account ∷ [] ≡ map account_of (enumerate_from 0 (users ++ user ∷ []))
@@ -37,7 +37,7 @@ accounts_more accounts account users user number all one place =
     ∙ sym (map-append account_of (enumerate_from 0 users) ((0 + length users, user) ∷ []))
     ∙ ap (map account_of) (sym (enumerate_more 0 users user))
 
--- numbered accounts are those of the users, and numbered as a realm wants them
+-- Accounts made from numbered users have these users, and are numbered as a realm requires.
 pub users_of_all : (accounts : List Account) (users : List User)
     → accounts ≡ map account_of (enumerate_from 0 users) → map user_of accounts ≡ users
 users_of_all accounts users e = ap (map user_of) e ∙ users_of_accounts 0 users

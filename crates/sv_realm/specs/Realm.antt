@@ -1,4 +1,4 @@
--- The callers of a realm, whose users are a list (Jakarta Servlet 6.0 sections 13.3 and 13.6).
+-- The callers of a realm, given as the list of its users (Jakarta Servlet 6.0 sections 13.3 and 13.6).
 use Rattle.std.specs.Prelude.{ℕ, List, Option, find, slice_get, option_and_then}
 use Rattle.std.specs.Bool.{then_some}
 use Rattle.std.specs.List.{enumerate_from}
@@ -8,23 +8,23 @@ use Rattle.sv_realm.specs.declared.caller.Caller.{Caller}
 use Rattle.sv_realm.specs.declared.user.User.{User}
 use Rattle.sv_realm.specs.User.{fits}
 
--- the caller that the user with a number becomes
+-- The caller for a user with this number.
 abbrev pub caller_of : ℕ × User → Caller
 caller_of (number, user) = record { number = number; name = user.name; roles = user.roles }
 
--- the first user of a name, with the user's place
+-- The first user with a name, and their position.
 abbrev pub user_named : List User → List ℕ → Option (ℕ × User)
 user_named users name = find (λ member. bytes_eq member.1.name name) (enumerate_from 0 users)
 
--- the caller of the first user of a name
+-- The caller of the first user with a name.
 abbrev pub caller_named : List User → List ℕ → Option Caller
 caller_named users name = option_map caller_of (user_named users name)
 
--- the same, where the password fits that user
+-- The caller of the first user with a name, if the password fits that user.
 abbrev pub caller_checked : List User → List ℕ → List ℕ → Option Caller
 caller_checked users name password =
     option_and_then (λ member. then_some (fits member.1 password) (caller_of member)) (user_named users name)
 
--- the caller of the user at a place
+-- The caller of the user at a position.
 abbrev pub caller_at : List User → ℕ → Option Caller
 caller_at users number = option_map (λ user. caller_of (number, user)) (slice_get users number)

@@ -1,9 +1,9 @@
--- A user and their password (Jakarta Servlet 6.0 section 13.6; SHA-256 by FIPS 180-4 section 6.2).
+-- Checking the password of a user (Jakarta Servlet 6.0 section 13.6; SHA-256 by FIPS 180-4 section 6.2).
 use Rattle.std.specs.Prelude.{ℕ, Bool, List, ◌++◌}
 use Rattle.std.specs.Str.{bytes_eq}
 use Rattle.sha2.specs.Sha256.{sha256}
 use Rattle.sv_realm.specs.declared.user.User.{User}
 
--- SHA-256 of the salt followed by the password is the digest
+-- Whether the digest is the SHA-256 of the salt followed by the password.
 abbrev pub fits : User → List ℕ → Bool
 fits user password = bytes_eq (sha256 (user.salt ++ password)) user.digest

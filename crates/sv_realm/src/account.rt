@@ -1,4 +1,4 @@
-//! What a realm keeps of a user: the caller, made once, beside what the password is checked against.
+//! The accounts of a realm: for each user, the caller and the salt and digest that passwords are checked against.
 
 ghost use Rattle.std.specs.Prelude.{◌≡◌, ◌≤◌, IfOk, find, map, vec_len};
 ghost use Rattle.std.specs.List.{enumerate_from};
@@ -12,7 +12,7 @@ use crate::user::User;
 use std::alloc::Global;
 use sv_text::{Bytes, NoMemory};
 
-/// A user of a realm, as the caller whom they become and what their password is checked against.
+/// A user of a realm: the caller that a login gives, and the salt and digest that the password is checked against.
 #[derive(Drop)]
 pub struct Account {
     pub caller: Caller,
@@ -21,7 +21,7 @@ pub struct Account {
 }
 
 impl Account {
-    /// The account of the user at a place, without taking memory.
+    /// Returns the account of a user with this number. Allocates no memory.
     pub fn new(number: u32, user: User) -> Account
         ensures { result ≡ account_of (number, user) }
     {
@@ -43,7 +43,7 @@ impl Account {
     }
 }
 
-/// The accounts of a list of users, numbered by their places.
+/// Returns the accounts of a list of users, numbered by their positions from 0.
 pub fn accounts_of(alloc: Global, users: Vec<User>) -> Result<Vec<Account>, NoMemory>
     requires { vec_len users ≤ MAX_USERS }
     ensures { IfOk result (λ accounts. accounts.items ≡ map account_of (enumerate_from 0 users.items)) }
@@ -56,7 +56,7 @@ pub fn accounts_of(alloc: Global, users: Vec<User>) -> Result<Vec<Account>, NoMe
     Ok(accounts)
 }
 
-/// The first account of a name.
+/// Returns the first account with this name, if any.
 pub fn account_named<'a>(accounts: &'a [Account], name: &str) -> Option<&'a Account>
     ensures { option_copied result ≡ find (λ account. bytes_eq account.caller.name name.now) accounts.now }
 {

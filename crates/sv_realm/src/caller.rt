@@ -8,7 +8,7 @@ use sv_text::{Listed, NoMemory, Text, copied_texts};
 /// An authenticated caller: a user of the realm, with the roles that the realm gives them.
 #[derive(Drop)]
 pub struct Caller {
-    /// The user's place in the realm, from 0.
+    /// The position of the user in the realm, from 0.
     pub number: u32,
     /// The user's name.
     pub name: Text,

@@ -1,17 +1,18 @@
-//! Laws of the definitions, each the contract of a function that does nothing.
+//! Theorems about realms, each the contract of a function with an empty body.
 
 ghost use Rattle.std.specs.Prelude.{◌≡◌};
 ghost use Rattle.sv_realm.specs.Laws.{ChecksTheNamed, FindsTheFirst, FitsByWholeDigest, MissesNone};
 ghost use Rattle.sv_realm.specs.declared.limits.TheConstants.{MAX_USERS};
 
-/// The caller of a name stands at their own number and has that name, and no user before them has it; a name without a
-/// caller is no user's.
+/// The caller found by a name has that name and is found again by their number, and no earlier user has the name. If no
+/// caller is found, no user has the name.
 pub fn the_first_user_of_a_name_counts()
     ensures found { FindsTheFirst }
     ensures missed { MissesNone }
 {}
 
-/// A caller passes the check exactly where they are the caller of the name and the password fits the user at their number.
+/// A caller passes the check exactly if they are the caller found by the name and the password fits the user with their
+/// number.
 pub fn a_checked_caller_is_the_named_one()
     ensures { ChecksTheNamed }
 {}

@@ -1,4 +1,4 @@
-//! Users of a realm, and the caller whom a login found among them (Jakarta Servlet 6.0 sections 13.3, 13.5 and 13.6).
+//! Users of a realm, and the caller that a login gives (Jakarta Servlet 6.0 sections 13.3, 13.5 and 13.6).
 #![tactic(auto)]
 
 mod account;

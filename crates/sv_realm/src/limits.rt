@@ -1,4 +1,4 @@
 //! The limits of a realm.
 
-/// The greatest number of users in a realm.
+/// Maximum number of users in a realm.
 pub const MAX_USERS: usize = 1000;

@@ -1,4 +1,4 @@
-//! Whether a password is the one whose digest an account keeps.
+//! Checking a password against the digest of an account.
 
 ghost use Rattle.std.specs.Prelude.{◌≡◌, ◌++◌, bit_or, bit_xor, fold};
 ghost use Rattle.std.specs.List.{zip};
@@ -10,11 +10,12 @@ ghost use Rattle.sv_realm.specs.Account.{account_fits};
 use crate::account::Account;
 use sha2::{Digest, Sha256};
 
-/// The salt that is hashed where there is no account: as long as those that `tools/new-user` makes.
+/// The salt that is hashed if there is no account. It is as long as the salts that `tools/new-user` makes.
 const NO_SALT: [u8; 16] = [0; 16];
 
-/// Whether there is an account, and its digest is SHA-256 of its salt's bytes followed by the password's. A digest is made where there is none as
-/// well, so that the time taken does not tell which names users have; that is a property of the code, and no contract says it.
+/// Returns whether there is an account and its digest is the SHA-256 of its salt followed by the password. A digest is
+/// also computed if there is no account, so that the time taken does not show which names exist. No contract states
+/// this property of the code.
 pub fn fits(account: Option<&Account>, password: &[u8]) -> bool
     ensures { result ≡ account_fits (option_copied account.entry) password.now }
 {
@@ -23,7 +24,7 @@ pub fn fits(account: Option<&Account>, password: &[u8]) -> bool
     account.is_some_and(|account| same_bytes(&digest, account.digest.as_slice()))
 }
 
-/// SHA-256 of a salt followed by a password.
+/// Returns the SHA-256 of a salt followed by a password.
 fn digest_of(salt: &[u8], password: &[u8]) -> [u8; 32]
     ensures { result ≡ sha256 (salt.now ++ password.now) }
 {
@@ -33,15 +34,16 @@ fn digest_of(salt: &[u8], password: &[u8]) -> [u8; 32]
     hasher.finalize()
 }
 
-/// Whether two byte strings are equal. Strings of one length are read to their ends wherever they first differ, so that
-/// the time taken does not tell how far a guess was right; that is a property of the code, and no contract says it.
+/// Returns whether two byte strings are equal. Strings of the same length are always compared to their ends, so that
+/// the time taken does not show how much of a guess was right. No contract states this property of the code.
 fn same_bytes(left: &[u8], right: &[u8]) -> bool
     ensures { result ≡ bytes_eq left.now right.now }
 {
     left.len() == right.len() && difference(left, right) == 0
 }
 
-/// The bits at which two byte strings differ anywhere, as far as both go.
+/// Returns the bits that differ between any two bytes at the same position. Bytes past the end of the shorter string
+/// are ignored.
 fn difference(left: &[u8], right: &[u8]) -> u8
     ensures { result ≡ fold (λ bits pair. bit_or bits (bit_xor pair.0 pair.1)) 0 (zip left.now right.now) }
 {

@@ -14,7 +14,7 @@ use std::alloc::Global;
 use std::marker::Model;
 use sv_text::NoMemory;
 
-/// The users of a server. Contracts see the list of the users that the realm was made of.
+/// The users of a server. In contracts, its value is the list of users it was made from.
 #[derive(Drop)]
 pub struct Realm {
     accounts: Vec<Account>,
@@ -34,10 +34,11 @@ impl Model for Realm {
 }
 
 impl Realm {
-    /// Makes a realm of a list of users. A user's number is their place in the list, from 0.
+    /// Creates a realm from a list of users. The number of a user is their position in the list, from 0.
     ///
-    /// There may be at most `MAX_USERS` users, which the caller tests by the vector's length. Names may be equal: the first
-    /// user of a name counts, and the others are found by their numbers alone. Where memory is wanted the users are dropped.
+    /// There may be at most `MAX_USERS` users; the caller checks the length of the vector. Names may repeat: the first
+    /// user with a name is found by it, and the others only by their numbers. If memory runs out, the users are
+    /// dropped.
     pub fn from_users(alloc: Global, users: Vec<User>) -> Result<Realm, NoMemory>
         requires { vec_len users ≤ MAX_USERS }
         ensures { GivesAnswer result users.items }
@@ -47,13 +48,13 @@ impl Realm {
         })
     }
 
-    /// The caller whom a login with this name and this password makes: the first user of the name, where SHA-256 of the
-    /// user's salt followed by the password is the user's digest. `None` where no user has the name, or the password
+    /// Returns the caller that a login with this name and password gives: the first user with the name, if the SHA-256
+    /// of their salt followed by the password is their digest. Returns `None` if no user has the name or the password
     /// does not fit that user.
     ///
-    /// It takes no memory. Digests are compared to their last byte also where an earlier one differs, and a digest is made for a name that no user
-    /// has as well: the time taken tells neither, but for that of the look-up and for the length of a salt. That is a property of the code and not of
-    /// the contract.
+    /// Allocates no memory. Digests are always compared to their ends, and a digest is also computed for an unknown
+    /// name. The time taken shows neither how much of a digest is right nor whether the name exists, except through the
+    /// lookup and the length of the salt. No contract states this property of the code.
     pub fn check(&self, name: &str, password: &[u8]) -> Option<&Caller>
         ensures { option_copied result ≡ caller_checked self.now name.now password.now }
     {
@@ -63,7 +64,7 @@ impl Realm {
         if fitting { Some(&account.caller) } else { None }
     }
 
-    /// The caller of the first user of a name. `None` where no user has the name. It takes no memory.
+    /// Returns the caller of the first user with this name, or `None` if there is none. Allocates no memory.
     pub fn find(&self, name: &str) -> Option<&Caller>
         ensures { option_copied result ≡ caller_named self.now name.now }
     {
@@ -71,7 +72,7 @@ impl Realm {
         Some(&account.caller)
     }
 
-    /// The caller with a number. `None` where the realm has no user at that place. It takes no memory.
+    /// Returns the caller with this number, or `None` if the realm has no user at that position. Allocates no memory.
     pub fn caller(&self, number: u32) -> Option<&Caller>
         ensures { option_copied result ≡ caller_at self.now number }
     {

@@ -1,4 +1,4 @@
--- Names that differ, one after another.
+-- Names that differ, checked one after another.
 use Rattle.std.proofs.Common.{◌≡◌, ℕ, ◌+◌, ◌<◌, Bool, true, false, List, [], ◌∷◌, ◌++◌, map, length, get_or, take, drop, refl, sym, ap, ◌∙◌, zero, suc, Some, arith}
 use Rattle.std.specs.Prelude.{◌||◌, slice_get}
 use Rattle.std.specs.List.{Contains}
@@ -19,7 +19,7 @@ or-parts false true true d = refl
 or-parts false true false d = refl
 or-parts false false c d = refl
 
--- one more text
+-- One more text.
 repeats-push : (xs : List (List ℕ)) (y : List ℕ) → repeats (xs ++ y ∷ []) ≡ (repeats xs || is_among xs y)
 repeats-push [] y = refl
 repeats-push (x ∷ xs) y =
@@ -31,26 +31,26 @@ or-both false true true d f h = refl
 or-both false true false d f h = f refl
 or-both false false c d f h = cc
 
--- more texts behind some of which one repeats
+-- If a text occurs twice, it still does after more texts are appended.
 repeats-append : (xs ys : List (List ℕ)) → repeats xs ≡ true → repeats (xs ++ ys) ≡ true
 repeats-append [] ys h = cc
 repeats-append (x ∷ xs) ys h =
     rw (is_among-append xs ys x) (or-both (is_among xs x) (repeats xs) (is_among ys x) (repeats (xs ++ ys)) (repeats-append xs ys) h)
 
 module _ {X : Type 0} (f : X → List ℕ) (items : List X) where
-  -- the names of the items before a place
+  -- The names of the items before an index.
   abbrev pub names_before : ℕ → List (List ℕ)
   names_before i = map f (take i items)
 
   names_before-more : (i : ℕ) (item : X) → i < length items → item ≡ get_or items i item → names_before (i + 1) ≡ names_before i ++ f item ∷ []
   names_before-more i item h at = ap (map f) (take_more items i item h) ∙ map-append f (take i items) _ ∙ ap (λ x. names_before i ++ f x ∷ []) (sym at)
 
-  -- a set of the names so far, which differ
+  -- The set of the names so far, which differ.
   pub record Distinct (names : List (List ℕ)) (i : ℕ) : Type 0 where
     pub differ : repeats (names_before i) ≡ false
     pub same : HaveSame names (names_before i)
 
-  -- the next name is not in the set
+  -- The next name is not in the set.
   pub distinct-more : (names new : List (List ℕ)) (i : ℕ) (item : X) → i < length items → item ≡ get_or items i item
       → Distinct names i → HaveSame new (f item ∷ names) → is_among names (f item) ≡ false → Distinct new (i + 1)
   distinct-more names new i item h at before entered is_new =
@@ -66,7 +66,7 @@ module _ {X : Type 0} (f : X → List ℕ) (items : List X) where
       or-back false true = refl
       or-back false false = refl
 
-  -- the next name is in the set
+  -- The next name is in the set.
   pub repeats-found : (names : List (List ℕ)) (i : ℕ) (item : X) → i < length items → item ≡ get_or items i item
       → Distinct names i → is_among names (f item) ≡ true → repeats (map f items) ≡ true
   repeats-found names i item h at before found =
@@ -90,7 +90,7 @@ is_among-slice_get (x ∷ rest) (suc j) text h = or-true (bytes_eq x text) (is_a
     or-true true b h = refl
     or-true false b h = h
 
--- names of which none repeats
+-- If no text occurs twice, the texts differ at any two indices.
 pub Differ-repeats : (texts : List (List ℕ)) → repeats texts ≡ false → Differ texts
 Differ-repeats [] h i j lt l same = omega arith
 Differ-repeats (x ∷ rest) h zero zero lt l same = omega arith
@@ -102,7 +102,7 @@ Differ-repeats (x ∷ rest) h (suc i) (suc j) lt l same =
     let (unique, others) = found-first (is_among rest x) (repeats rest) h in
     Differ-repeats rest others i j (omega arith) (omega arith) same
 
--- a name that is among others stands at some place
+-- A name in a list is at some index.
 pub Contains-is_among : (texts : List (List ℕ)) (text : List ℕ) → is_among texts text ≡ true → Contains texts text
 Contains-is_among [] text h = cc
 Contains-is_among (x ∷ rest) text h = at (bytes_eq x text) refl h (Contains-is_among rest text)

@@ -1,4 +1,4 @@
--- Bytes that were read of hexadecimal digits.
+-- Bytes read from hexadecimal digits.
 use Rattle.std.proofs.Common.{◌≡◌, ℕ, ◌*◌, Bool, true, false, List, length, Result, Ok, Err, refl, subst, arith, nat_le}
 use Rattle.std.specs.Prelude.{◌&&◌, if◌then◌else◌}
 use Rattle.std.proofs.lemmas.Bool.Decides.{nat_tests}
@@ -9,7 +9,7 @@ use Rattle.sv_schema.specs.Fault.{refuse}
 use Rattle.sv_schema.specs.Value.{decoded, hex_text}
 use Rattle.sv_schema.specs.declared.fault.FaultCode.TheVariants.{BadValue}
 
--- bytes of twice as many digits
+-- The number of digits is twice that of bytes.
 decoded-Ok : (key text bytes : List ℕ) (digits : Result (List ℕ) FromHexError) → decode_of text ≡ digits → decoded key digits ≡ Ok bytes → length text ≡ 2 * length bytes
 decoded-Ok key text bytes (Ok found) same e = let is : found ≡ bytes = cc in subst (λ b. length text ≡ 2 * length b) is ((decode_of-ok text found same).2)
 decoded-Ok key text bytes (Err f) same e = cc

@@ -1,4 +1,4 @@
--- Sets of names beside lists of them.
+-- Sets of names, compared with lists of names.
 use Rattle.std.proofs.Common.{◌≡◌, ℕ, Bool, true, false, List, [], ◌∷◌, map, refl, sym, ap, ◌∙◌, Bor, Ordering, Less, Equal, Greater, nat_cmp}
 use Rattle.std.specs.Prelude.{◌||◌}
 use Rattle.std.specs.List.{list_any}
@@ -15,14 +15,14 @@ use Rattle.sv_schema.specs.Table.{is_among}
 abbrev pub Name : Type 0
 Name = Bor (List ℕ)
 
--- the order of names
+-- The order of names.
 abbrev pub name_cmp : Name → Name → Ordering
 name_cmp a b = slice_cmp nat_cmp a.now b.now
 
 abbrev pub seen : List Name → List (List ℕ)
 seen names = map (λ name. name.now) names
 
--- a set has a name where the name is among its keys
+-- A set has a name exactly if the name is among its keys.
 pub list_any-is_at : (text : List ℕ) (names : List Name) → list_any (is_at (λ name. slice_cmp nat_cmp text name.now)) names ≡ is_among (seen names) text
 list_any-is_at text [] = refl
 list_any-is_at text (x ∷ names) = rw (is_eq-slice_cmp text x.now, nat_list_eq_equiv.symm text x.now, list_any-is_at text names) refl
@@ -42,7 +42,7 @@ or-swap false false c = refl
 same_name : (a b : List ℕ) → slice_cmp nat_cmp a b ≡ Equal → a ≡ b
 same_name a b h = (bytes_eq-Decides a b).0 (sym (is_eq-slice_cmp a b) ∙ ap is_eq h)
 
--- after a name was inserted
+-- The names after an insertion.
 inserted_at : (o : Ordering) (name x : Name) (names : List Name) (text : List ℕ) → slice_cmp nat_cmp name.now x.now ≡ o
     → is_among (seen (insert_key name_cmp names name)) text ≡ (bytes_eq name.now text || is_among (seen names) text)
     → is_among (seen (match_ordering o (name ∷ x ∷ names) (x ∷ names) (x ∷ insert_key name_cmp names name))) text

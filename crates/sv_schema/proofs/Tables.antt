@@ -1,4 +1,4 @@
--- The keys of a table, as its map has them.
+-- The keys of a table, as in its map.
 use Rattle.std.proofs.Common.{◌≡◌, List, [], ◌∷◌, map, string_bytes, refl, ap}
 use Rattle.std.specs.Map.{keys_of}
 use Rattle.toml.specs.View.{members_view}

@@ -1,4 +1,4 @@
--- What holds of all that is read.
+-- Properties of all values that are read.
 use Rattle.std.proofs.Common.{◌≡◌, ℕ, suc, ◌≤◌, ℤ, Bool, true, false, List, [], ◌∷◌, length, Option, Some, None, Result, Ok, Err, if◌then◌else◌, not, refl, sym, ap, ◌∙◌, subst, arith, nat_lt}
 use Rattle.std.specs.List.{All, list_all}
 use Rattle.std.specs.Option.{IfSome}
@@ -18,12 +18,12 @@ use Rattle.sv_schema.specs.Value.{Reader, table_of, text_of, whole_of}
 use Rattle.sv_schema.specs.declared.fault.FaultCode.{FaultCode}
 use Rattle.sv_schema.specs.declared.fault.FaultCode.TheVariants.{WrongType, BadValue, TooMany}
 
--- the steps of a reading that ended well
+-- The steps of a successful reading.
 pub bind-Ok : {A B C : Type 0} (first : Reads A) (next : A → Reads B) (b : B) → (first >>= next) ≡ Ok b → ((a : A) → first ≡ Ok a → next a ≡ Ok b → C) → C
 bind-Ok (Ok a) next b h k = k a refl h
 bind-Ok (Err f) next b h k = cc
 
--- what holds of the value of a reading that ended well
+-- A property of the value of a successful reading.
 pub holds-Ok : {A : Type 0} (P : A → Type 0) (reading : Reads A) (a : A) → reading ≡ Ok a → IfOk reading P → P a
 holds-Ok P (Ok b) a e h = let same : b ≡ a = cc in subst P same h
 holds-Ok P (Err f) a e h = cc
@@ -32,7 +32,7 @@ pub check-Ok : (holds : Bool) (code : FaultCode) (key : List ℕ) (u : Unit {0})
 check-Ok true code key u h = refl
 check-Ok false code key u h = cc
 
--- P holds of all that is read
+-- P holds for all values that are read.
 abbrev pub Yields : {A : Type 0} → (A → Type 0) → Reader A → Type 0
 Yields {A} P reads = (key : List ℕ) (value : Data) (a : A) → reads key value ≡ Ok a → P a
 
@@ -119,7 +119,7 @@ sized_items-Ok : (fit : Bool) (least most : ℕ) (fits : Data → Bool) (key : L
 sized_items-Ok true least most fits key items found f e = let (same, short) = sized-at (nat_lt most (length items)) (nat_lt (length items) least) least most key items found refl e in subst (λ l. length l ≤ most) same short
 sized_items-Ok false least most fits key items found f e = cc
 
--- a list that was read is no longer than its limit
+-- The length of a list that was read is at most its limit.
 pub list_items-Ok : (least most : ℕ) (fits : Data → Bool) (key : List ℕ) (value : Data) (found : List Data) → list_items least most fits key value ≡ Ok found → length found ≤ most
 list_items-Ok least most fits key (array items) found e = sized_items-Ok (list_all fits (items_list items)) least most fits key (items_list items) found refl e
 list_items-Ok least most fits key (string text) found e = cc
@@ -129,7 +129,7 @@ list_items-Ok least most fits key (boolean b) found e = cc
 list_items-Ok least most fits key (datetime d) found e = cc
 list_items-Ok least most fits key (table ms) found e = cc
 
--- a list that was read: its length, and each of its items
+-- A list that was read: its length, and each of its items.
 pub record IsListOf {A : Type 0} (P : A → Type 0) (most : ℕ) (found : List A) : Type 0 where
   pub short : length found ≤ most
   pub each : All P found
@@ -141,15 +141,15 @@ list_of-yields P least most fits reads h key value found e =
       each = each-All P (reads key) (h key) items found ee;
     })
 
--- a list that was read is no longer than its limit
+-- The length of a list that was read is at most its limit.
 pub list_of-short : {A : Type 0} (least most : ℕ) (fits : Data → Bool) (reads : Reader A) → Yields (λ found. length found ≤ most) (list_of least most fits reads)
 list_of-short least most fits reads key value found e = (list_of-yields (λ _. Unit {0}) least most fits reads (λ _ _ _ _. tt) key value found e).short
 
--- what holds of all that the definition gives holds of all that is returned
+-- A property of all values that the definition gives holds for all values returned.
 pub IfOk-Gives : {A : Type 0} (P : A → Type 0) (result : Result A ReadFault) (answer : Reads A) → ((a : A) → answer ≡ Ok a → P a) → Gives fault result answer → IfOk result P
 IfOk-Gives P (Ok a) answer h given = h a given
 IfOk-Gives P (Err e) answer h given = tt
 
--- what holds of all that is read of tables holds of all that is read of texts
+-- A property of all values read from tables holds for all values read from documents.
 pub document-Ok : {A : Type 0} (P : A → Type 0) (reads : Members → Reads A) → ((members : Members) (a : A) → reads members ≡ Ok a → P a) → (text : List ℕ) (a : A) → document reads text ≡ Ok a → P a
 document-Ok P reads h text a e = bind-Ok (parsed (parse_document text)) _ _ e (λ members _ e1. h members a e1)

@@ -6,19 +6,19 @@ use Rattle.sv_schema.specs.declared.fault.FaultCode.TheVariants.{NotToml, Unknow
 use Rattle.sv_schema.specs.declared.fault.ReadFault.{ReadFault}
 use Rattle.sv_schema.specs.declared.fault.ReadFault.TheVariants.{Fault, NoMemory}
 
--- the fault of the file, apart from want of memory
+-- The fault of the file; none if memory ran out.
 abbrev pub fault : ReadFault → Option DescriptorFault
 fault (Fault f) = Some f
 fault NoMemory = None
 
--- a value, or the first fault on the way to it
+-- The value that is read, or the first fault.
 abbrev pub Reads : Type 0 → Type 0
 Reads A = Result A DescriptorFault
 
 abbrev pub refuse : {A : Type 0} → FaultCode → List ℕ → Reads A
 refuse code key = Err (record { code = code; key = key })
 
--- a test of what was read, and the fault where it fails
+-- A condition on the values read, and the fault if it does not hold.
 abbrev pub check : Bool → FaultCode → List ℕ → Reads (Unit {0})
 check holds code key = if holds then Ok tt else refuse code key
 
@@ -38,7 +38,7 @@ number BadValue = 12
 number DuplicateName = 13
 number TooMany = 14
 
--- the name that is printed for a code
+-- The printed name of a code.
 abbrev pub code_name : FaultCode → List ℕ
 code_name NotToml = codes "NotToml"
 code_name UnknownKey = codes "UnknownKey"
@@ -55,11 +55,11 @@ code_name BadValue = codes "BadValue"
 code_name DuplicateName = codes "DuplicateName"
 code_name TooMany = codes "TooMany"
 
--- the code's name, a blank and the key
+-- The code's name, a space and the key.
 abbrev pub descriptor_fault_text : DescriptorFault → List ℕ
 descriptor_fault_text f = code_name f.code ++ codes " " ++ f.key
 
--- the text that is printed for a refusal
+-- The printed text of a fault.
 abbrev pub read_fault_text : ReadFault → List ℕ
 read_fault_text (Fault f) = descriptor_fault_text f
 read_fault_text NoMemory = codes "no memory"

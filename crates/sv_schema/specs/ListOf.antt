@@ -1,4 +1,4 @@
--- A list at a key: the types of all its items, its length, and then its items from the first on.
+-- A list at a key: the types of all its items are checked, then its length, and then the items are read in order.
 use Rattle.std.specs.Prelude.{ℕ, Bool, true, false, not, nat_lt, List, map, [], ◌∷◌, length, if◌then◌else◌, Result, Ok, Err}
 use Rattle.std.specs.List.{list_all}
 use Rattle.toml.specs.Data.{Data, array, Items, no_items, item, Members}
@@ -15,7 +15,7 @@ abbrev pub items_list : Items → List Data
 items_list no_items = []
 items_list (item value rest) = value ∷ items_list rest
 
--- the items of a list of a length within bounds, which are all of one type
+-- The items of a list whose length is within bounds and whose items all have one type.
 abbrev pub sized_items : ℕ → ℕ → (Data → Bool) → List ℕ → List Data → Reads (List Data)
 sized_items least most fits key items =
     if not (list_all fits items) then refuse WrongType key
@@ -27,7 +27,7 @@ abbrev pub list_items : ℕ → ℕ → (Data → Bool) → Reader (List Data)
 list_items least most fits key (array items) = sized_items least most fits key (items_list items)
 list_items least most fits key _ = refuse WrongType key
 
--- what is read of each item, in order
+-- The values of the items, in order.
 abbrev pub each : {A : Type 0} → (Data → Reads A) → List Data → Reads (List A)
 each reads [] = Ok []
 each reads (value ∷ rest) = do
@@ -38,11 +38,11 @@ each reads (value ∷ rest) = do
 abbrev pub list_of : {A : Type 0} → ℕ → ℕ → (Data → Bool) → Reader A → Reader (List A)
 list_of least most fits reads key value = list_items least most fits key value >>= each (reads key)
 
--- a list of texts
+-- A list of texts.
 abbrev pub list_of_texts : {A : Type 0} → ℕ → ℕ → (List ℕ → List ℕ → Reads A) → Reader (List A)
 list_of_texts least most reads = list_of least most is_text (text_of reads)
 
--- a list of tables
+-- A list of tables.
 abbrev pub list_of_tables : {A : Type 0} → ℕ → ℕ → (Members → Reads A) → Reader (List A)
 list_of_tables least most reads = list_of least most is_table (table_of reads)
 
@@ -50,7 +50,7 @@ abbrev pub is_array : Data → Bool
 is_array (array _) = true
 is_array _ = false
 
--- the items as a reference to them is seen
+-- The items of a borrowed list, as data.
 abbrev pub seen : Result (Bor (List Value)) ReadFault → Result (List Data) ReadFault
 seen (Ok values) = Ok (map view values.now)
 seen (Err e) = Err e

@@ -1,4 +1,4 @@
--- The keys of a table: which are known, and what is read of each.
+-- The keys of a table: the known keys, and how the value at each is read.
 use Rattle.std.specs.Prelude.{ℕ, Bool, not, ◌&&◌, List, [], ◌∷◌, map, Option, Some, None, is_some, Ok}
 use Rattle.std.specs.Borrow.{Bor}
 use Rattle.std.specs.List.{find, list_any}
@@ -10,7 +10,7 @@ use Rattle.sv_schema.specs.Fault.{Reads, refuse}
 use Rattle.sv_schema.specs.Value.{Reader}
 use Rattle.sv_schema.specs.declared.fault.FaultCode.TheVariants.{UnknownKey, MissingKey}
 
--- the keys of a table, in the order of their bytes
+-- The keys of a table, in the order of their bytes.
 abbrev pub keys : Members → List (List ℕ)
 keys no_members = []
 keys (member key value rest) = key ∷ keys rest
@@ -18,14 +18,14 @@ keys (member key value rest) = key ∷ keys rest
 abbrev pub is_among : List (List ℕ) → List ℕ → Bool
 is_among texts text = list_any (λ other. bytes_eq other text) texts
 
--- the texts that references refer to
+-- The texts of references.
 abbrev pub texts : List (Bor (List ℕ)) → List (List ℕ)
 texts references = map (λ text. text.now) references
 
 abbrev pub is_other : List (List ℕ) → List (List ℕ) → List ℕ → Bool
 is_other known ignored key = not (is_among known key) && not (is_among ignored key)
 
--- the table has no other keys; the first other one is the fault
+-- The table has no other keys. The fault is at the first other key.
 abbrev pub only_keys : List (List ℕ) → List (List ℕ) → Members → Reads (Unit {0})
 only_keys known ignored table = option_map_or (refuse UnknownKey) (find (is_other known ignored) (keys table)) (Ok tt)
 
@@ -36,7 +36,7 @@ abbrev pub required_value : {A : Type 0} → Reader A → List ℕ → Option Da
 required_value reads key None = refuse MissingKey key
 required_value reads key (Some value) = reads key value
 
--- a key that has to be there
+-- A required key.
 abbrev pub required : {A : Type 0} → Reader A → List ℕ → Members → Reads A
 required reads key table = required_value reads key (get_member key table)
 
@@ -44,7 +44,7 @@ abbrev pub optional_value : {A : Type 0} → Reader A → List ℕ → Option Da
 optional_value reads key None = Ok None
 optional_value reads key (Some value) = reads key value >>= (λ a. Ok (Some a))
 
--- a key that may be missing
+-- A key that may be missing.
 abbrev pub optional : {A : Type 0} → Reader A → List ℕ → Members → Reads (Option A)
 optional reads key table = optional_value reads key (get_member key table)
 
@@ -52,6 +52,6 @@ abbrev pub or_else : {A : Type 0} → A → Option A → A
 or_else other None = other
 or_else other (Some a) = a
 
--- a key that may be missing, where another value stands in its place
+-- An optional key with a default value.
 abbrev pub optional_or : {A : Type 0} → A → Reader A → List ℕ → Members → Reads A
 optional_or other reads key table = optional reads key table >>= (λ a. Ok (or_else other a))

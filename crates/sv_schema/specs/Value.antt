@@ -1,4 +1,4 @@
--- The value at a key: its type, and then what is read of it.
+-- The value at a key: its type is checked, and then it is read.
 use Rattle.std.specs.Prelude.{ℕ, ℤ, pos, nat_abs, int_lt, Bool, true, false, ◌&&◌, ◌||◌, nat_le, List, length, if◌then◌else◌, Result, Ok, Err}
 use Rattle.hex.specs.Hex.{decode_of}
 use Rattle.toml.specs.Data.{Data, string, integer, boolean, table, Members}
@@ -6,21 +6,21 @@ use Rattle.sv_schema.specs.Fault.{Reads, refuse}
 use Rattle.sv_schema.specs.declared.fault.FaultCode.TheVariants.{WrongType, BadValue}
 use Rattle.sv_schema.specs.declared.limits.TheConstants.{MAX_NAME_BYTES}
 
--- what is read of the value at a key
+-- How the value at a key is read.
 abbrev pub Reader : Type 0 → Type 0
 Reader A = List ℕ → Data → Reads A
 
--- a text, of which more is read
+-- A text, read further.
 abbrev pub text_of : {A : Type 0} → (List ℕ → List ℕ → Reads A) → Reader A
 text_of reads key (string text) = reads key text
 text_of reads key _ = refuse WrongType key
 
--- a whole number, of which more is read
+-- A whole number, read further.
 abbrev pub whole_of : {A : Type 0} → (List ℕ → ℤ → Reads A) → Reader A
 whole_of reads key (integer number) = reads key number
 whole_of reads key _ = refuse WrongType key
 
--- a table, of which more is read
+-- A table, read further.
 abbrev pub table_of : {A : Type 0} → (Members → Reads A) → Reader A
 table_of reads key (table inner) = reads inner
 table_of reads key _ = refuse WrongType key
@@ -45,11 +45,11 @@ abbrev pub is_table : Data → Bool
 is_table (table _) = true
 is_table _ = false
 
--- any text
+-- Any text.
 abbrev pub any_text : List ℕ → List ℕ → Reads (List ℕ)
 any_text key text = Ok text
 
--- a text of a length within bounds
+-- The length of a text is within bounds.
 abbrev pub is_within : ℕ → ℕ → List ℕ → Bool
 is_within least most text = nat_le least (length text) && nat_le (length text) most
 
@@ -59,7 +59,7 @@ is_name = is_within 1 MAX_NAME_BYTES
 abbrev pub name : List ℕ → List ℕ → Reads (List ℕ)
 name key text = if is_name text then Ok text else refuse BadValue key
 
--- the bytes that pairs of hexadecimal digits write, in either case of letters
+-- The bytes written as pairs of hexadecimal digits, in either case.
 abbrev pub decoded : {E : Type 0} → List ℕ → Result (List ℕ) E → Reads (List ℕ)
 decoded key (Ok bytes) = Ok bytes
 decoded key (Err e) = refuse BadValue key
@@ -67,7 +67,7 @@ decoded key (Err e) = refuse BadValue key
 abbrev pub hex_text : ℕ → ℕ → List ℕ → List ℕ → Reads (List ℕ)
 hex_text least most key text = if is_within least most text then decoded key (decode_of text) else refuse BadValue key
 
--- a whole number within bounds
+-- A whole number within bounds.
 abbrev pub number_between : ℕ → ℕ → List ℕ → ℤ → Reads ℕ
 number_between least most key number =
     if int_lt number (pos least) || int_lt (pos most) number then refuse BadValue key else Ok (nat_abs number)

@@ -1,4 +1,4 @@
-//! The table that a text is.
+//! Reading a whole document.
 
 ghost use Rattle.sv_text.specs.Gives.{Gives};
 ghost use Rattle.sv_schema.specs.Document.{document};
@@ -8,10 +8,10 @@ use crate::fault::{FaultCode, ReadFault, refuse};
 use crate::table::TableSchema;
 use std::alloc::Global;
 
-/// Reads a text as TOML, and what the schema says of its table.
+/// Parses a text as TOML, and reads its table as the schema says.
 ///
 /// # Errors
-/// [`FaultCode::NotToml`] with an empty key where the text is no TOML, the schema's first fault elsewhere, and
+/// [`FaultCode::NotToml`] with an empty key if the text is not TOML, otherwise the schema's first fault; or
 /// [`ReadFault::NoMemory`].
 pub fn read_document<T: TableSchema>(
     alloc: Global,

@@ -10,52 +10,52 @@ use std::error::Error;
 use std::fmt;
 use sv_text::{NoMemory as OutOfMemory, Text};
 
-/// Why a configuration file was not read. It is printed as its fault, or `no memory`.
+/// The reason why a configuration file was not read. It is printed as its fault, or as `no memory`.
 #[derive(Debug, Drop)]
 pub enum ReadFault {
-    /// The file is not one of its format: the first fault in the format's order.
+    /// The file violates its format. This is the first fault in the format's order.
     Fault(DescriptorFault),
-    /// There was no memory to read the file or to name its fault. Nothing is said of the file.
+    /// Memory ran out while the file was read or its fault was named. The file may still be valid.
     NoMemory,
 }
 
-/// The first fault of a configuration file. It is printed as the code's name, a blank and the key.
+/// The first fault of a configuration file. It is printed as the code's name, a space and the key.
 #[derive(Debug, Drop)]
 pub struct DescriptorFault {
-    /// What is wrong.
+    /// The kind of the fault.
     pub code: FaultCode,
-    /// The bare key at which it is wrong, empty where the text is no TOML.
+    /// The bare key of the faulty value. It is empty if the text is not TOML.
     pub key: Text,
 }
 
-/// What can be wrong with a configuration file. It is printed as its name.
+/// A kind of fault in a configuration file. It is printed as its name.
 #[derive(Clone, Copy, Debug, PartialEq, Eq)]
 pub enum FaultCode {
-    /// The text is no TOML.
+    /// The text is not TOML.
     NotToml = 1,
-    /// The table has a key that its format does not know.
+    /// The table has a key that is not part of its format.
     UnknownKey = 2,
-    /// The table lacks a key.
+    /// The table lacks a required key.
     MissingKey = 3,
-    /// The value at the key is of another type.
+    /// The value at the key has the wrong type.
     WrongType = 4,
-    /// The text is no URL pattern.
+    /// The text is not a URL pattern.
     BadPattern = 5,
-    /// Two servlet mappings, or one twice, have the same URL pattern.
+    /// Two servlet mappings have the same URL pattern, or one mapping has it twice.
     DuplicatePattern = 6,
-    /// No servlet of that name is declared.
+    /// No servlet with this name is declared.
     UnknownServlet = 7,
-    /// No filter of that name is declared.
+    /// No filter with this name is declared.
     UnknownFilter = 8,
-    /// A web resource collection lists methods and omitted methods.
+    /// A web resource collection lists both methods and omitted methods.
     BothMethodLists = 9,
-    /// A declared role has a name with a meaning of its own, `*` or `**`.
+    /// A declared role has a reserved name, `*` or `**`.
     ReservedRole = 10,
     /// The session timeout is too long.
     BadTimeout = 11,
-    /// The value is out of its range or is not one of those that are known.
+    /// The value is out of range, or not one of the known values.
     BadValue = 12,
-    /// The name was declared before.
+    /// The name has been declared before.
     DuplicateName = 13,
     /// The list is longer than its limit.
     TooMany = 14,
@@ -64,7 +64,7 @@ pub enum FaultCode {
 impl FaultCode {
     ghost use Rattle.sv_schema.specs.Fault.{number};
 
-    /// The number of the code, from 1 to 14.
+    /// Returns the number of the code, from 1 to 14.
     pub fn number(self) -> u8
         ensures { result ≡ number self }
     {
@@ -153,10 +153,10 @@ impl<T: Drop> From<AllocFailed<T>> for ReadFault {
     }
 }
 
-/// Refuses a file for a fault at a key.
+/// Refuses a file because of a fault at a key.
 ///
 /// # Errors
-/// Always: [`ReadFault::NoMemory`] where there was no memory to name the key, and the fault elsewhere.
+/// Always: [`ReadFault::NoMemory`] if there was no memory to name the key, and the fault otherwise.
 pub fn refuse<T>(alloc: Global, code: FaultCode, key: &str) -> Result<T, ReadFault>
     ensures { Gives spec.fault result (spec.refuse code key.now) }
 {

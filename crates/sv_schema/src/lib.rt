@@ -1,5 +1,5 @@
-//! The words in which the format of a configuration file is written: how the value at a key of a TOML table is read, and
-//! which fault is found first.
+//! The building blocks of the formats of configuration files: how the value at a key of a TOML table is read, and the
+//! order of faults.
 #![tactic(auto)]
 
 mod document;

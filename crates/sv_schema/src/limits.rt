@@ -1,10 +1,10 @@
-//! The limits that the tables of all formats share.
+//! The limits that all formats share.
 
-/// How many items a list may have.
+/// Maximum number of items of a list.
 pub const MAX_LIST_ITEMS: usize = 1000;
 
-/// How many bytes a name may have.
+/// Maximum length of a name, in bytes.
 pub const MAX_NAME_BYTES: usize = 64;
 
-/// The greatest length, where a format gives a list no limit.
+/// Maximum length of a list for which its format sets no limit.
 pub const NO_LIMIT: usize = usize::MAX;

@@ -16,11 +16,11 @@ use toml::Value;
 /// A list of `least` to `most` items.
 #[derive(Clone, Copy)]
 pub struct ListOf<S> {
-    /// The least number of items.
+    /// Minimum number of items.
     pub least: usize,
-    /// The greatest number of items.
+    /// Maximum number of items.
     pub most: usize,
-    /// What is read of each item.
+    /// The schema of each item.
     pub item: S,
 }
 
@@ -48,11 +48,11 @@ impl<S: Schema> Schema for ListOf<S> {
     }
 }
 
-/// The items of a list of `least` to `most` items, which all have the type of a schema.
+/// Returns the items of a list of `least` to `most` items, which all have the type of a schema.
 ///
 /// # Errors
-/// In this order: [`FaultCode::WrongType`] where the value is no list of such items, [`FaultCode::TooMany`] where it is
-/// too long, and [`FaultCode::BadValue`] where it is too short; or [`ReadFault::NoMemory`].
+/// In this order: [`FaultCode::WrongType`] if the value is no list or an item has another type, [`FaultCode::TooMany`]
+/// if the list is too long, and [`FaultCode::BadValue`] if it is too short; or [`ReadFault::NoMemory`].
 pub fn list_items<'a, S: Schema>(
     alloc: Global,
     least: usize,

@@ -1,4 +1,4 @@
-//! Names that have to differ.
+//! Names that must differ.
 
 ghost use Rattle.std.specs.Prelude.{◌≡◌, ℕ, List, [], ◌∷◌, map, not, IfOk};
 ghost use Rattle.sv_text.specs.Gives.{GivesAnswer};
@@ -10,12 +10,12 @@ use std::collections::BTreeSet;
 use std::marker::Model;
 use sv_text::{NoMemory, Text};
 
-/// What has a name that tells it from others of its kind.
+/// An item that is identified by its name among others of its kind.
 pub trait Named {
     // The bytes of the name.
     ghost its_name: { Self → List ℕ };
 
-    /// The name.
+    /// Returns the name.
     fn name(&self) -> &str
         ensures { result.now ≡ its_name self.now };
 }
@@ -36,7 +36,7 @@ impl Named for &str {
     }
 }
 
-/// A set of names. Contracts see the list of its names.
+/// A set of names. Contracts see a list of them.
 #[derive(Drop)]
 pub struct Names<'a> {
     set: BTreeSet<&'a str>,
@@ -51,7 +51,7 @@ impl<'a> Model for Names<'a> {
 }
 
 impl<'a> Names<'a> {
-    /// No names.
+    /// Creates an empty set.
     pub fn new(alloc: Global) -> Names<'a>
         ensures { result ≡ [] }
     {
@@ -60,14 +60,14 @@ impl<'a> Names<'a> {
         }
     }
 
-    /// Whether a name is in the set.
+    /// Returns whether the set contains a name.
     pub fn contains(&self, name: &str) -> bool
         ensures { result ≡ is_among self.now name.now }
     {
         self.set.contains(name)
     }
 
-    /// Enters a name, and answers whether it was not in the set. The set is unchanged after a refusal.
+    /// Enters a name, and returns whether it was new. If memory runs out, the set is unchanged.
     pub fn enter(&mut self, name: &'a str) -> Result<bool, NoMemory>
         ensures new { IfOk result (λ is_new. is_new ≡ not (is_among self.old name.now)) }
         ensures entered { IfOk result (λ _. spec.HaveSame self.new (name.now ∷ self.old)) }
@@ -76,7 +76,7 @@ impl<'a> Names<'a> {
     }
 }
 
-/// The names of a list, or `None` where two of them are equal.
+/// Returns the names of a list as a set, or `None` if two of them are equal.
 pub fn distinct_names<'a, N: Named>(
     alloc: Global,
     items: &'a [N],
@@ -92,7 +92,7 @@ pub fn distinct_names<'a, N: Named>(
     Ok(Some(names))
 }
 
-/// Whether two names of a list are equal.
+/// Returns whether two names of a list are equal.
 pub fn repeats<N: Named>(alloc: Global, items: &[N]) -> Result<bool, NoMemory>
     ensures { GivesAnswer result (spec.repeats (map N.its_name items.now)) }
 {

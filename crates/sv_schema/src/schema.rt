@@ -1,4 +1,4 @@
-//! What is read of the value at a key.
+//! Schemas for the values at the keys of a table.
 
 ghost use Rattle.std.specs.Prelude.{◌≡◌, ℕ, Bool, List, [], option_map};
 ghost use Rattle.sv_text.specs.Gives.{Gives};
@@ -12,18 +12,18 @@ use std::alloc::Global;
 use sv_text::Listed;
 use toml::{Table, Value};
 
-/// What is read of the value at a key.
+/// A schema for the value at a key.
 pub trait Schema {
-    /// What a value is read as.
+    /// The type of the output.
     type Output: Drop;
 
-    // Which values have the type of the schema.
+    // Whether a value has the type of the schema.
     ghost fits: { Self → Data → Bool };
 
-    // What is read of the value at a key, or its first fault.
+    // The result of reading the value at a key: the output, or the first fault.
     ghost reads: { Self → List ℕ → Data → Reads Self.Output };
 
-    /// Whether the value has the type of the schema.
+    /// Returns whether the value has the type of the schema.
     fn fits(&self, value: &Value) -> bool
         ensures { result ≡ fits self.now (view value.now) };
 
@@ -35,7 +35,7 @@ pub trait Schema {
         ensures { Gives fault result (reads self.now key.now (view value.now)) };
 }
 
-/// Reads the value at a key that has to be there.
+/// Reads the value at a required key.
 ///
 /// # Errors
 /// [`FaultCode::MissingKey`], the first fault of the value, or [`ReadFault::NoMemory`].
@@ -53,7 +53,7 @@ pub fn required<S: Schema>(
     }
 }
 
-/// Reads the value at a key that may be missing.
+/// Reads the value at an optional key. Returns `None` if the key is missing.
 ///
 /// # Errors
 /// The first fault of the value, or [`ReadFault::NoMemory`].
@@ -71,7 +71,7 @@ pub fn optional<S: Schema>(
     }
 }
 
-/// Reads the value at a key that may be missing, where another value stands in its place.
+/// Reads the value at an optional key. Returns the other value if the key is missing.
 ///
 /// # Errors
 /// The first fault of the value, or [`ReadFault::NoMemory`].
@@ -90,7 +90,7 @@ pub fn optional_or<S: Schema>(
     }
 }
 
-/// Reads the list at a key that may be missing, as an empty one where it is.
+/// Reads the list at an optional key. Returns an empty list if the key is missing.
 ///
 /// # Errors
 /// The first fault of the list, or [`ReadFault::NoMemory`].
@@ -105,7 +105,7 @@ pub fn list_or_empty<T: Drop, S: Schema<Output = Listed<T>>>(
     optional_or(alloc, table, key, schema, Listed::from_vec(Vec::new(alloc)))
 }
 
-/// Whether a table has a key.
+/// Returns whether a table has a key.
 pub fn has_key(table: &Table, key: &str) -> bool
     ensures { result ≡ spec.has_key key.now (table_view table.now) }
 {

@@ -13,12 +13,12 @@ use crate::schema::Schema;
 use std::alloc::Global;
 use toml::{Table, Value};
 
-/// What is read of a table.
+/// A schema for tables.
 pub trait TableSchema {
-    /// What a table is read as.
+    /// The type of the output.
     type Output: Drop;
 
-    // What is read of a table, or its first fault.
+    // The result of reading a table: the output, or the first fault.
     ghost reads: { Self → Members → Reads Self.Output };
 
     /// Reads a table.
@@ -52,10 +52,10 @@ impl<T: TableSchema> Schema for TableOf<T> {
     }
 }
 
-/// Sees that a table has no keys but those that are known, and those that are ignored whatever they hold.
+/// Checks that a table has only known keys and ignored keys. The values of ignored keys may be anything.
 ///
 /// # Errors
-/// [`FaultCode::UnknownKey`] at the first other key in the order of bytes, or [`ReadFault::NoMemory`].
+/// [`FaultCode::UnknownKey`] for the first other key in the order of bytes, or [`ReadFault::NoMemory`].
 pub fn only_keys(
     alloc: Global,
     known: &[&str],

@@ -13,12 +13,12 @@ use std::alloc::Global;
 use sv_text::{Bytes, Text};
 use toml::Value;
 
-/// What is read of a text.
+/// A schema for texts.
 pub trait TextSchema {
-    /// What a text is read as.
+    /// The type of the output.
     type Output: Drop;
 
-    // What is read of the text at a key, or its fault.
+    // The result of reading the text at a key: the output, or the first fault.
     ghost reads: { Self → List ℕ → List ℕ → Reads Self.Output };
 
     /// Reads the text at a key.
@@ -83,12 +83,12 @@ impl TextSchema for Name {
     }
 }
 
-/// Bytes in hexadecimal digits, from `least` to `most` of them, in either case of letters.
+/// Bytes written as `least` to `most` hexadecimal digits, in either case.
 #[derive(Clone, Copy)]
 pub struct HexText {
-    /// The least number of digits.
+    /// Minimum number of digits.
     pub least: usize,
-    /// The greatest number of digits.
+    /// Maximum number of digits.
     pub most: usize,
 }
 
@@ -109,7 +109,7 @@ impl TextSchema for HexText {
     }
 }
 
-/// Whether a text has from `least` to `most` bytes.
+/// Returns whether a text has `least` to `most` bytes.
 pub fn is_within(text: &str, least: usize, most: usize) -> bool
     ensures { result ≡ spec.is_within least most text.now }
 {

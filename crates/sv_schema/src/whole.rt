@@ -1,4 +1,4 @@
-//! Whole numbers and truth values.
+//! Whole numbers and Boolean values.
 
 ghost use Rattle.std.specs.Prelude.{◌≡◌, ℕ, ℤ, List};
 ghost use Rattle.sv_text.specs.Gives.{Gives};
@@ -10,12 +10,12 @@ use crate::schema::Schema;
 use std::alloc::Global;
 use toml::Value;
 
-/// What is read of a whole number.
+/// A schema for whole numbers.
 pub trait WholeSchema {
-    /// What a number is read as.
+    /// The type of the output.
     type Output: Drop;
 
-    // What is read of the number at a key, or its fault.
+    // The result of reading the number at a key: the output, or the fault.
     ghost reads: { Self → List ℕ → ℤ → Reads Self.Output };
 
     /// Reads the number at a key.
@@ -52,9 +52,9 @@ impl<T: WholeSchema> Schema for WholeOf<T> {
 /// A whole number from `least` to `most`.
 #[derive(Clone, Copy)]
 pub struct NumberBetween {
-    /// The least number.
+    /// Minimum value.
     pub least: u16,
-    /// The greatest number.
+    /// Maximum value.
     pub most: u16,
 }
 
@@ -71,7 +71,7 @@ impl WholeSchema for NumberBetween {
     }
 }
 
-/// A truth value.
+/// A Boolean value.
 #[derive(Clone, Copy)]
 pub struct Truth;
 

@@ -1,4 +1,5 @@
-//! All that the author of a web application names: components, exchanges, answers, what an application is deployed with, and its run.
+//! Everything that the author of a web application uses: components, exchanges, responses, deployments and the run of
+//! an application.
 #![tactic(auto)]
 
 mod options;

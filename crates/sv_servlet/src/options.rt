@@ -1,4 +1,4 @@
-//! Where an application is served.
+//! The address of an application.
 
 ghost use Rattle.std.specs.Prelude.{IfSome, MatchOption};
 ghost use Rattle.sv_servlet.specs.Options.{IsAtPort, IsOfThisMachine, NamesPort, port_named};
@@ -7,15 +7,15 @@ use std::env;
 use std::net::{IpAddr, Ipv4Addr, SocketAddr};
 use std::rt::Env;
 
-/// Where an application is served.
+/// The options of an application's run.
 #[derive(Clone, Copy)]
 pub struct Options {
-    /// The address and the port, 0 for any port that is free.
+    /// The address and the port, where port 0 is any free port.
     pub address: SocketAddr,
 }
 
 impl Options {
-    /// A port of this machine alone, 0 for any that is free.
+    /// Returns the options for this port of 127.0.0.1, where 0 is any free port.
     pub fn at_port(port: u16) -> Options
         ensures { IsAtPort port result }
     {
@@ -24,8 +24,8 @@ impl Options {
         }
     }
 
-    /// The port of this machine that the program's one argument names, 0 for any that is free; `None` where it names none, or where there is another number
-    /// of arguments.
+    /// Returns the options for the port of 127.0.0.1 that the program's only argument names, where 0 is any free port.
+    /// Returns none if the argument names no port, or if there is not exactly one argument.
     pub fn of_arguments<R: Env + AllocGlobal>(rt: &R) -> Option<Options>
         ensures { IfSome result IsOfThisMachine }
     {
@@ -38,7 +38,7 @@ impl Options {
     }
 }
 
-// The port that a text names.
+// Returns the options for the port that a text names.
 fn of_text(text: &str) -> Option<Options>
     ensures { MatchOption result (¬ NamesPort text.now) (IsAtPort (port_named text.now)) }
 {

@@ -14,15 +14,16 @@ use sv_lifecycle::Deployment;
 use sv_listening::{Seeding, listen_and_run, seed_for};
 use sv_program::CommandFault;
 
-/// Runs an application: starts its contexts behind one port, with ids of sessions by the system's random source, writes the line
-/// `listening ADDRESS:PORT`, and serves all connections that come, none waiting for another, until the process is ended from outside, or an
-/// answer wants memory; then it stops the contexts.
+/// Runs an application. Starts its contexts on one port, with session ids from the system's random source, and writes
+/// the line `listening ADDRESS:PORT`. Serves any number of connections at once, until the process is ended from outside
+/// or a response runs out of memory. Then stops the contexts.
 ///
 /// # Errors
-/// The first fault: of each context in turn that of its descriptor ([`CommandFault::Descriptor`]), its users ([`CommandFault::Users`]) and its
-/// static files ([`CommandFault::Files`]), after which no component was called; then [`CommandFault::File`] where the system's random source
-/// fails; [`CommandFault::Start`] where a component did not start, after which those that had started are stopped; and
-/// [`CommandFault::Socket`], [`CommandFault::Output`] or [`CommandFault::NoMemory`] as the run meets them.
+/// The first fault. For each context in order, the fault of its descriptor ([`CommandFault::Descriptor`]), its users
+/// ([`CommandFault::Users`]) or its static files ([`CommandFault::Files`]); no component was called then.
+/// [`CommandFault::File`] if the system's random source fails. [`CommandFault::Start`] if a component did not start;
+/// the components that had started are stopped. [`CommandFault::Socket`], [`CommandFault::Output`] or
+/// [`CommandFault::NoMemory`] during the run.
 pub fn run_application<R, S: Servlet, F: Filter, L: Listener>(
     rt: &R,
     contexts: Vec<sv_web::Deployment<S, F, L>>,
@@ -39,7 +40,7 @@ where
     run_deployments(rt, deployments, options)
 }
 
-// Starts them, serves, and stops them.
+// Starts the deployments, serves them, and stops them.
 fn run_deployments<R, S: Servlet, F: Filter, L: Listener>(
     rt: &R,
     deployments: Vec<Deployment<S, F, L>>,

@@ -1,4 +1,4 @@
--- What adding a session leaves.
+-- The sessions after one is added.
 use Rattle.std.proofs.Common.{◌≡◌, ℕ, ◌+◌, ◌<◌, ◌≤◌, true, cond, inl, inr, List, [], ◌∷◌, ◌++◌, length, None, Some, sym, ◌∙◌, ap, subst, leb, arith}
 use Rattle.std.specs.Str.{bytes_eq}
 use Rattle.std.proofs.lemmas.Bool.{cases_Bool, leb-false}

@@ -1,4 +1,4 @@
--- What the calls do to the attributes of a session, by the place of an attribute.
+-- The effect of the calls on the attributes of a session, by the index of an attribute.
 use Rattle.std.proofs.Common.{◌≡◌, ℕ, ◌<◌, List, [], ◌∷◌, ◌++◌, length, Some, None, get_or, set, refl, sym, ◌∙◌, ap, subst}
 use Rattle.std.specs.List.{position, remove}
 use Rattle.sv_session.specs.declared.attribute.Attribute.{Attribute}
@@ -17,7 +17,7 @@ module _ (name : List ℕ) (session : Session) (missed : None ≡ position (is_n
   pub one_more : (value : List ℕ) → session.attributes ++ record { name = name; value = value } ∷ [] ≡ with_named name value session.attributes
   one_more value = rw (missed_at (is_named name) session.attributes (sym missed)).any refl
 
--- ---- the attribute of the name, at its place
+-- ---- the attribute of the name, at its index
 module _ (name : List ℕ) (place : ℕ) (kept attributes : List Attribute) (same : kept ≡ attributes)
     (found : Some place ≡ position (is_named name) attributes) (bound : place < length attributes) where
   first : IsFirstAt (is_named name) kept place

@@ -1,4 +1,4 @@
--- The callers of sessions: which calls give one, and where its session is found.
+-- The callers of sessions: the calls that set one, and how its session is found.
 use Rattle.std.proofs.Common.{◌≡◌, ◌==◌, ◌⊎◌, ℕ, ◌+◌, Bool, true, false, inl, inr, List, [], ◌∷◌, ◌++◌, Option, Some, None, refl, sym, ◌∙◌, ap, subst, eqb}
 use Rattle.std.specs.List.{find, list_any}
 use Rattle.std.specs.Option.{option_and_then, option_map_or}
@@ -13,7 +13,7 @@ use Rattle.sv_session.specs.Store.{IsOrderly, Session, Store, is_numbered}
 use Rattle.sv_session.proofs.OrderLemmas.{IsIn, find_in}
 use Rattle.sv_session.proofs.RunLemmas.{none_changed, none_pushed, none_without, where_either}
 
--- the session holds that caller
+-- The session has this caller.
 abbrev holds : ℕ → Option ℕ → Bool
 holds caller own = option_map_or (λ own. own == caller) own false
 
@@ -24,7 +24,7 @@ holds_it caller (Some own) h = ap Some (eqb-true own caller h)
 it_holds : (caller : ℕ) (own : Option ℕ) → own ≡ Some caller → holds caller own ≡ true
 it_holds caller own same = ap (holds caller) same ∙ eq-eqb caller caller refl
 
--- what was not there before is not there behind
+-- If absence is kept, then whatever is present after was present before.
 still : (before after : Bool) → (before ≡ false → after ≡ false) → after ≡ true → before ≡ true
 still true after none h = refl
 still false after none h = absurd (both_ways after (none refl) h)
@@ -33,11 +33,11 @@ module _ (number caller : ℕ) where
   abbrev held : List Session → Bool
   held sessions = list_any (is_held_by number caller) sessions
 
-  -- of the one store each caller was there in the other
+  -- If the caller is in the second store, it was in the first.
   abbrev Had : Store → Store → Type 0
   Had before after = HoldsCaller number caller after → HoldsCaller number caller before
 
-  -- a change that keeps the number and the caller
+  -- A change that keeps the number and the caller.
   had_changed : (at : ℕ) (change : Session → Session) (sessions : List Session)
       → ((session : Session) → is_held_by number caller session ≡ false → is_held_by number caller (change session) ≡ false)
       → held (on_first (is_numbered at) change sessions) ≡ true → held sessions ≡ true
@@ -53,11 +53,11 @@ module _ (number caller : ℕ) where
   had_pushed sessions last new =
       still (held sessions) (held (sessions ++ last ∷ [])) (none_pushed (is_held_by number caller) sessions last new)
 
-  -- an opened session has no caller
+  -- An opened session has no caller.
   opened_holds_none : (words : ℕ × ℕ) (serial now : ℕ) → is_held_by number caller (session_opened words serial now) ≡ false
   opened_holds_none words serial now = elim (cases_Bool (eqb serial number)) [ inl same ↦ rw same refl | inr other ↦ rw other refl ]
 
-  -- a caller that is entered is there behind it, and no other
+  -- A caller found after `EnterCaller` was there before, or was entered by this call.
   entered : (at : ℕ) (new : Option ℕ) (sessions : List Session)
       → held (on_first (is_numbered at) (λ session. record session { caller = new }) sessions) ≡ true
       → (held sessions ≡ true) ⊎ (EnterCaller at new ≡ EnterCaller number (Some caller))
@@ -103,7 +103,7 @@ module _ (number caller : ℕ) where
   call_enters (Remove at name) store h =
       inl (had_changed at (λ session. record session { attributes = without_named name session.attributes }) store.sessions (λ session none. none) h)
 
-  -- one of the sessions holds it
+  -- One of the sessions has this caller.
   holder : (sessions : List Session) → held sessions ≡ true → (session : Session) × IsIn session sessions × (is_held_by number caller session ≡ true)
   holder [] h = absurd (both_ways false refl h)
   holder (x ∷ xs) h = elim (or_cases (is_held_by number caller x) (held xs) h) [

@@ -1,4 +1,4 @@
--- The first of some sessions to end, and what ends one after another.
+-- The first session to end, and repeated expiry.
 use Rattle.std.proofs.Common.{◌≡◌, ℕ, ◌+◌, Bool, true, false, not, ◌&&◌, ◌||◌, eqb, ltb, inl, inr, List, [], ◌∷◌, map, Option, Some, None, refl, sym, ◌∙◌, ap, subst, arith}
 use Rattle.std.specs.List.{filter, find, fold, list_any}
 use Rattle.std.specs.Option.{option_map}
@@ -58,7 +58,7 @@ module _ (interval : ℕ) where
   first_in x [] = inl refl
   first_in x (y ∷ ys) = earlier_in x y (fold (earlier interval) (earlier interval x y) ys) ys (first_in (earlier interval x y) ys)
 
-  -- the first to end stands first in the order of ends, before those that are left
+  -- The first session to end is the head of the order, before the others.
   abbrev LeadsAll : Session → List Session → Type 0
   LeadsAll session sessions = by_deadline interval sessions ≡ session ∷ by_deadline interval (without_first (is_numbered session.number) sessions)
 
@@ -109,7 +109,7 @@ find_none (x ∷ xs) session here none = elim (cases_Bool (is_numbered session.n
   ]
 ]
 
--- some session ends where the list of the expired is not empty
+-- If a session has expired, one ends.
 ends_some : (now : ℕ) (store : Store) (x : Session) (xs : List Session) → expired now store ≡ x ∷ xs → expiring now store ≡ None → ⊥
 ends_some now store x xs some none =
     let first = fold (earlier store.interval) x xs in
@@ -135,7 +135,7 @@ pub none_from_none : (now : ℕ) (store : Store) → HasNoneExpired now store �
 none_from_none now store none = rw (none_passes (has_expired store.interval now) store.sessions none) refl
 
 -- ---- one after another
--- what `expire` does where the first of the expired sessions is known
+-- The effect of `expire` if the list of expired sessions is not empty.
 ends_first : (now : ℕ) (store : Store) (x : Session) (xs : List Session) → IsOrderly store → expired now store ≡ x ∷ xs
     → expiring now store ≡ Some (ended (fold (earlier store.interval) x xs))
 ends_first now store x xs orderly some =
@@ -148,7 +148,7 @@ leaves_others : (now : ℕ) (store : Store) (x : Session) (xs : List Session) �
     → left_by_expiry now store ≡ without (fold (earlier store.interval) x xs).number store
 leaves_others now store x xs some = rw some refl
 
--- what has expired of what is left, and what has not
+-- The expired and unexpired sessions after one of the expired has ended.
 expired_of_rest : (now : ℕ) (store : Store) (session : Session) → IsOrderly store → IsIn session (expired now store)
     → (expired now (without session.number store) ≡ without_first (is_numbered session.number) (expired now store))
     × (unexpired now (without session.number store) ≡ unexpired now store)

@@ -1,11 +1,11 @@
--- The first item of a list that passes a test: found, changed, and taken out; and a list of which none passes.
+-- The first item of a list that passes a test: found, changed or removed. Also lists without such an item.
 use Rattle.std.proofs.Common.{◌≡◌, ℕ, zero, suc, ◌+◌, ◌<◌, ◌≤◌, Bool, true, false, not, cond, List, [], ◌∷◌, length, None, Some, refl, ap, inl, inr, ltb, arith}
 use Rattle.std.proofs.lemmas.Bool.{cases_Bool, ltb-false}
 use Rattle.std.specs.List.{find, list_any, position, position_or_len, remove, slice_index_or, slice_set}
 use Rattle.std.specs.Option.{is_none}
 use Rattle.sv_session.specs.Lists.{on_first, without_first}
 
--- the first item that passes stands at the place
+-- The first item that passes is at this index.
 pub record IsFirstAt {X : Type 0} (p : X → Bool) (xs : List X) (k : ℕ) : Type 0 where
   pub there : k < length xs
   pub finds : (d : X) → find p xs ≡ Some (slice_index_or xs k d)
@@ -15,7 +15,7 @@ pub record IsFirstAt {X : Type 0} (p : X → Bool) (xs : List X) (k : ℕ) : Typ
   pub leaves : remove xs k ≡ without_first p xs
   pub same : (d : X) → slice_set xs k (slice_index_or xs k d) ≡ xs
 
--- no item passes
+-- No item passes.
 pub record IsMissed {X : Type 0} (p : X → Bool) (xs : List X) : Type 0 where
   pub finds : find p xs ≡ None
   pub any : list_any p xs ≡ false
@@ -64,7 +64,7 @@ missed_at p xs missed = elim (cases_Bool (ltb (position_or_len p xs) (length xs)
   | inr more ↦ past_all p xs (ltb-false (position_or_len p xs) (length xs) more)
 ]
 
--- none is found
+-- No item is found.
 pub none_found : {X : Type 0} (p : X → Bool) (xs : List X) → find p xs ≡ None → IsMissed p xs
 none_found p [] none = record { finds = refl; any = refl; changes = λ f. refl; leaves = refl }
 none_found p (x ∷ xs) none = elim (cases_Bool (p x)) [

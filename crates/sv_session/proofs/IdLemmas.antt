@@ -58,7 +58,7 @@ serials_tell words others a b small_a small_b same =
     digits_tell a b small_a small_b (sym (serial_of words a) ∙ (ap (drop 32) same ∙ serial_of others b))
 
 -- ---- ids of rising serials
--- each id has a serial above that of the one before
+-- Each id has a serial greater than that of the id before it.
 abbrev AreAbove : ℕ → List (List ℕ) → Type 0
 AreAbove low [] = Unit {0}
 AreAbove low (id ∷ ids) = (words : ℕ × ℕ) × (serial : ℕ) × (low < serial) × (serial < 2 ^ 64) × (id ≡ id_text words serial) × AreAbove serial ids

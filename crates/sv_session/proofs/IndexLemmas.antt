@@ -1,4 +1,4 @@
--- Ids that are entered in the index and taken out, by their bytes.
+-- Ids entered in the index and removed from it, by their bytes.
 use Rattle.std.proofs.Common.{◌≡◌, ℕ, Bool, true, false, cond, List, Option, sym, ◌∙◌, subst, ⊎_elim}
 use Rattle.std.specs.HashMap as hash
 use Rattle.std.specs.HashMap.{HashMap}

@@ -1,4 +1,4 @@
--- The record that is judged first against the sessions that have expired.
+-- The record that is judged first, compared with the expired sessions.
 use Rattle.std.proofs.Common.{◌≡◌, ◌≢◌, ℕ, zero, suc, ◌+◌, ◌-◌, ◌<◌, Bool, true, false, ◌&&◌, ◌||◌, eqb, ltb, leb, inl, inr, List, [], ◌∷◌, map, min, None, Some, refl, sym, ◌∙◌, ap, subst, arith}
 use Rattle.std.specs.List.{filter, fold, reduce, slice_get}
 use Rattle.std.specs.Option.{option_map}
@@ -16,7 +16,7 @@ use Rattle.sv_session.specs.Store.{Session, Store}
 use Rattle.sv_session.proofs.ExpiryLemmas.{before_chain_not, first_in}
 use Rattle.sv_session.proofs.OrderLemmas.{IsIn, in_filter}
 
--- the first of the records has waited for as long as the interval, or none has
+-- The first record has waited for the interval, or no record has.
 abbrev pub HasWaited : ℕ → ℕ → Waiting → Due → Type 0
 HasWaited interval now places due = IsFirst places due × (has_waited interval now due ≡ true)
 
@@ -34,7 +34,7 @@ none_behind interval now places due first waits other there =
 abbrev due_at : Session → Due
 due_at session = record { last_access = session.last_access; number = session.number }
 
--- ---- sessions and what waits
+-- ---- sessions and their records
 session_waits : (slots : List Slot) (session : Session) → IsIn session (living slots) → Waits (map due_of slots) (due_at session)
 session_waits [] session here = absurd here
 session_waits (x ∷ xs) session here = elim (cases_Bool x.live) [
@@ -73,7 +73,7 @@ unexpired interval now (x ∷ xs) none =
           rw (lives, fails) more
     ]
 
--- ---- the first of those that have
+-- ---- the first expired session
 to_filter : (test : Session → Bool) (sessions : List Session) (session : Session) → IsIn session sessions → test session ≡ true → IsIn session (filter test sessions)
 to_filter test [] session here passes = here
 to_filter test (x ∷ xs) session here passes = elim (cases_Bool (test x)) [
@@ -148,7 +148,7 @@ module _ (interval now : ℕ) (slots : List Slot) (due : Due) (waited : HasWaite
       let passes : has_expired interval now at.0 ≡ true = subst (λ d. has_waited interval now d ≡ true) (sym at.2) waited.1 in
       by_list at.0 at.2 gone refl (to_filter (has_expired interval now) (living slots) at.0 at.1 passes)
 
--- ---- what `expire` answers and leaves
+-- ---- the result of `expire`
 module _ (limit interval serial count : ℕ) (slots : List Slot) (ids : Ids) (queue : Waiting) (store : Store)
     (view : record { limit = limit; interval = interval; serial = serial; sessions = living slots } ≡ store) (kept : AreKept serial count slots ids queue) (now : ℕ) where
   abbrev seen : Store
@@ -165,7 +165,7 @@ module _ (limit interval serial count : ℕ) (slots : List Slot) (ids : Ids) (qu
   all_stay : NoneHasWaited interval now queue → store ≡ left_by_expiry now store
   all_stay none = subst (λ s. s ≡ left_by_expiry now s) view (rw (none_number none) refl)
 
-  -- no record waits
+  -- The queue is empty.
   module _ (none : NoneWaits queue) where
     none_has : NoneHasWaited interval now queue
     none_has due waits = absurd (none due waits)
@@ -183,7 +183,7 @@ module _ (limit interval serial count : ℕ) (slots : List Slot) (ids : Ids) (qu
         by_list [] waits = refl
         by_list (x ∷ xs) waits = absurd (none (due_at x) (subst (λ places. Waits places (due_at x)) (sym kept.wait) (waits x (inl refl))))
 
-  -- the first record
+  -- The first record.
   module _ (due : Due) (first : IsFirst queue due) where
     pub one_judged : (judged more : ℕ) → more ≡ min (judged + 1) 18446744073709551615 → more ≡ judged_by_expiry store judged
     one_judged judged more is = subst (λ s. more ≡ judged_by_expiry s judged) view (is ∙ by_list (living slots) at.1)
@@ -195,7 +195,7 @@ module _ (limit interval serial count : ℕ) (slots : List Slot) (ids : Ids) (qu
         by_list [] here = absurd here
         by_list (x ∷ xs) here = refl
 
-    -- has not waited
+    -- It has not waited for the interval.
     module _ (waits : has_waited interval now due ≡ false) where
       pub later_ended : None ≡ expiring now store
       later_ended = none_ends (none_behind interval now queue due first waits)
@@ -203,7 +203,7 @@ module _ (limit interval serial count : ℕ) (slots : List Slot) (ids : Ids) (qu
       pub later_left : store ≡ left_by_expiry now store
       later_left = all_stay (none_behind interval now queue due first waits)
 
-    -- has waited
+    -- It has waited for the interval.
     module _ (waited : has_waited interval now due ≡ true) where
       one_number_due : expired_number now seen ≡ Some due.number
       one_number_due = first_expired interval now slots due (subst (λ places. HasWaited interval now places due) kept.wait (first, waited))

@@ -1,4 +1,4 @@
--- What stands beside the slots, behind each call.
+-- The invariant of the stored sessions after each call: serial, count, slots, ids and queue.
 use Rattle.std.proofs.Common.{◌≡◌, ◌≢◌, ℕ, zero, suc, ◌+◌, ◌≤◌, Bool, true, false, cond, inl, inr, List, [], ◌∷◌, ◌++◌, length, map, set, get_or, Option, None, Some, refl, sym, ◌∙◌, ap, subst, min, arith}
 use Rattle.std.specs.List.{filter, find, fold, reduce}
 use Rattle.std.specs.Option.{option_map}
@@ -73,7 +73,7 @@ among_changed test f ids numbers (x ∷ xs) id = elim (cases_Bool (test x)) [
   ]
 ]
 
--- none has an id that is the same as one that none has
+-- If no session has an id, none has an equal one.
 none_found : (id other : List ℕ) (sessions : List Session) → NoneHas id sessions → bytes_eq id other ≡ true → number_among sessions other ≡ None
 none_found id other [] none same = refl
 none_found id other (x ∷ xs) none same =
@@ -152,7 +152,7 @@ module _ (bound number : ℕ) (given : List ℕ) where
         ]
   ]
 
--- ---- how many
+-- ---- the count
 length_changed : (test : Session → Bool) (f : Session → Session) (sessions : List Session) → length (on_first test f sessions) ≡ length sessions
 length_changed test f [] = refl
 length_changed test f (x ∷ xs) = elim (cases_Bool (test x)) [
@@ -168,10 +168,10 @@ length_left number (x ∷ xs) session found = elim (cases_Bool (is_numbered numb
   | inr fails ↦ let more = length_left number xs session (rw fails at found) in rw fails (omega (arith, more))
 ]
 
--- ---- calls at the place of a session
+-- ---- calls at the index of a session
 module _ (serial count number k : ℕ) (slots : List Slot) (ids : Ids) (queue : Waiting) (slot : Slot) (kept : AreKept serial count slots ids queue)
     (is : slot ≡ get_or slots k slot) (at : IsAt number slots k slot) where
-  -- a change that keeps number and id
+  -- A change that keeps the number and the id.
   pub kept_changed : (f : Session → Session) → ((s : Session) → (f s).number ≡ s.number) → ((s : Session) → (f s).id ≡ s.id) → (new : Session) → new ≡ f slot.kept
       → (after : Waiting) → after ≡ set queue k (due_of (record { live = slot.live; kept = f slot.kept }))
       → AreKept serial count (set slots k (record { live = slot.live; kept = new })) ids after
@@ -186,7 +186,7 @@ module _ (serial count number k : ℕ) (slots : List Slot) (ids : Ids) (queue : 
         counted = kept.counted ∙ (sym (length_changed (is_numbered number) f (living slots)) ∙ ap length (sym (at.changes f)));
       })
 
-  -- one that keeps the last access, too
+  -- A change that also keeps the last access.
   pub kept_same : (f : Session → Session) → ((s : Session) → (f s).number ≡ s.number) → ((s : Session) → (f s).id ≡ s.id)
       → ((s : Session) → (f s).last_access ≡ s.last_access) → (new : Session) → new ≡ f slot.kept
       → AreKept serial count (set slots k (record { live = slot.live; kept = new })) ids queue
@@ -200,7 +200,7 @@ module _ (serial count number k : ℕ) (slots : List Slot) (ids : Ids) (queue : 
       same_due s n a = ap (λ (d : Due). cond slot.live (Some d) None)
           (ap (λ m. record { last_access = s.last_access; number = m }) n ∙ ap (λ m. record { last_access = m; number = slot.kept.number }) a)
 
-  -- what waits behind an access
+  -- The queue after an access.
   pub accessed : (last : ℕ) (after : Waiting) → after ≡ set queue k (Some (record { last_access = last; number = number }))
       → after ≡ set queue k (due_of (record { live = slot.live; kept = record slot.kept { last_access = last } }))
   accessed last after is =
@@ -209,7 +209,7 @@ module _ (serial count number k : ℕ) (slots : List Slot) (ids : Ids) (queue : 
       there : (last : ℕ) → Some (record { last_access = last; number = number }) ≡ due_of (record { live = slot.live; kept = record slot.kept { last_access = last } })
       there last = rw at.lives (ap (λ n. Some (record { last_access = last; number = n })) (sym at.numbered))
 
-  -- the end
+  -- The session ends.
   pub kept_left : (new : Session) → new.number ≡ slot.kept.number → (left : Ids)
       → ((id : List ℕ) → number_in left id ≡ cond (bytes_eq slot.kept.id id) None (number_in ids id))
       → (after : Waiting) → after ≡ set queue k None → (less : ℕ) → less + 1 ≡ count
@@ -226,7 +226,7 @@ module _ (serial count number k : ℕ) (slots : List Slot) (ids : Ids) (queue : 
         omega (arith, fewer, kept.counted, one_less, ap length (at.leaves new));
   }
 
-  -- another id
+  -- The session gets a new id.
   pub kept_renamed : (words : ℕ × ℕ) (new : Session) → new ≡ record slot.kept { id = id_text words (serial + 1) } → serial + 1 ≤ GREATEST_SERIAL → (left : Ids)
       → ((id : List ℕ) → number_in left id ≡ cond (bytes_eq slot.kept.id id) None (cond (bytes_eq (id_text words (serial + 1)) id) (Some number) (number_in ids id)))
       → AreKept (serial + 1) count (set slots k (record { live = slot.live; kept = new })) left queue
@@ -266,7 +266,7 @@ module _ (serial count : ℕ) (slots : List Slot) (ids : Ids) (queue : Waiting) 
   none_new : NoneHas new.id (living slots)
   none_new = new_id words serial (living slots) (omega (arith, small)) kept.differ
 
-  -- the id of a session that could not be added is taken out again
+  -- The id of a session that could not be added is removed again.
   pub kept_back : (entered left : Ids) → ((id : List ℕ) → number_in entered id ≡ cond (bytes_eq new.id id) (Some new.number) (number_in ids id))
       → ((id : List ℕ) → number_in left id ≡ cond (bytes_eq new.id id) None (number_in entered id)) → (id : List ℕ) → number_in left id ≡ number_in ids id
   kept_back entered left came went id = elim (cases_Bool (bytes_eq new.id id)) [
@@ -290,7 +290,7 @@ module _ (serial count : ℕ) (slots : List Slot) (ids : Ids) (queue : Waiting) 
     counted = ap (λ n. n + 1) kept.counted ∙ (sym (length_more (living slots) new) ∙ ap length (sym (living_more slots new)));
   }
 
--- ---- empty slots taken out
+-- ---- empty slots are removed
 rise_filtered : (low high : ℕ) (slots : List Slot) → SlotsRise low high slots → SlotsRise low high (filter (λ (s : Slot). s.live) slots)
 rise_filtered low high [] rise = rise
 rise_filtered low high (x ∷ xs) rise = elim (cases_Bool x.live) [
@@ -320,7 +320,7 @@ kept_gathered serial count slots after ids queue waiting kept is waits =
       counted = kept.counted ∙ ap length (sym gone);
     })
 
--- ---- the least number
+-- ---- the lowest number
 fold_least : (n high : ℕ) (slots : List Slot) → SlotsRise n high slots → fold min n (map (λ (s : Session). s.number) (living slots)) ≡ n
 fold_least n high [] rise = refl
 fold_least n high (x ∷ xs) rise = elim (cases_Bool x.live) [
@@ -362,7 +362,7 @@ kept_ids serial count slots ids others queue kept same = record {
   counted = kept.counted;
 }
 
--- one id comes and another goes
+-- One id is entered and another removed.
 pub come_and_gone : (number : ℕ) (ids entered left : Ids) (given gone came went : List ℕ) → came ≡ given → went ≡ gone
     → ((id : List ℕ) → number_in entered id ≡ cond (bytes_eq came id) (Some number) (number_in ids id))
     → ((id : List ℕ) → number_in left id ≡ cond (bytes_eq went id) None (number_in entered id))

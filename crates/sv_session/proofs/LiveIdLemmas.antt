@@ -1,4 +1,4 @@
--- The ids of the sessions that live differ, so each is found by its own.
+-- The ids of the live sessions differ, so each session is found by its own id.
 use Rattle.std.proofs.Common.{◌≡◌, ◌≢◌, ℕ, ◌+◌, ◌^◌, ◌<◌, ◌≤◌, Bool, true, false, inl, inr, List, [], ◌∷◌, ◌++◌, length, Option, Some, None, refl, sym, ◌∙◌, ap, subst, arith}
 use Rattle.std.specs.List.{find}
 use Rattle.std.specs.Option.{option_map, option_map_or}
@@ -54,7 +54,7 @@ differ_left bound test (x ∷ xs) differ = elim (cases_Bool (test x)) [
   | inr fails ↦ rw fails (differ.0, none_has_left x.id test xs differ.1, differ_left bound test xs differ.2)
 ]
 
--- a change that keeps the id
+-- A change that keeps the id.
 pub differ_kept : (bound : ℕ) (test : Session → Bool) (change : Session → Session) → ((session : Session) → (change session).id ≡ session.id)
     → (sessions : List Session) → IdsDiffer bound sessions → IdsDiffer bound (on_first test change sessions)
 differ_kept bound test change keeps [] differ = differ
@@ -67,7 +67,7 @@ differ_kept bound test change keeps (x ∷ xs) differ = elim (cases_Bool (test x
   )
 ]
 
--- the next serial makes an id that no session has
+-- An id with the next serial belongs to no session.
 pub new_id : (words : ℕ × ℕ) (bound : ℕ) (sessions : List Session) → bound + 1 < 2 ^ 64 → IdsDiffer bound sessions → NoneHas (id_text words (bound + 1)) sessions
 new_id words bound [] small differ = tt
 new_id words bound (x ∷ xs) small differ = (
@@ -190,7 +190,7 @@ id_names_session limit interval calls number session found =
     let at = found_by_id number store.serial store.sessions session (own_behind calls (empty_store limit interval) own).1 found in
     rw at.0 (ap Some at.1)
 
--- ---- an id of another length is no session's
+-- ---- an id of another length belongs to no session
 pub none_of_length : (bound : ℕ) (sessions : List Session) (id : List ℕ) → IdsDiffer bound sessions → length id ≢ 48 → find (has_id id) sessions ≡ None
 none_of_length bound [] id differ other = refl
 none_of_length bound (x ∷ xs) id differ other =

@@ -1,4 +1,4 @@
--- What components do to the sessions at a moment.
+-- The changes that components make to the sessions at a time.
 use Rattle.std.proofs.Common.{◌≡◌, ℕ, inl, inr, List, [], ◌∷◌, ◌++◌, refl, sym, ◌∙◌, ap, subst}
 use Rattle.std.specs.List.{AllByRecursion}
 use Rattle.sv_session.specs.Calls.{HoldsCaller}

@@ -1,4 +1,4 @@
--- The numbers of sessions rise: what a change, a push and a removal leave of that.
+-- The numbers of sessions increase: after a change, a push and a removal.
 use Rattle.std.proofs.Common.{◌≡◌, ℕ, ◌+◌, ◌<◌, ◌≤◌, Bool, true, false, ◌⊎◌, inl, inr, List, [], ◌∷◌, ◌++◌, Some, refl, sym, ◌∙◌, ap, cond, eq-eqb, arith}
 use Rattle.std.specs.List.{filter, find}
 use Rattle.std.proofs.lemmas.Bool.{cases_Bool, ne_eqb}
@@ -67,7 +67,7 @@ above_all low high (x ∷ xs) session rises here = elim here [
   | inr later ↦ let more : x.number < session.number = above_all x.number high xs session rises.1 later in omega (arith, rises.0, more)
 ]
 
--- it has its number, and those before it have others
+-- The session has its own number, and those before it have others.
 pub is_itself : (x session : Session) → x ≡ session → is_numbered session.number x ≡ true
 is_itself x session same = eq-eqb x.number session.number (ap (λ s. s.number) same)
 

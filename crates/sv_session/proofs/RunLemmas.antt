@@ -1,4 +1,4 @@
--- What calls leave: order, and none that has expired.
+-- Calls keep the order, and let no session expire.
 use Rattle.std.proofs.Common.{◌≡◌, ℕ, ◌+◌, ◌-◌, Bool, false, ◌&&◌, inl, inr, List, [], ◌∷◌, ◌++◌, Option, Some, None, refl, sym, ◌∙◌, subst, ltb, leb, arith}
 use Rattle.std.specs.List.{find, list_any}
 use Rattle.std.specs.Option.{option_map_or}
@@ -16,7 +16,7 @@ use Rattle.sv_session.specs.Runs.{Call, Open, Touch, Expire, End, Rename, EnterC
 use Rattle.sv_session.specs.Store.{IsOrderly, Session, Store, is_numbered}
 use Rattle.sv_session.proofs.OrderLemmas.{rise_above, rise_changed, rise_push, rise_without}
 
--- what holds of the one and of the other holds where either may stand
+-- A property of both alternatives holds for `unless`.
 pub where_either : {A : Type 0} (P : A → Type 0) (faults : List SessionFault) (done refused : A) → P done → P refused → P (unless faults done refused)
 where_either P [] done refused here there = here
 where_either P (fault ∷ faults) done refused here there = there
@@ -54,8 +54,8 @@ call_leaves_order (Set number name value) store orderly =
 call_leaves_order (Remove number name) store orderly =
     still_orderly number (λ session. record session { attributes = without_named name session.attributes }) (λ _. refl) store orderly
 
--- ---- moments
--- a session that was accessed at a moment has not expired at it
+-- ---- times
+-- A session that is accessed at a time has not expired at that time.
 pub not_yet : (interval now : ℕ) → (ltb 0 interval && leb interval (now - now)) ≡ false
 not_yet interval now = grind (arith, nat_tests)
 

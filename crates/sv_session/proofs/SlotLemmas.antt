@@ -1,4 +1,4 @@
--- The sessions in their slots, by the place of a session.
+-- The sessions in their slots, by index.
 use Rattle.std.proofs.Common.{◌≡◌, ℕ, zero, suc, ◌<◌, ◌≤◌, true, false, ◌⊎◌, inl, inr, List, [], ◌∷◌, length, set, get_or, None, Some, refl, sym, ◌∙◌, ap, subst, eq-eqb, arith}
 use Rattle.std.specs.List.{find}
 use Rattle.std.proofs.lemmas.Bool.{both_ways, cases_Bool, ne_eqb}
@@ -22,7 +22,7 @@ numbers_rise low high (x ∷ xs) j zero d rise less within = absurd (omega (arit
 numbers_rise low high (x ∷ xs) zero (suc k) d rise less within = above_slot x.kept.number high xs k d rise.1 (omega (arith, within))
 numbers_rise low high (x ∷ xs) (suc j) (suc k) d rise less within = numbers_rise x.kept.number high xs j k d rise.1 (omega (arith, less)) (omega (arith, within))
 
--- ---- the session at a place
+-- ---- the session at an index
 pub record IsAt (number : ℕ) (slots : List Slot) (k : ℕ) (slot : Slot) : Type 0 where
   pub lives : slot.live ≡ true
   pub numbered : slot.kept.number ≡ number
@@ -145,7 +145,7 @@ pub now_dead : (slots : List Slot) (place : ℕ) (slot d : Slot) → place < len
 now_dead slots place slot d within is dead lives =
     both_ways slot.live dead (ap (λ (s : Slot). s.live) (is ∙ get_or-any slots place slot d within) ∙ lives)
 
--- ---- what the search says of the slots that are kept
+-- ---- the search among the stored slots
 pub at_there : (number high : ℕ) (slots seen : List Slot) (place : ℕ) (slot : Slot) → seen ≡ slots → SlotsRise 0 high slots
     → ((bound : ℕ) → SlotsRise 0 bound seen → IsPlace number seen place) → slot ≡ get_or slots place slot → IsAt number slots place slot
 at_there number high slots seen place slot same rise found is =

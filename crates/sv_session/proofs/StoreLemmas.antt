@@ -1,4 +1,4 @@
--- What the calls do to the list of sessions, by the place of a session.
+-- The effect of the calls on the list of sessions, by the index of a session.
 use Rattle.std.proofs.Common.{◌≡◌, ℕ, ◌+◌, ◌<◌, true, false, List, [], ◌∷◌, length, Option, Some, None, get_or, set, refl, sym, ◌∙◌, ap, subst, eq-eqb}
 use Rattle.std.specs.List.{slice_get}
 use Rattle.std.proofs.lemmas.List.{set-get_or}
@@ -52,7 +52,7 @@ module _ (number : ℕ) (store : Store) (none : numbered number store ≡ None) 
   pub not_set : (name value : List ℕ) → slice_get (setting_faults number name value store) 0 ≡ Some NoSuch
   not_set name value = rw none refl
 
--- ---- the session of the number, at its place
+-- ---- the session of the number, at its index
 module _ (number place limit interval serial : ℕ) (slots : List Slot) (store : Store)
     (same : record { limit = limit; interval = interval; serial = serial; sessions = living slots } ≡ store) (slot : Slot) (at : IsAt number slots place slot) where
   pub numbered_at : numbered number store ≡ Some slot.kept

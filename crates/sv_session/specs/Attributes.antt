@@ -1,4 +1,4 @@
--- Jakarta Servlet 6.0, section 7.4: the attributes of a session, in the order in which they were first set.
+-- Jakarta Servlet 6.0, section 7.4: the attributes of a session, in the order they were first set.
 use Rattle.std.specs.Prelude.{ℕ, Bool, List, [], ◌∷◌, ◌++◌, Option, find, if◌then◌else◌}
 use Rattle.std.specs.List.{list_any}
 use Rattle.std.specs.Option.{option_map}
@@ -15,7 +15,7 @@ value_named name attributes = option_map (λ attribute. attribute.value) (find (
 abbrev pub names_one : List ℕ → List Attribute → Bool
 names_one name attributes = list_any (is_named name) attributes
 
--- the attribute of the name gets the value in its place, or there is one more
+-- The value of an existing attribute is replaced; otherwise the attribute is appended.
 abbrev pub with_named : List ℕ → List ℕ → List Attribute → List Attribute
 with_named name value attributes =
     if names_one name attributes

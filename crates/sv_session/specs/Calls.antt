@@ -1,4 +1,4 @@
--- Jakarta Servlet 6.0, chapter 7: what each call on the sessions of a context answers and leaves.
+-- Jakarta Servlet 6.0, chapter 7: the result of each call on the sessions of a context, and the sessions after it.
 use Rattle.std.specs.Prelude.{◌≡◌, ℕ, ◌+◌, ◌∷◌, Bool, true, false, ◌||◌, ◌&&◌, not, ◌==◌, nat_lt, nat_le, List, [], ◌++◌, length, map, min, Option, None, Some, is_none, slice_get}
 use Rattle.std.specs.List.{list_any, reduce}
 use Rattle.std.specs.Option.{option_map, option_map_or, option_and_then}
@@ -14,16 +14,16 @@ use Rattle.sv_session.specs.Id.{id_text}
 use Rattle.sv_session.specs.Lists.{without_first}
 use Rattle.sv_session.specs.Store.{Session, Store, is_numbered, numbered, attributes_of, changed}
 
--- a refusal tells the first of the faults and changes nothing; want of memory is told where there is no other
+-- A refusal gives the first of the faults and changes nothing. Out of memory is given only if there is no other fault.
 abbrev pub RefusesCall : List SessionFault → SessionFault → Store → Store → Type 0
 RefusesCall faults NoMemory before after = (faults ≡ []) × (after ≡ before)
 RefusesCall faults fault before after = (slice_get faults 0 ≡ Some fault) × (after ≡ before)
 
--- the greatest serial was given
+-- The greatest serial has been used.
 abbrev pub is_spent : Store → Bool
 is_spent store = store.serial == GREATEST_SERIAL
 
--- a session is opened: it has the next serial as its number, and was accessed
+-- A session is opened: its number is the next serial, and it counts as accessed.
 abbrev pub opening_faults : Store → List SessionFault
 opening_faults store = when (nat_le store.limit (length store.sessions)) TooMany ++ when (is_spent store) SerialSpent
 
@@ -35,11 +35,11 @@ abbrev pub opened : ℕ × ℕ → ℕ → Store → Store
 opened words now store =
     record store { serial = store.serial + 1; sessions = store.sessions ++ session_opened words (store.serial + 1) now ∷ [] }
 
--- no session of the number lives
+-- No live session has the number.
 abbrev pub missing : ℕ → Store → List SessionFault
 missing number store = when (is_none (numbered number store)) NoSuch
 
--- a session gets an id of the next serial
+-- A session gets a new id, of the next serial.
 abbrev pub renaming_faults : ℕ → Store → List SessionFault
 renaming_faults number store = missing number store ++ when (is_spent store) SerialSpent
 
@@ -50,11 +50,11 @@ renamed number words store =
 abbrev pub id_of : ℕ → Store → Option (List ℕ)
 id_of number store = option_map (λ session. session.id) (numbered number store)
 
--- a session was accessed
+-- A session is accessed.
 abbrev pub touched : ℕ → ℕ → Store → Store
 touched number now = changed number (λ session. record session { last_access = now })
 
--- its caller, and the target that a login interrupted
+-- Its caller, and the target of the request that a login interrupted.
 abbrev pub with_caller : ℕ → Option ℕ → Store → Store
 with_caller number caller = changed number (λ session. record session { caller = caller })
 
@@ -67,14 +67,14 @@ caller_of number store = option_and_then (λ session. session.caller) (numbered 
 abbrev pub saved_of : ℕ → Store → Option (List ℕ)
 saved_of number store = option_and_then (λ session. session.saved) (numbered number store)
 
--- there is a session of the number that holds the caller
+-- A session has this number and this caller.
 abbrev pub is_held_by : ℕ → ℕ → Session → Bool
 is_held_by number caller session = session.number == number && option_map_or (λ own. own == caller) session.caller false
 
 abbrev pub HoldsCaller : ℕ → ℕ → Store → Type 0
 HoldsCaller number caller store = list_any (is_held_by number caller) store.sessions ≡ true
 
--- its attributes
+-- Its attributes.
 abbrev pub is_too_large : List ℕ → List ℕ → List Attribute → Bool
 is_too_large name value attributes =
     nat_lt MAX_NAME_BYTES (length name) || nat_lt MAX_VALUE_BYTES (length value)
@@ -92,7 +92,7 @@ without_attribute number name = changed number (λ session. record session { att
 abbrev pub value_of : ℕ → List ℕ → Store → Option (List ℕ)
 value_of number name store = value_named name (attributes_of number store)
 
--- the end of a session
+-- The end of a session.
 abbrev pub ended : Session → EndedSession
 ended session = record { number = session.number; attributes = session.attributes }
 
@@ -102,7 +102,7 @@ ending number store = option_map ended (numbered number store)
 abbrev pub without : ℕ → Store → Store
 without number store = record store { sessions = without_first (is_numbered number) store.sessions }
 
--- the end of the first session that has expired at a moment
+-- The end of the first session that has expired at a time.
 abbrev pub expired_number : ℕ → Store → Option ℕ
 expired_number now store = option_map (λ session. session.number) (first_expired now store)
 
@@ -112,7 +112,7 @@ expiring now store = option_and_then (λ number. ending number store) (expired_n
 abbrev pub left_by_expiry : ℕ → Store → Store
 left_by_expiry now store = option_map_or (λ number. without number store) (expired_number now store) store
 
--- how many records have been judged with an expiry: one more where there is a session, up to the greatest number
+-- The number of records judged after an expiry: one more if there is a session, up to the maximum.
 abbrev pub judged_among : List Session → ℕ → ℕ
 judged_among [] judged = judged
 judged_among (session ∷ sessions) judged = min (judged + 1) 18446744073709551615
@@ -120,6 +120,6 @@ judged_among (session ∷ sessions) judged = min (judged + 1) 184467440737095516
 abbrev pub judged_by_expiry : Store → ℕ → ℕ
 judged_by_expiry store judged = judged_among store.sessions judged
 
--- the least number of a session
+-- The lowest number of a session.
 abbrev pub least_number : Store → Option ℕ
 least_number store = reduce min (map (λ session. session.number) store.sessions)

@@ -1,4 +1,4 @@
--- Jakarta Servlet 6.0, chapter 7: the laws of the calls on the sessions of a context.
+-- Jakarta Servlet 6.0, chapter 7: theorems about the calls on the sessions of a context.
 use Rattle.std.specs.Prelude.{◌≡◌, ◌≢◌, ◌↔◌, ◌⊎◌, ◌<◌, ℕ, ◌+◌, false, List, [], ◌∷◌, length, Some, None, map}
 use Rattle.std.specs.List.{AllPairs}
 use Rattle.sv_session.specs.declared.ended_session.EndedSession.{EndedSession}
@@ -8,30 +8,30 @@ use Rattle.sv_session.specs.Expiry.{HasNoneExpired, by_deadline, expired, has_ex
 use Rattle.sv_session.specs.Runs.{Call, EnterCaller, Expires, IsAt, MovedByComponents, ids_given, left_after, left_by}
 use Rattle.sv_session.specs.Store.{IsOrderly, Session, Store, empty_store, number_of, numbered}
 
--- of the ids that a context gives no two are the same, whatever is called
+-- No two ids that a context gives are the same, for any calls.
 abbrev pub NoIdIsGivenTwice : Type 0
 NoIdIsGivenTwice = (limit interval : ℕ) (calls : List Call) → AllPairs (λ a b. a ≢ b) (ids_given calls (empty_store limit interval))
 
--- and of the sessions that live each is found by its own
+-- Each live session is found by its own id.
 abbrev pub IdNamesItsSession : Type 0
 IdNamesItsSession = (limit interval : ℕ) (calls : List Call) (number : ℕ) (session : Session)
     → numbered number (left_after calls (empty_store limit interval)) ≡ Some session
     → number_of session.id (left_after calls (empty_store limit interval)) ≡ Some number
 
--- behind the greatest serial no session is opened and none renamed
+-- After the greatest serial, no session is opened or renamed.
 abbrev pub NoneFollowsTheGreatest : Type 0
 NoneFollowsTheGreatest = (store : Store) → store.serial ≡ 18446744073709551615
     → (length store.sessions < store.limit → opening_faults store ≡ SerialSpent ∷ [])
     × ((number : ℕ) (session : Session) → numbered number store ≡ Some session → renaming_faults number store ≡ SerialSpent ∷ [])
 
--- there is order at first, and each call leaves it
+-- The sessions are in order initially, and each call keeps the order.
 abbrev pub EmptyIsOrderly : Type 0
 EmptyIsOrderly = (limit interval : ℕ) → IsOrderly (empty_store limit interval)
 
 abbrev pub CallsLeaveOrder : Type 0
 CallsLeaveOrder = (call : Call) (store : Store) → IsOrderly store → IsOrderly (left_by call store)
 
--- a session that was opened or touched at a moment has not expired at it
+-- A session that is opened or accessed at a time has not expired at that time.
 abbrev pub OpenedHasNotExpired : Type 0
 OpenedHasNotExpired = (words : ℕ × ℕ) (interval serial now : ℕ) → has_expired interval now (session_opened words serial now) ≡ false
 
@@ -39,45 +39,47 @@ abbrev pub TouchedHasNotExpired : Type 0
 TouchedHasNotExpired = (number now : ℕ) (store : Store) (session : Session) → numbered number (touched number now store) ≡ Some session
     → has_expired store.interval now session ≡ false
 
--- where none has expired at a moment, no call of that moment leaves one that has
+-- If no session has expired at a time, none has expired after a call at that time.
 abbrev pub CallsLeaveNoneExpired : Type 0
 CallsLeaveNoneExpired = (now : ℕ) (call : Call) (store : Store) → IsAt now call → HasNoneExpired now store → HasNoneExpired now (left_by call store)
 
--- `expire` ends none exactly where none has expired
+-- `expire` ends no session exactly if none has expired.
 abbrev pub ExpiryEndsWhereNoneHasExpired : Type 0
 ExpiryEndsWhereNoneHasExpired = (now : ℕ) (store : Store) → (expiring now store ≡ None) ↔ HasNoneExpired now store
 
--- until it ends none, it ends exactly the expired sessions, by deadline and then number, and leaves the others as they stood
+-- Called until it ends none, it ends exactly the expired sessions, by deadline and then by number. The others are
+-- unchanged.
 abbrev pub ExpiryEndsTheExpired : Type 0
 ExpiryEndsTheExpired = (now : ℕ) (before after : Store) (sessions : List EndedSession) → IsOrderly before → Expires now before sessions after
     → (sessions ≡ map ended (by_deadline before.interval (expired now before))) × (after ≡ record before { sessions = unexpired now before })
 
--- and at the same moment again it ends none
+-- Called again at the same time, it ends none.
 abbrev pub ExpiryEndsNoneAgain : Type 0
 ExpiryEndsNoneAgain = (now : ℕ) (before after : Store) (sessions : List EndedSession) → Expires now before sessions after → expiring now after ≡ None
 
--- it judges no record where there is no session, one more where there is one, and none at the greatest number
+-- It judges one record if there is a session, and none otherwise. A count at the maximum stays there.
 abbrev pub ExpiryJudgesAtMostOneMore : Type 0
 ExpiryJudgesAtMostOneMore = (store : Store) (judged : ℕ)
     → (store.sessions ≡ [] → judged_by_expiry store judged ≡ judged)
     × (store.sessions ≢ [] → judged < 18446744073709551615 → judged_by_expiry store judged ≡ judged + 1)
     × (judged ≡ 18446744073709551615 → judged_by_expiry store judged ≡ judged)
 
--- no call but the entering of a caller gives a session one
+-- A session gets a caller only by the call that enters one.
 abbrev pub CallersAreEntered : Type 0
 CallersAreEntered = (call : Call) (store : Store) (number caller : ℕ) → HoldsCaller number caller (left_by call store)
     → HoldsCaller number caller store ⊎ (call ≡ EnterCaller number (Some caller))
 
--- where there is order, it is the session that is found by its number
+-- In an orderly store, the session that holds a caller is the one found by its number.
 abbrev pub HoldersAreFound : Type 0
 HoldersAreFound = (store : Store) → IsOrderly store → (number caller : ℕ) → HoldsCaller number caller store ↔ (caller_of number store ≡ Some caller)
 
--- what components do one after another, they do together
+-- Successive changes by components are also one change.
 abbrev pub MovesJoin : Type 0
 MovesJoin = (now : ℕ) (before between after : Store)
     → MovedByComponents now before between → MovedByComponents now between after → MovedByComponents now before after
 
--- whatever components do at a moment, order stays, none has expired at it where none had, and each caller was there before
+-- Components keep the order. At the time of their changes, no session has expired if none had before, and each
+-- session's caller is one that it had before.
 abbrev pub MovesLeaveOrder : Type 0
 MovesLeaveOrder = (now : ℕ) (before after : Store) → MovedByComponents now before after → IsOrderly before → IsOrderly after
 

@@ -1,4 +1,4 @@
--- Lists of which the first item that passes a test is changed or taken out.
+-- Lists whose first item that passes a test is changed or removed.
 use Rattle.std.specs.Prelude.{Bool, List, [], ◌∷◌, if◌then◌else◌}
 
 abbrev pub on_first : {A : Type 0} → (A → Bool) → (A → A) → List A → List A

@@ -2,11 +2,11 @@
 
 use sv_text::Text;
 
-/// A named value that a session keeps (Jakarta Servlet 6.0, section 7.4).
+/// A named value of a session (Jakarta Servlet 6.0, section 7.4).
 #[derive(Drop)]
 pub struct Attribute {
-    /// The name, at most `MAX_NAME_BYTES` long in a session.
+    /// The name, at most `MAX_NAME_BYTES` long.
     pub name: Text,
-    /// The value, at most `MAX_VALUE_BYTES` long in a session.
+    /// The value, at most `MAX_VALUE_BYTES` long.
     pub value: Text,
 }

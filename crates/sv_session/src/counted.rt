@@ -1,12 +1,12 @@
-//! What an expiry has done.
+//! The result of an expiry.
 
 use crate::ended_session::EndedSession;
 
-/// What an expiry has ended, if it has ended a session, and how many records have been judged with it.
+/// The result of an expiry: the session that it ended, if any, and the number of records judged.
 #[derive(Drop)]
 pub struct Counted {
-    /// The session that has ended.
+    /// The session that ended.
     pub ended: Option<EndedSession>,
-    /// How many records have been judged, up to the greatest number.
+    /// The number of records judged so far. It stays at the maximum once it has reached it.
     pub judged: u64,
 }

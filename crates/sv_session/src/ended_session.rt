@@ -1,13 +1,13 @@
-//! What is told of a session that has ended.
+//! A session that has ended.
 
 use crate::attribute::Attribute;
 use sv_text::Listed;
 
-/// A session that has ended, as its listeners are told of it.
+/// A session that has ended, as its listeners see it.
 #[derive(Drop)]
 pub struct EndedSession {
     /// The session's number.
     pub number: u64,
-    /// The attributes that it had, in the order in which they were first set.
+    /// Its attributes, in the order in which they were first set.
     pub attributes: Listed<Attribute>,
 }

@@ -1,4 +1,4 @@
-//! The ends of all sessions of a context.
+//! The sessions of a context that ended together.
 
 ghost use Rattle.std.specs.Prelude.{◌≡◌, List, drop, length, map, slice_get};
 ghost use Rattle.std.specs.Option.{option_map};
@@ -13,7 +13,7 @@ use std::alloc::Global;
 use std::marker::Model;
 use std::vec::IntoIter;
 
-/// Sessions that have ended together, as their listeners are told of it, one after another.
+/// Sessions that ended together, returned one after another to notify their listeners.
 #[derive(Drop)]
 pub struct EndedSessions {
     alloc: Global,
@@ -29,7 +29,7 @@ impl Model for EndedSessions {
 }
 
 impl EndedSessions {
-    /// Ends the sessions of the slots.
+    /// Ends the live sessions of the slots.
     pub(crate) fn of(alloc: Global, slots: Vec<Slot>) -> EndedSessions
         ensures { result ≡ map ended (living slots.items) }
     {
@@ -39,7 +39,7 @@ impl EndedSessions {
         }
     }
 
-    /// The next of them, if there is one.
+    /// Returns the next session that ended, if any.
     pub fn next(&mut self) -> Option<EndedSession>
         ensures next { result ≡ slice_get self.old 0 }
         ensures left { self.new ≡ drop 1 self.old }
@@ -49,7 +49,7 @@ impl EndedSessions {
     }
 }
 
-// The next slot of a session that lives.
+// Returns the next slot with a live session.
 fn next_living(slots: &mut IntoIter<Slot, Global>) -> Option<Slot>
     requires { into_iter_len slots.old ≡ length (into_iter_items slots.old) }
     ensures whole { into_iter_len slots.new ≡ length (into_iter_items slots.new) }

@@ -9,7 +9,7 @@ use sv_text::{NoMemory, Text};
 /// The length of an id, in bytes.
 pub(crate) const ID_BYTES: usize = 48;
 
-/// The id of these random words and this serial: 48 hexadecimal digits.
+/// Returns the id made of two random words and a serial: 48 hexadecimal digits.
 pub fn id_of(alloc: Global, words: (u64, u64), serial: u64) -> Result<Text, NoMemory>
     ensures { GivesAnswer result (id_text words serial) }
 {
@@ -20,7 +20,7 @@ pub fn id_of(alloc: Global, words: (u64, u64), serial: u64) -> Result<Text, NoMe
     Ok(id)
 }
 
-/// The 16 hexadecimal digits of a number.
+/// Returns the 16 hexadecimal digits of a number.
 fn digits_of(alloc: Global, number: u64) -> Result<Text, NoMemory>
     ensures { GivesAnswer result (digits_of number) }
 {

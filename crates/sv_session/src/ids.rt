@@ -1,4 +1,4 @@
-//! The ids of the sessions that live, for look-ups.
+//! The ids of the live sessions, for lookups.
 
 ghost use Rattle.std.specs.Prelude.{◌≡◌, ℕ, List, IfOk, None, OnErr, OnOk, Some, if◌then◌else◌};
 ghost use Rattle.std.specs.Str.{bytes_eq};
@@ -8,20 +8,21 @@ use crate::index::Index;
 use std::alloc::Global;
 use sv_text::NoMemory;
 
-/// The number of the session of each id. The index has memory of its own from the first id on: sessions are lent by value, and stay small.
+/// Maps ids to session numbers. The index is allocated in a box with the first id: the sessions are lent by value, so
+/// they must stay small.
 pub(crate) struct Ids {
     index: Option<Box<Index>>,
 }
 
 impl Ids {
-    /// No ids. It takes no memory.
+    /// Creates an empty map. Takes no memory.
     pub(crate) fn new() -> Ids
         ensures { (id : List ℕ) → number_in result id ≡ None }
     {
         Ids { index: None }
     }
 
-    /// The number of the session of an id.
+    /// Returns the number of the session with this id.
     pub(crate) fn get(&self, id: &[u8]) -> Option<u64>
         ensures { result ≡ number_in self.now id.now }
     {
@@ -31,7 +32,7 @@ impl Ids {
         }
     }
 
-    /// Enters the number of an id. Nothing changes where memory is wanted.
+    /// Enters the number of an id. If memory runs out, no entry changes.
     pub(crate) fn enter(&mut self, alloc: Global, id: &str, number: u64) -> Result<(), NoMemory>
         ensures entered { OnOk result ((other : List ℕ) → number_in self.new other ≡ (if bytes_eq id.now other then Some number else number_in self.old other)) }
         ensures refused { OnErr result ((other : List ℕ) → number_in self.new other ≡ number_in self.old other) }
@@ -43,7 +44,7 @@ impl Ids {
         Ok(())
     }
 
-    /// Takes an id out.
+    /// Removes an id.
     pub(crate) fn remove(&mut self, id: &str)
         ensures { (other : List ℕ) → number_in self.new other ≡ (if bytes_eq id.now other then None else number_in self.old other) }
     {
@@ -60,7 +61,7 @@ impl Drop for Ids {
     }
 }
 
-// An index of one id.
+// Creates an index of one id.
 fn first(alloc: Global, id: &str, number: u64) -> Result<Box<Index>, NoMemory>
     ensures { IfOk result (λ index. (other : List ℕ) → number_at index.value other ≡ (if bytes_eq id.now other then Some number else None)) }
 {

@@ -1,4 +1,4 @@
-//! An index of ids, for look-ups.
+//! An index of ids, for lookups.
 
 ghost use Rattle.std.specs.Prelude.{◌≡◌, ℕ, List, None, OnErr, OnOk, Some, if◌then◌else◌};
 ghost use Rattle.std.specs.Str.{bytes_eq};
@@ -8,14 +8,15 @@ use std::alloc::Global;
 use std::collections::HashMap;
 use sv_text::NoMemory;
 
-/// The number of the session of each id. A look-up takes as long among many as among few: no client chooses an id that is kept.
+/// Maps ids to session numbers. Lookup time does not depend on the number of ids, since no client chooses an id that is
+/// kept.
 #[derive(Drop)]
 pub(crate) struct Index {
     numbers: HashMap<Vec<u8>, u64>,
 }
 
 impl Index {
-    /// No ids. It takes no memory.
+    /// Creates an empty index. Takes no memory.
     pub(crate) fn new(alloc: Global) -> Index
         ensures { (id : List ℕ) → number_at result id ≡ None }
     {
@@ -24,14 +25,14 @@ impl Index {
         }
     }
 
-    /// The number of the session of an id.
+    /// Returns the number of the session with this id.
     pub(crate) fn get(&self, id: &[u8]) -> Option<u64>
         ensures { result ≡ number_at self.now id.now }
     {
         self.numbers.get(id).copied()
     }
 
-    /// Enters the number of an id. Nothing changes where memory is wanted.
+    /// Enters the number of an id. If memory runs out, no entry changes.
     pub(crate) fn enter(&mut self, alloc: Global, id: &str, number: u64) -> Result<(), NoMemory>
         ensures entered { OnOk result ((other : List ℕ) → number_at self.new other ≡ (if bytes_eq id.now other then Some number else number_at self.old other)) }
         ensures refused { OnErr result ((other : List ℕ) → number_at self.new other ≡ number_at self.old other) }
@@ -43,7 +44,7 @@ impl Index {
         Ok(())
     }
 
-    /// Takes an id out.
+    /// Removes an id.
     pub(crate) fn remove(&mut self, id: &str)
         ensures { (other : List ℕ) → number_at self.new other ≡ (if bytes_eq id.now other then None else number_at self.old other) }
     {

@@ -1,4 +1,4 @@
-//! A session as it is kept.
+//! A session as stored.
 
 ghost use Rattle.std.specs.Prelude.{◌≡◌, ◌<◌, [], IfOk, IfSome, None, OnErr, OnOk, Some, length, position};
 ghost use Rattle.std.specs.Option.{option_copied};
@@ -15,7 +15,7 @@ use std::mem;
 use sv_expiry_queue::Due;
 use sv_text::{Listed, NoMemory, Text};
 
-/// A session as it is kept. Contracts see it as plain data.
+/// A session as stored.
 #[derive(Drop)]
 pub struct Kept {
     pub number: u64,
@@ -42,7 +42,7 @@ impl Model for Kept {
 }
 
 impl Kept {
-    /// A session that is opened at a moment, with a serial as its number.
+    /// Opens a session at the time `now`, in seconds, with the serial as its number.
     pub fn open(alloc: Global, words: (u64, u64), serial: u64, now: u64) -> Result<Kept, NoMemory>
         ensures { IfOk result (λ kept. kept ≡ session_opened words serial now) }
     {
@@ -56,14 +56,14 @@ impl Kept {
         })
     }
 
-    /// The session's number.
+    /// Returns the session's number.
     pub fn number(&self) -> u64
         ensures { result ≡ self.now.number }
     {
         self.number
     }
 
-    /// The session's id.
+    /// Returns the session's id.
     pub fn id(&self) -> &str
         ensures { result.now ≡ self.now.id }
     {
@@ -77,7 +77,7 @@ impl Kept {
         self.id = id;
     }
 
-    /// What the session waits with for its end.
+    /// Returns the record that the expiry queue keeps for the session.
     pub fn due(&self) -> Due
         ensures { result ≡ record { last_access = self.now.last_access; number = self.now.number } }
     {
@@ -87,35 +87,35 @@ impl Kept {
         }
     }
 
-    /// Notes an access.
+    /// Records an access at the time `now`, in seconds.
     pub fn touch(&mut self, now: u64)
         ensures { self.new ≡ record self.old { last_access = now } }
     {
         self.last_access = now;
     }
 
-    /// The number of the session's caller in the realm.
+    /// Returns the number of the session's caller in the realm, if any.
     pub fn caller(&self) -> Option<u32>
         ensures { result ≡ self.now.caller }
     {
         self.caller
     }
 
-    /// Gives the session a caller, or none.
+    /// Sets the session's caller, or clears it.
     pub fn enter_caller(&mut self, caller: Option<u32>)
         ensures { self.new ≡ record self.old { caller = caller } }
     {
         self.caller = caller;
     }
 
-    /// Keeps the target that a login interrupted.
+    /// Saves the target of the request that a login interrupted.
     pub fn save(&mut self, target: Text)
         ensures { self.new ≡ record self.old { saved = Some target } }
     {
         self.saved = Some(target);
     }
 
-    /// Takes that target out.
+    /// Removes the saved target and returns it.
     pub fn take_saved(&mut self) -> Option<Text>
         ensures taken { result ≡ self.old.saved }
         ensures left { self.new ≡ record self.old { saved = None } }
@@ -123,7 +123,8 @@ impl Kept {
         self.saved.take()
     }
 
-    /// Whether the name or the value is too long, or the session has as many other attributes as it may have.
+    /// Returns whether the name or the value is too long, or the session has the maximum number of attributes but none
+    /// of this name.
     pub fn is_too_large(&self, name: &str, value: &str) -> bool
         ensures { result ≡ is_too_large name.now value.now self.now.attributes }
     {
@@ -132,7 +133,7 @@ impl Kept {
             || (self.attributes.len() >= MAX_ATTRIBUTES && !self.has(name))
     }
 
-    /// Whether the session has an attribute of this name.
+    /// Returns whether the session has an attribute of this name.
     fn has(&self, name: &str) -> bool
         ensures { result ≡ names_one name.now self.now.attributes }
     {
@@ -141,7 +142,7 @@ impl Kept {
             .any(|attribute| attribute.name.as_str() == name)
     }
 
-    /// The value of the attribute of this name.
+    /// Returns the value of the attribute of this name.
     pub fn value(&self, name: &str) -> Option<&str>
         ensures { option_copied result ≡ value_named name.now self.now.attributes }
     {
@@ -152,7 +153,7 @@ impl Kept {
         Some(attribute.value.as_str())
     }
 
-    /// Sets the attribute of this name, and gives the value that it had. Nothing changes where memory is wanted.
+    /// Sets the attribute of this name and returns its previous value. If memory runs out, nothing changes.
     pub fn set_value(
         &mut self,
         alloc: Global,
@@ -174,7 +175,7 @@ impl Kept {
         }
     }
 
-    /// Takes the attribute of this name out, and gives its value.
+    /// Removes the attribute of this name and returns its value.
     pub fn remove_value(&mut self, name: &str) -> Option<Text>
         ensures value { result ≡ value_named name.now self.old.attributes }
         ensures left { self.new ≡ record self.old { attributes = without_named name.now self.old.attributes } }
@@ -184,7 +185,7 @@ impl Kept {
         Some(value)
     }
 
-    /// Ends the session, of which its number is left, and gives it as its listeners are told of its end.
+    /// Ends the session and returns it for its listeners. Its id, saved target and attributes are removed.
     pub fn end(&mut self, alloc: Global) -> EndedSession
         ensures told { result ≡ ended self.old }
         ensures left { self.new ≡ record self.old { id = []; saved = None; attributes = [] } }
@@ -198,7 +199,7 @@ impl Kept {
         }
     }
 
-    /// The place of the attribute of this name.
+    /// Returns the index of the attribute of this name.
     fn place(&self, name: &str) -> Option<usize>
         ensures place { result ≡ position (is_named name.now) self.now.attributes }
         ensures bound { IfSome result (λ place. place < length self.now.attributes) }

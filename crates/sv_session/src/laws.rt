@@ -1,4 +1,4 @@
-//! The laws of the sessions of a context, each the contract of a function that does nothing.
+//! Theorems about the sessions of a context, each the contract of a function with an empty body.
 
 ghost use Rattle.std.specs.Prelude.{◌≡◌};
 ghost use Rattle.sv_session.specs.Laws.{
@@ -24,7 +24,7 @@ ghost use Rattle.sv_session.specs.Laws.{
 
 use crate::limits::{GREATEST_SERIAL, MAX_ATTRIBUTES, MAX_NAME_BYTES, MAX_VALUE_BYTES};
 
-/// The limits as numbers: definitions and code cite the constants, so that both would move with one.
+/// The limits as numbers. Definitions and code both use the constants, so this contract is what fixes their values.
 pub fn limits_are_as_stated()
     ensures attributes { MAX_ATTRIBUTES ≡ 64 }
     ensures name { MAX_NAME_BYTES ≡ 64 }
@@ -32,60 +32,61 @@ pub fn limits_are_as_stated()
     ensures serial { GREATEST_SERIAL ≡ 18446744073709551615 }
 {}
 
-/// Of the ids that a context gives no two are the same, whatever is called and whichever words are drawn.
+/// No two ids that a context gives are the same, for any calls and any random words.
 pub fn no_id_is_given_twice()
     ensures { NoIdIsGivenTwice }
 {}
 
-/// Of the sessions that live each is found by its own id, whatever is called.
+/// Each live session is found by its own id, after any calls.
 pub fn an_id_names_its_session()
     ensures { IdNamesItsSession }
 {}
 
-/// Behind the greatest serial no session is opened and none renamed.
+/// After the greatest serial, no session is opened or renamed.
 pub fn no_serial_follows_the_greatest()
     ensures { NoneFollowsTheGreatest }
 {}
 
-/// The sessions stand in the order of their numbers, none of which is above the serial: at first, and behind each call.
+/// The sessions are in the order of their numbers, and no number is above the serial. This holds initially and after
+/// each call.
 pub fn sessions_stay_in_order()
     ensures empty { EmptyIsOrderly }
     ensures call { CallsLeaveOrder }
 {}
 
-/// A session that was opened or touched at a moment has not expired at it.
+/// A session that is opened or accessed at a time has not expired at that time.
 pub fn an_accessed_session_has_not_expired()
     ensures opened { OpenedHasNotExpired }
     ensures touched { TouchedHasNotExpired }
 {}
 
-/// Where no session has expired at a moment, no call of that moment leaves one that has.
+/// If no session has expired at a time, none has expired after a call at that time.
 pub fn no_call_leaves_an_expired_session()
     ensures { CallsLeaveNoneExpired }
 {}
 
-/// `expire` ends none exactly where no session has expired; until then it ends exactly those that have, by deadline and then number; and at
-/// the same moment again it ends none.
+/// `expire` ends no session exactly if none has expired. Called until it ends none, it ends exactly the expired
+/// sessions, by deadline and then by number. Called again at the same time, it ends none.
 pub fn expiry_ends_exactly_the_expired_sessions()
     ensures none { ExpiryEndsWhereNoneHasExpired }
     ensures all { ExpiryEndsTheExpired }
     ensures again { ExpiryEndsNoneAgain }
 {}
 
-/// An expiry judges one record more where there is a session, and none where there is none; at the greatest number the count stays.
+/// An expiry judges one record if there is a session, and none otherwise. A count at the maximum stays there.
 pub fn expiry_judges_at_most_one_more()
     ensures { ExpiryJudgesAtMostOneMore }
 {}
 
-/// No call but the entering of a caller gives a session one. In an orderly store the session that holds a caller is the one that is found by its
-/// number, and so [`Sessions::caller`](crate::Sessions::caller) tells of it.
+/// A session gets a caller only by the call that enters one. In an orderly store, the session that holds a caller is
+/// the one found by its number, so [`Sessions::caller`](crate::Sessions::caller) returns this caller.
 pub fn callers_are_entered()
     ensures entered { CallersAreEntered }
     ensures found { HoldersAreFound }
 {}
 
-/// Whatever components do to the sessions at a moment, order stays, no session has expired at it where none had before, and each caller was there
-/// before; and what is done one after another is done together.
+/// Whatever components do to the sessions at a time, the order is kept. No session has expired if none had before, and
+/// each session's caller is one that it had before. Successive changes are also one change.
 pub fn components_keep_the_sessions()
     ensures joins { MovesJoin }
     ensures order { MovesLeaveOrder }

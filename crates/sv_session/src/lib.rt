@@ -1,4 +1,4 @@
-//! The sessions of a context: their ids, callers, attributes and ends (Jakarta Servlet 6.0, chapter 7).
+//! The sessions of a context: their ids, callers, attributes and expiry (Jakarta Servlet 6.0, chapter 7).
 #![tactic(auto)]
 
 mod attribute;

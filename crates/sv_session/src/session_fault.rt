@@ -1,4 +1,4 @@
-//! Why a call on the sessions of a context is refused.
+//! Faults of the calls on the sessions of a context.
 
 ghost use Rattle.std.specs.Prelude.{◌≡◌, Some};
 ghost use Rattle.sv_session.specs.Fault.{fault_name};
@@ -8,19 +8,20 @@ use std::error::Error;
 use std::fmt;
 use sv_text::NoMemory as OutOfMemory;
 
-/// Why a call on the sessions of a context is refused. Nothing has changed then. Where several faults stand, the first in the order `NoSuch`,
-/// `TooLarge`, `TooMany`, `SerialSpent`, `NoMemory` is told. It is printed as its name, want of memory as `no memory`.
+/// The reason why a call on the sessions of a context was refused. A refused call changes nothing. If several faults
+/// apply, the first is returned, in the order `NoSuch`, `TooLarge`, `TooMany`, `SerialSpent`, `NoMemory`. A fault is
+/// printed as its name, and `NoMemory` as `no memory`.
 #[derive(Clone, Copy, Debug, PartialEq, Eq)]
 pub enum SessionFault {
-    /// As many sessions live as there may be.
+    /// The limit of live sessions is reached.
     TooMany = 1,
-    /// The greatest serial was given.
+    /// The greatest serial has been used.
     SerialSpent = 2,
-    /// No session of the number lives.
+    /// No live session has the number.
     NoSuch = 3,
-    /// A growth was refused.
+    /// Memory ran out.
     NoMemory = 4,
-    /// The name or the value is too long, or the session has as many other attributes as it may have.
+    /// The name or the value is too long, or the session has the maximum number of attributes but none of this name.
     TooLarge = 5,
 }
 

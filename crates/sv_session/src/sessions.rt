@@ -19,8 +19,9 @@ use std::mem;
 use sv_expiry_queue::{Due, Queue};
 use sv_text::{NoMemory, Text};
 
-/// The sessions of a context (Jakarta Servlet 6.0, chapter 7). A session is named by its number, the serial that it was opened with; its id is what a
-/// client sends. Every open and every rename of the context takes the next serial, so that no id is given twice.
+/// The sessions of a context (Jakarta Servlet 6.0, chapter 7). A session is identified by its number, which is the
+/// serial that it was opened with. Clients send its id. Each open and each rename takes the next serial, so no id is
+/// given twice.
 #[derive(Drop)]
 pub struct Sessions {
     alloc: Global,
@@ -52,8 +53,8 @@ impl Sessions {
     ghost use Rattle.sv_session.specs.Calls.{RefusesCall, ended};
     ghost use Rattle.sv_session.specs.Store.{IsOrderly, attributes_of, empty_store, is_numbered, number_of, numbered};
 
-    /// No sessions yet, at most `limit` of them at a time. A session ends `interval` seconds after its last access, or never where that is 0. It takes no
-    /// memory.
+    /// Creates a store of at most `limit` live sessions. A session expires `interval` seconds after its last access, or
+    /// never if `interval` is 0. Takes no memory.
     pub fn new(alloc: Global, limit: usize, interval: u32) -> Sessions
         ensures { result ≡ empty_store limit interval }
     {
@@ -70,10 +71,11 @@ impl Sessions {
         }
     }
 
-    /// Opens a session at a moment, in seconds, with two random words, and gives its number.
+    /// Opens a session at the time `now`, in seconds, with two random words for its id. Returns its number.
     ///
     /// # Errors
-    /// [`SessionFault::TooMany`], [`SessionFault::SerialSpent`], [`SessionFault::NoMemory`], in that order; nothing has changed.
+    /// [`SessionFault::TooMany`], [`SessionFault::SerialSpent`], [`SessionFault::NoMemory`], in that order; nothing has
+    /// changed.
     pub fn open(&mut self, words: (u64, u64), now: u64) -> Result<u64, SessionFault>
         ensures { MatchResult result
             (λ number. (calls.opening_faults self.old ≡ []) × (number ≡ self.old.serial + 1) × (self.new ≡ calls.opened words now self.old))
@@ -95,19 +97,19 @@ impl Sessions {
         Ok(serial)
     }
 
-    /// The number of the session of an id, if one lives. The bytes are what a client sent, and may be no text.
+    /// Returns the number of the live session with this id. The bytes come from a client and need not be text.
     pub fn find(&self, id: &[u8]) -> Option<u64>
         ensures { result ≡ number_of id.now self.now }
     {
         let ids = &self.ids;
-        // What has another length is no id, and is not hashed: a client may send much of it.
+        // Bytes of another length are no id. They are not hashed, since a client may send many.
         if id.len() != ID_BYTES {
             return None;
         }
         ids.get(id)
     }
 
-    /// The id of a session.
+    /// Returns the id of a session.
     pub fn id(&self, number: u64) -> Option<&str>
         ensures { option_copied result ≡ calls.id_of number self.now }
     {
@@ -115,7 +117,7 @@ impl Sessions {
         Some(session.id())
     }
 
-    /// The id of the session that [`open`](Sessions::open) would open with these random words.
+    /// Returns the id of the session that [`open`](Sessions::open) would open with these random words.
     ///
     /// # Errors
     /// Those of [`open`](Sessions::open), in the same order.
@@ -133,7 +135,7 @@ impl Sessions {
         Ok(id)
     }
 
-    /// The least number of a session.
+    /// Returns the lowest number of a live session.
     pub fn least(&self) -> Option<u64>
         ensures { result ≡ calls.least_number self.now }
     {
@@ -141,7 +143,7 @@ impl Sessions {
         Some(slot.kept.number())
     }
 
-    /// Notes an access to a session at a moment. `false` where no such session lives.
+    /// Records an access to a session at the time `now`, in seconds. Returns `false` if no live session has the number.
     pub fn touch(&mut self, number: u64, now: u64) -> bool
         ensures found { result ≡ is_some (numbered number self.old) }
         ensures left { self.new ≡ calls.touched number now self.old }
@@ -158,7 +160,8 @@ impl Sessions {
         true
     }
 
-    /// Ends the first session that has expired at a moment, by deadline and then number. None where none has.
+    /// Ends the first session that has expired at the time `now`, in seconds, by deadline and then by number. Returns
+    /// `None` if none has expired.
     pub fn expire(&mut self, now: u64) -> Option<EndedSession>
         ensures ended { result ≡ calls.expiring now self.old }
         ensures left { self.new ≡ calls.left_by_expiry now self.old }
@@ -168,8 +171,8 @@ impl Sessions {
         ended
     }
 
-    /// Does what [`expire`](Sessions::expire) does, and counts: before it, so many records have been judged. One more is where there is a session, up to
-    /// the greatest number, where the count stays.
+    /// Does the same as [`expire`](Sessions::expire), and counts the records judged. `judged` is the count so far. It
+    /// grows by one if there is a session, up to the maximum.
     pub fn expire_counted(&mut self, now: u64, judged: u64) -> Counted
         ensures ended { result.ended ≡ calls.expiring now self.old }
         ensures judged { result.judged ≡ calls.judged_by_expiry self.old judged }
@@ -192,7 +195,7 @@ impl Sessions {
         Counted { ended, judged }
     }
 
-    /// Ends a session. None where no such session lives.
+    /// Ends a session and returns it. Returns `None` if no live session has the number.
     pub fn end(&mut self, number: u64) -> Option<EndedSession>
         ensures ended { result ≡ calls.ending number self.old }
         ensures left { self.new ≡ calls.without number self.old }
@@ -204,7 +207,7 @@ impl Sessions {
         Some(self.slots[place].end(self.alloc))
     }
 
-    /// Ends all sessions, and gives them in the order of their numbers, in which they stand.
+    /// Ends all sessions and returns them in the order of their numbers.
     pub fn end_all(&mut self) -> EndedSessions
         ensures ended { result ≡ map ended self.old.sessions }
         ensures order { IsOrderly self.old }
@@ -217,10 +220,11 @@ impl Sessions {
         EndedSessions::of(self.alloc, slots)
     }
 
-    /// Gives a session another id, of two random words and the next serial. Its number stays.
+    /// Gives a session a new id, made of two random words and the next serial. Its number stays.
     ///
     /// # Errors
-    /// [`SessionFault::NoSuch`], [`SessionFault::SerialSpent`], [`SessionFault::NoMemory`], in that order; nothing has changed.
+    /// [`SessionFault::NoSuch`], [`SessionFault::SerialSpent`], [`SessionFault::NoMemory`], in that order; nothing has
+    /// changed.
     pub fn rename(&mut self, number: u64, words: (u64, u64)) -> Result<(), SessionFault>
         ensures { MatchResult result
             (λ _. (calls.renaming_faults number self.old ≡ []) × (self.new ≡ calls.renamed number words self.old))
@@ -245,7 +249,8 @@ impl Sessions {
         Ok(())
     }
 
-    /// Gives a session a caller, by the number of a user of the realm, or none. `false` where no such session lives.
+    /// Sets the caller of a session to a user of the realm, by number, or clears it. Returns `false` if no live session
+    /// has the number.
     pub fn enter_caller(&mut self, number: u64, caller: Option<u32>) -> bool
         ensures found { result ≡ is_some (numbered number self.old) }
         ensures left { self.new ≡ calls.with_caller number caller self.old }
@@ -257,7 +262,7 @@ impl Sessions {
         true
     }
 
-    /// The caller of a session, by the number of a user of the realm.
+    /// Returns the caller of a session, as the number of a user of the realm.
     pub fn caller(&self, number: u64) -> Option<u32>
         ensures { result ≡ calls.caller_of number self.now }
     {
@@ -265,7 +270,8 @@ impl Sessions {
         session.caller()
     }
 
-    /// Keeps with a session the target that its login interrupted, in the place of an earlier one. `false` where no such session lives.
+    /// Saves the target of the request that a login interrupted. It replaces an earlier one. Returns `false` if no live
+    /// session has the number.
     pub fn save(&mut self, number: u64, target: Text) -> bool
         ensures found { result ≡ is_some (numbered number self.old) }
         ensures left { self.new ≡ calls.with_saved number (Some target) self.old }
@@ -277,7 +283,7 @@ impl Sessions {
         true
     }
 
-    /// Takes out the target that is kept with a session.
+    /// Removes the saved target of a session and returns it.
     pub fn take_saved(&mut self, number: u64) -> Option<Text>
         ensures taken { result ≡ calls.saved_of number self.old }
         ensures left { self.new ≡ calls.with_saved number None self.old }
@@ -286,7 +292,7 @@ impl Sessions {
         self.slots[place].kept.take_saved()
     }
 
-    /// The value of an attribute of a session (Jakarta Servlet 6.0, section 7.4).
+    /// Returns the value of an attribute of a session (Jakarta Servlet 6.0, section 7.4).
     pub fn get(&self, number: u64, name: &str) -> Option<&str>
         ensures { option_copied result ≡ calls.value_of number name.now self.now }
     {
@@ -294,10 +300,12 @@ impl Sessions {
         session.value(name)
     }
 
-    /// Sets an attribute of a session, and gives the value that it had. An attribute that is set again keeps its place in the order.
+    /// Sets an attribute of a session and returns its previous value. An existing attribute keeps its place in the
+    /// order.
     ///
     /// # Errors
-    /// [`SessionFault::NoSuch`], [`SessionFault::TooLarge`], [`SessionFault::NoMemory`], in that order; nothing has changed.
+    /// [`SessionFault::NoSuch`], [`SessionFault::TooLarge`], [`SessionFault::NoMemory`], in that order; nothing has
+    /// changed.
     pub fn set(
         &mut self,
         number: u64,
@@ -321,7 +329,7 @@ impl Sessions {
         Ok(old)
     }
 
-    /// Why [`set`](Sessions::set) would be refused before it wants memory, if it would be.
+    /// Returns the reason, other than memory, why [`set`](Sessions::set) would be refused.
     pub fn setting_fault(&self, number: u64, name: &str, value: &str) -> Option<SessionFault>
         ensures { result ≡ slice_get (calls.setting_faults number name.now value.now self.now) 0 }
     {
@@ -332,7 +340,8 @@ impl Sessions {
         }
     }
 
-    /// The attributes of a session, in the order in which they were first set; none where no such session lives.
+    /// Returns the attributes of a session, in the order in which they were first set. Returns none if no live session
+    /// has the number.
     pub fn attributes(&self, number: u64) -> &[Attribute]
         ensures { result.now ≡ attributes_of number self.now }
     {
@@ -342,7 +351,7 @@ impl Sessions {
         }
     }
 
-    /// Takes an attribute of a session out, and gives its value.
+    /// Removes an attribute of a session and returns its value.
     pub fn remove(&mut self, number: u64, name: &str) -> Option<Text>
         ensures value { result ≡ calls.value_of number name.now self.old }
         ensures left { self.new ≡ calls.without_attribute number name.now self.old }
@@ -351,19 +360,20 @@ impl Sessions {
         self.slots[place].kept.remove_value(name)
     }
 
-    /// How many sessions live.
+    /// Returns the number of live sessions.
     pub fn count(&self) -> usize
         ensures { result ≡ length self.now.sessions }
     {
         self.count
     }
 
-    /// How many records [`expire`](Sessions::expire) has judged, as [`expire_counted`](Sessions::expire_counted) counts them.
+    /// Returns the number of records that [`expire`](Sessions::expire) has judged, as counted by
+    /// [`expire_counted`](Sessions::expire_counted).
     pub fn judged(&self) -> u64 {
         self.judged
     }
 
-    /// Why no session can be opened, if none can.
+    /// Returns the reason, other than memory, why no session can be opened, if there is one.
     fn opening_fault(&self) -> Option<SessionFault>
         ensures { result ≡ slice_get (calls.opening_faults self.now) 0 }
     {
@@ -376,7 +386,7 @@ impl Sessions {
         None
     }
 
-    /// The session of a number.
+    /// Returns the live session of a number.
     fn session(&self, number: u64) -> Option<&Kept>
         ensures { option_copied result ≡ numbered number self.now }
     {
@@ -384,14 +394,14 @@ impl Sessions {
         Some(&self.slots[place].kept)
     }
 
-    /// Adds a session with the next serial behind the others.
+    /// Appends a session that has the next serial.
     fn add(&mut self, kept: Kept) -> Result<(), NoMemory>
         requires opened { (words : ℕ × ℕ) × (now : ℕ) × (kept ≡ calls.session_opened words (self.old.serial + 1) now) }
         requires fits { calls.opening_faults self.old ≡ [] }
         ensures added { OnOk result (self.new ≡ record self.old { serial = self.old.serial + 1; sessions = self.old.sessions ++ kept ∷ [] }) }
         ensures refused { OnErr result (self.new ≡ self.old) }
     {
-        // The count is below it, and so the next count is a number too.
+        // The count is below the limit, so the next count does not overflow.
         let _limit = self.limit;
         self.slots.reserve(1)?;
         self.ids.enter(self.alloc, kept.id(), kept.number())?;
@@ -405,7 +415,7 @@ impl Sessions {
         Ok(())
     }
 
-    /// Takes the slots of ended sessions out, where they are more than half of all.
+    /// Removes the slots of ended sessions if they outnumber the live sessions by at least 32.
     fn gather(&mut self) -> Result<(), NoMemory>
         ensures { self.new ≡ self.old }
     {

@@ -12,7 +12,7 @@ use std::alloc::Global;
 use sv_expiry_queue::{Due, Queue};
 use sv_text::NoMemory;
 
-/// A session, which lives, or what is left of one that has ended: its number keeps its place in the order.
+/// A live session, or one that has ended, whose number keeps its place in the order.
 #[derive(Drop)]
 pub(crate) struct Slot {
     pub(crate) live: bool,
@@ -20,7 +20,7 @@ pub(crate) struct Slot {
 }
 
 impl Slot {
-    /// Ends the session of the slot, of which its number is left.
+    /// Ends the session of the slot and returns it for its listeners.
     pub(crate) fn end(&mut self, alloc: Global) -> EndedSession
         ensures told { result ≡ ended self.old.kept }
         ensures left { self.new ≡ record { live = false; kept = record self.old.kept { id = []; saved = None; attributes = [] } } }
@@ -30,7 +30,7 @@ impl Slot {
     }
 }
 
-/// The place of the session of a number.
+/// Returns the index of the live session of a number.
 pub(crate) fn place_of(slots: &[Slot], number: u64) -> Option<usize>
     ensures bound { IfSome result (λ place. place < length slots.now) }
     ensures place { (high : ℕ) → SlotsRise 0 high slots.now
@@ -50,7 +50,7 @@ pub(crate) fn place_of(slots: &[Slot], number: u64) -> Option<usize>
     None
 }
 
-/// The first place whose slot has no lesser number than this one, or the length.
+/// Returns the first index whose slot has this number or a greater one, or the length.
 fn first_from(slots: &[Slot], number: u64) -> usize
     ensures { (high : ℕ) → SlotsRise 0 high slots.now → IsFirstFrom number slots.now result }
 {
@@ -68,23 +68,23 @@ fn first_from(slots: &[Slot], number: u64) -> usize
     low
 }
 
-/// The first slot of a session that lives.
+/// Returns the first slot of a live session.
 pub(crate) fn first_living(slots: &[Slot]) -> Option<&Slot>
     ensures { option_copied result ≡ find (λ slot. slot.live) slots.now }
 {
     slots.iter().find(|slot| slot.live)
 }
 
-/// Adds a slot behind the others, for which there is room.
+/// Appends a slot. The vector must have spare capacity.
 pub(crate) fn push(slots: &mut Vec<Slot>, slot: Slot)
     requires { vec_len slots.old < vec_capacity slots.old }
     ensures { slots.new.items ≡ slots.old.items ++ slot ∷ [] }
 {
-    // There is room.
+    // The vector has spare capacity.
     let _room = slots.push(slot);
 }
 
-/// The queue of the sessions that live, at the places that they have where the empty slots are taken out.
+/// Builds the queue of the live sessions, at the indices that they have once the empty slots are removed.
 pub(crate) fn gathered(alloc: Global, slots: &[Slot]) -> Result<Queue, NoMemory>
     ensures { IfOk result (λ queue. queue ≡ map due_of (filter (λ slot. slot.live) slots.now)) }
 {

@@ -25,7 +25,7 @@ not-true : (b : Bool) → not b ≡ true → b ≡ false
 not-true true h = cc
 not-true false h = refl
 
--- a key with bytes of so many digits
+-- A key whose bytes are written with a fixed number of digits.
 bytes-Ok : (digits : ℕ) (key : List ℕ) (members : Members) (bytes : List ℕ) → required (text_of (hex_text digits digits)) key members ≡ Ok bytes → digits ≡ 2 * length bytes
 bytes-Ok digits key members bytes e =
     required-Ok (λ b. digits ≡ 2 * length b) (text_of (hex_text digits digits))

@@ -12,11 +12,11 @@ abbrev pub is_itself : List ℕ → Result Canon PathFault → Bool
 is_itself text (Ok canon) = bytes_eq canon.path text && is_none canon.query
 is_itself text (Err fault) = false
 
--- the text is its own canonical path
+-- The text is its own canonical path.
 unfoldable pub is_canonical : List ℕ → Bool
 is_canonical text = is_itself text (canonical text)
 
--- the root context, or a canonical path that does not end in a slash
+-- The root context, or a canonical path that does not end in a slash.
 abbrev pub is_context_path : List ℕ → Bool
 is_context_path text = bytes_eq text [] || (is_canonical text && not (ends_with nat_eq text (codes "/")))
 

@@ -1,4 +1,4 @@
--- The server file: the port, the seed of random words, and the contexts.
+-- The server file: the port, the seed for random words, and the contexts.
 use Rattle.std.specs.Prelude.{◌≡◌, ℕ, true, not, List, [], ◌∷◌, length, map, codes, Ok}
 use Rattle.std.specs.List.{All}
 use Rattle.toml.specs.Data.{Members}
@@ -37,11 +37,11 @@ server table = do
   check (not (repeats (context_paths its_contexts))) DuplicateName (codes "path")
   Ok (record { port = its_port; seed = its_seed; contexts = its_contexts })
 
--- the server that a text is
+-- The server described by a text.
 abbrev pub server_of : List ℕ → Reads Server
 server_of = document server
 
--- what may be rested on
+-- The properties of a server that was read.
 pub record IsWellFormedServer (s : Server) : Type 0 where
   pub seed_is_whole : length s.seed ≡ SEED_BYTES
   pub paths_are_context_paths : All (λ context. is_context_path context.path ≡ true) s.contexts

@@ -35,16 +35,16 @@ users table = do
   check (not (repeats (user_names its_users))) DuplicateName (codes "name")
   Ok its_users
 
--- the users that a text lists
+-- The users listed in a text.
 abbrev pub users_of : List ℕ → Reads (List User)
 users_of = document users
 
--- the users as a list
+-- The users as a list.
 abbrev pub seen : Result (Vec User Global) ReadFault → Result (List User) ReadFault
 seen (Ok users) = Ok users.items
 seen (Err e) = Err e
 
--- what may be rested on
+-- The properties of users that were read.
 pub record AreWellFormedUsers (found : List User) : Type 0 where
   pub few : length found ≤ MAX_LIST_ITEMS
   pub digests_are_whole : All (λ user. length user.digest ≡ DIGEST_BYTES) found

@@ -10,7 +10,7 @@ use sv_text::{NoMemory, Text};
 use sv_uri::canon;
 use sv_uri::fault::CanonFault;
 
-/// A context path: empty, or its own canonical path and not ending in `/`.
+/// A context path: empty, or a canonical path that does not end in `/`.
 #[derive(Clone, Copy)]
 pub struct ContextPath;
 

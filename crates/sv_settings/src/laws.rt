@@ -1,4 +1,4 @@
-//! The limits in numbers, each the contract of a function that does nothing.
+//! The limits as numbers, each the contract of a function with an empty body.
 
 ghost use Rattle.std.specs.Prelude.{◌≡◌};
 
@@ -6,7 +6,8 @@ use crate::limits::{
     DIGEST_BYTES, DIGEST_DIGITS, MAX_PORT, MAX_SALT_DIGITS, SEED_BYTES, SEED_DIGITS,
 };
 
-/// A port is at most 65,535; a seed has 32 bytes and a digest 32, each in 64 hexadecimal digits; a salt has at most 64 digits.
+/// A port is at most 65,535. A seed and a digest have 32 bytes each, written as 64 hexadecimal digits. A salt has at
+/// most 64 digits.
 pub fn limits_of_the_settings()
     ensures port { MAX_PORT ≡ 65535 }
     ensures seed_bytes { SEED_BYTES ≡ 32 }

@@ -1,4 +1,5 @@
-//! The server file and the users file, read from TOML: the first fault in the format's order, or plain data.
+//! The server file and the users file, read from TOML: the result is plain data, or the first fault in the format's
+//! order.
 #![tactic(auto)]
 
 mod context_path;

@@ -1,19 +1,19 @@
 //! The limits of the server file and the users file.
 
-/// The greatest port.
+/// Maximum port number.
 pub const MAX_PORT: u16 = 65_535;
 
-/// How many bytes a seed has.
+/// Length of a seed, in bytes.
 pub const SEED_BYTES: usize = 32;
 
-/// How many hexadecimal digits write a seed.
+/// Number of hexadecimal digits of a seed.
 pub const SEED_DIGITS: usize = 2 * SEED_BYTES;
 
-/// How many bytes a digest has.
+/// Length of a digest, in bytes.
 pub const DIGEST_BYTES: usize = 32;
 
-/// How many hexadecimal digits write a digest.
+/// Number of hexadecimal digits of a digest.
 pub const DIGEST_DIGITS: usize = 2 * DIGEST_BYTES;
 
-/// How many hexadecimal digits may write a salt.
+/// Maximum number of hexadecimal digits of a salt.
 pub const MAX_SALT_DIGITS: usize = 64;

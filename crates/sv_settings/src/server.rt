@@ -15,27 +15,27 @@ use sv_schema::{
 use sv_text::{Bytes, Listed, Text};
 use toml::Table;
 
-/// What a server serves, and where.
+/// The settings of a server.
 #[derive(Drop)]
 pub struct Server {
-    /// The port, 0 for any that is free.
+    /// The port, or 0 for any free one.
     pub port: u16,
-    /// The seed of random words, 32 bytes.
+    /// The seed for random words, 32 bytes.
     pub seed: Bytes,
-    /// The contexts, no two of one path.
+    /// The contexts, whose paths differ.
     pub contexts: Listed<ContextEntry>,
 }
 
-/// A context of a server. File names are as they were written, to be taken from the folder of the server file.
+/// A context of a server. File names are as in the file, and relative to the folder of the server file.
 #[derive(Drop)]
 pub struct ContextEntry {
     /// The context path: empty, or a canonical path that does not end in `/`.
     pub path: Text,
     /// The name of the descriptor's file.
     pub descriptor: Text,
-    /// The name of the folder with the context's files, empty where it has none.
+    /// The name of the folder with the context's files; empty if it has none.
     pub files: Text,
-    /// The name of the users file.
+    /// The name of the users file, if any.
     pub users: Option<Text>,
 }
 

@@ -1,4 +1,4 @@
--- Patterns beside the places of their servlets, and which of them matches best.
+-- Patterns paired with the indices of their servlets, and which of them matches best.
 use Rattle.std.proofs.Common.{ℕ, ◌≡◌, ◌+◌, ◌<◌, ◌≤◌, inl, inr, Bool, true, not, cond, List, [], ◌∷◌, ◌++◌, length, map, get_or, take, find, Option, Some, None, nat_lt, zero, suc, length-append, refl, sym, ap, ◌∙◌, arith}
 use Rattle.std.specs.List.{flat_map, position, position_or_len, slice_get}
 use Rattle.std.specs.Option.{option_and_then}
@@ -33,7 +33,7 @@ beside-at (pattern ∷ patterns) [] place d e same within = absurd (omega (arith
 beside-at (pattern ∷ patterns) (servlet ∷ servlets) zero d e same within = refl
 beside-at (pattern ∷ patterns) (servlet ∷ servlets) (suc place) d e same within = beside-at patterns servlets place d e (omega (arith, same)) (omega (arith, within))
 
--- the first pattern that passes stands where the first text does
+-- The index of the first pattern that passes a test is that of the first text that passes.
 position_or_len-texts : (test : List ℕ → Bool) (mappings : List Mapping) → position_or_len (λ mapping. test mapping.pattern) mappings ≡ position_or_len test (texts_of mappings)
 position_or_len-texts test [] = refl
 position_or_len-texts test (mapping ∷ mappings) = ap (λ n. cond (not (test mapping.pattern)) (1 + n) 0) (position_or_len-texts test mappings)
@@ -43,20 +43,20 @@ position-texts test mappings =
     ap (λ n. cond (nat_lt n (length mappings)) (Some n) None) (position_or_len-texts test mappings)
     ∙ ap (λ n. cond (nat_lt (position_or_len test (texts_of mappings)) n) (Some (position_or_len test (texts_of mappings))) None) (sym (length-map mappings (λ mapping. mapping.pattern)))
 
--- the pattern that matches best is that of the best match among the texts
+-- The pattern that matches best is that of the best match among the texts.
 pub best-found : (mappings : List Mapping) (path : List ℕ) (found : Option ℕ) → found ≡ best (texts_of mappings) path
     → option_and_then (λ place. slice_get mappings place) found ≡ find (λ mapping. is_best (texts_of mappings) path mapping.pattern) mappings
 best-found mappings path found is =
     ap (option_and_then (λ place. slice_get mappings place)) (is ∙ sym (position-texts (is_best (texts_of mappings) path) mappings))
     ∙ get-position (λ (mapping : Mapping). is_best (texts_of mappings) path mapping.pattern) mappings
 
--- the best match is one of the texts, and it matches
+-- The best match is one of the texts, and it matches.
 pub best-matches : (texts : List (List ℕ)) (path : List ℕ) (place : ℕ) (d : List ℕ) → Some place ≡ best texts path → (place < length texts) × (matches (get_or texts place d) path ≡ true)
 best-matches texts path place d is =
     let found = position-Some (is_best texts path) texts place d (sym is) in
     (found.0, (and_parts _ _ found.1).0)
 
--- the lists beside one another are the descriptor's mappings
+-- The two lists, paired, are the descriptor's mappings.
 beside-more : (patterns texts : List (List ℕ)) (servlet : ℕ) (servlets : List ℕ)
     → beside (texts ++ patterns) (map (λ text. servlet) texts ++ servlets) ≡ map (λ text. record { pattern = text; servlet = servlet }) texts ++ beside patterns servlets
 beside-more patterns [] servlet servlets = refl
@@ -82,13 +82,13 @@ beside-long servlets (mapping ∷ mappings) =
       beside-long servlets mappings,
     )
 
--- the texts of the descriptor's mappings are all patterns of servlets
+-- The texts of the descriptor's mappings are all patterns of its servlets.
 pub texts-mappings : (servlets : List ServletEntry) (mappings : List ServletMapping) → texts_of (flat_map (patterns_of servlets) mappings) ≡ flat_map (λ mapping. mapping.url_patterns) mappings
 texts-mappings servlets mappings =
     ap texts_of (sym (beside-mappings servlets mappings))
     ∙ texts-beside (flat_map (λ (m : ServletMapping). m.url_patterns) mappings) (flat_map (places_beside servlets) mappings) (beside-long servlets mappings)
 
--- ---- what the code collects
+-- ---- The lists that the code collects
 pub compiled-long : (servlets : List ServletEntry) (mappings : List ServletMapping) (patterns : List (List ℕ)) (places : List ℕ)
     → patterns ≡ flat_map (λ mapping. mapping.url_patterns) mappings → places ≡ flat_map (places_beside servlets) mappings → length places ≡ length patterns
 compiled-long servlets mappings patterns places its_patterns its_places = ap length its_places ∙ (beside-long servlets mappings ∙ ap length (sym its_patterns))
@@ -114,7 +114,7 @@ places-more servlets mappings i mapping before after place within is so_far its 
     ∙ (flat_map-append (places_beside servlets) (take i mappings) (get_or mappings i mapping ∷ [])
     ∙ ap (λ tail. flat_map (places_beside servlets) (take i mappings) ++ tail) (append-nil (places_beside servlets (get_or mappings i mapping))))))))
 
--- the first place is that of the position, or behind all
+-- The index from `position_or_len` is the position, or the length if no item passes.
 pub place-some : {A : Type 0} (test : A → Bool) (xs : List A) (place : ℕ) → position test xs ≡ Some place → place ≡ position_or_len test xs
 place-some test xs place is = elim (cases_Bool (nat_lt (position_or_len test xs) (length xs))) [
   | inl below ↦ sym (same_Some _ place (sym (cond-true _ _ _ below) ∙ is))
@@ -131,7 +131,7 @@ place-none test xs is = elim (cases_Bool (nat_lt (position_or_len test xs) (leng
   | inr outside ↦ omega (arith, ltb-false _ _ outside, none-within test xs)
 ]
 
--- ---- who answers, of the lists at a place
+-- ---- The chosen resource, from the lists at an index
 pub chosen-at : (mappings : List Mapping) (patterns : List (List ℕ)) (servlets : List ℕ) (place : ℕ) (path pattern first : List ℕ) (servlet : ℕ) (info : Option (List ℕ))
     → beside patterns servlets ≡ mappings → length servlets ≡ length patterns → place < length patterns → pattern ≡ get_or patterns place pattern → servlet ≡ get_or servlets place servlet
     → first ≡ servlet_path pattern path → info ≡ path_info pattern path

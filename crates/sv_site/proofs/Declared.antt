@@ -1,4 +1,4 @@
--- Each servlet that is mapped is one of the descriptor's.
+-- Each servlet that is mapped is declared in the descriptor.
 use Rattle.std.proofs.Common.{ℕ, ◌≡◌, ◌<◌, Bool, List, [], ◌∷◌, length, map, get_or, find, sym, ap, subst, ◌∙◌, ⊎_elim, arith}
 use Rattle.std.specs.List.{All, Contains, flat_map, position_or_len}
 use Rattle.std.specs.Str.{bytes_eq}
@@ -17,7 +17,7 @@ use Rattle.sv_mapping.specs.BestMatch.{is_best}
 use Rattle.sv_site.specs.Site.{Content, site_of}
 use Rattle.sv_site.proofs.Beside.{texts_of}
 
--- a declared name has a place
+-- The index of a declared name is within the list.
 place-within : (servlets : List ServletEntry) (name : List ℕ) → Contains (map (λ servlet. servlet.servlet_name) servlets) name → servlet_place servlets name < length servlets
 place-within [] name its = absurd (omega (arith, its.1))
 place-within (servlet ∷ servlets) name its =
@@ -52,7 +52,7 @@ found-declared site path test (mapping ∷ mappings) all = ⊎_elim
     (λ fails. rw fails (found-declared site path test mappings (All-tail (IsDeclared (length site.names)) mapping mappings all)))
     (cases_Bool (test mapping))
 
--- who is chosen among the mappings of a site
+-- The resource chosen among the mappings of a site.
 pub chosen-is : (site : Site) (path : List ℕ) (mappings : List Mapping) → mappings ≡ site.mappings
     → chosen_by path (find (λ mapping. is_best (texts_of mappings) path mapping.pattern) mappings) ≡ chosen site path
 unfolding chosen

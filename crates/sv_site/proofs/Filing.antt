@@ -1,4 +1,4 @@
--- What the file servlet has, of the parts that the code asks it with.
+-- The file servlet's result, computed from the arguments that the code passes.
 use Rattle.std.proofs.Common.{ℕ, ◌≡◌, List, ap, ◌∙◌}
 use Rattle.sv_descriptor.specs.Agreement.{servlet_patterns}
 use Rattle.sv_descriptor.specs.declared.web_app.WebApp.{WebApp}
@@ -23,7 +23,7 @@ file-is content canon method kind context_path path files welcome patterns answe
     ∙ (ap (λ names. answered content.context_path canon (file_answer content.files canon.path method kind names patterns)) its_welcome
     ∙ ap (λ texts. answered content.context_path canon (file_answer content.files canon.path method kind content.app.welcome_files texts)) its_patterns))))
 
--- the texts of all patterns of a descriptor
+-- The texts of all patterns of a descriptor.
 pub texts-are : (app other : WebApp) (mappings : List Mapping) (texts : List (List ℕ)) → texts ≡ texts_of mappings → mappings ≡ mappings_of other → other ≡ app → texts ≡ servlet_patterns app
 texts-are app other mappings texts its_texts its_mappings same =
     its_texts ∙ (ap texts_of its_mappings ∙ (ap (λ its. texts_of (mappings_of its)) same ∙ texts-mappings app.servlets app.servlet_mappings))

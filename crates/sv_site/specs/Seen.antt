@@ -1,4 +1,4 @@
--- The answers of the code in the words of dispatches.
+-- The results of the code as terms of the dispatch model.
 use Rattle.std.specs.Prelude.{◌<◌, length}
 use Rattle.std.specs.Option.{option_copied}
 use Rattle.sv_site.specs.declared.chosen.Chosen as code
@@ -21,7 +21,7 @@ found_seen (founds.Redirect location) = Redirect location
 found_seen founds.Missing = Missing
 found_seen founds.NotAllowed = NotAllowed
 
--- the file servlet, or one of the servlets
+-- The resource is the file servlet or one of the site's servlets.
 abbrev pub IsThere : Site → Resource → Type 0
 IsThere site (Servlet place) = place < length site.names
 IsThere site Files = Unit {0}

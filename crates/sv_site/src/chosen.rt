@@ -1,14 +1,14 @@
-//! Who answers a path.
+//! The choice of a resource for a path.
 
 use sv_tree::Resource;
 
-/// Who answers a path, and how the path is split (Jakarta Servlet 6.0, sections 3.5 and 12.1).
+/// The resource that serves a path, and the split of the path (Jakarta Servlet 6.0, sections 3.5 and 12.1).
 #[derive(Clone, Copy)]
 pub struct Chosen<'a> {
-    /// The servlet whose pattern matches the path best, else the file servlet.
+    /// The servlet whose pattern matches the path best, or the file servlet if none matches.
     pub resource: Resource,
-    /// What the pattern claims of the path, all of it for the file servlet.
+    /// The servlet path: the prefix of a prefix pattern, empty for the pattern `""`, and otherwise the whole path.
     pub servlet_path: &'a str,
-    /// What follows the prefix of a prefix pattern, if something does, and `/` for the pattern `""`.
+    /// The rest of the path after the prefix of a prefix pattern, if any, and `/` for the pattern `""`.
     pub path_info: Option<&'a str>,
 }

@@ -1,4 +1,4 @@
-//! What the file servlet has for a path.
+//! Results of the file servlet.
 
 ghost use Rattle.std.specs.Prelude.{◌≡◌, ◌++◌, IfOk, codes};
 ghost use Rattle.sv_files.specs.Answer.{answer_seen};
@@ -12,25 +12,26 @@ use sv_files::{FileAnswer, content_type_of};
 use sv_text::{NoMemory, Text};
 use sv_uri::path::Canon;
 
-/// What the file servlet has for a path (Jakarta Servlet 6.0, sections 10.10 and 12.2).
+/// The result of the file servlet for a path (Jakarta Servlet 6.0, sections 10.10 and 12.2).
 #[derive(Drop)]
 pub enum FileFound<'a> {
-    /// A file: its content type and its bytes, which are the site's own.
+    /// A file: its content type and its bytes, which are borrowed from the site.
     File {
-        /// By the extension of the path.
+        /// The content type, by the extension of the path.
         content_type: &'static str,
-        /// What the file holds.
+        /// The content of the file.
         bytes: &'a [u8],
     },
-    /// The value of the Location field that sends the client to a welcome file or to a folder.
+    /// The value of the Location field that redirects the client to a welcome file or to a folder.
     Redirect(Text),
-    /// Nothing stands at the path.
+    /// The file servlet serves nothing at the path.
     Missing,
-    /// Something stands there, and the request's method is neither `GET` nor `HEAD`.
+    /// The file servlet serves the path, but the request's method is neither `GET` nor `HEAD`.
     NotAllowed,
 }
 
-/// The file servlet's answer to a canonical path, with the content type of a file and the location of a redirect.
+/// Converts the file servlet's answer to a canonical path, adding the content type of a file and the location of a
+/// redirect.
 pub(crate) fn answered<'a>(
     alloc: Global,
     context_path: &str,

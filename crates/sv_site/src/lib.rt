@@ -1,5 +1,5 @@
-//! What a dispatch asks of its context, in the words of dispatches: who answers a path, behind which filters, what the file servlet
-//! has, and which page an error has (Jakarta Servlet 6.0, sections 6.2.4, 10.9.2, 10.10 and 12.1).
+//! What a dispatch asks of its context: the resource for a path, the filters of the dispatch, the file servlet's
+//! result, and the page for an error (Jakarta Servlet 6.0, sections 6.2.4, 10.9.2, 10.10 and 12.1).
 #![tactic(auto)]
 
 mod chosen;

@@ -1,4 +1,4 @@
-//! Lists beside the patterns of a descriptor's servlet mappings.
+//! The patterns of a descriptor's servlet mappings, and the indices of their servlets.
 
 ghost use Rattle.std.specs.Prelude.{◌≡◌, ◌++◌, IfOk, OnOk, map, position};
 ghost use Rattle.std.specs.List.{flat_map};
@@ -11,7 +11,7 @@ use sv_descriptor::{ServletEntry, ServletMapping};
 use sv_mapping::{Pattern, PatternFault};
 use sv_text::NoMemory;
 
-/// Copies of the patterns of all mappings.
+/// Copies the patterns of all mappings.
 pub(crate) fn copied_patterns(
     alloc: Global,
     mappings: &[ServletMapping],
@@ -48,7 +48,7 @@ fn copy_of(alloc: Global, pattern: &Pattern) -> Result<Pattern, NoMemory>
     }
 }
 
-/// For each pattern of all mappings the place of its servlet.
+/// Returns the index of the servlet for each pattern of all mappings.
 pub(crate) fn servlet_places(
     alloc: Global,
     servlets: &[ServletEntry],

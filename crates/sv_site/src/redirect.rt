@@ -1,4 +1,4 @@
-//! Where a client is sent within its context.
+//! Locations of redirects within a context.
 
 ghost use Rattle.std.specs.Prelude.{◌≡◌, ◌++◌, IfOk, string_bytes};
 ghost use Rattle.sv_text.specs.Gives.{GivesAnswer};
@@ -9,7 +9,8 @@ use sv_text::{NoMemory, Text};
 use sv_uri::location;
 use sv_uri::path::Canon;
 
-/// The value of a Location field (RFC 9110, section 10.2.2) for a path within a context, with the query of the target that was read.
+/// Returns the value of a Location field (RFC 9110, section 10.2.2) for a path within a context, with the query of the
+/// request target.
 pub fn sent_to(
     alloc: Global,
     context_path: &str,

@@ -1,4 +1,4 @@
-//! The patterns of a descriptor's servlets, compiled.
+//! The compiled patterns of a descriptor's servlets.
 
 ghost use Rattle.std.specs.Prelude.{◌≡◌, Some, find, map, slice_get};
 ghost use Rattle.sv_descriptor.specs.WellFormed.{IsWellFormed};
@@ -18,8 +18,8 @@ use sv_pattern_table::PatternTable;
 use sv_text::NoMemory;
 use sv_tree::Resource;
 
-/// The patterns of a descriptor's servlets, compiled for look-ups. Contracts see the list of the patterns, each with the place of its
-/// servlet.
+/// The patterns of a descriptor's servlets, compiled for lookups. Contracts see the list of the patterns, each with the
+/// index of its servlet.
 #[derive(Drop)]
 pub struct ServletPatterns {
     patterns: Vec<Pattern>,
@@ -43,7 +43,7 @@ impl ServletPatterns {
     /// Compiles the patterns of all servlet mappings, in the descriptor's order.
     ///
     /// # Errors
-    /// `NoMemory` where a growth was refused.
+    /// `NoMemory` if an allocation fails.
     pub fn of(alloc: Global, descriptor: &Descriptor) -> Result<ServletPatterns, NoMemory>
         ensures gives { GivesAnswer result (spec.mappings_of descriptor.now) }
         ensures well_formed { IsWellFormed descriptor.now }
@@ -60,15 +60,15 @@ impl ServletPatterns {
         })
     }
 
-    /// The patterns in the descriptor's order.
+    /// Returns the patterns in the descriptor's order.
     pub fn patterns(&self) -> &[Pattern]
         ensures { result.now ≡ map (λ mapping. mapping.pattern) self.now }
     {
         self.patterns.as_slice()
     }
 
-    /// Who answers a path within the context: the servlet whose pattern matches it best, else the file servlet. It takes no memory, and
-    /// its price does not grow with the number of patterns.
+    /// Returns the resource for a path within the context: the servlet whose pattern matches best, or the file servlet
+    /// if none matches. It allocates nothing, and its cost does not grow with the number of patterns.
     pub fn chosen<'a>(&self, path: &'a str) -> Chosen<'a>
         ensures { chosen_seen result ≡ chosen_by path.now (find (λ mapping. is_best (map (λ other. other.pattern) self.now) path.now mapping.pattern) self.now) }
     {

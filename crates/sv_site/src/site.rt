@@ -1,4 +1,4 @@
-//! A context's site.
+//! The site of a context.
 
 ghost use Rattle.std.specs.Prelude.{◌≡◌, ◌<◌, [], IfOk, IsTrue, Ok, length, slice_index_or};
 ghost use Rattle.std.specs.List.{All};
@@ -28,8 +28,8 @@ use sv_uri::canon;
 use sv_uri::fault::CanonFault;
 use sv_uri::path::Canon;
 
-/// What a dispatch asks of its context. Contracts see the context's path, its descriptor and its files; `site_of` says what they are in
-/// the words of dispatches.
+/// The site of a context: its path, descriptor and files, with compiled patterns and filter chains. Contracts see the
+/// path, the descriptor and the files; `site_of` turns them into the site of the dispatch model.
 #[derive(Drop)]
 pub struct Site {
     context_path: Text,
@@ -53,8 +53,8 @@ impl Model for Site {
 }
 
 impl Site {
-    /// A site of its parts, without taking memory. The context's path is empty for the root context, and the patterns are those of the
-    /// descriptor, which `ServletPatterns::of` gives, as the chains are, which `Chains::compile` gives.
+    /// Creates a site from its parts, without allocating. The context's path is empty for the root context. The
+    /// patterns come from `ServletPatterns::of` and the chains from `Chains::compile`, both for this descriptor.
     pub fn new(
         context_path: Text,
         descriptor: Descriptor,
@@ -76,7 +76,7 @@ impl Site {
         }
     }
 
-    /// The context's path, its descriptor and its files back, without taking memory.
+    /// Returns the context's path, descriptor and files, without allocating.
     pub fn into_parts(self) -> (Text, Descriptor, Files)
         ensures { record { context_path = result.0; app = result.1; files = result.2 } ≡ self }
     {
@@ -89,14 +89,14 @@ impl Site {
         (context_path, descriptor, files)
     }
 
-    /// The context's path, which is empty for the root context.
+    /// Returns the context's path, which is empty for the root context.
     pub fn context_path(&self) -> &str
         ensures { result.now ≡ self.now.context_path }
     {
         self.context_path.as_str()
     }
 
-    /// The descriptor.
+    /// Returns the descriptor.
     pub fn descriptor(&self) -> &Descriptor
         ensures value { result.now ≡ self.now.app }
         ensures well_formed { IsWellFormed self.now.app }
@@ -104,8 +104,9 @@ impl Site {
         &self.descriptor
     }
 
-    /// Who answers a path within the context: the servlet whose pattern matches it best, else the file servlet (Jakarta Servlet 6.0,
-    /// section 12.1). It takes no memory, and its price does not grow with the number of patterns.
+    /// Returns the resource for a path within the context: the servlet whose pattern matches best, or the file servlet
+    /// if none matches (Jakarta Servlet 6.0, section 12.1). It allocates nothing, and its cost does not grow with the
+    /// number of patterns.
     pub fn chosen<'a>(&self, path: &'a str) -> Chosen<'a>
         ensures chosen { chosen_seen result ≡ tree.chosen (site_of self.now) path.now }
         ensures declared { IsThere (site_of self.now) result.resource }
@@ -113,18 +114,18 @@ impl Site {
         self.patterns.chosen(path)
     }
 
-    /// The name of who answers: that of the servlet, or `default`.
+    /// Returns the name of a resource: that of the servlet, or `default` for the file servlet.
     pub fn name_of(&self, resource: Resource) -> &str
         ensures { result.now ≡ tree.name_of (site_of self.now) resource }
     {
         name_in(&self.descriptor, resource)
     }
 
-    /// The filters that a dispatch of the kind to the path passes, by their places (section 6.2.4). What is kept of it for the next
-    /// such dispatch is no part of what contracts see.
+    /// Returns the indices of the filters that a dispatch of this kind to the path passes (section 6.2.4). Chains are
+    /// cached, but contracts do not see the cache.
     ///
     /// # Errors
-    /// `NoMemory` where a growth was refused that the chain needs.
+    /// `NoMemory` if an allocation that the chain needs fails.
     pub fn chain(
         &mut self,
         alloc: Global,
@@ -141,11 +142,11 @@ impl Site {
         self.chains.of(alloc, descriptor, path, name, kind)
     }
 
-    /// What the file servlet has for a path with its query in a dispatch of the kind (sections 10.10 and 12.2). The price does not grow
-    /// with the number of files, and the bytes of a file are not copied.
+    /// Returns the file servlet's result for a path with its query in a dispatch of this kind (sections 10.10 and
+    /// 12.2). The cost does not grow with the number of files, and the bytes of a file are not copied.
     ///
     /// # Errors
-    /// `NoMemory` where a growth was refused.
+    /// `NoMemory` if an allocation fails.
     pub fn file<'a>(
         &'a self,
         alloc: Global,
@@ -164,11 +165,11 @@ impl Site {
         answered(alloc, self.context_path.as_str(), canon, &answer)
     }
 
-    /// The page for an error of the status, of this kind where it is a failure, as the path and the query of its location
-    /// (section 10.9.2).
+    /// Returns the error page for a status and, for a failure, its kind (section 10.9.2). The page is given as the path
+    /// and the query of its location.
     ///
     /// # Errors
-    /// `NoMemory` where a growth was refused.
+    /// `NoMemory` if an allocation fails.
     pub fn page(
         &self,
         alloc: Global,
@@ -184,7 +185,7 @@ impl Site {
     }
 }
 
-/// The name of who answers by the descriptor: that of the servlet, or `default`.
+/// Returns the name of a resource in the descriptor: that of the servlet, or `default` for the file servlet.
 fn name_in(descriptor: &Descriptor, resource: Resource) -> &str
     ensures { (content : Content) → content.app ≡ descriptor.now → result.now ≡ tree.name_of (site_of content) resource }
 {
@@ -203,7 +204,7 @@ fn servlet_name(descriptor: &Descriptor, place: usize) -> &str
     }
 }
 
-/// The path and the query of a page's location.
+/// Splits the location of a page into its path and its query.
 #[tactic(auto, unfolding(sv_descriptor::specs::Location::is_location))]
 fn read_page(alloc: Global, page: &str) -> Result<Canon, NoMemory>
     requires { IsTrue (is_location page.now) }

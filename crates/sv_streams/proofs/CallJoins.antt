@@ -1,4 +1,4 @@
--- Calls behind calls.
+-- Calls that follow other calls.
 use Rattle.std.proofs.Common.{◌≡◌, ℕ, ◌+◌, ◌<◌, Bool, true, false, ◌||◌, List, [], ◌∷◌, ◌++◌, Ok, Err, Result, refl, subst, sym, ap, ◌∙◌, append_assoc, length, map, arith}
 use Rattle.std.proofs.lemmas.List.{map-append}
 use Rattle.std.specs.List.{concat}
@@ -62,7 +62,7 @@ are_writes_join text behind (Err failed) pieces others calls more (are, is) (res
   left,
 )
 
--- a text is written behind another
+-- A text is written after another.
 pub writes_join : {S : Type 0} (makes : Making S) (text behind : List ℕ) (before between after : S) (result : Result (Unit {0}) WriteFault)
     → WritesAll makes text before (Ok tt) between → WritesAll makes behind between result after → WritesAll makes (text ++ behind) before result after
 writes_join makes text behind before between after result (pieces, calls, made, are) (others, more, made_more, are_more) = (

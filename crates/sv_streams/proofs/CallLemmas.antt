@@ -1,10 +1,10 @@
--- Calls, one after another.
+-- Sequences of calls.
 use Rattle.std.proofs.Common.{◌≡◌, ℕ, ◌<◌, List, [], ◌∷◌, ◌++◌, refl, subst, sym, ap, ◌∙◌, append_assoc, append-nil, length, map, take, drop}
 use Rattle.std.proofs.lemmas.List.{map-append, take-append-drop}
 use Rattle.std.specs.List.{concat}
 use Rattle.sv_streams.specs.Calls.{AreMade, Call, Making, Took, WriteFailed}
 
--- one call more has been made
+-- One more call was made.
 pub one_more : {S : Type 0} (makes : Making S) (before between after : S) (calls : List Call) (call : Call)
     → AreMade makes before calls between → makes between call after → AreMade makes before (calls ++ call ∷ []) after
 one_more {S} makes before between after [] call are made = let P : S → Type 0 = λ s. makes s call after in (after, subst P are made, refl)
@@ -15,7 +15,7 @@ concat_more : (pieces : List (List ℕ)) (piece : List ℕ) → concat (pieces +
 concat_more [] piece = append-nil piece
 concat_more (first ∷ pieces) piece = ap (λ bytes. first ++ bytes) (concat_more pieces piece) ∙ sym (append_assoc first (concat pieces) piece)
 
--- one piece more has been written
+-- One more piece was written.
 pub piece_more : {S : Type 0} (makes : Making S) (before between after : S) (pieces : List (List ℕ)) (bytes rest behind : List ℕ) (count : ℕ)
     → AreMade makes before (map Took pieces) between → concat pieces ++ rest ≡ bytes
     → makes between (Took (take count rest)) after → behind ≡ drop count rest
@@ -32,7 +32,7 @@ piece_more makes before between after pieces bytes rest behind count are is made
           ∙ is,
     )
 
--- a write has failed
+-- A write failed.
 pub failed_at : {S : Type 0} (makes : Making S) (before between after : S) (pieces : List (List ℕ)) (bytes rest : List ℕ)
     → AreMade makes before (map Took pieces) between → concat pieces ++ rest ≡ bytes
     → makes between WriteFailed after → 0 < length rest
@@ -41,7 +41,7 @@ pub failed_at : {S : Type 0} (makes : Making S) (before between after : S) (piec
 failed_at makes before between after pieces bytes rest are is made left =
     (pieces, map Took pieces ++ WriteFailed ∷ [], one_more makes before between after (map Took pieces) WriteFailed are made, (rest, refl, is, left))
 
--- all was written
+-- All bytes were written.
 pub written : {S : Type 0} (makes : Making S) (before after : S) (pieces : List (List ℕ)) (bytes rest : List ℕ)
     → AreMade makes before (map Took pieces) after → concat pieces ++ rest ≡ bytes → rest ≡ []
     → (written : List (List ℕ)) × (calls : List Call) × AreMade makes before calls after × ((calls ≡ map Took written) × (concat written ≡ bytes))

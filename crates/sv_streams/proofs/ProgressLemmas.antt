@@ -1,4 +1,4 @@
--- How far the reads for a line have come.
+-- The progress of the reads for a line.
 use Rattle.std.proofs.Common.{◌≡◌, ℕ, ◌+◌, ◌-◌, ◌*◌, ◌<◌, ◌≤◌, Bool, true, false, ◌||◌, eqb, List, [], ◌∷◌, ◌++◌, Some, None, Ok, Err, Option, refl, subst, sym, ap, ◌∙◌, inl, inr, append_assoc, append-nil, length, length-append, arith}
 use Rattle.std.proofs.lemmas.Bool.{ne_eqb, or_parts}
 use Rattle.sv_streams.specs.Calls.{AreMade, Call, Gave, Making, ReadFailed, bytes_given, bytes_taken, failures, given, is_end, is_failure, is_read, meets_end, reads, taken}
@@ -36,7 +36,7 @@ end_more (first ∷ calls) call none =
     let parts = or_parts (is_end first) (meets_end calls) none in
     ap (λ b. b || meets_end (calls ++ call ∷ [])) parts.0 ∙ end_more calls call parts.1
 
--- a read
+-- A call that is a read.
 pub record IsRead (call : Call) (failed : ℕ) : Type 0 where
   pub takes : bytes_taken call ≡ []
   pub counts : is_read call ≡ 1
@@ -68,7 +68,7 @@ once_more start state next calls call failed are open_yet read counted below end
       measured = omega arith;
     }
 
--- nothing was read
+-- Nothing was read.
 as_much : (start state after : LinesState) (calls : List Call) (failed : ℕ) → AreReads start calls failed state → after.reads ≡ state.reads → after.ended ≡ state.ended → AreReads start calls failed after
 as_much start state after calls failed are counted ended =
     record {
@@ -81,7 +81,7 @@ as_much start state after calls failed are counted ended =
       measured = are.measured;
     }
 
--- the reads that were made so far for a line
+-- The reads made so far for a line.
 pub record Progress {S : Type 0} (makes : Making S) (first : S) (start : LinesState) (source : S) (state : LinesState) : Type 0 where
   pub calls : List Call
   pub made : AreMade makes first calls source
@@ -111,7 +111,7 @@ empty_end : (bytes : List ℕ) → is_end (Gave bytes) ≡ eqb (length bytes) 0
 empty_end [] = refl
 empty_end (b ∷ bytes) = sym (ne_eqb (length (b ∷ bytes)) 0 (λ none. omega arith))
 
--- a piece more was read
+-- One more piece was read.
 pub piece_read : {S : Type 0} (makes : Making S) (first source after : S) (start state moved next : LinesState)
     → Progress makes first start source state → TakesLine {E = Unit {0}} state (Ok None) moved → moved.ended ≡ false → ReadsOnce makes source moved (Ok tt) after next
     → Progress makes first start after next
@@ -128,7 +128,7 @@ piece_read makes first source after start state moved next p moves open_yet read
           ∙ ap (λ line. line ++ next.ahead) (sym (ap (λ (s : LinesState). s.line) read.2));
     }
 
--- one read less may be made
+-- One read fewer is left.
 pub falls : {S : Type 0} (makes : Making S) (source after : S) (state moved next : LinesState)
     → TakesLine {E = Unit {0}} state (Ok None) moved → ReadsOnce makes source moved (Ok tt) after next → max_reads - next.reads < max_reads - state.reads
 falls makes source after state moved next moves read =
@@ -137,19 +137,19 @@ falls makes source after state moved next moves read =
     let below : moved.reads < max_reads = read.1 in
     omega arith
 
--- a line ended in what was read
+-- A line ended in the bytes read.
 pub line_taken : {S : Type 0} (makes : Making S) (first source : S) (start state after : LinesState) (line : List ℕ)
     → Progress makes first start source state → TakesLine {E = Unit {0}} state (Ok (Some line)) after → NextLine makes first start (Ok (Some line)) source after
 line_taken makes first source start state after line p takes =
     (p.calls, p.made, as_much start state after p.calls 0 p.are takes.1.0 takes.1.1, inl (takes.0.0, p.text ∙ takes.0.1))
 
--- memory ran out
+-- Memory ran out.
 pub none_taken : {S : Type 0} (makes : Making S) (first source : S) (start state after : LinesState)
     → Progress makes first start source state → after ≡ state → NextLine makes first start (Err fault.NoMemory) source after
 none_taken makes first source start state after p same =
     (p.calls, p.made, as_much start state after p.calls 0 p.are (ap (λ (s : LinesState). s.reads) same) (ap (λ (s : LinesState). s.ended) same), ap unread same ∙ sym p.text)
 
--- the end was met
+-- The end was met.
 pub end_met : {S : Type 0} (makes : Making S) (first source : S) (start state moved after : LinesState) (last : Option (List ℕ))
     → Progress makes first start source state → TakesLine {E = Unit {0}} state (Ok None) moved → moved.ended ≡ true → LastLine moved last after
     → NextLine makes first start (Ok last) source after
@@ -170,7 +170,7 @@ end_met makes first source start state moved after (Some line) p moves ended (is
   ),
 )
 
--- no further read was made, or it failed
+-- No more reads were made, or the last one failed.
 pub none_read : {S : Type 0} (makes : Making S) (first source source_after : S) (start state moved after : LinesState) (refused : LinesFault)
     → Progress makes first start source state → TakesLine {E = Unit {0}} state (Ok None) moved → moved.ended ≡ false → ReadsOnce makes source moved (Err refused) source_after after
     → NextLine makes first start (Err refused) source_after after

@@ -1,40 +1,40 @@
--- What the calls of a reader and a writer did.
+-- The effects of calls of a reader and a writer.
 use Rattle.std.specs.Prelude.{◌≡◌, ℕ, ◌+◌, ◌<◌, Bool, true, false, List, [], ◌∷◌, ◌++◌, length, map, take, Result, Ok, Err}
 use Rattle.std.specs.List.{concat, list_any}
 use Rattle.sv_streams.specs.declared.stream.WriteFailed.{WriteFailed as WriteFault}
 
--- a read gave bytes, none at the end, or failed; a write took bytes, or failed
+-- A read gave bytes (none at the end) or failed, or a write took bytes or failed.
 pub data Call : Type 0 where
   Gave : List ℕ → Call
   ReadFailed : Call
   Took : List ℕ → Call
   WriteFailed : Call
 
--- a read by its answer and what its buffer holds then
+-- The read with this result and these contents of its buffer.
 abbrev pub read_call : {E : Type 0} → Result ℕ E → List ℕ → Call
 read_call (Ok count) buffer = Gave (take count buffer)
 read_call (Err failed) buffer = ReadFailed
 
--- a write by its answer and the bytes that it was to take from
+-- The write with this result and these bytes to write.
 abbrev pub write_call : {E : Type 0} → Result ℕ E → List ℕ → Call
 write_call (Ok count) bytes = Took (take count bytes)
 write_call (Err failed) bytes = WriteFailed
 
--- a read by its answer and the piece that it left
+-- The read with this result and this piece.
 abbrev pub read_result : {E : Type 0} → Result (Unit {0}) E → List ℕ → Call
 read_result (Ok done) piece = Gave piece
 read_result (Err failed) piece = ReadFailed
 
--- what a call of such streams is: the stream before it, the call, and the stream after it
+-- The model of calls: the stream before a call, the call, and the stream after it.
 abbrev pub Making : Type 0 → Type 1
 Making S = S → Call → S → Type 0
 
--- the calls lead from one to the other, one after another
+-- The calls lead from the first stream to the last.
 abbrev pub AreMade : {S : Type 0} → Making S → S → List Call → S → Type 0
 AreMade makes before [] after = after ≡ before
 AreMade {S} makes before (call ∷ calls) after = (between : S) × makes before call between × AreMade makes between calls after
 
--- the bytes that reads gave
+-- The bytes that a read gave.
 abbrev pub bytes_given : Call → List ℕ
 bytes_given (Gave bytes) = bytes
 bytes_given other = []
@@ -43,7 +43,7 @@ abbrev pub given : List Call → List ℕ
 given [] = []
 given (call ∷ calls) = bytes_given call ++ given calls
 
--- the bytes that writes took
+-- The bytes that a write took.
 abbrev pub bytes_taken : Call → List ℕ
 bytes_taken (Took bytes) = bytes
 bytes_taken other = []
@@ -52,7 +52,7 @@ abbrev pub taken : List Call → List ℕ
 taken [] = []
 taken (call ∷ calls) = bytes_taken call ++ taken calls
 
--- the count of reads, failed ones too
+-- Counts reads, including failed ones.
 abbrev pub is_read : Call → ℕ
 is_read (Gave bytes) = 1
 is_read ReadFailed = 1
@@ -62,7 +62,7 @@ abbrev pub reads : List Call → ℕ
 reads [] = 0
 reads (call ∷ calls) = is_read call + reads calls
 
--- the count of failed calls
+-- Counts failed calls.
 abbrev pub is_failure : Call → ℕ
 is_failure ReadFailed = 1
 is_failure WriteFailed = 1
@@ -72,7 +72,7 @@ abbrev pub failures : List Call → ℕ
 failures [] = 0
 failures (call ∷ calls) = is_failure call + failures calls
 
--- whether a read gave nothing
+-- Whether a call is a read that gave nothing.
 abbrev pub is_end : Call → Bool
 is_end (Gave []) = true
 is_end other = false
@@ -80,13 +80,13 @@ is_end other = false
 abbrev pub meets_end : List Call → Bool
 meets_end calls = list_any is_end calls
 
--- calls that wrote all of the bytes: no call failed; or that wrote them up to the rest before which a write, the last call, failed
+-- Writes of all bytes, or of a part of them: then the last call is a write that failed, and at least one byte is left.
 abbrev pub AreWrites : List ℕ → Result (Unit {0}) WriteFault → List (List ℕ) → List Call → Type 0
 AreWrites bytes (Ok done) pieces calls = (calls ≡ map Took pieces) × (concat pieces ≡ bytes)
 AreWrites bytes (Err failed) pieces calls =
     (rest : List ℕ) × (calls ≡ map Took pieces ++ WriteFailed ∷ []) × (concat pieces ++ rest ≡ bytes) × (0 < length rest)
 
--- the writes that were made took the bytes in pieces, all of them unless one failed
+-- All of the bytes were written in pieces, unless a write failed.
 abbrev pub WritesAll : {S : Type 0} → Making S → List ℕ → S → Result (Unit {0}) WriteFault → S → Type 0
 WritesAll makes bytes before result after =
     (pieces : List (List ℕ)) × (calls : List Call) × AreMade makes before calls after × AreWrites bytes result pieces calls

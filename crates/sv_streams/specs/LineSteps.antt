@@ -1,4 +1,4 @@
--- The steps of a reader of lines.
+-- The steps of a line reader.
 use Rattle.std.specs.Prelude.{◌≡◌, ℕ, ◌+◌, ◌<◌, ◌≤◌, ◌==◌, false, List, [], ◌∷◌, ◌++◌, length, take, drop, Option, Some, None, Result, Ok, Err}
 use Rattle.sv_streams.specs.Calls.{Call, Making}
 use Rattle.sv_streams.specs.Calls as calls
@@ -6,7 +6,7 @@ use Rattle.sv_streams.specs.Lines.{IsFirstLine, LinesState, has_line_feed, max_r
 use Rattle.sv_streams.specs.declared.lines_fault.LinesFault.{LinesFault}
 use Rattle.sv_streams.specs.declared.lines_fault.LinesFault.TheVariants.{ReadFailed, TooManyReads, NoMemory}
 
--- the bytes up to their first line feed are moved to the line, or all where they have none
+-- The bytes before their first line feed are appended to the line, or all of them if they have none.
 abbrev pub MovesFront : {E : Type 0} → List ℕ → List ℕ → Result (Option ℕ) E → List ℕ → Type 0
 MovesFront line bytes (Ok (Some place)) after =
     (after ≡ line ++ take place bytes) × (has_line_feed (take place bytes) ≡ false)
@@ -14,23 +14,23 @@ MovesFront line bytes (Ok (Some place)) after =
 MovesFront line bytes (Ok None) after = (after ≡ line ++ bytes) × (has_line_feed bytes ≡ false)
 MovesFront line bytes (Err refused) after = after ≡ line
 
--- as many reads were made, and the end was met or not
+-- The number of reads is unchanged, and so is whether the end was met.
 abbrev pub AsMuchRead : LinesState → LinesState → Type 0
 AsMuchRead before after = (after.reads ≡ before.reads) × (after.ended ≡ before.ended)
 
--- the line that ends in what was read is taken, if one does
+-- A line that ends in the bytes read is taken, if there is one.
 abbrev pub TakesLine : {E : Type 0} → LinesState → Result (Option (List ℕ)) E → LinesState → Type 0
 TakesLine before (Ok (Some line)) after = IsFirstLine line (unread before) (unread after) × AsMuchRead before after
 TakesLine before (Ok None) after =
     (unread after ≡ unread before) × (after.ahead ≡ []) × (has_line_feed (unread before) ≡ false) × AsMuchRead before after
 TakesLine before (Err refused) after = after ≡ before
 
--- the line under way is taken where it is not empty
+-- The incomplete line is taken, unless it is empty.
 abbrev pub LastLine : LinesState → Option (List ℕ) → LinesState → Type 0
 LastLine before None after = (before.line ≡ []) × (after ≡ before)
 LastLine before (Some line) after = (line ≡ before.line) × (0 < length line) × (after ≡ record before { line = [] })
 
--- one read was made, or as many had been made as may be
+-- One read was made, unless the limit of reads was reached or memory ran out.
 abbrev pub ReadsOnce : {S : Type 0} → Making S → S → LinesState → Result (Unit {0}) LinesFault → S → LinesState → Type 0
 ReadsOnce makes source before (Ok done) source_after after =
     makes source (calls.Gave after.ahead) source_after × (before.reads < max_reads)
@@ -41,7 +41,7 @@ ReadsOnce makes source before (Err ReadFailed) source_after after =
 ReadsOnce makes source before (Err TooManyReads) source_after after = (source_after ≡ source) × (after ≡ before) × (max_reads ≤ before.reads)
 ReadsOnce makes source before (Err NoMemory) source_after after = (source_after ≡ source) × (after ≡ before)
 
--- one read was made, and these bytes came
+-- One read gave these bytes, unless it failed or memory ran out.
 abbrev pub Refills : {S : Type 0} → Making S → S → Result (Unit {0}) LinesFault → S → List ℕ → Type 0
 Refills makes source (Ok done) source_after bytes = makes source (calls.Gave bytes) source_after × (length bytes ≤ piece_bytes)
 Refills makes source (Err ReadFailed) source_after bytes = makes source calls.ReadFailed source_after × (bytes ≡ [])

@@ -2,7 +2,8 @@
 use Rattle.std.specs.Prelude.{◌≡◌, ℕ, ◌+◌, ◌-◌, ◌^◌, ◌≤◌, ◌==◌, min, Bool, true, false, List, [], ◌++◌, length}
 use Rattle.sv_streams.specs.Calls.{Call, Gave, ReadFailed, Took, WriteFailed}
 
--- what reads will give, what writes took, how many bytes a call gives or takes at most, how many calls were made, and which call fails, 0 for none
+-- The bytes left to read, the bytes written, the most bytes that a call gives or takes, the number of calls, and the
+-- number of the call that fails, or 0 for none.
 pub record MemoryState : Type 0 where
   pub unread : List ℕ
   pub written : List ℕ
@@ -10,15 +11,15 @@ pub record MemoryState : Type 0 where
   pub calls : ℕ
   pub failing : ℕ
 
--- one call more, up to the greatest number
+-- One more call, counted up to the greatest number.
 abbrev pub called : MemoryState → MemoryState
 called stream = record stream { calls = min (stream.calls + 1) (2 ^ 64 - 1) }
 
--- whether the next call is to fail
+-- Whether the next call must fail.
 abbrev pub is_failing : MemoryState → Bool
 is_failing stream = (called stream).calls == stream.failing
 
--- a call: the one that is to fail fails, and besides it a write where memory ran out
+-- A call. The chosen call fails, and so does a write if memory runs out.
 abbrev pub IsMade : MemoryState → Call → MemoryState → Type 0
 IsMade before (Gave bytes) after =
     (is_failing before ≡ false) × (before.unread ≡ bytes ++ after.unread) × (length bytes ≤ before.piece) × (bytes ≡ [] → after.unread ≡ [])

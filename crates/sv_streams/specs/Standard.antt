@@ -1,22 +1,23 @@
--- What a call does to a reader and a writer of the standard library, by the bytes that the one will give and the other holds, where those
--- are known.
+-- The effect of a call on a reader and a writer of the standard library: on the bytes left to read and the bytes
+-- written, if these are known.
 use Rattle.std.specs.Prelude.{◌≡◌, ℕ, List, [], Option}
 use Rattle.std.specs.Io.KnownBytes.{Appends, Consumes, IsAtEnd, Keeps}
 use Rattle.sv_streams.specs.Calls.{Call, Gave, ReadFailed, Took, WriteFailed}
 
--- a read takes what it gives from the known bytes, and gives nothing only at their end; a failed read takes nothing
+-- A read takes the bytes that it gives from the known bytes, and gives none only at their end. A failed read takes
+-- nothing.
 abbrev pub IsReadOf : Option (List ℕ) → Call → Option (List ℕ) → Type 0
 IsReadOf before (Gave bytes) after = Consumes before after bytes × (bytes ≡ [] → IsAtEnd after)
 IsReadOf before ReadFailed after = Keeps before after
 IsReadOf before other after = ⊥
 
--- a write adds what it takes to the known bytes, and a failed write adds nothing
+-- A write appends the bytes that it takes to the known bytes. A failed write appends nothing.
 abbrev pub IsWriteTo : Option (List ℕ) → Call → Option (List ℕ) → Type 0
 IsWriteTo before (Took bytes) after = Appends before after bytes
 IsWriteTo before WriteFailed after = Keeps before after
 IsWriteTo before other after = ⊥
 
--- a call of what is both
+-- A call of a stream that is both.
 abbrev pub IsCallOf : Option (List ℕ) → Option (List ℕ) → Call → Option (List ℕ) → Option (List ℕ) → Type 0
 IsCallOf remaining contents (Gave bytes) remaining_after contents_after = IsReadOf remaining (Gave bytes) remaining_after
 IsCallOf remaining contents ReadFailed remaining_after contents_after = IsReadOf remaining ReadFailed remaining_after

@@ -1,4 +1,4 @@
-//! What was read ahead.
+//! Bytes that were read ahead.
 
 ghost use Rattle.std.specs.Prelude.{◌≡◌, ◌<◌, ◌≤◌, [], length, vec_items, OnErr};
 ghost use Rattle.sv_streams.specs.Calls.{read_result};
@@ -8,10 +8,10 @@ use crate::stream::{ReadFailed, Source};
 use std::alloc::Global;
 use std::marker::Model;
 
-/// As many bytes are asked for at a read.
+/// The number of bytes that each read may give.
 const PIECE_BYTES: usize = 8192;
 
-/// Bytes that were read and not yet looked at. Contracts see their list.
+/// Bytes that were read and not yet searched. Contracts see their list.
 #[derive(Drop)]
 pub(crate) struct Ahead {
     piece: Vec<u8>,
@@ -32,7 +32,7 @@ impl Ahead {
     ghost use Rattle.std.specs.Prelude.{◌≡◌, ◌≤◌, [], length, drop};
     ghost use Rattle.sv_streams.specs.LineSteps.{Refills};
 
-    /// No bytes.
+    /// Creates an empty list of bytes.
     pub fn new(alloc: Global) -> Ahead
         ensures { result ≡ [] }
     {
@@ -42,14 +42,14 @@ impl Ahead {
         }
     }
 
-    /// The bytes.
+    /// Returns the bytes.
     pub fn as_slice(&self) -> &[u8]
         ensures { result.now ≡ self.now }
     {
         self.piece.as_slice().split_at(self.at).1
     }
 
-    /// Passes over so many bytes.
+    /// Drops the first `count` bytes.
     pub fn skip(&mut self, count: usize)
         requires { count ≤ length self.old }
         ensures { self.new ≡ drop count self.old }
@@ -57,7 +57,7 @@ impl Ahead {
         self.at += count;
     }
 
-    /// Passes over all bytes.
+    /// Drops all bytes.
     pub fn clear(&mut self)
         ensures { self.new ≡ [] }
     {
@@ -65,7 +65,7 @@ impl Ahead {
         self.at = 0;
     }
 
-    /// Reads once, where all bytes have been passed over.
+    /// Reads once. All bytes must have been dropped before. Holds no bytes after an error.
     pub fn refill<S: Source>(&mut self, source: &mut S) -> Result<(), LinesFault>
         requires { self.old ≡ [] }
         ensures { Refills S.makes source.old result source.new self.new }
@@ -80,7 +80,7 @@ impl Ahead {
     }
 }
 
-// Reads once into a piece, which then holds what came.
+// Reads once into a piece and truncates it to the bytes read.
 fn read_piece<S: Source>(source: &mut S, piece: &mut Vec<u8>) -> Result<(), ReadFailed>
     requires { 0 < length (vec_items piece.old) }
     ensures made { S.makes source.old (read_result result (vec_items piece.new)) source.new }

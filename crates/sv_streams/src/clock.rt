@@ -1,20 +1,22 @@
-//! What tells the moment.
+//! Clocks.
 
 use std::time::SystemTime;
 
-/// What tells the moment, in seconds since 1970.
+/// A clock that gives the time in seconds since 1970.
 pub trait Clock {
     ghost use Rattle.std.specs.Prelude.{ℕ};
 
-    /// What a question is: the clock before it, the moment, and the clock after it. Left out, each question may give any moment.
+    /// The model of a reading: the clock before it, the time, and the clock after it. By default a reading may give any
+    /// time.
     ghost tells: { Self → ℕ → Self → Type 0 } = { λ _ _ _. Unit {0} };
 
-    /// The moment.
+    /// Returns the time.
     fn now(&mut self) -> u64
         ensures { tells self.old result self.new };
 }
 
-/// The clock of the operating system. What it tells is known to no contract; where it cannot be read, or stands before 1970, it tells 0.
+/// The clock of the operating system. No contract says which time it gives. It gives 0 if it cannot be read or is
+/// before 1970.
 #[derive(Clone, Copy)]
 pub struct SystemClock<'a, C> {
     clock: &'a C,
@@ -23,7 +25,7 @@ pub struct SystemClock<'a, C> {
 impl<'a, C: std::time::Clock> SystemClock<'a, C> {
     ghost use Rattle.std.specs.Prelude.{◌≡◌};
 
-    /// The clock that this handle reads.
+    /// Creates a handle that reads this clock.
     pub fn new(clock: &'a C) -> SystemClock<'a, C>
         ensures { result.clock ≡ clock.entry }
     {

@@ -1,5 +1,5 @@
-//! Readers, writers and clocks as the container needs them: what their calls did is told to contracts, and they are read and written by
-//! loops of the product's own.
+//! Readers, writers and clocks as the container needs them. Contracts state the effect of each call, and the loops that
+//! call them are the product's own.
 #![tactic(auto)]
 
 mod ahead;

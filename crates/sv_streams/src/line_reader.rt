@@ -11,13 +11,14 @@ use std::marker::Model;
 use std::mem;
 use sv_text::Bytes;
 
-/// As many reads are made for the lines of a source.
+/// The greatest number of reads from one source.
 pub const MAX_READS: u32 = 1_000_000;
 
-/// A reader of lines: what a source gave and has not been given as a line. All lines of a source are read by one reader.
+/// A reader of lines. It holds the bytes that were read and not yet returned. All lines of a source must be read by
+/// one reader.
 #[derive(Drop)]
 pub struct LineReader {
-    // The line under way, which has no line feed.
+    // The incomplete line, without a line feed.
     line: Vec<u8>,
     ahead: Ahead,
     reads: u32,
@@ -40,7 +41,7 @@ impl LineReader {
     ghost use Rattle.sv_streams.specs.Lines.{NextLine, new_lines};
     ghost use Rattle.sv_streams.specs.LineSteps.{LastLine, ReadsOnce, TakesLine};
 
-    /// A reader to which nothing has been given.
+    /// Creates a reader that has read nothing.
     pub fn new(alloc: Global) -> LineReader
         ensures { result ≡ new_lines }
     {
@@ -52,12 +53,12 @@ impl LineReader {
         }
     }
 
-    /// The next line, without its line feed, and none at the end. What stands behind the last line feed is a line where it is not empty.
-    /// The source is read as often as the line needs, and not at all once a read has met its end.
+    /// Returns the next line without its line feed, or `None` at the end. Bytes after the last line feed are a line,
+    /// too. Reads the source as often as the line needs, and never after a read has met its end.
     ///
     /// # Errors
-    /// [`LinesFault::ReadFailed`] where a read failed; [`LinesFault::TooManyReads`] where [`MAX_READS`] reads were made and the line needs
-    /// another, which is not made; [`LinesFault::NoMemory`]. What was read stays unread, and a further call goes on from there.
+    /// [`LinesFault::ReadFailed`] if a read failed; [`LinesFault::TooManyReads`] if the line needs more reads than
+    /// [`MAX_READS`]; [`LinesFault::NoMemory`]. The bytes read are kept, and the next call continues with them.
     pub fn next_line<S: Source>(&mut self, source: &mut S) -> Result<Option<Bytes>, LinesFault>
         ensures { NextLine S.makes source.old self.old result source.new self.new }
     {
@@ -77,14 +78,15 @@ impl LineReader {
         }
     }
 
-    // Whether a read has met the end.
+    // Returns whether a read has met the end.
     fn has_ended(&self) -> bool
         ensures { result ≡ self.now.ended }
     {
         self.ended
     }
 
-    // The line that ends in what was read, if one does; else all that was read is of the line under way.
+    // Takes the line that ends in the bytes read, if there is one. If not, all bytes read belong to the incomplete
+    // line.
     fn take_line(&mut self) -> Result<Option<Bytes>, AllocError>
         ensures { TakesLine self.old result self.new }
     {
@@ -102,7 +104,7 @@ impl LineReader {
         }
     }
 
-    // The line under way, where it is not empty.
+    // Takes the incomplete line, unless it is empty.
     fn last_line(&mut self) -> Option<Bytes>
         ensures { LastLine self.old result self.new }
     {
@@ -113,7 +115,7 @@ impl LineReader {
         Some(Bytes::from_vec(mem::replace(&mut self.line, Vec::new(alloc))))
     }
 
-    // Reads once.
+    // Reads once, unless the limit of reads is reached.
     fn read_on<S: Source>(&mut self, source: &mut S) -> Result<(), LinesFault>
         requires { self.old.ahead ≡ [] }
         ensures { ReadsOnce S.makes source.old self.old result source.new self.new }
@@ -136,7 +138,8 @@ impl LineReader {
     }
 }
 
-// Moves the front of the bytes to the line, up to their first line feed, whose place is the answer, or all of them where they have none.
+// Appends the bytes before the first line feed to the line and returns its place, or appends all bytes if there is
+// none.
 fn move_front(line: &mut Vec<u8>, bytes: &[u8]) -> Result<Option<usize>, AllocError>
     ensures { MovesFront (vec_items line.old) bytes.now result (vec_items line.new) }
 {

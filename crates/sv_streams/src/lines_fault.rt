@@ -1,4 +1,4 @@
-//! Why no line could be read.
+//! Faults of reading lines.
 
 ghost use Rattle.std.specs.Prelude.{◌≡◌};
 ghost use Rattle.sv_streams.specs.declared.lines_fault.LinesFault.TheVariants as fault;
@@ -6,12 +6,12 @@ ghost use Rattle.sv_streams.specs.declared.lines_fault.LinesFault.TheVariants as
 use crate::stream::ReadFailed;
 use std::alloc::AllocError;
 
-/// Why no line could be read. What was read stays with the reader.
+/// The reason why no line was read. The reader keeps the bytes that it has read.
 #[derive(Clone, Copy, Debug, PartialEq, Eq)]
 pub enum LinesFault {
     /// A read failed.
     ReadFailed,
-    /// As many reads were made as may be.
+    /// The limit of reads is reached.
     TooManyReads,
     /// Memory ran out.
     NoMemory,

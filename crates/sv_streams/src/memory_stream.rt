@@ -1,4 +1,4 @@
-//! A stream in memory, which fails when it is told to.
+//! A stream in memory that can be set to fail.
 
 ghost use Rattle.std.specs.Prelude.{◌≡◌, ◌<◌, ◌≤◌, [], ◌++◌, length, take, drop};
 
@@ -6,8 +6,8 @@ use crate::stream::{ReadFailed, Sink, Source, Stream, WriteFailed};
 use std::alloc::Global;
 use std::marker::Model;
 
-/// A stream in memory, for tests of what reads and writes: each call gives or takes at most so many bytes, and the call of a given number
-/// fails.
+/// A stream in memory, for tests of readers and writers. Each call gives or takes a limited number of bytes, and one
+/// chosen call fails. A write also fails if memory runs out.
 #[derive(Drop)]
 pub struct MemoryStream {
     input: Vec<u8>,
@@ -33,8 +33,8 @@ impl MemoryStream {
     ghost use Rattle.std.specs.Prelude.{◌≡◌, ◌<◌, [], vec_items};
     ghost use Rattle.sv_streams.specs.Memory.{called, is_failing};
 
-    /// A stream that gives these bytes, at most `piece` a call, as which it takes at most so many, and whose call of the number `failing`,
-    /// counted from 1, fails: none where it is 0.
+    /// Creates a stream with this input. Each call gives or takes at most `piece` bytes. The call of the number
+    /// `failing`, counted from 1, fails; 0 means none.
     pub fn new(alloc: Global, input: Vec<u8>, piece: usize, failing: u64) -> MemoryStream
         requires { 0 < piece }
         ensures { result ≡ record { unread = vec_items input; written = []; piece = piece; calls = 0; failing = failing } }
@@ -49,21 +49,21 @@ impl MemoryStream {
         }
     }
 
-    /// What was written.
+    /// Returns the bytes written.
     pub fn written(&self) -> &[u8]
         ensures { result.now ≡ self.now.written }
     {
         self.output.as_slice()
     }
 
-    /// How many calls were made, up to the greatest number.
+    /// Returns the number of calls, up to the greatest `u64`.
     pub fn calls(&self) -> u64
         ensures { result ≡ self.now.calls }
     {
         self.calls
     }
 
-    // Counts a call; says whether it is the one that fails.
+    // Counts a call and returns whether it must fail.
     fn is_failing(&mut self) -> bool
         ensures counts { self.new ≡ called self.old }
         ensures told { result ≡ is_failing self.old }
@@ -104,7 +104,7 @@ impl Sink for MemoryStream {
     }
 }
 
-// Copies the front of the bytes to the buffer's front, as far as it fits and is given at once: how many bytes these are.
+// Copies bytes to the front of the buffer: at most `piece`, and as many as fit. Returns their number.
 fn give(bytes: &[u8], piece: usize, buffer: &mut [u8]) -> usize
     requires some { 0 < piece }
     requires room { 0 < length buffer.old }
@@ -118,7 +118,7 @@ fn give(bytes: &[u8], piece: usize, buffer: &mut [u8]) -> usize
     count
 }
 
-// Copies so many bytes to the front of a buffer.
+// Copies the first `count` bytes to the front of a buffer.
 fn copy_front(buffer: &mut [u8], bytes: &[u8], count: usize)
     requires room { count ≤ length buffer.old }
     requires enough { count ≤ length bytes.now }

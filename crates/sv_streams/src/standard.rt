@@ -7,14 +7,14 @@ ghost use Rattle.sv_streams.specs.Standard.{IsCallOf, IsReadOf, IsWriteTo};
 use crate::stream::{ReadFailed, Sink, Source, Stream, WriteFailed};
 use std::io::{ErrorKind, Read, Write};
 
-/// A reader of the standard library as a source. A read that was interrupted is made again.
+/// A reader of the standard library as a source. An interrupted read is repeated.
 #[derive(Drop)]
 pub struct ReadSource<R> {
     reader: R,
 }
 
 impl<R: Read> ReadSource<R> {
-    /// The source that reads from this reader.
+    /// Creates a source that reads from this reader.
     pub fn new(reader: R) -> ReadSource<R>
         ensures { result.reader ≡ reader }
     {
@@ -32,15 +32,15 @@ impl<R: Read> Source for ReadSource<R> {
     }
 }
 
-/// A writer of the standard library as a sink. The writer is to pass on what it takes: it is not flushed. A write that was interrupted is
-/// made again, and one that takes nothing has failed.
+/// A writer of the standard library as a sink. It is never flushed, so the writer must forward what it takes. An
+/// interrupted write is repeated, and a write that takes nothing fails.
 #[derive(Drop)]
 pub struct WriteSink<W> {
     writer: W,
 }
 
 impl<W: Write> WriteSink<W> {
-    /// The sink that writes to this writer.
+    /// Creates a sink that writes to this writer.
     pub fn new(writer: W) -> WriteSink<W>
         ensures { result.writer ≡ writer }
     {
@@ -58,14 +58,14 @@ impl<W: Write> Sink for WriteSink<W> {
     }
 }
 
-/// What is both a reader and a writer of the standard library, as a socket, as a source and a sink.
+/// A stream of the standard library that is both a reader and a writer, such as a socket, as a source and a sink.
 #[derive(Drop)]
 pub struct ReadWriteStream<T> {
     stream: T,
 }
 
 impl<T: Read + Write> ReadWriteStream<T> {
-    /// The stream that reads from this stream and writes to it.
+    /// Creates a source and sink that uses this stream.
     pub fn new(stream: T) -> ReadWriteStream<T>
         ensures { result.stream ≡ stream }
     {

@@ -1,4 +1,4 @@
-//! What is read from and written to.
+//! Streams that are read and written.
 
 ghost use Rattle.std.specs.Prelude.{◌<◌, ◌≤◌, length, IfOk};
 ghost use Rattle.sv_streams.specs.Calls.{Call, read_call, write_call};
@@ -11,16 +11,17 @@ pub struct ReadFailed;
 #[derive(Clone, Copy, Debug, PartialEq, Eq)]
 pub struct WriteFailed;
 
-/// What is read from or written to, or both: what its calls may do to it. Contracts list the calls that were made (`AreMade`), and take
-/// from that list the bytes that were given and taken, and the counts of reads and of failed calls.
+/// A stream that is read, written, or both. Contracts list the calls that were made (`AreMade`). The bytes given and
+/// taken and the numbers of reads and of failed calls follow from this list.
 pub trait Stream {
-    /// What a call is: the stream before it, what the call did, and the stream after it. Left out, a call may do anything.
+    /// The model of a call: the stream before it, the call, and the stream after it. By default a call may do anything.
     ghost makes: { Self → Call → Self → Type 0 } = { λ _ _ _. Unit {0} };
 }
 
-/// What bytes are read from.
+/// A stream that bytes are read from.
 pub trait Source: Stream {
-    /// Reads into a buffer that is not empty. Answers how many bytes came, which stand at the buffer's front; none come only at the end.
+    /// Reads into a buffer that is not empty. Returns the number of bytes read to its front, which is 0 only at the
+    /// end.
     ///
     /// # Errors
     /// The read failed, and gave nothing.
@@ -30,9 +31,9 @@ pub trait Source: Stream {
         ensures made { Self.makes self.old (read_call result buffer.new) self.new };
 }
 
-/// What bytes are written to.
+/// A stream that bytes are written to.
 pub trait Sink: Stream {
-    /// Writes bytes, at least one. Answers how many of them, from the first on, were taken: one or more.
+    /// Writes bytes, which must not be empty. Returns how many were taken from their front, at least one.
     ///
     /// # Errors
     /// The write failed, and took nothing.

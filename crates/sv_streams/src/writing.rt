@@ -5,10 +5,10 @@ ghost use Rattle.sv_streams.specs.Calls.{WritesAll};
 
 use crate::stream::{Sink, WriteFailed};
 
-/// Writes all of the bytes, in as many writes as the sink needs, and none where there are no bytes.
+/// Writes all of the bytes, in as many writes as the sink needs. Empty bytes need none.
 ///
 /// # Errors
-/// A write failed. The sink took a part of the bytes, from the first on, and nothing was written after the failed write.
+/// A write failed, and no other write follows it. The sink has taken a front of the bytes.
 pub fn write_all<W: Sink>(sink: &mut W, bytes: &[u8]) -> Result<(), WriteFailed>
     ensures { WritesAll W.makes bytes.now sink.old result sink.new }
 {

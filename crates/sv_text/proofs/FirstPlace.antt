@@ -22,14 +22,14 @@ module _ {X : Type 0} (t : X → Bool) where
   from_some i [] = refl
   from_some i (x ∷ xs) = ⊎_elim (λ e. rw e refl) (λ e. rw e (from_some (i + 1) xs)) (cases_Bool (t x))
 
-  -- where one member more stands last
+  -- The first place after an item was appended.
   pub position-push : (xs : List X) (x : X) → position t (xs ++ x ∷ []) ≡ option_or (position t xs) (cond (t x) (Some (length xs)) None)
   position-push xs x =
       position_from-zero t (xs ++ x ∷ []) ∙ (from_push 0 xs x
       ∙ (ap (λ n. option_or (position_from t 0 xs) (cond (t x) (Some n) None)) (zero-add (length xs))
       ∙ ap (λ o. option_or o (cond (t x) (Some (length xs)) None)) (sym (position_from-zero t xs))))
 
-  -- there is one exactly where some member passes
+  -- A place is found exactly if some item passes.
   pub position_some : (xs : List X) → is_some (position t xs) ≡ list_any t xs
   position_some xs = ap is_some (position_from-zero t xs) ∙ from_some 0 xs
 

@@ -1,4 +1,4 @@
--- The shortest front that passes a test, and where a text is cut from its stream.
+-- The shortest front that passes a test, and the cut of a text from its stream.
 use Rattle.std.proofs.Common.{◌≡◌, ℕ, zero, suc, ◌<◌, ◌≤◌, Bool, true, false, List, [], ◌∷◌, ◌++◌, length, take, Option, None, Some, refl, sym, ap, ◌∙◌, subst, cond, ltb, ◌⊎◌, inl, inr, arith, length-append}
 use Rattle.std.specs.Option.{option_map}
 use Rattle.std.proofs.lemmas.Bool.{le-ltb, ltb-true, ltb-false, cond-false}
@@ -7,13 +7,13 @@ use Rattle.sv_text.specs.declared.front.Cut.{Cut}
 use Rattle.sv_text.specs.declared.front.Cut.TheVariants.{Whole, Endless, Unended}
 use Rattle.sv_text.specs.Front.{shortest_front, cut_at, cut}
 
--- n is the length of the shortest front of the text that passes the test
+-- n is the length of the shortest front of the text that passes the test.
 pub record IsShortestFront (test : List ℕ → Bool) (text : List ℕ) (n : ℕ) : Type 0 where
   pub fits : n ≤ length text
   pub passes : test (take n text) ≡ true
   pub first : (k : ℕ) → k < n → test (take k text) ≡ false
 
--- ---- what the definition says
+-- ---- the definition
 
 at_once : (test : List ℕ → Bool) (text : List ℕ) (n : ℕ) → test [] ≡ true → 0 ≡ n → IsShortestFront test text n
 at_once test text n pass same =
@@ -131,7 +131,7 @@ Unended-inverse limit text None is = (refl, by_test (ltb (length text) limit) re
     by_test false above same = absurd (cc)
 Unended-inverse limit text (Some m) is = absurd (cc)
 
--- no front of a text whose end is awaited ends it
+-- If a text has no end, none of its fronts has one.
 pub cut_unended-fronts : (ends : List ℕ → Bool) (limit : ℕ) (text : List ℕ) → cut ends limit text ≡ Unended
     → (k : ℕ) → k ≤ length text → ends (take k text) ≡ false
 cut_unended-fronts ends limit text is =
@@ -149,7 +149,7 @@ module _ (ends : List ℕ → Bool) (limit : ℕ) (text : List ℕ) where
       let inside : k ≤ length text = omega (arith, length-take limit text) in
       take-take k limit (text ++ more) below ∙ take-append-le k text more inside ∙ sym (take-take k limit text below)
 
-  -- a cut that was made stays as it is, whatever follows
+  -- A cut that was found stays the same, whatever follows.
   pub cut-append : (more : List ℕ) (c : Cut) → cut ends limit text ≡ c → (c ≡ Unended) ⊎ (cut ends limit (text ++ more) ≡ c)
   cut-append more (Whole n) is =
       let found = cut-whole n is in

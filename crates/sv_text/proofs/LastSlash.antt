@@ -1,4 +1,4 @@
--- A text that is cut at its last slash, and the texts that it lies below: it begins with each and a slash.
+-- Cutting a text at its last slash. A text lies below another if it begins with that text and a slash.
 use Rattle.std.proofs.Common.{ℕ, ◌≡◌, ◌+◌, ◌<◌, Bool, true, false, ◌&&◌, ◌||◌, eqb, List, [], ◌∷◌, ◌++◌, length, take, drop, length-append, sym, refl, ap, ◌∙◌, ⊎_elim, arith, take-append-drop}
 use Rattle.std.specs.List.{list_any, starts_with}
 use Rattle.std.specs.Str.{bytes_eq, NoCharPasses}
@@ -22,7 +22,7 @@ eqb-turn m n =
     (λ apart. apart ∙ sym (ne_eqb n m (λ same. eqb-false m n apart (sym same))))
     (cases_Bool (eqb m n))
 
--- a text without a slash lies below none
+-- A text without a slash lies below no text.
 none_below : (outer text : List ℕ) → has_slash text ≡ false → lies_below outer text ≡ false
 none_below [] [] none = refl
 none_below [] (b ∷ text) none = ap (λ t. t && true) (eqb-turn 47 b ∙ (or_parts (eqb b 47) (has_slash text) none).0)
@@ -33,7 +33,7 @@ split_and : (first further here up : Bool) → further ≡ (here || up) → (fir
 split_and true further here up is = is
 split_and false further here up is = refl
 
--- a text lies below its front and below what this one lies below
+-- If its back has no slash, a text lies below its front and below each text that this front lies below.
 below-up : (outer front back : List ℕ) → has_slash back ≡ false → lies_below outer (front ++ 47 ∷ back) ≡ (bytes_eq front outer || lies_below outer front)
 below-up [] [] back none = refl
 below-up [] (y ∷ front) back none = refl
@@ -59,7 +59,7 @@ cut_at text front back h =
       last = ap has_slash h.4 ∙ no_slash (drop h.1 text) h.2.0;
     }
 
--- what `rsplit_once` cuts
+-- The same for the parts that `rsplit_once` returns.
 pub below-cut : (text front back outer : List ℕ) → SplitsAroundMatch (RFindsChar 47) text front back → lies_below outer text ≡ (bytes_eq front outer || lies_below outer front)
 below-cut text front back outer h =
     let cut = cut_at text front back h in

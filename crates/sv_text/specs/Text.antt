@@ -1,9 +1,9 @@
--- What a contract sees of a text.
+-- The model of a text.
 use Rattle.std.specs.Prelude.{ℕ, List, string_bytes}
 use Rattle.sv_text.specs.declared.text.Inner.{Inner}
 use Rattle.sv_text.specs.declared.text.Inner.TheVariants.{Short, Long}
 
--- the bytes of a text, wherever they lie
+-- The bytes of a text, stored in its value or on the heap.
 abbrev pub bytes_of : Inner → List ℕ
 bytes_of (Short text) = text.bytes
 bytes_of (Long text) = string_bytes text

@@ -1,4 +1,4 @@
-//! A byte string that contracts see as the list of its bytes.
+//! A byte string with the list of its bytes as its model.
 
 ghost use Rattle.std.specs.Prelude.{◌≡◌, ℕ, List};
 ghost use Rattle.sv_text.specs.Gives.{GivesAnswer};
@@ -7,7 +7,7 @@ use crate::no_memory::NoMemory;
 use std::alloc::Global;
 use std::marker::Model;
 
-/// A byte string. Contracts see the list of its bytes, so that a struct with a `Bytes` field is plain data to them.
+/// A byte string. Contracts see the list of its bytes, so a struct with a `Bytes` field is plain data to them.
 #[derive(Debug, Drop)]
 pub struct Bytes {
     inner: Vec<u8>,
@@ -20,7 +20,7 @@ impl Model for Bytes {
 }
 
 impl Bytes {
-    /// Makes a byte string of a vector, without taking memory.
+    /// Wraps a vector, without allocating memory.
     pub fn from_vec(inner: Vec<u8>) -> Bytes
         ensures { result ≡ inner.items }
     {
@@ -36,14 +36,14 @@ impl Bytes {
         Ok(Bytes { inner })
     }
 
-    /// The bytes.
+    /// Returns the bytes.
     pub fn as_slice(&self) -> &[u8]
         ensures { result.now ≡ self.now }
     {
         self.inner.as_slice()
     }
 
-    /// Gives the vector back, without taking memory.
+    /// Returns the vector, without allocating memory.
     pub fn into_vec(self) -> Vec<u8>
         ensures { result.items ≡ self }
     {

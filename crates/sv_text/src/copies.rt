@@ -7,7 +7,7 @@ use crate::no_memory::NoMemory;
 use crate::text::Text;
 use std::alloc::Global;
 
-/// Copies texts, in their order.
+/// Copies texts, in order.
 pub fn copied_texts(alloc: Global, texts: &[Text]) -> Result<Listed<Text>, NoMemory>
     ensures { GivesAnswer result texts.now }
 {

@@ -1,36 +1,36 @@
-//! The shortest front of a stream that has an end.
+//! Cutting texts from the front of a stream.
 
 ghost use Rattle.std.specs.Prelude.{◌≡◌, ℕ, ◌<◌, Bool, false, List, take};
 ghost use Rattle.sv_text.specs.Front.{shortest_front, cut};
 
-/// Where the text ends that a stream begins with.
+/// The end of the first text of a stream.
 #[derive(Clone, Copy)]
 pub enum Cut {
-    /// Its first end is there, after so many bytes.
+    /// The text ends after this many bytes.
     Whole(usize),
-    /// The limit is there, and no end within it.
+    /// The stream has no end within the limit.
     Endless,
-    /// No end is there yet.
+    /// The stream has no end yet, and is shorter than the limit.
     Unended,
 }
 
-/// A kind of text that has an end and a limit, so that it can be cut from a stream.
+/// A kind of text with an end and a length limit, so that it can be cut from a stream.
 pub trait Delimited {
     ghost ends: { Self → List ℕ → Bool };
 
     ghost limit: { Self → ℕ };
 
-    /// Whether bytes end as such a text does.
+    /// Returns whether the bytes end as a text of this kind does.
     fn is_ended(&self, bytes: &[u8]) -> bool
         ensures { result ≡ ends self.now bytes.now };
 
-    /// Such a text's end lies within so many bytes.
+    /// Returns the number of bytes within which a text of this kind ends.
     fn limit(&self) -> usize
         ensures { result ≡ limit self.now };
 }
 
-/// Where a text of that kind ends that the stream begins with. No front of fewer than `from` bytes ends it: a scan that goes
-/// on where more bytes came says how far the one before it got.
+/// Finds the end of the first text of a stream. No front of fewer than `from` bytes may end it: when more bytes arrive,
+/// the caller passes how far the last scan got.
 pub fn cut_front<D: Delimited>(kind: &D, stream: &[u8], from: usize) -> Cut
     requires { (k : ℕ) → k < from → D.ends kind.now (take k stream.now) ≡ false }
     ensures { result ≡ cut (D.ends kind.now) (D.limit kind.now) stream.now }
@@ -43,7 +43,8 @@ pub fn cut_front<D: Delimited>(kind: &D, stream: &[u8], from: usize) -> Cut
     }
 }
 
-/// The length of the shortest front that ends a text of that kind. No front of fewer than `from` bytes does.
+/// Returns the length of the shortest front that ends a text of this kind, if any. No front of fewer than `from` bytes
+/// may do so.
 fn front_len<D: Delimited>(kind: &D, text: &[u8], from: usize) -> Option<usize>
     requires { (k : ℕ) → k < from → D.ends kind.now (take k text.now) ≡ false }
     ensures { result ≡ shortest_front (D.ends kind.now) text.now }

@@ -1,4 +1,5 @@
-//! Small types that contracts see as lists, the cut of a text from its stream, and the words for "unless memory ran out".
+//! Small types that contracts see as lists, cutting texts from streams, and the form of results "unless memory ran
+//! out".
 #![tactic(auto)]
 
 mod bytes;

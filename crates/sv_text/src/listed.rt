@@ -1,10 +1,10 @@
-//! A list that contracts see as the list of its items.
+//! A list with its items as its model.
 
 ghost use Rattle.std.specs.Prelude.{◌≡◌, List};
 
 use std::marker::Model;
 
-/// A list. Contracts see the list of its items, so that a struct with a `Listed` field is plain data to them.
+/// A list. Contracts see its items, so a struct with a `Listed` field is plain data to them.
 #[derive(Debug, Drop)]
 pub struct Listed<T> {
     inner: Vec<T>,
@@ -17,21 +17,21 @@ impl<T> Model for Listed<T> {
 }
 
 impl<T> Listed<T> {
-    /// Makes a list of a vector, without taking memory.
+    /// Wraps a vector, without allocating memory.
     pub fn from_vec(inner: Vec<T>) -> Listed<T>
         ensures { result ≡ inner.items }
     {
         Listed { inner }
     }
 
-    /// The items in order.
+    /// Returns the items in order.
     pub fn as_slice(&self) -> &[T]
         ensures { result.now ≡ self.now }
     {
         self.inner.as_slice()
     }
 
-    /// Gives the vector back, without taking memory.
+    /// Returns the vector, without allocating memory.
     pub fn into_vec(self) -> Vec<T>
         ensures { result.items ≡ self }
     {

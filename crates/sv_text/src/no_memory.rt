@@ -1,4 +1,4 @@
-//! The refusal for want of memory.
+//! The error for running out of memory.
 
 ghost use Rattle.std.specs.Prelude.{Some, codes};
 
@@ -6,7 +6,7 @@ use std::alloc::{AllocError, AllocFailed};
 use std::error::Error;
 use std::fmt;
 
-/// A growth was refused. Each function that answers it says what state it leaves.
+/// An allocation was refused. Each function that returns this error documents the state it leaves.
 #[derive(Clone, Copy, Debug, PartialEq, Eq)]
 pub struct NoMemory;
 

@@ -1,4 +1,4 @@
-//! A text that contracts see as the list of its bytes.
+//! A text with the list of its bytes as its model.
 
 ghost use Rattle.std.specs.Prelude.{◌≡◌, [], ◌++◌, Some, IfOk, OnErr, OnOk, string_bytes};
 ghost use Rattle.sv_text.specs.Gives.{GivesAnswer};
@@ -9,20 +9,21 @@ use std::alloc::Global;
 use std::fmt;
 use std::marker::Model;
 
-/// How many bytes a text may have that lies in its value.
+/// The greatest length in bytes of a text that is stored in its value.
 const SHORT_LEN: usize = 24;
 
-/// A text in UTF-8. Contracts see the list of its bytes, so that a struct with a `Text` field is plain data to them. A short one takes no memory.
+/// A text in UTF-8. Contracts see the list of its bytes, so a struct with a `Text` field is plain data to them. A copy
+/// of a short text takes no heap memory.
 pub struct Text {
     inner: Inner,
 }
 
-/// Where the bytes of a text lie.
+/// The storage of the bytes of a text.
 #[derive(Drop)]
 enum Inner {
     /// In the value.
     Short(ArrayString<SHORT_LEN>),
-    /// In memory of their own.
+    /// On the heap.
     Long(String),
 }
 
@@ -36,7 +37,7 @@ impl Model for Text {
 }
 
 impl Text {
-    /// Makes a text of a string, without taking memory.
+    /// Wraps a string, without allocating memory.
     pub fn from_string(inner: String) -> Text
         ensures { result ≡ string_bytes inner }
     {
@@ -45,7 +46,7 @@ impl Text {
         }
     }
 
-    /// An empty text with room for so many bytes.
+    /// Returns an empty text with capacity for this many bytes.
     pub fn with_room(alloc: Global, room: usize) -> Result<Text, NoMemory>
         ensures { GivesAnswer result [] }
     {
@@ -71,7 +72,7 @@ impl Text {
         }
     }
 
-    /// Adds a text behind it. After [`NoMemory`] nothing has changed.
+    /// Appends a text. After [`NoMemory`] nothing has changed.
     #[inline(always)]
     pub fn push_str(&mut self, alloc: Global, text: &str) -> Result<(), NoMemory>
         ensures pushed { OnOk result (self.new ≡ self.old ++ text.now) }
@@ -93,7 +94,7 @@ impl Text {
         Ok(())
     }
 
-    /// The text.
+    /// Returns the text.
     pub fn as_str(&self) -> &str
         ensures { result.now ≡ self.now }
     {
@@ -103,7 +104,7 @@ impl Text {
         }
     }
 
-    /// The bytes of the text.
+    /// Returns the bytes of the text.
     pub fn as_bytes(&self) -> &[u8]
         ensures { result.now ≡ self.now }
     {
@@ -111,7 +112,7 @@ impl Text {
     }
 }
 
-// Written out, so that what holds texts lets each go by a call, wherever its bytes lie.
+// Implemented by hand, so that types with texts in them drop each text by a call, wherever its bytes are stored.
 impl Drop for Text {
     fn drop(self) {
         let Text { inner } = self;
@@ -136,7 +137,7 @@ impl fmt::Display for Text {
     }
 }
 
-// Both texts, one behind the other.
+// Returns both texts, the second after the first.
 fn joined(alloc: Global, front: &str, back: &str) -> Result<String, NoMemory>
     ensures { IfOk result (λ text. string_bytes text ≡ front.now ++ back.now) }
 {

@@ -1,4 +1,4 @@
--- An answer is made by one dispatch, and at most one of an error page.
+-- A response is made by one dispatch, followed by at most one dispatch to an error page.
 use Rattle.std.specs.Prelude.{codes}
 use Rattle.std.proofs.Common.{◌≡◌, inl, inr, ℕ, List, [], ◌++◌, Option, None, Some, refl, sym, ap, ◌∙◌, subst}
 use Rattle.std.proofs.lemmas.List.{append-nil}

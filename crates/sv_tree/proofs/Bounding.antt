@@ -1,4 +1,4 @@
--- The answer to a request is bounded, with its error page.
+-- The calls for a request, with its error page, are bounded.
 use Rattle.std.specs.Prelude.{codes, length}
 use Rattle.std.proofs.Common.{◌≡◌, ℕ, ◌+◌, ◌≤◌, Bool, true, List, [], Option, None, Some, refl, sym, subst, arith, lit≤, zero-add}
 use Rattle.sv_component.specs.Runs.{Record}

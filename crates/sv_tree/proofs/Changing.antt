@@ -1,4 +1,4 @@
--- What changing calls leave as it is.
+-- What changing calls leave unchanged.
 use Rattle.std.proofs.Common.{◌≡◌, ◌||◌, Bool, true, false, List, [], ◌∷◌, ◌++◌, refl, sym, ap, ◌∙◌, if◌then◌else◌}
 use Rattle.std.specs.List.{list_any}
 use Rattle.std.proofs.lemmas.List.Folds.{list_any-append}
@@ -17,7 +17,7 @@ use Rattle.sv_tree.specs.Site.{Site, begun, emptied_for, paths_in}
 use Rattle.sv_tree.specs.State.{Exchange}
 use Rattle.sv_uri.specs.declared.path.Canon.{Canon}
 
--- the request is the same, and within an include status and fields are too
+-- The request is the same. Within an include, so are the status and the header fields.
 abbrev pub Unchanged : Exchange → Exchange → Type 0
 Unchanged x y = KeepsRequest x y × (is_within_include x ≡ true → SameHead x y)
 
@@ -53,7 +53,7 @@ still_within x y same h = ap (λ dispatches. list_any is_include dispatches) sam
 pub unchanged_same : (x : Exchange) → Unchanged x x
 unchanged_same x = (same_request x x refl, λ h. (refl, refl))
 
--- what the exchange says of its request says this, once what happened is told
+-- The same request, once the listeners are notified.
 request_by : (x y : Exchange) → keeping.SameRequest x y → KeepsRequest x (without_events y)
 request_by x y same = record {
   method = same.method;
@@ -84,11 +84,11 @@ made_unchanged change x =
       made_head change x,
     )
 
--- what a component leaves, once what happened is told
+-- A component leaves the exchange unchanged in this sense, once the listeners are notified.
 pub unchanged : (x y : Exchange) → Reaches x y → Unchanged x (without_events y)
 unchanged x y changing = (request_by x y (changes_keep x y changing), changes_keep_head x y changing)
 
--- the same where the call of a component was counted
+-- The same for a counted call of a component.
 pub called_unchanged : (x y : Exchange) → Reaches (counted x) y → Unchanged x (without_events y)
 called_unchanged x y changing =
     let same = changes_keep (counted x) y changing in (
@@ -106,7 +106,7 @@ called_unchanged x y changing =
       changes_keep_head (counted x) y changing,
     )
 
--- the count of calls and the error that is kept are the same
+-- The count of calls and the kept error are the same.
 abbrev pub SameAccount : Exchange → Exchange → Type 0
 SameAccount x y = (y.calls ≡ x.calls) × (y.kept ≡ x.kept)
 
@@ -132,7 +132,7 @@ begun_account site kinds.Error canon x = (refl, refl)
 pub left_account : (y z : Exchange) → Leaves y z → SameAccount y z
 left_account y z left = (sym (ap (λ e. e.calls) left.1), sym (ap (λ e. e.kept) left.1))
 
--- what the beginning and the end of a dispatch leave as it is
+-- What the beginning and the end of a dispatch leave unchanged.
 pub emptied_request : (kind : Kind) (x : Exchange) → KeepsRequest x (emptied_for kind x)
 emptied_request kinds.Request x = same_request x x refl
 emptied_request kinds.Forward x = record { method = refl; context_path = refl; cookie_settings = refl; request_fields = refl; body = refl; moment = refl; reads_chunks = refl; client = refl; dispatches = refl }
@@ -153,7 +153,7 @@ unless false x =
 pub emptied_unchanged : (x : Exchange) → Unchanged x (emptied x)
 emptied_unchanged x = unless x.committed x
 
--- the dispatches within a dispatch of that kind
+-- The current dispatches after one of this kind has begun.
 pub begun_dispatches : (site : Site) (kind : Kind) (canon : Canon) (x : Exchange)
     → (begun site kind canon x).dispatches ≡ x.dispatches ++ (record { kind = kind; paths = paths_in site canon x; error = error_in kind x.kept }) ∷ []
 begun_dispatches site kind canon x = (emptied_request kind (entered kind (paths_in site canon x) x)).dispatches
@@ -175,14 +175,14 @@ without_added (x ∷ (x' ∷ xs)) a = ap (λ ys. x ∷ ys) (without_added (x' �
 pub same_front : {A : Type 0} (xs ys : List A) (a b : A) → xs ++ a ∷ [] ≡ ys ++ b ∷ [] → xs ≡ ys
 same_front xs ys a b h = sym (without_added xs a) ∙ ap without_last h ∙ without_added ys b
 
--- the dispatches are the same behind a dispatch as before it
+-- The current dispatches are the same before and after a dispatch.
 pub same_dispatches : (site : Site) (kind : Kind) (canon : Canon) (x y z : Exchange) → y.dispatches ≡ (begun site kind canon x).dispatches → Leaves y z
     → z.dispatches ≡ x.dispatches
 same_dispatches site kind canon x y z same left =
     same_front z.dispatches x.dispatches left.0 (record { kind = kind; paths = paths_in site canon x; error = error_in kind x.kept })
     (sym (left_dispatches y z left) ∙ same ∙ begun_dispatches site kind canon x)
 
--- an include is under way within an include, and within what stands within one
+-- An include is under way throughout an include and the dispatches nested in it.
 or_first : (a b : Bool) → b ≡ true → (b || a) ≡ true
 or_first a true h = refl
 or_first a false h = cc
@@ -205,7 +205,7 @@ within_begun site kind canon x h =
 pub within_inner : (kind : Kind) (x : Exchange) → is_within_include x ≡ true → is_included kind x ≡ true
 within_inner kind x h = or_second (is_include_kind kind) (is_within_include x) h
 
--- what stands around a dispatch stands around what is within it
+-- An include around a dispatch is also around everything nested in it.
 pub within_left : (y z : Exchange) → Leaves y z → is_within_include z ≡ true → is_within_include y ≡ true
 within_left y z left h =
     ap (list_any is_include) (left_dispatches y z left)

@@ -1,4 +1,4 @@
--- Each filter that passed is called just once more, the last first.
+-- Each filter that passed is called exactly once more, last first.
 use Rattle.std.proofs.Common.{◌≡◌, inl, inr, ℕ, Bool, true, List, [], ◌∷◌, ◌++◌, Option, None, Some, refl, sym, ap, ◌∙◌, subst, if◌then◌else◌, eq-eqb}
 use Rattle.sv_component.specs.Runs.{OfListener, Record}
 use Rattle.sv_component.specs.declared.answers.Gate.{Gate}
@@ -38,7 +38,7 @@ owes-append : (r s : List Record) (one two three : List ℕ) → owed_then r (So
     → owed_then (r ++ s) (Some one) ≡ Some three
 owes-append r s one two three first second = owed-append r s (Some one) ∙ ap (owed_then s) first ∙ second
 
--- what listeners hear changes nothing of what is owed
+-- Notifications do not change the filters that await their `after`.
 owed_heard : (place : ℕ) (event : Event) (r : List Record) (owed : Option (List ℕ)) → owed_then (OfListener place event ∷ r) owed ≡ owed_then r owed
 owed_heard place event r None = sym (owed-None r)
 owed_heard place event r (Some owed) = refl
@@ -51,7 +51,7 @@ told_owes : (listeners : ℕ) (events : List Event) (owed : List ℕ) → owed_t
 told_owes listeners events owed =
     all_keep_alone (λ r. owed_then r (Some owed) ≡ Some owed) (λ place event r h. h) listeners events refl
 
--- what comes to a result leaves what was owed
+-- A program with a result leaves the filters that awaited their `after` as they were.
 abbrev Closes : ℕ → State → List Record → State → Bool → Type 0
 Closes room x r y b = b ≡ true → (owed : List ℕ) → owed_then r (Some owed) ≡ Some owed
 
@@ -81,7 +81,7 @@ module _ (site : Site) where
     includes = opens kinds.Include;
   }
 
--- the end of a dispatch at a filter calls no component
+-- Ending a dispatch at a filter calls no component.
 ends_none : (passed : List ℕ) (ending : Does Finished) (x y : State) (r : List Record) (reached : Reached) → Silent ending
     → filters.ends_behind passed ending x r y (Some reached) → (r ≡ []) × (reached.passed ≡ passed)
 ends_none passed ending x y r reached none (inr t) = absurd_result reached (sym t.1)

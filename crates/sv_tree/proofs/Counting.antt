@@ -24,7 +24,7 @@ count-append : (r s : List Record) → count_all (r ++ s) ≡ count_all r + coun
 count-append [] s = sym (zero-add (count_all s))
 count-append (call ∷ r) s = let e : count_all (r ++ s) ≡ count_all r + count_all s = count-append r s in omega arith
 
--- no hearing counts
+-- Notifications are not counted.
 count-told : (listeners : ℕ) (events : List Event) → count_all (all_told listeners events) ≡ 0
 count-told listeners events = all_keep_alone (λ r. count_all r ≡ 0) (λ place event r h. zero-add (count_all r) ∙ h) listeners events refl
 
@@ -39,7 +39,7 @@ one_more site x e calls left more =
 none_more : (calls before : ℕ) → calls ≡ before → (calls ≡ 0 + before) × (before ≤ MAX_CALLS → calls ≤ MAX_CALLS)
 none_more calls before same = (same ∙ sym (zero-add before), λ h. subst (λ n. n ≤ MAX_CALLS) (sym same) h)
 
--- of a call that does not count
+-- A call that does not count, with its notifications.
 told_more : (site : Site) (e : Exchange) (calls before : ℕ) → calls ≡ before
     → (calls ≡ (0 + count_all (told_by site e)) + before) × (before ≤ MAX_CALLS → calls ≤ MAX_CALLS)
 told_more site e calls before same =
@@ -97,7 +97,7 @@ module _ (site : Site) where
   calls_are_counted room kind canon x y r result h =
       tree_keeps site Counts law (within_keeps site Counts law filters) room kind (opens kind) canon x y r result h
 
-  -- a turn, and what it leads to
+  -- A turn and its effect.
   pub turn_counts : (room place turn : ℕ) → Keeps site Counts room (Turn site room (Tree site room) place turn)
   turn_counts room place turn =
       turn_keeps site Counts law room (Tree site room) (λ canon x y r result h. calls_are_counted room kinds.Forward canon x y r result h)

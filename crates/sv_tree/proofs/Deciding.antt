@@ -1,4 +1,4 @@
--- The calls of a dispatch decide how it ends.
+-- The calls of a dispatch determine its outcome.
 use Rattle.std.specs.Prelude.{codes, decimal, length}
 use Rattle.std.proofs.Common.{◌≡◌, inl, inr, ℕ, zero, suc, ◌-◌, Bool, true, false, List, [], ◌∷◌, ◌++◌, Option, None, Some, Result, Ok, Err, refl, sym, ap, ◌∙◌, subst}
 use Rattle.std.proofs.lemmas.List.{append_assoc, append_cancel_left}
@@ -40,7 +40,8 @@ record Alike {A : Type 0} (r r' : List Record) (y y' : State) (a a' : A) : Type 
   states : y ≡ y'
   results : a ≡ a'
 
--- from one state, the calls decide where it ends: of two lists of calls that begin with its own, it takes the same front
+-- From one state, the calls determine the result and the final state. Two runs whose calls are prefixes of the same
+-- list make the same calls.
 abbrev DecidesAt : {A : Type 0} → State → Does A → Does A → Type 0
 DecidesAt {A} x does also = (y y' : State) (r r' s s' : List Record) (a a' : A) → does x r y (Some a) → also x r' y' (Some a') → r ++ s ≡ r' ++ s' → Alike r r' y y' a a'
 
@@ -136,7 +137,7 @@ service_tells place turn x e e' a a' h = (cc, cc)
 destroys_decides : (place : ℕ) → Decides (destroys place)
 destroys_decides place x y y' r r' s s' a a' h h' e = record { calls = h.0 ∙ sym h'.0; states = h.1 ∙ sym h'.1; results = refl }
 
--- the exchange behind the end of a dispatch
+-- The exchange after its innermost dispatch has ended.
 abbrev shorter : Exchange → Exchange
 shorter e = record e { dispatches = without_last e.dispatches }
 
@@ -277,7 +278,7 @@ module _ (site : Site) where
     continues_decide (Some result) next more h = gives_decides result
     continues_decide None next more h = h
 
-    -- however many turns may be left
+    -- The limits on the number of turns may differ.
     turns_decide : (place left also turn : ℕ) (x : State) → DecidesAt x (tree.Turns site room inner place left turn) (tree.Turns site room inner place also turn)
     turns_decide place zero also turn x = λ y y' r r' s s' a a' h h' e. absurd h
     turns_decide place (suc left) zero turn x = λ y y' r r' s s' a a' h h' e. absurd h'

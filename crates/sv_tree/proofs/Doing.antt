@@ -1,4 +1,4 @@
--- What was done, step by step.
+-- Programs, step by step.
 use Rattle.std.proofs.Common.{◌≡◌, ◌⊎◌, inl, inr, Bool, true, false, List, [], ◌++◌, Option, None, Some, refl, sym, ap, ◌∙◌, subst}
 use Rattle.sv_component.specs.Runs.{Record}
 use Rattle.sv_tree.specs.Does.{Does, ◌>>=◌, choose, becomes, tries, wants_memory}

@@ -1,4 +1,4 @@
--- In what a dispatch ends, and what is kept of it.
+-- The outcome of a dispatch, and the error that is kept.
 use Rattle.std.specs.Prelude.{codes, decimal, length}
 use Rattle.std.proofs.Common.{◌≡◌, inl, inr, ℕ, zero, suc, ◌-◌, Bool, true, false, List, [], ◌∷◌, Option, None, Some, Result, Ok, Err, refl, sym, ap, ◌∙◌, subst}
 use Rattle.sv_component.specs.Runs.{Record}
@@ -35,12 +35,12 @@ use Rattle.sv_tree.proofs.Nesting.{Shows, filters_show, shows}
 use Rattle.sv_uri.specs.declared.path.Canon.{Canon}
 use Rattle.sv_message.specs.Phrases.{phrase_of}
 
--- the error that is kept where one arises
+-- The error that is kept when one is raised.
 abbrev kept_as : Site → Resource → ℕ → List ℕ → Option KeptField → KeptError
 kept_as site resource status text field = record { status = status; text = text; servlet = Some (name_of site resource); field = field }
 
 module _ (site : Site) (P : State → Finished → Type 0) where
-  -- what holds where a dispatch ends: it holds where each ending arises, and stays to the end of the dispatch
+  -- A property of a dispatch's outcome: it holds when the outcome arises, and until the dispatch ends.
   pub record Settles : Type 0 where
     pub done : (x : State) → P x Done
     pub fails : (x : State) (resource : Resource) (kind text : List ℕ) → P (with_kept (kept_as site resource INTERNAL_SERVER_ERROR text None) x) (Failed kind text)
@@ -53,7 +53,7 @@ module _ (site : Site) (P : State → Finished → Type 0) where
   abbrev Ends : Does Finished → Type 0
   Ends does = (x y : State) (r : List Record) (finished : Finished) → does x r y (Some finished) → P y finished
 
-  -- the same of what may go on
+  -- The same for an outcome that may be missing.
   abbrev EndsIn : State → Option Finished → Type 0
   EndsIn y None = Unit {0}
   EndsIn y (Some finished) = P y finished
@@ -310,7 +310,7 @@ module _ (site : Site) (P : State → Finished → Type 0) where
     tree_ends zero kind canon = λ x y r finished h. absurd h
     tree_ends (suc room) kind canon = dispatch_ends room (Tree site room) (tree_ends room) kind canon
 
-    -- what holds of the end of a dispatch by what it shows until then
+    -- Derives a property of the outcome from the state just before the dispatch ends.
     pub inside_ends : (R : Finished → Type 0) (room : ℕ) (kind : Kind) (canon : Canon) (x y : State) (r : List Record) (finished : Finished)
         → ((between : State) → KeepsRequest (begun site kind canon x.exchange) between.exchange → P between finished → R finished)
         → Tree site room kind canon x r y (Some finished) → R finished
@@ -333,7 +333,7 @@ module _ (site : Site) (P : State → Finished → Type 0) where
         same_end value x y r (inr t) = absurd_result finished (sym t.1)
         same_end value x y r (inl t) = same_result finished value t.goes_on.2
 
--- an include ends in no error
+-- An include ends in no error.
 abbrev NoError : State → Finished → Type 0
 NoError x finished = is_within_include x.exchange ≡ true → is_error finished ≡ false
 
@@ -355,7 +355,7 @@ includes_end_in_no_error site room kind canon x y r finished included h =
     inside_ends site NoError (no_error site) (λ finished. is_error finished ≡ false) room kind canon x y r finished
     (λ between same ends. ends (still_within (begun site kind canon x.exchange) between.exchange same.dispatches (within_begun site kind canon x.exchange included))) h
 
--- the error that is kept is that of the end
+-- The error that is kept is that of the outcome.
 abbrev IsEndKept : Site → State → Finished → Type 0
 IsEndKept site x finished = KeepsEnding site finished x.exchange.kept
 

@@ -1,4 +1,4 @@
--- What happened to the session is told behind the call that caused it.
+-- Notifications directly follow the call that caused them.
 use Rattle.std.proofs.Common.{◌≡◌, ℕ, Bool, true, false, not, List, [], ◌∷◌, ◌++◌, Result, Ok, Err, refl, sym, ap, ◌∙◌, if◌then◌else◌, append-nil}
 use Rattle.std.specs.List.{filter, flat_map}
 use Rattle.std.proofs.lemmas.List.Concat.{flat_map-append}
@@ -19,7 +19,7 @@ use Rattle.sv_tree.proofs.Hearing.{all_keep_alone}
 use Rattle.sv_tree.proofs.Keeping.{FilterSteps, IsOwn, Opens, Steps, away_same, called, tree_keeps, within_keeps}
 use Rattle.sv_uri.specs.declared.path.Canon.{Canon}
 
--- no event is left where none was
+-- If no event was pending, none is left.
 abbrev Tells : ℕ → State → List Record → State → Bool → Type 0
 Tells room x r y b = x.exchange.events ≡ [] → y.exchange.events ≡ []
 
@@ -48,7 +48,7 @@ begun_events site kinds.Forward canon x = refl
 begun_events site kinds.Include canon x = refl
 begun_events site kinds.Error canon x = refl
 
--- each call is followed by what is told behind it
+-- Whether a record is a call of a filter or a servlet.
 abbrev named : Record → Bool
 named made = not (is_of_listener made)
 
@@ -58,7 +58,7 @@ Follows site r = r ≡ flat_map (told_behind site) (filter named r)
 unnamed : (listeners : ℕ) (events : List Event) → filter named (all_told listeners events) ≡ []
 unnamed listeners events = all_keep_alone (λ r. filter named r ≡ []) (λ place event r h. h) listeners events refl
 
--- a call, with all that is told behind it
+-- A call, with all its notifications.
 follows_one : (site : Site) (events : List Event) (made : Record) → filter named (made ∷ all_told site.listeners events) ≡ made ∷ filter named (all_told site.listeners events)
     → told_behind site made ≡ made ∷ all_told site.listeners events → Follows site (made ∷ all_told site.listeners events)
 follows_one site events made is behind =

@@ -25,7 +25,7 @@ use Rattle.sv_tree.proofs.Silence.{Silent, behind_silent, errs_silent, faults_si
 use Rattle.sv_uri.specs.declared.path.Canon.{Canon}
 use Rattle.sv_message.specs.Phrases.{phrase_of}
 
--- there is a first call, and it finds the buffer empty
+-- There is a first call, and it finds the buffer empty.
 abbrev Begun : List Record → Type 0
 Begun r = (call : Record) × (others : List Record) × (r ≡ call ∷ others) × Finds [] call
 
@@ -38,7 +38,7 @@ begun_begins r begins = subst (BeginsWith []) (sym begins.2) begins.3
 none_begins : (r : List Record) → r ≡ [] → BeginsWith [] r
 none_begins r none = subst (BeginsWith []) (sym none) tt
 
--- no call was made, and the dispatch ended, or memory did
+-- No call was made, and the dispatch ended or memory ran out.
 abbrev Ended : List Record → Option (Option Finished) → Type 0
 Ended r result = (r ≡ []) × ((result ≡ None) ⊎ ((finished : Finished) × (result ≡ Some (Some finished))))
 
@@ -46,7 +46,7 @@ last_ended : (ending : Does Finished) → Silent ending → (x y : State) (r : L
 last_ended ending silent x y r result (inl t) = (last_silent ending silent x y r result (inl t), inr (t.given, t.goes_on.2))
 last_ended ending silent x y r result (inr t) = (last_silent ending silent x y r result (inr t), inl t.1)
 
--- how the filters may begin: with a call, or with none; then memory ended it, or the dispatch ended, or there is none
+-- No filter was called: memory ran out, the dispatch ended, or there is no filter and the state is unchanged.
 abbrev Passes : State → State → List Record → Option Reached → Type 0
 Passes x y r result =
     (r ≡ []) × ((result ≡ None) ⊎ ((reached : Reached) × (result ≡ Some reached) × (reached.passed ≡ [])
@@ -142,7 +142,7 @@ module _ (site : Site) (room : ℕ) (inner : Kind → Canon → Does Finished) w
   responds_none resource kind canon ended finished x y r result is h =
       gives_silent finished x y r result (subst (λ o. tree.Responds site room inner resource kind canon o x r y result) is h)
 
-  -- where no filter was called, none is called afterwards
+  -- If no filter was called, none is called afterwards.
   afters_none : (passed : List ℕ) (value : Finished) (x y : State) (r : List Record) (result : Option Finished) → passed ≡ []
       → (filters.Afters site.listeners passed >> gives value) x r y result → r ≡ []
   afters_none passed value x y r result none h = closed (subst (λ p. (filters.Afters site.listeners p >> gives value) x r y result) none h)

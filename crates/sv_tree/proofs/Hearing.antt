@@ -1,4 +1,4 @@
--- What holds of what listeners hear.
+-- Properties of notifications.
 use Rattle.std.proofs.Common.{ℕ, List, [], ◌∷◌, ◌++◌, sym, subst, append_assoc, append-nil}
 use Rattle.std.specs.Prelude.{map}
 use Rattle.sv_component.specs.Runs.{OfListener, Record}
@@ -6,7 +6,7 @@ use Rattle.sv_event.specs.declared.event.Event.{Event}
 use Rattle.sv_component.specs.Telling.{hearing_order, told}
 use Rattle.sv_tree.specs.Telling.{all_told}
 
--- what each hearing keeps, all tellings keep
+-- A property that each single notification keeps holds for all of them.
 module _ (P : List Record → Type 0) (more : (place : ℕ) (event : Event) (r : List Record) → P r → P (OfListener place event ∷ r)) where
   heard_keep : (event : Event) (places : List ℕ) (r : List Record) → P r → P (map (λ place. OfListener place event) places ++ r)
   heard_keep event [] r h = h
@@ -22,6 +22,6 @@ module _ (P : List Record → Type 0) (more : (place : ℕ) (event : Event) (r :
       subst P (sym (append_assoc (told event listeners) (all_told listeners events) r))
       (told_keep listeners event (all_told listeners events ++ r) (all_keep listeners events r h))
 
-  -- with nothing behind them
+  -- The same with no calls after them.
   pub all_keep_alone : (listeners : ℕ) (events : List Event) → P [] → P (all_told listeners events)
   all_keep_alone listeners events h = subst P (append-nil (all_told listeners events)) (all_keep listeners events [] h)

@@ -1,4 +1,4 @@
--- Includes change neither status nor fields.
+-- Includes change neither the status nor the header fields.
 use Rattle.std.proofs.Common.{◌≡◌, ℕ, Bool, true, false, List, refl, sym, ap, ◌∙◌}
 use Rattle.sv_component.specs.Runs.{Record}
 use Rattle.sv_exchange.specs.Dispatches.{Leaves, entered, is_within_include}
@@ -21,7 +21,7 @@ head_then : (x y z : Exchange) → SameHead x y → SameHead y z → SameHead x 
 head_then x y z one two = (two.0 ∙ one.0, two.1 ∙ one.1)
 
 module _ (site : Site) where
-  -- what a dispatch within an include leaves, and an include itself
+  -- An include, or a dispatch within one, keeps the status and the header fields.
   abbrev Leaves_head : Kind → State → List Record → State → Bool → Type 0
   Leaves_head kind x r y b = is_included kind x.exchange ≡ true → SameHead x.exchange y.exchange
 

@@ -1,4 +1,4 @@
--- What each step keeps, a dispatch keeps.
+-- A property that each step keeps holds for every dispatch.
 use Rattle.std.specs.Prelude.{codes, decimal, length}
 use Rattle.std.proofs.lemmas.List.{append-nil}
 use Rattle.std.proofs.Common.{◌≡◌, inl, inr, ℕ, zero, suc, ◌-◌, Bool, true, false, List, [], ◌∷◌, ◌++◌, Option, None, Some, Result, Ok, Err, refl, sym, ap, ◌∙◌, subst}
@@ -35,12 +35,12 @@ use Rattle.sv_tree.proofs.Doing.{absurd_result, becomes_then, chosen_then, tries
 use Rattle.sv_uri.specs.declared.path.Canon.{Canon}
 use Rattle.sv_message.specs.Phrases.{phrase_of}
 
--- whether memory did not end it
+-- Whether there is a result, so that memory did not run out.
 abbrev pub came : {A : Type 0} → Option A → Bool
 came (Some value) = true
 came None = false
 
--- what a servlet's answer does by itself to its standing
+-- The direct effect of a servlet's result on its availability.
 abbrev pub away_by : ℕ → Step → State → State
 away_by place (steps.Unavailable (Some seconds)) state = away_for place seconds state
 away_by place step state = state
@@ -56,15 +56,15 @@ away_same place (steps.Error code text) state = refl
 away_same place (steps.Failed kind text) state = refl
 away_same place steps.NoMemory state = refl
 
--- the state behind a call, once what happened is told
+-- The state after a call, once the listeners are notified.
 abbrev pub called : Exchange → State → State
 called exchange state = with_exchange (without_events exchange) state
 
--- what is told behind a call
+-- The notifications that follow a call.
 abbrev pub told_by : Site → Exchange → List Record
 told_by site exchange = all_told site.listeners exchange.events
 
--- the changing calls that the container makes
+-- The changing calls that the container makes.
 abbrev pub IsOwn : Change → Type 0
 IsOwn (SetStatus status) = Unit {0}
 IsOwn (SetHeader name value) = Unit {0}
@@ -89,16 +89,16 @@ away_calls x place step e changes = ap (λ e. e.calls) (away_same place step (ca
 abbrev pub stands : ℕ → State → Standing
 stands place state = standing_at state.exchange.moment place state.standings
 
--- the last argument says whether it came to a result
+-- The last argument of the property says whether there was a result.
 module _ (site : Site) (Q : ℕ → State → List Record → State → Bool → Type 0) where
-  -- what a dispatch of that kind gives, of what is kept within it
+  -- The property of a dispatch of this kind, given the property of its parts.
   pub record OpensTo (given : State → List Record → State → Bool → Type 0) (room : ℕ) (kind : Kind) (canon : Canon) : Type 0 where
     pub stays : (x : State) → given x [] x false
     pub ends : (x y : State) (z : Exchange) (r : List Record)
         → Q room (on_exchange (begun site kind canon) x) r y true → Leaves y.exchange z → given x r (with_exchange z y) true
     pub breaks : (x y : State) (r : List Record) → Q room (on_exchange (begun site kind canon) x) r y false → given x r y false
 
-  -- a dispatch of that kind keeps what is kept within it
+  -- A dispatch of this kind keeps the property of its parts.
   abbrev pub Opens : Kind → Type 0
   Opens kind = (room : ℕ) (canon : Canon) → OpensTo (Q (suc room)) room kind canon
 
@@ -249,7 +249,7 @@ module _ (site : Site) (Q : ℕ → State → List Record → State → Bool →
       last_keeps : (ending : Does Finished) → Keeps room ending → Keeps room (last ending)
       last_keeps ending h = then_keeps ending (λ result. gives (Some result)) h (λ result. gives_keeps (Some result))
 
-      -- what stands behind the call of a servlet
+      -- The call of a servlet and the steps after it keep the property.
       behind_call : (place turn : ℕ) (x : State) (e : Exchange) (step : Step) (does : Does (Option Finished)) → Keeps room does
           → is_full x ≡ false → stands place x ≡ Serving → Reaches (counted x).exchange e
           → (y : State) (r : List Record) (result : Option (Option Finished)) → does (away_by place step (called e x)) r y result
@@ -258,12 +258,12 @@ module _ (site : Site) (Q : ℕ → State → List Record → State → Bool →
           law.joins room x (away_by place step (called e x)) y (service_of place turn (counted x).exchange step e ∷ told_by site e) r (came result)
           (law.serves room x place turn step e left serving changes) (h (away_by place step (called e x)) y r result done)
 
-      -- the changing calls of a component leave the standings as they are
+      -- The changing calls of a component keep each servlet's availability.
       still_serving : (place : ℕ) (x : State) (e : Exchange) → stands place x ≡ Serving → Reaches (counted x).exchange e → stands place (called e x) ≡ Serving
       still_serving place x e serving changes =
           ap (λ moment. standing_at moment place x.standings) (called_unchanged x.exchange e changes).0.moment ∙ serving
 
-      -- a servlet that is destroyed behind its call
+      -- The same for a servlet that is destroyed after its call.
       destroyed : (place turn : ℕ) (x : State) (e : Exchange)
           → is_full x ≡ false → stands place x ≡ Serving → Reaches (counted x).exchange e
           → (y : State) (r : List Record) (result : Option (Option Finished))
@@ -323,7 +323,7 @@ module _ (site : Site) (Q : ℕ → State → List Record → State → Bool →
       stood place moment (Away until) next x y r result h done =
           last_keeps (endings.is_away_for site (Servlet place) (until - moment)) (away_keeps (Servlet place) (until - moment)) x y r result done
 
-      -- a turn that is made
+      -- A turn that calls the servlet keeps the property.
       made : (place turn : ℕ) (x y : State) (r : List Record) (result : Option (Option Finished))
           → is_full x ≡ false → stands place x ≡ Serving
           → (asks site.listeners (service_of place turn) >>= tree.Stepped site room inner place) (counted x) r y result
@@ -373,14 +373,14 @@ module _ (site : Site) (Q : ℕ → State → List Record → State → Bool →
           then_keeps wants_memory (λ _ state. files.Filed site kind (site.file canon state.exchange.method kind) state) wants_keeps
           (λ _ x y r result h. filed_keeps kind (site.file canon x.exchange.method kind) x y r result h)
 
-  -- what stands behind the filters keeps it, and so do the filters with it
+  -- If the resource after the filters keeps the property, so do the filters with it.
   abbrev pub WithinKeeps : Type 1
   WithinKeeps =
       (room : ℕ) (inner : Kind → Canon → Does Finished) (resource : Resource) (kind : Kind) (canon : Canon)
       → ((ended : Option Finished) → Keeps room (tree.Responds site room inner resource kind canon ended))
       → Keeps room (tree.Within site room inner resource kind canon)
 
-  -- what the calls of filters keep
+  -- The calls of filters keep the property.
   pub record FilterSteps : Type 0 where
     pub before : (room place : ℕ) (x : State) (gate : Gate) (e : Exchange) (b : Bool) → is_full x ≡ false → Reaches (counted x).exchange e
         → Q room x (before_of place (counted x).exchange gate e ∷ told_by site e) (called e x) b
@@ -388,7 +388,7 @@ module _ (site : Site) (Q : ℕ → State → List Record → State → Bool →
         → Q room x (after_of place x.exchange done e ∷ told_by site e) (called e x) b
 
   module _ (law : Steps) (calls : FilterSteps) where
-    -- the call of a component, where it keeps it however it is answered
+    -- The call of a component keeps the property if it does so for every result.
     asked_keeps : {A : Type 0} (room : ℕ) (call : Exchange → A → Exchange → Record) (change : State → State) (x : State)
         → ((answer : A) (e : Exchange) (b : Bool) → Reaches (change x).exchange e → Q room x (call (change x).exchange answer e ∷ told_by site e) (called e (change x)) b)
         → (x' y : State) (r : List Record) (result : Option A) → x' ≡ change x → x'.exchange ≡ (change x).exchange → Asks site.listeners call x' r y result → Q room x r y (came result)
@@ -441,7 +441,7 @@ module _ (site : Site) (Q : ℕ → State → List Record → State → Bool →
         (responds reached.ended)
         (λ result. then_keeps law room (filters.Afters site.listeners reached.passed) (λ _. gives result) (afters_keep room reached.passed) (λ _. gives_keeps law room result))))
 
-  -- a dispatch that is made: what its parts keep, and what it gives by that
+  -- A dispatch: its parts keep the property, and this gives the property of the whole.
   module _ (room : ℕ) (kind : Kind) (canon : Canon) (given : State → List Record → State → Bool → Type 0) (opens : OpensTo given room kind canon) where
     left_gives : (x between y : State) (r front back : List Record) (finished : Finished) (result : Option Finished)
         → Q room (on_exchange (begun site kind canon) x) front between true
@@ -483,14 +483,14 @@ module _ (site : Site) (Q : ℕ → State → List Record → State → Bool →
         (responds_keeps law room inner (tree_keeps room kinds.Forward law.forwards) (tree_keeps room kinds.Include law.includes) (chosen site canon.path).resource kind canon))
         x y r result h
 
-    -- what is kept within a dispatch
+    -- The parts of a dispatch keep the property.
     pub inside_keeps : (room : ℕ) (kind : Kind) (canon : Canon)
         → Keeps room (tree.Within site room (Tree site room) (chosen site canon.path).resource kind canon)
     inside_keeps room kind canon =
         within room (Tree site room) (chosen site canon.path).resource kind canon
         (responds_keeps law room (Tree site room) (tree_keeps room kinds.Forward law.forwards) (tree_keeps room kinds.Include law.includes) (chosen site canon.path).resource kind canon)
 
-    -- what a dispatch gives by what is kept within it
+    -- The property of the parts gives the property of the dispatch.
     pub tree_gives : (given : State → List Record → State → Bool → Type 0) (room : ℕ) (kind : Kind) (canon : Canon)
         → ((left : ℕ) → OpensTo given left kind canon)
         → (x y : State) (r : List Record) (result : Option Finished) → Tree site room kind canon x r y result → given x r y (came result)

@@ -1,4 +1,4 @@
--- What is done to answer a request moves the sessions as components may.
+-- Answering a request moves the sessions only as components may.
 use Rattle.std.proofs.Common.{◌≡◌, inl, inr, ℕ, suc, Bool, true, false, List, [], ◌∷◌, Some, refl, sym, ap, ◌∙◌, subst, if◌then◌else◌}
 use Rattle.sv_component.specs.Runs.{Record}
 use Rattle.sv_exchange.specs.Changing.{Change, Reaches, answer, left_by}
@@ -28,7 +28,7 @@ use Rattle.sv_tree.proofs.Changing.{called_unchanged, made_unchanged, unchanged}
 use Rattle.sv_tree.proofs.Keeping.{FilterSteps, Keeps, Opens, Steps, away_same, called, tree_keeps, within_keeps}
 use Rattle.sv_uri.specs.declared.path.Canon.{Canon}
 
--- the sessions are as they were
+-- The time and the sessions are unchanged.
 abbrev Stays : Exchange → Exchange → Type 0
 Stays x y = (y.moment ≡ x.moment) × (y.store ≡ x.store)
 
@@ -77,7 +77,7 @@ module _ (calls : ChangesAreCalls) (moves : ChangesMoveTheSessions) (joins : Mov
     | inr not ↦ same_moved x y not.0
   ]
 
-  -- the call of a component, that counts or not
+  -- A counted call of a component.
   called_moved : (x e : Exchange) → Reaches (record x { calls = suc x.calls }) e → IsMoved x (without_events e)
   called_moved x e changes = record { moment = (called_unchanged x e changes).0.moment; sessions = moves (record x { calls = suc x.calls }) e changes }
 

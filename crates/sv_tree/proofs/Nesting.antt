@@ -1,4 +1,4 @@
--- Dispatches stand one within another, and what they show lasts to their end.
+-- Dispatches nest, and each restores the request when it ends.
 use Rattle.std.specs.Prelude.{length}
 use Rattle.std.proofs.Common.{◌≡◌, ℕ, suc, ◌+◌, ◌≤◌, Bool, true, List, [], ◌∷◌, ◌++◌, Option, Some, refl, sym, ap, ◌∙◌, subst, arith}
 use Rattle.std.proofs.lemmas.List.{length-append}
@@ -22,12 +22,12 @@ use Rattle.sv_tree.proofs.Hearing.{all_keep_alone}
 use Rattle.sv_tree.proofs.Keeping.{FilterSteps, Keeps, Opens, Steps, away_by, away_unchanged, called, came, told_by, inside_keeps, tree_gives, tree_keeps, within_keeps}
 use Rattle.sv_uri.specs.declared.path.Canon.{Canon}
 
--- what an exchange shows stays
+-- If there is a result, the exchange shows the same request.
 abbrev pub Shows : ℕ → State → List Record → State → Bool → Type 0
 Shows room x r y b = b ≡ true → KeepsRequest x.exchange y.exchange
 
 module _ (site : Site) where
-  -- a dispatch, from its beginning to its end
+  -- A dispatch, from its beginning to its end.
   dispatch_shows : (kind : Kind) (canon : Canon) (x y z : Exchange) → KeepsRequest (begun site kind canon x) y → Leaves y z
       → KeepsRequest record x { client = client_in kind (paths_in site canon x) x.client } z
   dispatch_shows kind canon x y z same left =
@@ -44,7 +44,7 @@ module _ (site : Site) where
         dispatches = same_dispatches site kind canon x y z same.dispatches left;
       }
 
-  -- a dispatch of another kind than a request leaves what the client asked for
+  -- A dispatch of a kind other than a request keeps the client's own paths.
   inner_shows : (kind : Kind) → ((canon : Canon) (x : Exchange) → client_in kind (paths_in site canon x) x.client ≡ x.client) → Opens site Shows kind
   inner_shows kind client room canon = record {
     stays = λ x b. not_true b;
@@ -100,7 +100,7 @@ module _ (site : Site) where
         breaks = λ x y r h b. not_true b;
       }) x y r (Some finished) h refl
 
--- each call stands within its bound
+-- Each call is nested within its bound.
 abbrev pub Nests : ℕ → State → List Record → State → Bool → Type 0
 Nests room x r y b = (b ≡ true → y.exchange.dispatches ≡ x.exchange.dispatches) × AreWithin (length x.exchange.dispatches + room) r
 
@@ -108,7 +108,7 @@ within-append : (bound : ℕ) (r s : List Record) → AreWithin bound r → AreW
 within-append bound [] s one two = two
 within-append bound (call ∷ r) s one two = (one.0, within-append bound r s one.1 two)
 
--- what listeners hear stands within any bound
+-- Notifications are within any bound.
 within-told : (bound listeners : ℕ) (events : List Event) → AreWithin bound (all_told listeners events)
 within-told bound listeners events = all_keep_alone (AreWithin bound) (λ place event r h. (omega arith, h)) listeners events tt
 

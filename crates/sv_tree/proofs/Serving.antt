@@ -64,7 +64,7 @@ served x place turn (steps.Error code text) e serving changes = ((serving, tt), 
 served x place turn (steps.Failed kind text) e serving changes = ((serving, tt), λ _. refl, (called_unchanged x.exchange e changes).0.moment)
 served x place turn steps.NoMemory e serving changes = ((serving, tt), λ _. refl, (called_unchanged x.exchange e changes).0.moment)
 
--- what listeners hear changes no standing
+-- Notifications do not change the availability of servlets.
 stands-told : (moment listeners : ℕ) (events : List Event) (standings : List Standing) → stands_after_all moment (all_told listeners events) standings ≡ standings
 stands-told moment listeners events standings =
     all_keep_alone (λ r. stands_after_all moment r standings ≡ standings) (λ place event r h. h) listeners events refl
@@ -72,7 +72,7 @@ stands-told moment listeners events standings =
 serving-told : (moment listeners : ℕ) (events : List Event) (standings : List Standing) → AreOfServing moment standings (all_told listeners events)
 serving-told moment listeners events standings = all_keep_alone (AreOfServing moment standings) (λ place event r h. (tt, h)) listeners events tt
 
--- the same with what is told behind it
+-- The same, followed by notifications.
 then_told : (site : Site) (room : ℕ) (x y : State) (r : List Record) (b : Bool) (e : Exchange) → Serves room x r y b → Serves room x (r ++ told_by site e) y b
 then_told site room x y r b e h =
     let moment = x.exchange.moment in

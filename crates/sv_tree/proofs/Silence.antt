@@ -1,4 +1,4 @@
--- What calls no component.
+-- Programs that call no component.
 use Rattle.std.specs.Prelude.{codes, length}
 use Rattle.std.proofs.Common.{◌≡◌, inl, inr, ℕ, List, [], ◌++◌, Option, None, Some, ap, ◌∙◌}
 use Rattle.sv_component.specs.Runs.{Record}

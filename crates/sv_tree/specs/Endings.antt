@@ -1,4 +1,4 @@
--- How a dispatch ends in an error or in a failure (Jakarta Servlet 6.0, sections 9.5 and 10.9).
+-- Dispatches that end in an error or a failure (Jakarta Servlet 6.0, sections 9.5 and 10.9).
 use Rattle.std.specs.Prelude.{ℕ, ◌&&◌, nat_le, List, codes, decimal, Option, None, Some, if◌then◌else◌}
 use Rattle.sv_exchange.specs.Dispatches.{is_within_include}
 use Rattle.sv_tree.specs.Does.{Does, ◌>>◌, choose, gives, sees, tries}
@@ -11,22 +11,22 @@ use Rattle.sv_tree.specs.declared.finished.Finished.TheVariants.{Done, Error, Fa
 use Rattle.sv_tree.specs.declared.limits.TheConstants.{INTERNAL_SERVER_ERROR, LEAST_ERROR, MAX_ERROR, METHOD_NOT_ALLOWED, NOT_FOUND, SERVICE_UNAVAILABLE}
 use Rattle.sv_message.specs.Phrases.{phrase_of}
 
--- the status of an error that a servlet answers with a code
+-- The status of an error, for the code that a servlet gives.
 abbrev pub error_status : ℕ → ℕ
 error_status code = if nat_le LEAST_ERROR code && nat_le code MAX_ERROR then code else INTERNAL_SERVER_ERROR
 
--- the error is kept for the answer
+-- Keeps the error for the response.
 abbrev pub keeps : KeptError → Does (Unit {0})
 keeps kept = tries (with_kept kept)
 
 module _ (site : Site) where
-  -- an error; within an include, at any depth, it counts as done
+  -- An error. Within an include, at any depth, it counts as done.
   abbrev pub errs : Resource → ℕ → List ℕ → Option KeptField → Does Finished
   errs resource status text field = sees λ state. choose (is_within_include state.exchange) (gives Done) do
     keeps record { status = status; text = text; servlet = Some (name_of site resource); field = field }
     gives (Error status text)
 
-  -- an error of the container's own: its text is the phrase of its status
+  -- An error raised by the container. Its text is the reason phrase of its status.
   abbrev pub errs_with : Resource → ℕ → Option KeptField → Does Finished
   errs_with resource status field = errs resource status (phrase_of status) field
 
@@ -39,12 +39,12 @@ module _ (site : Site) where
   abbrev pub is_away_for : Resource → ℕ → Does Finished
   is_away_for resource seconds = errs_with resource SERVICE_UNAVAILABLE (Some record { name = codes "retry-after"; value = decimal seconds })
 
-  -- a failure, within an include too
+  -- A failure, also within an include.
   abbrev pub fails : Resource → List ℕ → List ℕ → Does Finished
   fails resource kind text = do
     keeps record { status = INTERNAL_SERVER_ERROR; text = text; servlet = Some (name_of site resource); field = None }
     gives (Failed kind text)
 
-  -- a failure of the container's own
+  -- A failure raised by the container.
   abbrev pub faults : Resource → DispatchFault → Does Finished
   faults resource fault = fails resource (fault_name fault) (fault_name fault)

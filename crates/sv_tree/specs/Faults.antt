@@ -1,4 +1,4 @@
--- The names of the faults of dispatches, which are their kinds and their texts too.
+-- The names of the dispatch faults, which are also their kinds and their texts.
 use Rattle.std.specs.Prelude.{ℕ, List, codes}
 use Rattle.sv_tree.specs.declared.dispatch_fault.DispatchFault.{DispatchFault}
 use Rattle.sv_tree.specs.declared.dispatch_fault.DispatchFault.TheVariants.{Committed, BadDispatchPath, DispatchLimit, MissingInclude, TooLarge}

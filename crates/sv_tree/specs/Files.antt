@@ -1,4 +1,4 @@
--- What the file servlet does, which answers where no servlet is mapped (Jakarta Servlet 6.0, sections 9.3, 10.10 and 12.2).
+-- The file servlet, which answers if no servlet is mapped (Jakarta Servlet 6.0, sections 9.3, 10.10 and 12.2).
 use Rattle.std.specs.Prelude.{ℕ, List, [], length, codes, if◌then◌else◌}
 use Rattle.sv_exchange.specs.Changing.{SetHeader, SetStatus, Write, has_room}
 use Rattle.sv_mapping.specs.declared.kind.Kind.{Kind}
@@ -12,18 +12,18 @@ use Rattle.sv_tree.specs.declared.finished.Finished.{Finished}
 use Rattle.sv_tree.specs.declared.finished.Finished.TheVariants.{Done}
 use Rattle.sv_tree.specs.declared.limits.TheConstants.{FOUND}
 
--- what was written is taken back, unless it is committed
+-- The exchange with an empty buffer, unless the response is committed.
 abbrev pub emptied : Exchange → Exchange
 emptied exchange = if exchange.committed then exchange else record exchange { buffer = [] }
 
 module _ (site : Site) where
-  -- a file: its type, and its bytes where the body can take them
+  -- Sends a file: its type, and its bytes if they fit in the body.
   abbrev pub Sends : List ℕ → List ℕ → Does Finished
   Sends content_type bytes = do
     makes (SetHeader (codes "content-type") content_type)
     sees λ state. choose (has_room (length bytes) state.exchange) (makes (Write bytes) >> gives Done) (faults site Files TooLarge)
 
-  -- the client is sent elsewhere
+  -- Redirects the client.
   abbrev pub SendsTo : List ℕ → Does Finished
   SendsTo location = do
     becomes (on_exchange emptied)
@@ -31,7 +31,7 @@ module _ (site : Site) where
     makes (SetHeader (codes "location") location)
     gives Done
 
-  -- a path that has no file; an include of it fails
+  -- A path that has no file. An include of it fails.
   abbrev pub Misses : Kind → Does Finished
   Misses kinds.Include = faults site Files MissingInclude
   Misses kinds.Request = is_missing site Files

@@ -16,41 +16,41 @@ use Rattle.sv_tree.specs.declared.finished.Finished.TheVariants.{Done}
 abbrev pub before_of : ℕ → Exchange → Gate → Exchange → Record
 before_of place before gate after = OfFilter place (Entered before gate after)
 
--- whether the call found the memory that it wanted
+-- The flag says whether the call had enough memory.
 abbrev pub after_of : ℕ → Exchange → Bool → Exchange → Record
 after_of place before done after = OfFilter place (Left before done after)
 
--- a call that counts, unless the request has had all that it may have
+-- A counted call, unless the request has used up its calls.
 abbrev pub within_limit : {A : Type 0} → Does A → Does A → Does A
 within_limit limit call = sees λ state. choose (is_full state) limit (becomes counted >> call)
 
--- the filters that passed, the last first, and how the dispatch ended where one did not
+-- The filters that passed, last first, and the outcome of the dispatch if a filter did not pass.
 pub record Reached : Type 0 where
   pub passed : List ℕ
   pub ended : Option Finished
 
--- the dispatch ends at a filter, behind those that passed
+-- The dispatch ends at a filter, after those that passed.
 abbrev pub ends_behind : List ℕ → Does Finished → Does Reached
 ends_behind passed ending = do
   result ← ending
   gives record { passed = passed; ended = Some result }
 
 module _ (site : Site) (resource : Resource) where
-  -- what a filter's answer leads to
+  -- The effect of a filter's result.
   abbrev pub Gated : List ℕ → Gate → Does Reached → Does Reached
   Gated passed gates.Pass next = next
   Gated passed gates.Stop next = ends_behind passed (gives Done)
   Gated passed (gates.Failed kind text) next = ends_behind passed (fails site resource kind text)
   Gated passed gates.NoMemory next = refuses
 
-  -- the filters are called in order, up to the first that does not pass
+  -- Calls the filters in order, up to the first that does not pass.
   abbrev pub Befores : List ℕ → List ℕ → Does Reached
   Befores passed [] = gives record { passed = passed; ended = None }
   Befores passed (filter ∷ chain) = within_limit (ends_behind passed (faults site resource DispatchLimit)) do
     gate ← asks site.listeners (before_of filter)
     Gated passed gate (Befores (filter ∷ passed) chain)
 
--- those that passed are called once more, the last first; as many listeners hear what they did
+-- Calls the filters that passed once more, last first, and notifies the listeners of the events of each call.
 abbrev pub Afters : ℕ → List ℕ → Does (Unit {0})
 Afters listeners [] = gives tt
 Afters listeners (filter ∷ filters) = do

@@ -1,5 +1,5 @@
--- What a dispatch asks of its context, and does not change: who answers a path, behind which filters (Jakarta Servlet 6.0, sections
--- 6.2.4, 12.1 and 10.9.2).
+-- The parts of a context that a dispatch uses and does not change: the resource and the filters for a path (Jakarta
+-- Servlet 6.0, sections 6.2.4, 12.1 and 10.9.2).
 use Rattle.std.specs.Prelude.{ℕ, List, [], codes, find, map, Option, None, Some, slice_index_or}
 use Rattle.sv_exchange.specs.Dispatches.{entered, paths_at}
 use Rattle.sv_exchange.specs.Paths.{Paths}
@@ -12,34 +12,34 @@ pub use Rattle.sv_tree.specs.declared.resource.Resource.{Resource}
 pub use Rattle.sv_tree.specs.declared.resource.Resource.TheVariants.{Servlet, Files}
 use Rattle.sv_uri.specs.declared.path.Canon.{Canon}
 
--- what the file servlet has for a path: a content type and the bytes of a file, the location to which it sends the client, nothing, or
--- nothing that can be asked for by this method
+-- The result of the file servlet for a path: a file with its content type and bytes, the location of a redirect,
+-- nothing, or nothing that supports this method.
 pub data FileAnswer : Type 0 where
   File : List ℕ → List ℕ → FileAnswer
   Redirect : List ℕ → FileAnswer
   Missing : FileAnswer
   NotAllowed : FileAnswer
 
--- a pattern with the place of its servlet
+-- A pattern with the index of its servlet.
 pub record Mapping : Type 0 where
   pub pattern : List ℕ
   pub servlet : ℕ
 
 pub record Site : Type 0 where
-  -- in the descriptor's order
+  -- The mappings, in the order of the descriptor.
   pub mappings : List Mapping
-  -- the names of the servlets
+  -- The names of the servlets.
   pub names : List (List ℕ)
-  -- the places of the filters for a path, the name of who answers it, and a kind
+  -- The indexes of the filters for a path, the name of its resource, and a kind.
   pub chain : List ℕ → List ℕ → Kind → List ℕ
-  -- what the file servlet has for a path with its query, a method and a kind
+  -- The result of the file servlet for a path with its query, a method and a kind.
   pub file : Canon → List ℕ → Kind → FileAnswer
-  -- the error page for a status and the kind of a failure
+  -- The error page for a status and the kind of a failure.
   pub page : ℕ → Option (List ℕ) → Option Canon
-  -- how many listeners there are
+  -- The number of listeners.
   pub listeners : ℕ
 
--- who answers a path, and how the path is split
+-- The resource for a path, and the split of the path.
 pub record Chosen : Type 0 where
   pub resource : Resource
   pub servlet_path : List ℕ
@@ -53,7 +53,7 @@ chosen_by path (Some mapping) = record {
 }
 chosen_by path None = record { resource = Files; servlet_path = path; path_info = None }
 
--- the servlet of the pattern that matches best, else the file servlet
+-- The servlet of the best matching pattern, or else the file servlet.
 unfoldable pub chosen : Site → List ℕ → Chosen
 chosen site path = chosen_by path (find (λ mapping. is_best (map (λ other. other.pattern) site.mappings) path mapping.pattern) site.mappings)
 
@@ -61,21 +61,21 @@ abbrev pub name_of : Site → Resource → List ℕ
 name_of site (Servlet place) = slice_index_or site.names place []
 name_of site Files = codes "default"
 
--- what the path calls of the exchange show in a dispatch of that path
+-- The paths that the exchange shows in a dispatch to this path.
 abbrev pub paths_by : Chosen → Canon → Exchange → Paths
 paths_by found canon exchange = paths_at exchange.context_path canon.path (Some found.servlet_path) found.path_info canon.query
 
 abbrev pub paths_in : Site → Canon → Exchange → Paths
 paths_in site canon exchange = paths_by (chosen site canon.path) canon exchange
 
--- a forward finds an empty buffer; the fields stay (section 9.4)
+-- A forward begins with an empty buffer and keeps the fields (section 9.4).
 abbrev pub emptied_for : Kind → Exchange → Exchange
 emptied_for kinds.Forward exchange = record exchange { buffer = [] }
 emptied_for kinds.Request exchange = exchange
 emptied_for kinds.Include exchange = exchange
 emptied_for kinds.Error exchange = exchange
 
--- a dispatch of that kind to that path, which is split so, begins
+-- A dispatch of this kind begins, to this path and with this split.
 abbrev pub begun_by : Chosen → Kind → Canon → Exchange → Exchange
 begun_by found kind canon exchange = emptied_for kind (entered kind (paths_by found canon exchange) exchange)
 

@@ -1,4 +1,4 @@
--- A dispatch (Jakarta Servlet 6.0, chapters 6 and 9): its filters, the servlet or file behind them, and the dispatches within.
+-- A dispatch (Jakarta Servlet 6.0, chapters 6 and 9): its filters, its servlet or file, and its nested dispatches.
 use Rattle.std.specs.Prelude.{ℕ, zero, suc, ◌-◌, Bool, false, List, [], Option, None, Some, Result, Ok, Err, ◌⊎◌, ◌≡◌, ◌∷◌, if◌then◌else◌}
 use Rattle.sv_component.specs.Call.{Destroyed, Serviced}
 use Rattle.sv_component.specs.Runs.{OfServlet, Record}
@@ -24,22 +24,22 @@ use Rattle.sv_uri.specs.declared.path.Canon.{Canon}
 abbrev pub service_of : ℕ → ℕ → Exchange → Step → Exchange → Record
 service_of place turn before step after = OfServlet place (Serviced before turn step after)
 
--- the servlet is destroyed, and gone then; memory may end the dispatch behind the call
+-- Destroys the servlet, which is then gone. Memory may run out after the call.
 abbrev pub destroys : ℕ → Does (Unit {0})
 destroys place before calls after result =
     (calls ≡ OfServlet place Destroyed ∷ []) × (after ≡ with_standing place Gone before) × ((result ≡ Some tt) ⊎ (result ≡ None))
 
--- how a turn of a servlet ends: with the dispatch, or with nothing where the servlet goes on
+-- The outcome of the dispatch if a turn of the servlet ends it; none if the servlet continues.
 abbrev pub Turned : Type 0
 Turned = Option Finished
 
--- how the dispatch ends, for good
+-- The turn ends the dispatch.
 abbrev pub last : Does Finished → Does Turned
 last ending = do
   result ← ending
   gives (Some result)
 
--- a servlet goes on behind an include, unless a failure came out of it
+-- After an include the servlet continues, unless the include failed.
 abbrev pub behind_include : Finished → Turned
 behind_include Done = None
 behind_include (Error status text) = None
@@ -48,37 +48,37 @@ behind_include (Failed kind text) = Some (Failed kind text)
 abbrev pub GoesOn : Finished → Does Turned
 GoesOn finished = gives (behind_include finished)
 
--- a forward comes too late once the answer is committed
+-- Whether a forward comes after the response was committed.
 abbrev pub is_too_late : Kind → Bool → Bool
 is_too_late kinds.Forward committed = committed
 is_too_late kinds.Request committed = false
 is_too_late kinds.Include committed = false
 is_too_late kinds.Error committed = false
 
--- a path that cannot be read, or for which there is no room
+-- The path, unless it cannot be parsed or no nesting depth is left.
 abbrev pub admitted : Result Canon PathFault → ℕ → Result Canon DispatchFault
 admitted (Err fault) room = Err BadDispatchPath
 admitted (Ok canon) zero = Err DispatchLimit
 admitted (Ok canon) (suc room) = Ok canon
 
--- the path of a dispatch that a servlet asks for, or the first of what refuses it
+-- The path of a dispatch that a servlet requests, or the first reason to refuse it.
 abbrev pub asked_for : ℕ → Kind → List ℕ → Exchange → Result Canon DispatchFault
 asked_for room kind text exchange = if is_too_late kind exchange.committed then Err Committed else admitted (canonical text) room
 
--- `room` is how many dispatches may still stand one within another, and `inner` is such a dispatch
+-- `room` is the nesting depth that is left, and `inner` is a nested dispatch.
 module _ (site : Site) (room : ℕ) (inner : Kind → Canon → Does Finished) where
-  -- a dispatch that is refused is a failure of the servlet that asked
+  -- A refused dispatch is a failure of the servlet that requested it.
   abbrev pub Admitted : ℕ → Kind → Result Canon DispatchFault → Does Finished
   Admitted place kind (Ok canon) = inner kind canon
   Admitted place kind (Err fault) = faults site (Servlet place) fault
 
-  -- a servlet asks for a dispatch (sections 9.1, 9.3 and 9.4)
+  -- A servlet requests a dispatch (sections 9.1, 9.3 and 9.4).
   abbrev pub Dispatches : ℕ → Kind → List ℕ → Does Finished
   Dispatches place kind text = do
     wants_memory
     sees λ state. Admitted place kind (asked_for room kind text state.exchange)
 
-  -- what a servlet's answer leads to, and how the dispatch ends with it: none where the servlet goes on
+  -- The effect of a servlet's result, and the outcome of the dispatch; none if the servlet continues.
   abbrev pub Stepped : ℕ → Step → Does Turned
   Stepped place steps.Done = last (gives Done)
   Stepped place (steps.Forward text) = last (Dispatches place kinds.Forward text)
@@ -89,13 +89,13 @@ module _ (site : Site) (room : ℕ) (inner : Kind → Canon → Does Finished) w
   Stepped place (steps.Unavailable (Some seconds)) = becomes (away_for place seconds) >> last (is_away_for site (Servlet place) seconds)
   Stepped place steps.NoMemory = refuses
 
-  -- a servlet that is out of service is not called (section 2.3.3.2)
+  -- A servlet that is out of service is not called (section 2.3.3.2).
   abbrev pub Stands : ℕ → ℕ → Standing → Does Turned → Does Turned
   Stands place moment Serving next = next
   Stands place moment Gone next = last (is_missing site (Servlet place))
   Stands place moment (Away until) next = last (is_away_for site (Servlet place) (until - moment))
 
-  -- a turn of a servlet
+  -- One turn of a servlet.
   abbrev pub Turn : ℕ → ℕ → Does Turned
   Turn place turn = sees λ state.
       Stands place state.exchange.moment (standing_at state.exchange.moment place state.standings)
@@ -107,18 +107,18 @@ module _ (site : Site) (room : ℕ) (inner : Kind → Canon → Does Finished) w
   Continues (Some result) next = gives result
   Continues None next = next
 
-  -- the turns from `turn` on, of which there are at most `left`
+  -- The turns from `turn` on, at most `left`.
   abbrev pub Turns : ℕ → ℕ → ℕ → Does Finished
   Turns place zero turn = never
   Turns place (suc left) turn = do
     ended ← Turn place turn
     Continues ended (Turns place left (suc turn))
 
-  -- as many turns as it takes
+  -- As many turns as the servlet takes.
   abbrev pub Serves : ℕ → Does Finished
   Serves place before calls after result = (left : ℕ) × Turns place left 0 before calls after result
 
-  -- the servlet or the file, where all filters passed
+  -- The servlet or the file, if all filters passed.
   abbrev pub Responds : Resource → Kind → Canon → Option Finished → Does Finished
   Responds resource kind canon (Some result) = gives result
   Responds (Servlet place) kind canon None = Serves place
@@ -126,7 +126,7 @@ module _ (site : Site) (room : ℕ) (inner : Kind → Canon → Does Finished) w
     wants_memory
     sees λ state. Filed site kind (site.file canon state.exchange.method kind)
 
-  -- the filters, and what stands behind them; however it ends, each filter that passed is called once more
+  -- The filters and the resource after them. Each filter that passed is called once more, whatever the outcome.
   abbrev pub Within : Resource → Kind → Canon → Does Finished
   Within resource kind canon = do
     wants_memory
@@ -135,7 +135,7 @@ module _ (site : Site) (room : ℕ) (inner : Kind → Canon → Does Finished) w
     Afters site.listeners reached.passed
     gives result
 
-  -- a dispatch: what it shows lasts to its end
+  -- A dispatch, from its beginning to its end.
   abbrev pub Dispatch : Kind → Canon → Does Finished
   Dispatch kind canon = do
     tries (on_exchange (begun site kind canon))
@@ -143,7 +143,7 @@ module _ (site : Site) (room : ℕ) (inner : Kind → Canon → Does Finished) w
     leaves
     gives result
 
--- a dispatch, and the dispatches within it, as deep as there is room
+-- A dispatch with the dispatches nested in it, at most this deep.
 unfoldable pub Tree : Site → ℕ → Kind → Canon → Does Finished
 Tree site zero kind canon = never
 Tree site (suc room) kind canon = Dispatch site room (Tree site room) kind canon

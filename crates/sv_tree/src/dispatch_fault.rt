@@ -1,27 +1,28 @@
-//! The failures that are a dispatch's own.
+//! Faults of a dispatch itself.
 
 ghost use Rattle.std.specs.Prelude.{◌≡◌, Some};
 ghost use Rattle.sv_tree.specs.Faults.{fault_name};
 
 use std::fmt;
 
-/// Why a dispatch fails, where no component failed. It is printed as its name, which is its kind and its text too.
+/// The reason why a dispatch fails although no component failed. It displays as its name, which is also its kind and
+/// its text.
 #[derive(Clone, Copy, Debug, PartialEq, Eq)]
 pub enum DispatchFault {
-    /// A forward was asked for, and the answer was committed (Jakarta Servlet 6.0, section 9.4).
+    /// A forward was requested after the response was committed (Jakarta Servlet 6.0, section 9.4).
     Committed,
-    /// A dispatch was asked for to a path that cannot be read (section 9.1).
+    /// The path of the requested dispatch cannot be parsed (section 9.1).
     BadDispatchPath,
-    /// A dispatch was asked for within as many as may stand one within another, or the request had had all calls that it may have.
+    /// A dispatch was requested at the maximum nesting depth, or the request has used up its calls.
     DispatchLimit,
-    /// An include of a path that has neither servlet nor file (section 9.3).
+    /// An include of a path that has neither a servlet nor a file (section 9.3).
     MissingInclude,
-    /// A file for which the body of the response has no room.
+    /// A file that does not fit in the response body.
     TooLarge,
 }
 
 impl DispatchFault {
-    /// The fault's name, which is its kind and its text too.
+    /// Returns the name of the fault, which is also its kind and its text.
     pub fn name(self) -> &'static str
         ensures { result.now ≡ fault_name self }
     {

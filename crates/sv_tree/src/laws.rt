@@ -1,4 +1,4 @@
-//! The laws of dispatches, each the contract of a function that does nothing.
+//! The laws of dispatches. Each law is the contract of an empty function.
 
 ghost use Rattle.std.specs.Prelude.{◌≡◌, ◌-◌, ◌^◌};
 ghost use Rattle.sv_tree.specs.Laws.{AnswersMoveSessions, AnswersOnce, CallsAreCounted, CallsDecide, DispatchesEnd, DispatchesNest, EndingsAreKept, EventsAreTold, FiltersAreClosed, ForwardsBeginEmpty, IncludesEndInNoError, IncludesKeep, MovedFindNoCaller, MovedGiveNoCaller, MovedLeaveNoneExpired, MovesJoin, OnlyServingAreCalled, RequestsAreBounded, StepsMoveSessions, TellingsFollow};
@@ -8,47 +8,48 @@ ghost use Rattle.sv_tree.specs.declared.limits.TheConstants.{FOUND, INTERNAL_SER
 use sv_exchange::{changes_are_calls, changes_move_the_sessions};
 use sv_session::{callers_are_entered, components_keep_the_sessions};
 
-/// A dispatch is decided by its calls: what it leaves, and how it ends.
+/// The calls of a dispatch determine the state that it leaves and its outcome.
 pub fn calls_decide()
     ensures { (site : Site) → CallsDecide site }
 {}
 
-/// Each filter that passed is called just once more, the last first, within its dispatch.
+/// Each filter that passed is called exactly once more within its dispatch, in reverse order.
 pub fn filters_are_closed()
     ensures { (site : Site) → FiltersAreClosed site }
 {}
 
-/// No call is made of a servlet that is gone or away, and the standings behind a dispatch are those that its calls made.
+/// A servlet that is gone or away is not called. The calls of a dispatch determine the availability of each servlet
+/// after it.
 pub fn only_serving_are_called()
     ensures { (site : Site) → OnlyServingAreCalled site }
 {}
 
-/// Each call of `before` and of `service` is counted, and none is made beyond the limit.
+/// Each call of `before` and of `service` is counted, and no call exceeds the limit.
 pub fn calls_are_counted()
     ensures { (site : Site) → CallsAreCounted site }
 {}
 
-/// No call stands in more dispatches than there is room for.
+/// No call is nested in more dispatches than the limit allows.
 pub fn dispatches_nest()
     ensures { (site : Site) → DispatchesNest site }
 {}
 
-/// A request is answered by at most 1,024 calls that count, none of them deeper than 16 dispatches, with its error page.
+/// A request takes at most 1,024 counted calls, at most 16 dispatches deep. Its error page is included.
 pub fn requests_are_bounded()
     ensures { (site : Site) → RequestsAreBounded site }
 {}
 
-/// An answer is made by one dispatch, and at most one of an error page behind it.
+/// A response is made by one dispatch, followed by at most one dispatch to an error page.
 pub fn answers_have_one_page()
     ensures { (site : Site) → AnswersOnce site }
 {}
 
-/// What an exchange shows of a dispatch lasts to its end.
+/// A dispatch that ends restores the request as the exchange showed it before.
 pub fn dispatches_end()
     ensures { (site : Site) → DispatchesEnd site }
 {}
 
-/// An include changes neither status nor fields.
+/// An include changes neither the status nor the header fields.
 pub fn includes_keep()
     ensures { (site : Site) → IncludesKeep site }
 {}
@@ -58,28 +59,28 @@ pub fn includes_end_in_no_error()
     ensures { (site : Site) → IncludesEndInNoError site }
 {}
 
-/// The error that is kept for the answer is the one in which the dispatch ended.
+/// The error kept for the response is the one that ended the dispatch.
 pub fn endings_are_kept()
     ensures { (site : Site) → EndingsAreKept site }
 {}
 
-/// The buffer is empty where a forward begins.
+/// The buffer is empty when a forward begins.
 pub fn forwards_begin_empty()
     ensures { (site : Site) → ForwardsBeginEmpty site }
 {}
 
-/// What happened to the session is told when the call that caused it is over.
+/// Listeners are notified of session events as soon as the call that caused them returns.
 pub fn events_are_told()
     ensures { (site : Site) → EventsAreTold site }
 {}
 
-/// Each call of a filter or a servlet is followed at once by the tellings of what it did to the session, and nothing else is told.
+/// The notifications of the session events of a filter or servlet call follow it directly. Listeners receive no others.
 pub fn tellings_follow()
     ensures { (site : Site) → TellingsFollow site }
 {}
 
-/// All that is done to answer a request, step by step and one step behind the other, leaves the moment as it is and moves the sessions as components
-/// may, to a result or to none where memory ended it.
+/// Everything done to answer a request keeps the time and moves the sessions only as components may, even if memory
+/// runs out. This holds for each step and for steps in sequence.
 pub fn answers_move_the_sessions()
     ensures answers { (site : Site) → AnswersMoveSessions site }
     ensures steps { StepsMoveSessions }
@@ -90,7 +91,7 @@ pub fn answers_move_the_sessions()
     components_keep_the_sessions();
 }
 
-/// Where the sessions are moved so, none has expired where none had before, and none has a caller that it had not before.
+/// Moving the sessions in this way makes no session expired and gives no session a caller that it did not have.
 pub fn moved_sessions_are_kept()
     ensures unexpired { MovedLeaveNoneExpired }
     ensures callers { MovedGiveNoCaller }
@@ -100,7 +101,7 @@ pub fn moved_sessions_are_kept()
     components_keep_the_sessions();
 }
 
-/// The numbers of this crate: definitions and code cite the constants, so that both would move with one.
+/// The limits of this crate. Definitions and code cite the same constants, so that a change applies to both.
 pub fn limits_are_as_stated()
     ensures calls { MAX_CALLS ≡ 1024 }
     ensures nesting { MAX_NESTING ≡ 16 }

@@ -1,4 +1,4 @@
-//! What a dispatch is: definitions and their laws, to which the machine that makes dispatches is held.
+//! The definition of a dispatch, with its laws. The code that makes dispatches is verified against it.
 #![tactic(auto)]
 
 mod dispatch_fault;

@@ -1,4 +1,4 @@
--- What the walk over all segments of a path says of the canonical path.
+-- The walk over the segments of a path gives its canonical path.
 use Rattle.std.proofs.Common.{ℕ, List, [], ◌∷◌, IsUtf8, refl, subst, lit<, ◌≡◌, ◌+◌, ◌<◌, ◌==◌, ◌++◌, map, length, length-drop, drop, append-nil, append_assoc, Option, Some, None, MatchOption, ap, ◌∙◌, arith, false, Ok, Err, sym}
 use Rattle.std.specs.List.{All, flat_map, position_or_len}
 use Rattle.std.specs.Str.{byte}
@@ -32,7 +32,7 @@ IsUtf8-slashed [] all = IsUtf8-nil
 IsUtf8-slashed (name ∷ names) all =
     IsUtf8-append (47 ∷ name) (slashed names) (IsUtf8-append (47 ∷ []) name IsUtf8-slash (All-head IsUtf8 name names all)) (IsUtf8-slashed names (All-tail IsUtf8 name names all))
 
--- the walk has entered the first segments of the path, which have no fault, and this rest is left
+-- The walk has entered the first segments of the path, which have no fault, and this rest is left.
 pub record HasRead (walk : Walk) (path : List ℕ) (rest : Option (List ℕ)) : Type 0 where
   pub seen : List (List ℕ)
   pub whole : between_slashes path ≡ seen ++ segments_behind rest
@@ -42,7 +42,7 @@ pub record HasRead (walk : Walk) (path : List ℕ) (rest : Option (List ℕ)) : 
 pub HasRead-none : (walk : Walk) (path : List ℕ) → HasSeen walk [] → HasRead walk path (Some path)
 HasRead-none walk path walked = record { seen = []; whole = refl; faultless = refl; walked = walked }
 
--- the segments of the path, where one more stands in front of the rest
+-- The segments of the path, if the rest begins with one more.
 next_whole : (walk : Walk) (path text : List ℕ) (read : HasRead walk path (Some text)) → between_slashes path ≡ read.seen ++ (before (byte "/") text ∷ segments_behind (behind (byte "/") text))
 next_whole walk path text read = read.whole ∙ ap (λ parts. read.seen ++ parts) (between_slashes-first text)
 
@@ -54,12 +54,12 @@ HasRead-more walk next path text name rest segment is_first is_rest none is_name
   walked = rw (map_push name_of read.seen segment, ← is_name) (enters (map name_of read.seen) read.walked);
 }
 
--- a fault that comes first comes first with more behind it, whatever the answer without faults is
+-- The first fault stays the first if more faults follow, whatever the answer without faults is.
 first_or-more : {A B : Type 0} (faults more : List PathFault) (a : A) (b : B) (fault : PathFault) → first_or faults a ≡ Err fault → first_or (faults ++ more) b ≡ Err fault
 first_or-more [] more a b fault given = cc
 first_or-more (first ∷ faults) more a b fault given = cc
 
--- the first fault of the next segment is the first of the path
+-- The first fault of the next segment is the first of the path.
 pub first_of_next : (walk : Walk) (path text segment : List ℕ) (e : CanonFault) → segment ≡ before (byte "/") text → HasRead walk path (Some text) → MatchOption (path_fault e) (Unit {0}) (λ fault. first_or (segment_faults segment) (name_of segment) ≡ Err fault) → MatchOption (path_fault e) (Unit {0}) (λ fault. first_or (flat_map segment_faults (between_slashes path)) (map name_of (between_slashes path)) ≡ Err fault)
 first_of_next walk path text segment (Path fault) is_first read said =
     let all : flat_map segment_faults (between_slashes path) ≡ segment_faults segment ++ flat_map segment_faults (segments_behind (behind (byte "/") text)) =
@@ -73,7 +73,7 @@ HasRead-all walk path rest ended read =
     let all : between_slashes path ≡ read.seen = read.whole ∙ rw ended (append-nil read.seen) in
     (rw all read.faultless, rw all read.walked)
 
--- what is left to read, counting the slash in front of it
+-- The length of the rest, with the slash before it.
 abbrev pub size_of_rest : Option (List ℕ) → ℕ
 size_of_rest None = 0
 size_of_rest (Some text) = length text + 1
@@ -84,14 +84,14 @@ size_of_rest-behind c (b ∷ text) =
     cond_both (holds c (b ∷ text)) (Some (drop (position_or_len (λ x. x == c) (b ∷ text) + 1) (b ∷ text))) None (λ rest. size_of_rest rest < length (b ∷ text) + 1)
     (λ _. simp length-drop (omega arith)) (λ _. omega arith)
 
--- the names of a path without faults are texts
+-- The names of a path without faults are texts.
 pub names_are_texts : (walk : Walk) (segments : List (List ℕ)) → flat_map segment_faults segments ≡ [] → HasSeen walk (map name_of segments) → All IsUtf8 (shown walk.names.items)
 names_are_texts walk segments none walked =
     let names = map name_of segments in
     let texts = All-weaker IsPlain IsUtf8 (λ name plain. IsUtf8-from_is_utf8 name plain.utf8) names (All-IsPlain segments none) in
     subst (All IsUtf8) (sym walked.left) (All-remaining IsUtf8 (kept names) (All-filter _ IsUtf8 names texts))
 
--- an answer is given where there is no fault
+-- If an answer is given, there is no fault.
 pub answered : {A : Type 0} (faults : List PathFault) (a b : A) → first_or faults a ≡ Ok b → (faults ≡ []) × (a ≡ b)
 answered [] a b given = (refl, cc)
 answered (fault ∷ faults) a b given = cc
@@ -100,21 +100,21 @@ pub first_or-err : {A B : Type 0} (faults : List PathFault) (a : A) (b : B) (fau
 first_or-err [] a b fault given = cc
 first_or-err (first_fault ∷ faults) a b fault given = cc
 
--- the path and the query of a target that begins with a slash
+-- The path and the query of a target that begins with a slash.
 abbrev pub parts_of_relative : List ℕ → Canon
 parts_of_relative relative = record { path = path_text (between_slashes (before (byte "?") relative)); query = option_map visible_query (behind (byte "?") relative) }
 
 canonical-slash : (relative : List ℕ) → holds (byte "#") (byte "/" ∷ relative) ≡ false → canonical (byte "/" ∷ relative) ≡ first_or (path_faults (between_slashes (before (byte "?") relative))) (parts_of_relative relative)
 canonical-slash relative none = rw (none, raw_segments-slash relative, behind-other 63 47 relative refl) refl
 
--- a fault of the path is the fault of the target
+-- A fault of the path is the fault of the target.
 pub fault_answer : (target relative path : List ℕ) (e : CanonFault) → holds (byte "#") target ≡ false → target ≡ byte "/" ∷ relative → path ≡ before (byte "?") relative → MatchOption (path_fault e) (Unit {0}) (λ fault. first_or (path_faults (between_slashes path)) (path_text (between_slashes path)) ≡ Err fault) → MatchOption (path_fault e) (Unit {0}) (λ fault. canonical target ≡ Err fault)
 fault_answer target relative path (Path fault) none slash is_path said =
     let own = first_or-err (path_faults (between_slashes path)) _ (parts_of_relative relative) fault said in
     rw slash (canonical-slash relative (rw slash at none) ∙ rw is_path at own)
 fault_answer target relative path NoMemory none slash is_path said = tt
 
--- the path and the query answer the target
+-- The path and the query are the answer for the target.
 pub target_answer : (target relative path text : List ℕ) (query : Option (List ℕ)) → holds (byte "#") target ≡ false → target ≡ byte "/" ∷ relative → path ≡ before (byte "?") relative → first_or (path_faults (between_slashes path)) (path_text (between_slashes path)) ≡ Ok text → query ≡ option_map visible_query (behind (byte "?") relative) → canonical target ≡ Ok (record { path = text; query = query })
 target_answer target relative path text query none slash is_path said is_query =
     let (no_fault, is_text) = answered (path_faults (between_slashes path)) _ text said in

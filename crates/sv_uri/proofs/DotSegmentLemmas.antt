@@ -1,4 +1,4 @@
--- What dot segments do to the names in front of them.
+-- The effect of dot segments on the names before them.
 use Rattle.std.proofs.Common.{ℕ, suc, ◌≡◌, ◌+◌, ◌-◌, ◌<◌, ◌≤◌, true, false, ◌||◌, ltb, List, [], ◌∷◌, ◌++◌, length, take, take_all, Option, Some, sym, refl, ap, ◌∙◌, ⊎_elim, arith, zero, not, cond, Bool, eqb, append-nil, map, length-append, None, IsSome, is_some, ◌↔◌}
 use Rattle.std.specs.List.{All, last_or, count_by}
 use Rattle.std.proofs.lemmas.Bool.{false≢true, cases_Bool, cond-true, cond-false, cond_both, or_parts, lt-ltb, le-ltb, or_left, or_right, or_from, cases_lt, ltb-true, not_from_true, not_from_false, not-true, not-false, ne_eqb}
@@ -13,7 +13,7 @@ use Rattle.std.proofs.lemmas.List.{map-append, take_at}
 use Rattle.std.proofs.lemmas.Slice.Eq.{bytes_eq-Decides}
 use Rattle.sv_uri.specs.Walked.{IsLeftOf}
 
--- one more segment in front
+-- One more segment at the front.
 pub removed-parent : (name : List ℕ) (rest : List (List ℕ)) → is_parent name ≡ true → removed_in_front (name ∷ rest) ≡ removed_in_front rest + 1
 removed-parent name rest parent = cond-true _ _ _ parent
 
@@ -29,7 +29,7 @@ remaining-removed name rest removed = cond-true _ _ _ (or_right (is_parent name)
 pub remaining-kept : (name : List ℕ) (rest : List (List ℕ)) → is_parent name ≡ false → removed_in_front rest ≤ 0 → remaining (name ∷ rest) ≡ name ∷ remaining rest
 remaining-kept name rest other unremoved = cond-false _ _ _ (or_from _ _ other (le-ltb 0 _ unremoved))
 
--- what the last segments remove in front of themselves is what the first ones leave, and then what stands in front of these
+-- The `..` of the last segments remove names that remain of the first segments, and then names before these.
 pub removed-append : (names more : List (List ℕ)) → removed_in_front (names ++ more) ≡ removed_in_front names + (removed_in_front more - length (remaining names))
 removed-append [] more = omega arith
 removed-append (name ∷ rest) more =
@@ -70,7 +70,7 @@ remaining-append (name ∷ rest) more =
     (cases_lt 0 (removed_in_front rest)))
     (cases_Bool (is_parent name))
 
--- what is left holds what all names hold, and no `..`
+-- A property of all names holds for the remaining names, and none of these is `..`.
 pub All-remaining : (P : List ℕ → Type 0) (names : List (List ℕ)) → All P names → All P (remaining names)
 All-remaining P [] all = all
 All-remaining P (name ∷ rest) all =
@@ -88,7 +88,7 @@ All-IsName-remaining (name ∷ rest) =
     cond_both (is_parent name || ltb 0 (removed_in_front rest)) (remaining rest) (name ∷ remaining rest) (All IsName)
     (λ _. behind) (λ kept. All-cons IsName name (remaining rest) ((or_parts _ _ kept).0) behind)
 
--- names without `..` stay
+-- Names without `..` all remain.
 pub unremoved : (names : List (List ℕ)) → All IsName names → (removed_in_front names ≡ 0) × (remaining names ≡ names)
 unremoved [] all = (refl, refl)
 unremoved (name ∷ rest) all =
@@ -96,7 +96,7 @@ unremoved (name ∷ rest) all =
     let behind = unremoved rest (All-tail IsName name rest all) in
     (removed-name name rest other ∙ rw behind.0 refl, remaining-kept name rest other (omega arith) ∙ ap (λ xs. name ∷ xs) behind.1)
 
--- the last of a list
+-- The last of a list.
 pub last_or-push : (names : List (List ℕ)) (o : Option (List ℕ)) (name : List ℕ) → last_or o (names ++ name ∷ []) ≡ Some name
 last_or-push [] o name = refl
 last_or-push (first ∷ rest) o name = last_or-push rest (Some first) name
@@ -119,7 +119,7 @@ parents-name name rest other =
     let one = cond-true {A = ℕ} (not (is_parent name)) 1 0 (not_from_false _ other) in
     (rw (sum_by-cons (λ n. cond (is_parent n) 1 0) name rest, none) (omega arith), rw (sum_by-cons (λ n. cond (not (is_parent n)) 1 0) name rest, one) (omega arith))
 
--- some front has as many more `..` as the segments remove in front of themselves
+-- In some front, the `..` exceed the other names by the number of names that the segments remove before themselves.
 reached : (names : List (List ℕ)) → (n : ℕ) × (removed_in_front names + others (take n names) ≤ parents (take n names))
 reached [] = (0, omega arith)
 reached (name ∷ rest) =
@@ -137,7 +137,7 @@ reached (name ∷ rest) =
     (cases_lt 0 (removed_in_front rest)))
     (cases_Bool (is_parent name))
 
--- and none has more
+-- No front has a greater excess.
 bounded : (names : List (List ℕ)) (n : ℕ) → parents (take n names) ≤ others (take n names) + removed_in_front names
 bounded names zero = omega arith
 bounded [] (suc n) = omega arith
@@ -156,7 +156,7 @@ pub climbs_by_fronts : ClimbsByFronts
 climbs_by_fronts names =
     (λ climbed. let (n, front) = reached names in let removed = ltb-true 0 _ climbed in (n, omega arith), λ (n, front). let bound = bounded names n in lt-ltb 0 _ (omega arith))
 
--- `..` is neither empty nor `.`
+-- `..` is neither empty nor `.`.
 parent_is_not_idle : (name : List ℕ) → is_parent name ≡ true → is_idle name ≡ false
 parent_is_not_idle name parent =
     let same : name ≡ 46 ∷ 46 ∷ [] = (bytes_eq-Decides name (46 ∷ 46 ∷ [])).0 parent in
@@ -170,7 +170,7 @@ kept-other : (seen : List (List ℕ)) (name : List ℕ) → is_idle name ≡ fal
 kept-other seen name other =
     filter-append _ seen (name ∷ []) ∙ ap (λ xs. kept seen ++ xs) (cond-true _ _ _ (not_from_false _ other))
 
--- an idle segment leaves all as it is, and the path open
+-- An idle segment changes no name and leaves the path open.
 pub IsLeftOf-idle : (names : List (List ℕ)) (climbed open_end : Bool) (seen : List (List ℕ)) (name : List ℕ) → is_idle name ≡ true → IsLeftOf names climbed open_end seen → IsLeftOf names climbed true (seen ++ name ∷ [])
 IsLeftOf-idle names climbed open_end seen name idle before =
     let same = kept-idle seen name idle in
@@ -180,7 +180,7 @@ IsLeftOf-idle names climbed open_end seen name idle before =
       opened_by = rw (last_or-push seen None name, idle) refl;
     }
 
--- a name is added
+-- A name is added.
 pub IsLeftOf-name : (names : List (List ℕ)) (climbed open_end : Bool) (seen : List (List ℕ)) (name : List ℕ) → is_parent name ≡ false → is_idle name ≡ false → IsLeftOf names climbed open_end seen → IsLeftOf (names ++ name ∷ []) climbed false (seen ++ name ∷ [])
 IsLeftOf-name names climbed open_end seen name other busy before =
     let same = kept-other seen name busy in
@@ -197,7 +197,7 @@ IsLeftOf-name names climbed open_end seen name other busy before =
 climbs_more : (removed left : ℕ) → ltb 0 (removed + (1 - left)) ≡ (ltb 0 removed || eqb left 0)
 climbs_more removed left = grind (arith, nat_tests)
 
--- `..` removes the last name, or climbs
+-- `..` removes the last name, or climbs.
 pub IsLeftOf-parent : (names left : List (List ℕ)) (climbed none open_end : Bool) (seen : List (List ℕ)) (name : List ℕ) → is_parent name ≡ true → left ≡ take (length names - 1) names → none ≡ eqb (length names) 0 → IsLeftOf names climbed open_end seen → IsLeftOf left (climbed || none) true (seen ++ name ∷ [])
 IsLeftOf-parent names left climbed none open_end seen name parent shorter empty before =
     let same = kept-other seen name (parent_is_not_idle name parent) in
@@ -213,7 +213,7 @@ emptied : {X : Type 0} (xs : List X) → (0 < length xs → ⊥) → xs ≡ []
 emptied [] never = refl
 emptied (x ∷ xs) never = absurd (never (omega arith))
 
--- a list after its last item was popped
+-- A list after its last item was removed.
 pub popped : {X Y : Type 0} (f : X → Y) (before after : List X) (item : Option X) (none : Bool) → before ≡ after ++ option_to_list item → after ≡ take (length before - 1) before → IsSome item ↔ (0 < length before) → is_some item ≡ not none → (map f after ≡ take (length (map f before) - 1) (map f before)) × (none ≡ eqb (length (map f before)) 0)
 popped f before after None none whole rest count said =
     let nothing : before ≡ [] = emptied before (λ some. false≢true (count.1 some)) in

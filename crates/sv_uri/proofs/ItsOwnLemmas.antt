@@ -20,11 +20,11 @@ use Rattle.sv_uri.proofs.TargetLemmas.{holds, slashed, before_none, behind_none,
 use Rattle.sv_uri.proofs.SegmentLemmas.{IsPlain, IsPlain-nil, All-IsPlain, append_none, when_none, name_of_literal, faultless_literal}
 use Rattle.sv_uri.proofs.DotSegmentLemmas.{IsName, All-remaining, All-IsName-remaining, unremoved, last_or-push}
 
--- the segments of the canonical path: the names that are left, and an empty one where the path is left open
+-- The segments of the canonical path: the remaining names, and an empty one if the path is left open.
 abbrev pub parts_of : List (List ℕ) → List (List ℕ)
 parts_of names = remaining (kept names) ++ closing names
 
--- a name that is kept is neither empty nor `.`
+-- A name that is kept is neither empty nor `.`.
 abbrev pub IsKept : List ℕ → Type 0
 IsKept name = not (is_idle name) ≡ true
 
@@ -35,7 +35,7 @@ kept_again : (names : List (List ℕ)) → All IsKept names → kept names ≡ n
 kept_again [] all = refl
 kept_again (name ∷ rest) all = cond-true _ _ _ (All-head IsKept name rest all) ∙ ap (λ xs. name ∷ xs) (kept_again rest (All-tail IsKept name rest all))
 
--- a kept name other than `..` closes the path
+-- A kept name other than `..` closes the path.
 closed : (o : Option (List ℕ)) (names : List (List ℕ)) → ends_open o ≡ false → All IsKept names → All IsName names → ends_open (last_or o names) ≡ false
 closed o [] start all_k all_n = start
 closed o (name ∷ rest) start all_k all_n =
@@ -45,7 +45,7 @@ closed o (name ∷ rest) start all_k all_n =
 pub closing_is : (names : List (List ℕ)) → (closing names ≡ [] ∷ []) ⊎ (closing names ≡ [])
 closing_is names = ⊎_elim (λ yes. inl (cond-true _ _ _ yes)) (λ no. inr (cond-false _ _ _ no)) (cases_Bool (ends_open (last_or None names)))
 
--- the parts of a canonical path, taken as names, give the same parts
+-- The parts of a canonical path, taken as names, give the same parts.
 pub parts_again : (names : List (List ℕ)) → (kept (parts_of names) ≡ remaining (kept names)) × (closing (parts_of names) ≡ closing names)
 parts_again names =
     let left = remaining (kept names) in
@@ -55,7 +55,7 @@ parts_again names =
     (λ no. rw no (rw (append-nil left) once, rw (append-nil left) (cond-false _ _ _ (closed None left refl (all_kept names) (All-IsName-remaining (kept names))))))
     (closing_is names)
 
--- where the last segment is a name, some name is left
+-- If the last segment is a name, some name remains.
 left_some : (name : List ℕ) (rest : List (List ℕ)) → ends_open (last_or (Some name) rest) ≡ false → 0 < length (remaining (kept (name ∷ rest)))
 left_some name [] ends =
     let tests : (is_idle name ≡ false) × (is_parent name ≡ false) = or_parts _ _ ends in
@@ -83,7 +83,7 @@ begins (name ∷ rest) some =
     begins_some (left ++ closing (name ∷ rest)) (rw (cond-false _ _ _ no, append-nil left) some_left))
     (cases_Bool (ends_open (last_or (Some name) rest)))
 
--- literal names that are plain are segments without a fault, which name themselves
+-- Plain names of literal bytes are segments without a fault that name themselves.
 pub faultless_names : (names : List (List ℕ)) → All IsPlain names → All (λ name. holds (byte "%") name ≡ false) names → All (λ name. holds (byte ";") name ≡ false) names → (flat_map segment_faults names ≡ []) × (map name_of names ≡ names)
 faultless_names [] plain percentless semicolonless = (refl, refl)
 faultless_names (name ∷ rest) plain percentless semicolonless =
@@ -102,7 +102,7 @@ plain_parts names plain =
 pub slashless : (names : List (List ℕ)) → All IsPlain names → All (λ name. holds (byte "/") name ≡ false) names
 slashless names plain = All-weaker IsPlain (λ name. holds 47 name ≡ false) (λ name own. own.slash) names plain
 
--- a byte that is not literal does not stand in a literal path
+-- A byte that is not literal does not occur in a literal path.
 absent : (c : ℕ) (path : List ℕ) → is_literal c ≡ false → AllPass is_literal path → holds c path ≡ false
 absent c path special literal = list_any_none (λ b. eqb b c) path (All-weaker (λ b. is_literal b ≡ true) (λ b. eqb b c ≡ false) (λ b own. ⊎_elim (λ it. absurd (both_ways (is_literal b) (ap is_literal (eqb-true b c it) ∙ special) own)) (λ other. other) (cases_Bool (eqb b c))) path literal)
 
@@ -127,7 +127,7 @@ path_again names some plain literal =
     let same_text : path_text (raw_segments path) ≡ path = rw (segments, again.1, same.0, same.1, left.1) refl in
     canonical_from path no_fault same_text (behind_none 63 path no_query)
 
--- a target without faults begins with a slash and has segments
+-- A target that begins with a slash has segments.
 has_names : (target : List ℕ) → begins_with_slash target ≡ true → 0 < length (map name_of (raw_segments target))
 has_names [] slash = cc
 has_names (b ∷ relative) slash =
@@ -135,7 +135,7 @@ has_names (b ∷ relative) slash =
     let count = length-slice_split (λ x. eqb x 47) (before 63 relative) in
     rw (it, raw_segments-slash relative, length-map (between_slashes (before 63 relative)) name_of, count) (omega arith)
 
--- a canonical path is made of the names of the target's segments, which are plain
+-- A canonical path consists of the names of the target's segments, which are plain.
 pub record IsMadeOf (names : List (List ℕ)) (path : List ℕ) : Type 0 where
   pub some : 0 < length names
   pub plain : All IsPlain names

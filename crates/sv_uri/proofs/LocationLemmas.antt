@@ -1,4 +1,4 @@
--- The location of a canonical path is read back as that path.
+-- Reading the location of a canonical path gives the same path.
 use Rattle.std.proofs.Common.{ℕ, ◌≡◌, ◌+◌, ◌<◌, ◌≤◌, ◌/◌, ◌%◌, Bool, true, false, not, cond, ◌&&◌, eqb, ltb, List, [], ◌∷◌, ◌++◌, map, drop, Option, None, Ok, sym, refl, ap, subst, ◌∙◌, ⊎_elim, arith}
 use Rattle.std.specs.List.{All, list_any, flat_map, slice_split, onto_first}
 use Rattle.std.specs.Option.{option_map}
@@ -29,9 +29,9 @@ use Rattle.sv_uri.proofs.DotSegmentLemmas.{All-IsName-remaining, unremoved}
 use Rattle.sv_uri.proofs.ItsOwnLemmas.{parts_of, parts_again, plain_parts, slashless, made_of_names}
 use Rattle.sv_uri.proofs.ShapeLemmas.{canonical_has_shape}
 
--- ---- what the code writes
+-- ---- the bytes that the code writes
 
--- the bytes below 128 that do not stay
+-- The bytes below 128 that are escaped.
 abbrev pub escaped : AsciiSet
 escaped = record { mask = 0xb8000001_78000000_d800002d_ffffffff }
 
@@ -39,7 +39,7 @@ escapes_others : (b : ℕ) → b < 256 → should_percent_encode escaped b ≡ n
 unfolding should_percent_encode
 escapes_others b small = agree_below_at (should_percent_encode escaped) (λ x. not (stays_in_location x)) 256 b refl small
 
--- what one byte becomes
+-- The bytes written for one byte.
 abbrev written : ℕ → List ℕ
 written b = cond (stays_in_location b) (b ∷ []) (percent_encode_byte b)
 
@@ -80,7 +80,7 @@ location-slashed : (parts : List (List ℕ)) → location (slashed parts) ≡ sl
 location-slashed [] = location-nil
 location-slashed (part ∷ parts) = location-stays 47 (part ++ slashed parts) refl ∙ ap (λ text. 47 ∷ text) (location-append part (slashed parts) ∙ ap (λ rest. location part ++ rest) (location-slashed parts))
 
--- ---- a byte that no escape holds stands in a location only where it stays
+-- ---- a byte that occurs in no escape occurs in a location only if it is not escaped
 abbrev StaysAway : ℕ → ℕ → Type 0
 StaysAway c b = (stays_in_location b && eqb b c) ≡ false
 
@@ -99,7 +99,7 @@ holds-location c (b ∷ text) never away =
     (λ other. rw (location-other b text other) (list_any-append (λ x. eqb x c) (percent_encode_byte b) (location text) ∙ or_from _ _ (holds-escape c b never) rest))
     (cases_Bool (stays_in_location b))
 
--- a byte that never stays
+-- A byte that is always escaped.
 away_always : (c : ℕ) → stays_in_location c ≡ false → (text : List ℕ) → All (StaysAway c) text
 away_always c other [] = All-nil (StaysAway c)
 away_always c other (b ∷ text) =
@@ -107,7 +107,7 @@ away_always c other (b ∷ text) =
     (⊎_elim (λ it. rw (eqb-true b c it) (rw other refl)) (λ apart. rw apart (and_right (stays_in_location b) false refl)) (cases_Bool (eqb b c)))
     (away_always c other text)
 
--- a byte that the text does not hold
+-- A byte that does not occur in the text.
 away_from_none : (c : ℕ) (text : List ℕ) → holds c text ≡ false → All (StaysAway c) text
 away_from_none c [] none = All-nil (StaysAway c)
 away_from_none c (b ∷ text) none =
@@ -174,7 +174,7 @@ has_bad_escape-location (b ∷ text) =
 one : (a : ℕ) → a < 256 → All IsByte (a ∷ [])
 one a small = All-cons IsByte a [] small (All-nil IsByte)
 
--- a byte behind a lead byte
+-- A byte after a lead byte.
 later : (bits : ℕ) (rest : List ℕ) → All IsByte rest → All IsByte ((128 + bits % 64) ∷ rest)
 later bits rest all = All-cons IsByte (128 + bits % 64) rest (omega arith) all
 
@@ -207,7 +207,7 @@ bytes_of_text text is =
     let spelled = IsUtf8-from_is_utf8 text is in
     subst (All IsByte) spelled.1.1 (bytes_of_chars spelled.0 spelled.1.0)
 
--- ---- names that are plain, written as segments, have no fault and are read as themselves
+-- ---- plain names, written as segments, have no fault and are read as themselves
 no_semicolon : (name : List ℕ) → holds 59 (location name) ≡ false
 no_semicolon name = holds-location 59 name (λ is. grind arith) (away_always 59 refl name)
 

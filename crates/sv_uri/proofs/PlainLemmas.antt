@@ -1,4 +1,4 @@
--- A path of which each byte may follow the one before it is its own canonical path.
+-- A path in which each byte may follow the one before it is its own canonical path.
 use Rattle.std.proofs.Common.{ℕ, ◌≡◌, ◌<◌, Bool, true, false, not, ◌&&◌, ◌||◌, eqb, ltb, leb, List, [], ◌∷◌, ◌++◌, map, Ok, sym, refl, ap, ◌∙◌, ⊎_elim, arith, take, drop, append-nil, Option, Some, None, suc, add-one, take-append-drop}
 use Rattle.std.specs.List.{All, list_any}
 use Rattle.std.specs.Option.{option_map}
@@ -22,14 +22,14 @@ use Rattle.sv_uri.proofs.SegmentLemmas.{IsPlain}
 use Rattle.sv_uri.proofs.DotSegmentLemmas.{remaining-kept, removed-name}
 use Rattle.sv_uri.proofs.ItsOwnLemmas.{parts_of, faultless_names}
 
--- one more byte in front begins a segment behind a slash, and belongs to the first segment otherwise
+-- One more byte at the front: a slash begins a segment, and any other byte belongs to the first segment.
 more-slash : (b : ℕ) (text : List ℕ) → eqb b 47 ≡ true → between_slashes (b ∷ text) ≡ [] ∷ between_slashes text
 more-slash b text it = slice_split-cons_yes (λ x. eqb x 47) b text it
 
 more-other : (b : ℕ) (text : List ℕ) → eqb b 47 ≡ false → between_slashes (b ∷ text) ≡ (b ∷ before 47 text) ∷ segments_behind (behind 47 text)
 more-other b text other = between_slashes-first (b ∷ text) ∙ rw (before-other 47 b text other, behind-other 47 b text other) refl
 
--- the segments make the path that they were split from
+-- The segments make the path from which they were split.
 slashed-between : (text : List ℕ) → slashed (between_slashes text) ≡ 47 ∷ text
 slashed-between [] = refl
 slashed-between (b ∷ text) =
@@ -40,7 +40,7 @@ slashed-between (b ∷ text) =
     rw (more-other b text other) cc)
     (cases_Bool (eqb b 47))
 
--- what no byte of a text is, no byte of its segments is
+-- A test that passes for no byte of a text passes for no byte of its segments.
 none_in_segments : (p : ℕ → Bool) (text : List ℕ) → list_any p text ≡ false → All (λ name. list_any p name ≡ false) (between_slashes text)
 none_in_segments p [] none = All-cons (λ name. list_any p name ≡ false) [] [] refl (All-nil (λ name. list_any p name ≡ false))
 none_in_segments p (b ∷ text) none =
@@ -55,7 +55,7 @@ none_in_segments p (b ∷ text) none =
     (All-cons P (b ∷ before 47 text) (segments_behind (behind 47 text)) (rw (parts.0, All-head P _ _ split) refl) (All-tail P _ _ split)))
     (cases_Bool (eqb b 47))
 
--- no segment has a slash
+-- No segment has a slash.
 slashless_segments : (text : List ℕ) → All (λ name. holds 47 name ≡ false) (between_slashes text)
 slashless_segments [] = All-cons (λ name. holds 47 name ≡ false) [] [] refl (All-nil (λ name. holds 47 name ≡ false))
 slashless_segments (b ∷ text) =
@@ -69,12 +69,12 @@ slashless_segments (b ∷ text) =
     (All-cons P (b ∷ before 47 text) (segments_behind (behind 47 text)) (rw (other, All-head P _ _ split) refl) (All-tail P _ _ split)))
     (cases_Bool (eqb b 47))
 
--- each byte may follow the one before it, and the first one this byte
+-- Each byte may follow the one before it, and the first may follow this byte.
 abbrev pub all_follow : ℕ → List ℕ → Bool
 all_follow last [] = true
 all_follow last (b ∷ rest) = may_follow last b && all_follow b rest
 
--- what no byte is that means itself, no byte of a plain path is
+-- A test that passes for no byte that means itself passes for no byte of a plain path.
 none_follows : (p : ℕ → Bool) → ((b : ℕ) → means_itself b ≡ true → p b ≡ false) → (last : ℕ) (text : List ℕ) → all_follow last text ≡ true → list_any p text ≡ false
 none_follows p never last [] all = refl
 none_follows p never last (b ∷ text) all =
@@ -82,29 +82,29 @@ none_follows p never last (b ∷ text) all =
     let own = and_parts (means_itself b) _ parts.0 in
     rw (never b own.0, none_follows p never b text parts.1) refl
 
--- the segment has a first byte, and that is no dot
+-- The segment has a first byte, which is not a dot.
 abbrev begins_a_name : List ℕ → Bool
 begins_a_name [] = false
 begins_a_name (b ∷ _) = not (eqb b 46)
 
--- each segment begins a name, but for a last one that is empty
+-- Each segment begins a name, except a last one that is empty.
 abbrev are_names : List (List ℕ) → Bool
 are_names [] = true
 are_names (name ∷ []) = is_empty name || begins_a_name name
 are_names (name ∷ next ∷ rest) = begins_a_name name && are_names (next ∷ rest)
 
--- what stands behind a segment's first byte does not matter
+-- The bytes after the first byte of a segment do not matter.
 same_begin : (b : ℕ) (one other : List ℕ) (rest : List (List ℕ)) → eqb b 46 ≡ false → are_names ((b ∷ one) ∷ rest) ≡ true → are_names ((b ∷ other) ∷ rest) ≡ true
 same_begin b one other [] no_dot all = rw no_dot refl
 same_begin b one other (next ∷ rest) no_dot all = all
 
--- a segment of one byte stands in front of the segments behind its slash
+-- A segment of one byte that is not a dot, before segments that begin names.
 begun : (first : ℕ) (text : List ℕ) → eqb first 46 ≡ false → are_names (between_slashes text) ≡ true → are_names ((first ∷ []) ∷ between_slashes text) ≡ true
 begun first text no_dot names =
     let split = rw (between_slashes-first text) at names in
     rw (between_slashes-first text, no_dot) split
 
--- the segments of a plain path begin names, and so does a first one of which only the first byte was read before
+-- The segments of a plain path begin names, also if the first byte of the first segment was already read.
 names_at : (text : List ℕ) → (all_follow 47 text ≡ true → are_names (between_slashes text) ≡ true) × ((first last : ℕ) → eqb first 46 ≡ false → all_follow last text ≡ true → are_names ((first ∷ before 47 text) ∷ segments_behind (behind 47 text)) ≡ true)
 names_at [] = (λ _. refl, λ first last no_dot _. rw no_dot refl)
 names_at (b ∷ text) =
@@ -126,7 +126,7 @@ names_at (b ∷ text) =
 first_is : (a b : ℕ) (xs ys : List ℕ) → a ∷ xs ≡ b ∷ ys → eqb a b ≡ true
 first_is a b xs ys same = eq-eqb a b cc
 
--- a segment that begins a name is no empty one and no dot segment
+-- A segment that begins a name is neither empty nor a dot segment.
 begun_is_kept : (name : List ℕ) → begins_a_name name ≡ true → (is_idle name ≡ false) × (is_parent name ≡ false)
 begun_is_kept [] begins = cc
 begun_is_kept (b ∷ name) begins =
@@ -134,7 +134,7 @@ begun_is_kept (b ∷ name) begins =
     let differs = λ (more : List ℕ). false_from_ne_true (bytes_eq (b ∷ name) (46 ∷ more)) (λ same. false≢true (sym no_dot ∙ first_is b 46 name more ((bytes_eq-Decides (b ∷ name) (46 ∷ more)).0 same))) in
     (or_from (is_empty (b ∷ name)) (is_same (b ∷ name)) refl (differs []), differs (46 ∷ []))
 
--- names in front of which nothing is removed are all left, and leave the path open where the last of them is empty
+-- Names that all remain, since nothing is removed before them. An empty last one leaves the path open.
 record AreAllLeft (names : List (List ℕ)) : Type 0 where
   unmoved : removed_in_front (kept names) ≡ 0
   same : parts_of names ≡ names
@@ -164,7 +164,7 @@ all_left (name ∷ next ∷ rest) names =
       same = ap (λ left. remaining left ++ closing (name ∷ next ∷ rest)) stays ∙ ap (λ left. left ++ closing (next ∷ rest)) (remaining-kept name (kept (next ∷ rest)) own.1 (rw behind_it.unmoved (omega arith))) ∙ ap (λ left. name ∷ left) behind_it.same;
     }
 
--- what a byte that means itself is not
+-- A byte that means itself is an ASCII byte without any special meaning.
 never : (b : ℕ) → means_itself b ≡ true → (eqb b 37 ≡ false) × (eqb b 59 ≡ false) × (eqb b 92 ≡ false) × (is_control b ≡ false) × (ltb b 128 ≡ true) × (eqb b 63 ≡ false) × (eqb b 35 ≡ false)
 never b own =
     let outer = and_parts (leb 32 b && leb b 126) _ own in
@@ -191,7 +191,7 @@ all_plain (name ∷ rest) slashless backslashless visible ascii =
     })
     (all_plain rest (All-tail (λ x. holds 47 x ≡ false) name rest slashless) (All-tail (λ x. holds 92 x ≡ false) name rest backslashless) (All-tail (λ x. list_any is_control x ≡ false) name rest visible) (All-tail (λ x. list_any (λ b. not (ltb b 128)) x ≡ false) name rest ascii))
 
--- what stands behind the first slash is the canonical path, where it is plain
+-- If the bytes after the first slash are plain, they and the slash are the canonical path.
 pub plain_is_its_own : (path : List ℕ) → all_follow 47 path ≡ true → first_or (path_faults (between_slashes path)) (path_text (between_slashes path)) ≡ Ok (47 ∷ path)
 plain_is_its_own path plain =
     let names = between_slashes path in
@@ -204,7 +204,7 @@ plain_is_its_own path plain =
     let text : path_text names ≡ 47 ∷ path = rw (again.1, left.same) (slashed-between path) in
     ap (λ faults. first_or faults (path_text names)) faultless ∙ ap Ok text
 
--- the bytes before the first that may not follow may follow one another
+-- In the front before the first byte that may not follow, each byte may follow the one before it.
 front_follows : (last : ℕ) (text : List ℕ) → all_follow last (take (plain_len last text) text) ≡ true
 front_follows last [] = refl
 front_follows last (b ∷ text) =
@@ -215,7 +215,7 @@ front_follows last (b ∷ text) =
     (λ stops. ap (λ n. all_follow last (take n (b ∷ text))) (cond-false _ _ _ stops))
     (cases_Bool (may_follow last b))
 
--- a front without a mark is what stands before the first mark
+-- A front without `?` and the query after it are the parts at the first `?`.
 parts_at_mark : (front query : List ℕ) → holds 63 front ≡ false → (before 63 (front ++ 63 ∷ query) ≡ front) × (behind 63 (front ++ 63 ∷ query) ≡ Some query)
 parts_at_mark [] query none = (before-it 63 63 query refl, behind-it 63 63 query refl)
 parts_at_mark (b ∷ front) query none =
@@ -223,12 +223,12 @@ parts_at_mark (b ∷ front) query none =
     let rest = parts_at_mark front query parts.1 in
     (before-other 63 b (front ++ 63 ∷ query) parts.0 ∙ ap (λ x. b ∷ x) rest.0, behind-other 63 b (front ++ 63 ∷ query) parts.0 ∙ rest.1)
 
--- the same, where a query may stand behind it or not
+-- The same with or without a query.
 parts_of_front : (front : List ℕ) (query : Option (List ℕ)) → holds 63 front ≡ false → (before 63 (front ++ marked query) ≡ front) × (behind 63 (front ++ marked query) ≡ query)
 parts_of_front front None none = (ap (before 63) (append-nil front) ∙ before_none 63 front none, ap (behind 63) (append-nil front) ∙ behind_none 63 front none)
 parts_of_front front (Some query) none = parts_at_mark front query none
 
--- a plain path and the query behind it are the parts of the target
+-- A plain path and the query after it are the parts of the target.
 plain_answer : (front : List ℕ) (query : Option (List ℕ)) → all_follow 47 front ≡ true → holds 35 (marked query) ≡ false → HasParts (47 ∷ front ++ marked query) (47 ∷ front) query
 plain_answer front query plain no_fragment =
     let unmarked = none_follows (λ b. eqb b 63) (λ b own. (never b own).5) 47 front plain in

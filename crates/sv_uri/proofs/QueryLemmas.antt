@@ -1,4 +1,4 @@
--- Escaping a query is what the percent-encoding of its bytes outside 33 to 126 does.
+-- Escaping a query is the percent-encoding of its bytes outside 33 to 126.
 use Rattle.std.proofs.Common.{ℕ, ◌≡◌, ◌<◌, ◌+◌, ◌-◌, ◌^◌, not, cond, List, [], ◌∷◌, ◌++◌, sym, refl, ap, ◌∙◌, ⊎_elim}
 use Rattle.std.specs.List.{All}
 use Rattle.std.proofs.lemmas.Bool.{cases_Bool, cond-true, cond-false, agree_below_at, not_from_true, not_from_false}
@@ -9,7 +9,7 @@ use Rattle.percent_encoding.specs.Percent.{percent_encode, percent_encode_byte, 
 use Rattle.percent_encoding.proofs.PercentLemmas.{IsByte}
 use Rattle.sv_uri.specs.Target.{is_visible, visible_query}
 
--- the bytes below 33, and 127
+-- The bytes below 33, and 127.
 abbrev pub escaped : AsciiSet
 escaped = record { mask = 2 ^ 127 + 2 ^ 33 - 1 }
 

@@ -1,4 +1,4 @@
--- What it means for a segment to have no fault.
+-- Segments without a fault.
 use Rattle.std.proofs.Common.{ℕ, ◌≡◌, Bool, true, false, ◌||◌, eqb, List, [], ◌∷◌, ◌++◌, map, Result, Ok, Err, MatchResult, is_ok, IsUtf8, sym, refl, ap, ◌∙◌}
 use Rattle.std.specs.List.{All, list_any, flat_map}
 use Rattle.std.specs.Str.{byte, bytes_eq, is_utf8}
@@ -14,7 +14,7 @@ use Rattle.sv_text.specs.Faults.{when}
 use Rattle.sv_uri.specs.Segment.{name_of, is_control, is_empty, is_same, is_parent, has_bad_escape, name_faults, segment_faults}
 use Rattle.sv_uri.proofs.TargetLemmas.{holds, before_none, behind_none, none_All}
 
--- the name has no fault of its own
+-- The name has no fault of its own.
 pub record IsPlain (name : List ℕ) : Type 0 where
   pub slash : holds (byte "/") name ≡ false
   pub backslash : holds (byte "\\") name ≡ false
@@ -53,7 +53,7 @@ All-IsPlain (segment ∷ segments) none =
 pub IsPlain-nil : IsPlain []
 IsPlain-nil = record { slash = refl; backslash = refl; control = refl; utf8 = is_utf8-from_IsUtf8 [] IsUtf8-nil }
 
--- bytes without `%` are decoded to themselves
+-- Decoding does not change bytes without `%`.
 pub percent_decode_none : (text : List ℕ) → holds (byte "%") text ≡ false → percent_decode text ≡ text
 percent_decode_none [] none = percent_decode-nil
 percent_decode_none (b ∷ text) none =
@@ -63,7 +63,7 @@ percent_decode_none (b ∷ text) none =
 pub bytes_eq_same : (text : List ℕ) → bytes_eq text text ≡ true
 bytes_eq_same text = (bytes_eq-Decides text text).1 refl
 
--- a plain name without `%` and `;` is a segment that names itself and has no fault
+-- A plain name without `%` and `;` is a segment that names itself and has no fault.
 pub name_of_literal : (name : List ℕ) → holds (byte "%") name ≡ false → holds (byte ";") name ≡ false → name_of name ≡ name
 name_of_literal name percentless semicolonless = ap percent_decode (before_none 59 name semicolonless) ∙ percent_decode_none name percentless
 
@@ -72,7 +72,7 @@ faultless_literal name plain percentless semicolonless =
     let no_escape : has_bad_escape name ≡ false = rw (slice_split_none (λ b. eqb b 37) name (none_All (λ b. eqb b 37) name percentless)) refl in
     rw (before_none 59 name semicolonless, percent_decode_none name percentless, no_escape, plain.slash, plain.backslash, plain.control, plain.utf8, bytes_eq_same name, behind_none 59 name semicolonless, and_right (is_same name || is_parent name) false refl, and_right (is_empty name) false refl) refl
 
--- a result that is a text exactly for UTF-8 answers the test
+-- A result that is a text exactly for UTF-8 gives the result of the test.
 pub is_ok-is_utf8 : {A E : Type 0} (P : A → Type 0) (Q : E → Type 0) (result : Result A E) (bytes : List ℕ) → MatchResult result (λ text. P text × IsUtf8 bytes) (λ e. ¬ (IsUtf8 bytes) × Q e) → is_ok result ≡ is_utf8 bytes
 is_ok-is_utf8 P Q (Ok text) bytes is_text = sym (is_utf8-from_IsUtf8 bytes is_text.1)
 is_ok-is_utf8 P Q (Err e) bytes no_text = sym (false_from_ne_true (is_utf8 bytes) (λ utf8. no_text.0 (IsUtf8-from_is_utf8 bytes utf8)))

@@ -1,4 +1,4 @@
--- The shape of a path that is made of names.
+-- The shape of a path that consists of names.
 use Rattle.std.proofs.Common.{ℕ, ◌≡◌, ◌-◌, true, false, not, ◌<◌, List, [], ◌∷◌, ◌++◌, length, length-append, take, append-nil, drop, IsUtf8, refl, ap, subst, ⊎_elim, arith}
 use Rattle.std.specs.List.{All, AllPass, list_any}
 use Rattle.std.proofs.lemmas.Bool.{not-true, not_from_false, or_from, or_parts}
@@ -15,7 +15,7 @@ use Rattle.sv_uri.proofs.SegmentLemmas.{IsPlain}
 use Rattle.sv_uri.proofs.DotSegmentLemmas.{IsName, All-IsName-remaining}
 use Rattle.sv_uri.proofs.ItsOwnLemmas.{IsKept, parts_of, all_kept, closing_is, plain_parts, slashless, begins, made_of_names}
 
--- the segments of a path are the parts that it is made of
+-- The segments of a path are its parts.
 segments_are : (names : List (List ℕ)) → All IsPlain names → segments_of (slashed (parts_of names)) ≡ parts_of names
 segments_are names plain = ap (drop 1) (between_slashes-slashed (parts_of names) (slashless (parts_of names) (plain_parts names plain)))
 
@@ -25,7 +25,7 @@ IsFilled segment = not (is_empty segment) ≡ true
 abbrev IsUndotted : List ℕ → Type 0
 IsUndotted segment = not (is_dot_segment segment) ≡ true
 
--- a name that is kept is neither empty nor `.`
+-- A name that is kept is neither empty nor `.`.
 kept_parts : (name : List ℕ) → IsKept name → (is_empty name ≡ false) × (is_same name ≡ false)
 kept_parts name own = or_parts (is_empty name) (is_same name) (not-true _ own)
 
@@ -39,7 +39,7 @@ all_undotted (name ∷ rest) all_k all_n =
     (not_from_false _ (or_from (is_same name) (is_parent name) (kept_parts name (All-head IsKept name rest all_k)).1 (All-head IsName name rest all_n)))
     (all_undotted rest (All-tail IsKept name rest all_k) (All-tail IsName name rest all_n))
 
--- what stands before the last part are kept names
+-- No part but the last is empty.
 folders_filled : (names : List (List ℕ)) → All IsFilled (take (length (parts_of names) - 1) (parts_of names))
 folders_filled names =
     let left = remaining (kept names) in
@@ -56,7 +56,7 @@ parts_undotted names =
     All-append IsUndotted left (closing names) (all_undotted left (all_kept names) (All-IsName-remaining (kept names)))
     (⊎_elim (λ open_end. rw open_end (All-cons IsUndotted [] [] refl (All-nil IsUndotted))) (λ closed_end. rw closed_end (All-nil IsUndotted)) (closing_is names))
 
--- the bytes of a path are slashes and the bytes of its names
+-- The bytes of a path are slashes and the bytes of its names.
 name_stands : (name : List ℕ) → IsPlain name → AllPass may_stand_in_a_path name
 name_stands name own = go name own.control own.backslash
   where

@@ -1,4 +1,4 @@
--- What stands before a separator, and what stands behind it.
+-- The parts before and after a separator.
 use Rattle.std.proofs.Common.{ℕ, suc, ◌≡◌, ◌+◌, ◌<◌, Bool, true, false, ◌||◌, cond, ◌==◌, eqb, ltb, List, [], ◌∷◌, ◌++◌, length, take, drop, append-nil, Option, Some, None, sym, refl, ap, ◌∙◌, ⊎_elim, arith}
 use Rattle.std.specs.List.{All, list_any, flat_map, position, position_or_len, after_first}
 use Rattle.std.specs.Str.{byte}
@@ -10,15 +10,15 @@ use Rattle.std.proofs.lemmas.List.Splits.{slice_split-cons_yes, slice_split-cons
 use Rattle.sv_uri.specs.Target.{before, behind, between_slashes}
 use Rattle.sv_uri.specs.Canonical.{raw_segments}
 
--- the byte stands somewhere in the text
+-- The byte occurs in the text.
 abbrev pub holds : ℕ → List ℕ → Bool
 holds c text = list_any (λ b. b == c) text
 
--- a slash and then the name, for each name
+-- A slash and then the name, for each name.
 abbrev pub slashed : List (List ℕ) → List ℕ
 slashed names = flat_map (λ name. byte "/" ∷ name) names
 
--- the segments of what stands behind a slash, if there is one
+-- The segments of the part after a slash, if there is one.
 abbrev pub segments_behind : Option (List ℕ) → List (List ℕ)
 segments_behind None = []
 segments_behind (Some text) = between_slashes text
@@ -55,7 +55,7 @@ before_none c (b ∷ text) none =
 pub behind_none : (c : ℕ) (text : List ℕ) → holds c text ≡ false → behind c text ≡ None
 behind_none c text none = cond-false _ _ _ none
 
--- the first segment, and those behind its slash
+-- The first segment, and those after its slash.
 pub between_slashes-first : (text : List ℕ) → between_slashes text ≡ before (byte "/") text ∷ segments_behind (behind (byte "/") text)
 between_slashes-first [] = refl
 between_slashes-first (b ∷ text) =
@@ -64,7 +64,7 @@ between_slashes-first (b ∷ text) =
     (λ other. rw (before-other 47 b text other, behind-other 47 b text other, slice_split-cons_no (λ x. eqb x 47) b text other, between_slashes-first text) refl)
     (cases_Bool (eqb b 47))
 
--- the segments of a target that begins with a slash are those of what stands behind it
+-- The segments of a target that begins with a slash are those of the part after it.
 pub raw_segments-slash : (relative : List ℕ) → raw_segments (byte "/" ∷ relative) ≡ between_slashes (before (byte "?") relative)
 raw_segments-slash relative = rw (before-other 63 47 relative refl) refl
 
@@ -74,7 +74,7 @@ none_All p (x ∷ xs) none =
     let parts = or_parts _ _ none in
     All-cons (λ y. p y ≡ false) x xs parts.0 (none_All p xs parts.1)
 
--- a byte that a joined path does not hold stands in none of its names
+-- A byte that does not occur in a joined path occurs in none of its names.
 pub none_in_names : (c : ℕ) (names : List (List ℕ)) → holds c (slashed names) ≡ false → All (λ name. holds c name ≡ false) names
 none_in_names c [] none = All-nil (λ name. holds c name ≡ false)
 none_in_names c (name ∷ names) none =
@@ -82,7 +82,7 @@ none_in_names c (name ∷ names) none =
     let parts = or_parts _ _ (sym (list_any-append (λ b. eqb b c) name (slashed names)) ∙ inner.1) in
     All-cons (λ x. holds c x ≡ false) name names parts.0 (none_in_names c names parts.1)
 
--- names without a slash are the segments of the path that they make
+-- Names without a slash are the segments of the path that they make.
 pub between_slashes-slashed : (names : List (List ℕ)) → All (λ name. holds (byte "/") name ≡ false) names → between_slashes (slashed names) ≡ [] ∷ names
 between_slashes-slashed [] slashless = refl
 between_slashes-slashed (name ∷ []) slashless =
@@ -94,7 +94,7 @@ between_slashes-slashed (name ∷ next ∷ more) slashless =
     let rest_parts : between_slashes (next ++ slashed more) ≡ next ∷ more = cc in
     rw (slice_split_at (λ b. eqb b 47) name 47 (next ++ slashed more) none refl, rest_parts) refl
 
--- the parts before and behind the first such byte, by its place
+-- The parts before and after the first such byte, by its place.
 pub parts_at_place : (c place : ℕ) (text : List ℕ) → Some place ≡ position (λ b. eqb b c) text → (place < length text) × (take place text ≡ before c text) × (Some (drop (place + 1) text) ≡ behind c text)
 parts_at_place c place text found =
     let p = λ (b : ℕ). eqb b c in

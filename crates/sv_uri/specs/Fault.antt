@@ -5,12 +5,12 @@ use Rattle.sv_uri.specs.declared.fault.PathFault.TheVariants.{Fragment, NoSlash,
 use Rattle.sv_uri.specs.declared.fault.CanonFault.{CanonFault}
 use Rattle.sv_uri.specs.declared.fault.CanonFault.TheVariants.{Path, NoMemory}
 
--- the fault of the target, and none for want of memory
+-- The fault of the target, or none if memory ran out.
 abbrev pub path_fault : CanonFault → Option PathFault
 path_fault (Path fault) = Some fault
 path_fault NoMemory = None
 
--- the name that is printed for a fault
+-- The printed name of a fault.
 abbrev pub fault_name : PathFault → List ℕ
 fault_name Fragment = codes "Fragment"
 fault_name NoSlash = codes "NoSlash"
@@ -23,7 +23,7 @@ fault_name DotSegment = codes "DotSegment"
 fault_name EmptyParameter = codes "EmptyParameter"
 fault_name Climbs = codes "Climbs"
 
--- the text that is printed for a refusal
+-- The printed text of a refusal.
 abbrev pub refusal_text : CanonFault → List ℕ
 refusal_text (Path fault) = fault_name fault
 refusal_text NoMemory = codes "no memory"

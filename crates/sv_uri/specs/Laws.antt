@@ -7,19 +7,19 @@ use Rattle.sv_uri.specs.Segment.{is_parent}
 use Rattle.sv_uri.specs.DotSegments.{climbs}
 use Rattle.sv_uri.specs.Canonical.{canonical}
 
--- among the first n segments are more `..` than other names
+-- The first n segments have more `..` than other names.
 abbrev pub HasMoreParents : List (List ℕ) → ℕ → Type 0
 HasMoreParents names n = count_by (λ name. not (is_parent name)) (take n names) < count_by is_parent (take n names)
 
--- a path climbs exactly where some front of its segments has more `..` than other names
+-- A path climbs exactly if some front of its segments has more `..` than other names.
 abbrev pub ClimbsByFronts : Type 0
 ClimbsByFronts = (names : List (List ℕ)) → IsTrue (climbs names) ↔ ((n : ℕ) × HasMoreParents names n)
 
--- the byte means in a target what it means in a path: it begins no escape, query, fragment or parameter
+-- The byte means the same in a target as in a path: it begins no escape, query, fragment or parameter.
 abbrev pub is_literal : ℕ → Bool
 is_literal b = not (b == byte "%" || b == byte "?" || b == byte "#" || b == byte ";")
 
--- a canonical path of such bytes is, read as a target, its own canonical path and has no query
+-- A canonical path of such bytes, read as a target, is its own canonical path and has no query.
 abbrev pub CanonicalIsItsOwn : Type 0
 CanonicalIsItsOwn = (target : List ℕ) (canon : Canon) → canonical target ≡ Ok canon → AllPass is_literal canon.path
     → canonical canon.path ≡ Ok (record { path = canon.path; query = None })

@@ -1,8 +1,8 @@
--- What a contract sees of a name.
+-- The model of a name.
 use Rattle.std.specs.Prelude.{ℕ, List}
 use Rattle.std.specs.Cow.{cow_slice_items}
 use Rattle.sv_uri.specs.declared.name.Name.{Name}
 
--- the bytes of a name, written or decoded
+-- The bytes of a name, as written or decoded.
 abbrev pub bytes_of : Name → List ℕ
 bytes_of name = cow_slice_items name.bytes

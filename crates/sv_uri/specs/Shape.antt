@@ -7,7 +7,7 @@ use Rattle.sv_uri.specs.Target.{segments_of}
 use Rattle.sv_uri.specs.Segment.{is_control, is_empty, is_parent, is_same}
 use Rattle.sv_uri.specs.Canonical.{begins_with_slash, canonical}
 
--- all segments but the last
+-- All segments but the last.
 abbrev pub folders_of : List ℕ → List (List ℕ)
 folders_of path = take (length (segments_of path) - 1) (segments_of path)
 
@@ -17,7 +17,7 @@ is_dot_segment segment = is_same segment || is_parent segment
 abbrev pub may_stand_in_a_path : ℕ → Bool
 may_stand_in_a_path b = not (is_control b || b == byte "\\")
 
--- a text that begins with a slash, with no empty segment but the last, and no dot segment, control or backslash
+-- A text that begins with a slash, with no empty segment except the last, and no dot segment, control or backslash.
 pub record IsCanonicalPath (path : List ℕ) : Type 0 where
   pub text : IsUtf8 path
   pub rooted : IsTrue (begins_with_slash path)
@@ -25,6 +25,6 @@ pub record IsCanonicalPath (path : List ℕ) : Type 0 where
   pub undotted : AllPass (λ segment. not (is_dot_segment segment)) (segments_of path)
   pub plain : AllPass may_stand_in_a_path path
 
--- the path of every target that has one is of this shape
+-- Each canonical path of a target has this shape.
 abbrev pub CanonicalHasShape : Type 0
 CanonicalHasShape = (target : List ℕ) (canon : Canon) → canonical target ≡ Ok canon → IsCanonicalPath canon.path

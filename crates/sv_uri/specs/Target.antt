@@ -4,27 +4,27 @@ use Rattle.std.specs.List.{list_any, before_first, after_first, slice_split, fla
 use Rattle.std.specs.Str.{byte}
 use Rattle.percent_encoding.specs.Percent.{percent_encode_byte}
 
--- what stands before the first such byte, or all where there is none
+-- The bytes before the first such byte, or all if there is none.
 abbrev pub before : ℕ → List ℕ → List ℕ
 before separator text = before_first (λ b. b == separator) text
 
--- what stands behind the first such byte, where there is one
+-- The bytes after the first such byte, if there is one.
 abbrev pub behind : ℕ → List ℕ → Option (List ℕ)
 behind separator text =
     if list_any (λ b. b == separator) text then Some (after_first (λ b. b == separator) text) else None
 
--- what stands between the slashes, and before the first and behind the last
+-- The parts before, between and after the slashes.
 abbrev pub between_slashes : List ℕ → List (List ℕ)
 between_slashes text = slice_split (λ b. b == byte "/") text
 
--- the segments of a path: what stands behind each of its slashes, up to the next
+-- The segments of a path: the bytes after each slash, up to the next.
 abbrev pub segments_of : List ℕ → List (List ℕ)
 segments_of path = drop 1 (between_slashes path)
 
--- the bytes that a query holds as they are
+-- The bytes of a query that are not escaped.
 abbrev pub is_visible : ℕ → Bool
 is_visible b = nat_le 33 b && nat_le b 126
 
--- the query with every other byte as an escape
+-- The query with every other byte as an escape.
 abbrev pub visible_query : List ℕ → List ℕ
 visible_query query = flat_map (λ b. if is_visible b then b ∷ [] else percent_encode_byte b) query

@@ -1,4 +1,4 @@
-//! The canonical path of a request target.
+//! Canonical paths of request targets.
 
 ghost use Rattle.std.specs.Prelude.{◌≡◌, false, ◌∷◌, MatchOption};
 ghost use Rattle.std.specs.Str.{byte};
@@ -19,7 +19,7 @@ use crate::walk::Walk;
 use std::alloc::Global;
 use sv_text::Text;
 
-// The walk over all segments of what stands behind the first slash.
+// Walks over all segments of a path without its first slash.
 fn walk_of<'a>(alloc: Global, path: &'a [u8]) -> Result<Walk<'a>, CanonFault>
     ensures { GivesWalk result (between_slashes path.now) }
 {
@@ -33,7 +33,7 @@ fn walk_of<'a>(alloc: Global, path: &'a [u8]) -> Result<Walk<'a>, CanonFault>
     Ok(walk)
 }
 
-// The canonical path of what stands behind the first slash.
+// Returns the canonical path of a path without its first slash.
 fn canonical_path(alloc: Global, path: &[u8]) -> Result<Text, CanonFault>
     ensures { let segments = between_slashes path.now in
         Gives path_fault result (first_or (path_faults segments) (path_text segments)) }
@@ -45,7 +45,7 @@ fn canonical_path(alloc: Global, path: &[u8]) -> Result<Text, CanonFault>
     Ok(walk.path(alloc)?)
 }
 
-// The same where the path has to be walked.
+// Returns the same as [`canon`], by a walk over the path.
 fn walked(alloc: Global, target: &[u8]) -> Result<Canon, CanonFault>
     ensures { Gives path_fault result (canonical target.now) }
 {
@@ -61,12 +61,16 @@ fn walked(alloc: Global, target: &[u8]) -> Result<Canon, CanonFault>
     Ok(Canon { path, query })
 }
 
-/// The canonical path of a request target, with its query (Jakarta Servlet 6.0, section 3.5.2; RFC 3986, section 5.2.4).
+/// Returns the canonical path of a request target, with its query (Jakarta Servlet 6.0, section 3.5.2; RFC 3986,
+/// section 5.2.4).
 ///
-/// The query is cut off at the first `?`, the rest split at each `/`, each segment cut at its first `;` and decoded once. Empty
-/// segments and `.` are dropped, `..` removes the name before it, and where the last segment is empty, `.` or `..` the path ends in `/`.
-/// The target may hold any bytes; a wrong one is answered with the first of its faults, in the order of [`PathFault`], and
-/// `CanonFault::NoMemory` comes only where a growth was refused. The work is linear in the length of the target.
+/// The query is cut off at the first `?`, and the rest is split at each `/`. Each segment is cut at its first `;` and
+/// decoded once. Empty segments and `.` are dropped, and `..` removes the name before it. If the last segment is empty,
+/// `.` or `..`, the path ends in `/`. The target may hold any bytes. The time is linear in its length.
+///
+/// # Errors
+/// The first fault of the target, in the order of [`PathFault`], or `CanonFault::NoMemory` if an allocation was
+/// refused.
 #[inline(always)]
 pub fn canon(alloc: Global, target: &[u8]) -> Result<Canon, CanonFault>
     ensures { Gives path_fault result (canonical target.now) }

@@ -3,8 +3,8 @@
 ghost use Rattle.std.specs.Prelude.{◌≡◌};
 ghost use Rattle.sv_uri.specs.ContextPath.{shown_context};
 
-/// The context path as it is shown: `/` for the root context, whose path is empty (Jakarta Servlet 6.0, section 3.5), and
-/// else the path itself.
+/// Returns the context path as it is shown: `/` for the root context, whose path is empty (Jakarta Servlet 6.0, section
+/// 3.5), and any other path unchanged.
 pub fn shown_context(path: &str) -> &str
     ensures { result.now ≡ shown_context path.now }
 {

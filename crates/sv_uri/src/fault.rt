@@ -1,19 +1,21 @@
-//! Why a request target has no canonical path.
+//! Faults of request targets.
 
 use std::alloc::AllocError;
 use std::error::Error;
 use std::fmt;
 use sv_text::NoMemory;
 
-/// A fault of a request target (Jakarta Servlet 6.0, section 3.5.2). Of several the first one is answered: `Fragment`, then `NoSlash`,
-/// then of the first faulty segment from the left its fault of the least number, and last `Climbs`. It is printed as its name.
+/// A fault of a request target (Jakarta Servlet 6.0, section 3.5.2). It is printed as its name. If there are several,
+/// the first is reported: `Fragment`, then `NoSlash`, then the fault of the least number in the first faulty segment
+/// from the left, and last `Climbs`.
 #[derive(Clone, Copy, Debug, PartialEq, Eq)]
 pub enum PathFault {
-    /// A `#` stands somewhere in the target, the query included.
+    /// A `#` occurs in the target, including its query.
     Fragment = 1,
-    /// The target does not begin with `/`; the empty target is one of these.
+    /// The target is empty or does not begin with `/`.
     NoSlash = 2,
-    /// A `%` without two hexadecimal digits behind it. This test and those up to `NotUtf8` read what stands before a segment's first `;`.
+    /// A `%` is not followed by two hexadecimal digits. This test and those up to `NotUtf8` apply to the part of a
+    /// segment before its first `;`.
     BadEscape = 3,
     /// An escape of `/`.
     EncodedSlash = 4,
@@ -27,7 +29,7 @@ pub enum PathFault {
     DotSegment = 8,
     /// An empty segment with a parameter.
     EmptyParameter = 9,
-    /// A `..` has no name in front of it to remove.
+    /// A `..` has no name before it to remove.
     Climbs = 10,
 }
 
@@ -55,12 +57,12 @@ impl fmt::Display for PathFault {
 
 impl Error for PathFault {}
 
-/// Why `canon` gave no canonical path.
+/// The reason why `canon` returned no canonical path.
 #[derive(Clone, Copy, Debug, PartialEq, Eq)]
 pub enum CanonFault {
-    /// The target has none.
+    /// The target has no canonical path.
     Path(PathFault),
-    /// A growth was refused; the same call may succeed later.
+    /// An allocation was refused. The same call may succeed later.
     NoMemory,
 }
 

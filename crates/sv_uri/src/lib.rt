@@ -1,5 +1,5 @@
-//! Canonical paths of request targets, the faults for which a target has none, paths in Location fields, and context
-//! paths as they are shown.
+//! Canonical paths of request targets, the faults of targets without one, paths in Location fields, and context paths
+//! as they are shown.
 #![tactic(auto)]
 
 mod canonical;

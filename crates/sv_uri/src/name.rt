@@ -1,4 +1,4 @@
-//! A name, as a walk keeps it.
+//! The names that a walk holds.
 
 ghost use Rattle.std.specs.Prelude.{◌≡◌, IsUtf8};
 ghost use Rattle.sv_uri.specs.Name.{bytes_of};
@@ -7,7 +7,7 @@ use std::alloc::Global;
 use std::borrow::CowSlice;
 use std::str;
 
-/// The bytes of a segment's name: as they were written, or decoded.
+/// The bytes of a segment's name, as written or decoded.
 #[derive(Drop)]
 pub(crate) struct Name<'a> {
     pub(crate) bytes: CowSlice<'a, u8, Global>,
@@ -22,7 +22,7 @@ impl<'a> Default for Name<'a> {
 }
 
 impl<'a> Name<'a> {
-    /// The name, which is UTF-8.
+    /// Returns the name, which must be UTF-8.
     pub(crate) fn as_str(&self) -> &str
         requires { IsUtf8 (bytes_of self.now) }
         ensures { result.now ≡ bytes_of self.now }

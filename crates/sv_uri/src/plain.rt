@@ -1,4 +1,4 @@
-//! Targets whose path is canonical as it came, as most are: they are not walked.
+//! Targets whose path is canonical as it was written, as most are. They need no walk.
 
 ghost use Rattle.std.specs.Prelude.{◌≡◌, ◌≤◌, length, IfSome};
 ghost use Rattle.std.specs.Option.{option_copied};
@@ -13,7 +13,7 @@ fn means_itself(b: u8) -> bool
     32 <= b && b <= 126 && !(b == b'%' || b == b';' || b == b'\\' || b == b'?' || b == b'#')
 }
 
-// Most bytes are letters above `?`, which want the fewest tests.
+// Bytes above `?` need the fewest tests, since most bytes are letters.
 fn may_follow(before: u8, b: u8) -> bool
     ensures { result ≡ spec.may_follow before b }
 {
@@ -23,7 +23,7 @@ fn may_follow(before: u8, b: u8) -> bool
     means_itself(b) && !(before == b'/' && (b == b'/' || b == b'.'))
 }
 
-// How many bytes there are before the first that does not mean itself where it stands.
+// Returns the number of bytes before the first that may not follow the one before it.
 fn plain_len(target: &[u8]) -> usize
     ensures value { result ≡ spec.plain_len 0 target.now }
     ensures fits { result ≤ length target.now }
@@ -39,7 +39,7 @@ fn plain_len(target: &[u8]) -> usize
     target.len()
 }
 
-// The query, if there is one, where no other than a query stands there.
+// Reads a text that is empty or a `?` with a query. Returns `None` for any other text and for a query with a `#`.
 fn query_alone(text: &[u8]) -> Option<Option<&[u8]>>
     ensures { IfSome result (λ query. spec.IsQueryAlone text.now (option_copied query)) }
 {
@@ -55,7 +55,7 @@ fn query_alone(text: &[u8]) -> Option<Option<&[u8]>>
     }
 }
 
-/// The path and the query of a target as they were written, where the path is canonical so.
+/// Returns the path and the query of a target as they were written, if the path is canonical in this form.
 #[inline(always)]
 pub(crate) fn plain_parts(target: &[u8]) -> Option<(&str, Option<&[u8]>)>
     ensures { IfSome result (λ parts. spec.HasParts target.now parts.0.now (option_copied parts.1)) }

@@ -1,4 +1,4 @@
-//! The query of a target, in bytes that can be seen.
+//! Queries of targets, in visible bytes.
 
 ghost use Rattle.std.specs.Option.{option_copied, option_map};
 ghost use Rattle.sv_text.specs.Gives.{GivesAnswer};
@@ -9,7 +9,7 @@ use std::alloc::Global;
 use std::borrow::CowStr;
 use sv_text::{NoMemory, Text};
 
-// The bytes below 128 that are written as escapes; all bytes from 128 up are.
+// The bytes below 128 that are written as escapes, as are all bytes from 128 on.
 const ESCAPED: AsciiSet = ascii_set!(CONTROLS.add(b' '));
 
 fn visible_query(alloc: Global, query: &[u8]) -> Result<Text, NoMemory>
@@ -21,7 +21,7 @@ fn visible_query(alloc: Global, query: &[u8]) -> Result<Text, NoMemory>
     }
 }
 
-/// The query of a target, where it has one, with each byte outside 33 to 126 as an escape.
+/// Returns the query of a target, if it has one, with each byte outside 33 to 126 as an escape.
 pub(crate) fn read_query(alloc: Global, query: Option<&[u8]>) -> Result<Option<Text>, NoMemory>
     ensures { GivesAnswer result (option_map target.visible_query (option_copied query.entry)) }
 {

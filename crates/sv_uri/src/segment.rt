@@ -13,14 +13,14 @@ use std::alloc::Global;
 use std::borrow::CowSlice;
 use std::str;
 
-/// Whether the name is `.`, the segment itself.
+/// Returns whether the name is `.`, the segment itself.
 pub(crate) fn is_same(name: &[u8]) -> bool
     ensures { result ≡ spec.is_same name.now }
 {
     name == b".".as_slice()
 }
 
-/// Whether the name is `..`, the segment above.
+/// Returns whether the name is `..`, the segment above.
 pub(crate) fn is_parent(name: &[u8]) -> bool
     ensures { result ≡ spec.is_parent name.now }
 {
@@ -56,21 +56,21 @@ fn is_utf8(name: &[u8]) -> bool
     str::from_utf8(name).is_ok()
 }
 
-// Whether `.` or `..` was written in another way.
+// Returns whether the name is `.` or `..` and was written in another form.
 fn is_disguised(segment: &[u8], name: &[u8]) -> bool
     ensures { result ≡ spec.is_disguised segment.now name.now }
 {
     (is_same(name) || is_parent(name)) && name != segment
 }
 
-// Whether the segment is a parameter alone.
+// Returns whether the segment is a parameter without a name.
 fn is_bare_parameter(segment: &[u8], name: &[u8]) -> bool
     ensures { result ≡ spec.is_bare_parameter segment.now name.now }
 {
     name.is_empty() && segment.contains(&b';')
 }
 
-// Answers the first fault of a decoded name; `segment` is how it was written.
+// Checks a decoded name and returns its first fault. `segment` is its written form.
 fn check_name(segment: &[u8], name: &[u8]) -> Result<(), PathFault>
     ensures { result ≡ first_or (spec.name_faults segment.now name.now) tt }
 {
@@ -91,7 +91,8 @@ fn check_name(segment: &[u8], name: &[u8]) -> Result<(), PathFault>
     }
 }
 
-/// The name of a segment: what stands before its first `;`, decoded once. Memory is taken only where there is something to decode.
+/// Returns the name of a segment, which is the part before its first `;`, decoded once, or its first fault. Allocates
+/// memory only if there is an escape to decode.
 pub(crate) fn read_name<'a>(
     alloc: Global,
     segment: &'a [u8],

@@ -1,4 +1,4 @@
-//! What stands before a separator, and what stands behind it.
+//! The parts before and after a separator.
 
 ghost use Rattle.std.specs.Prelude.{◌≡◌, ◌==◌, ◌∷◌, false, position, MatchOption};
 ghost use Rattle.std.specs.Option.{option_copied};
@@ -12,7 +12,7 @@ fn place_of(bytes: &[u8], separator: u8) -> Option<usize>
     bytes.iter().position(|b| *b == separator)
 }
 
-/// What stands before the first `separator`, and what stands behind it where there is one.
+/// Returns the bytes before the first `separator` and those after it. If there is none, returns all bytes and `None`.
 pub(crate) fn before_and_behind(bytes: &[u8], separator: u8) -> (&[u8], Option<&[u8]>)
     ensures front { result.0.now ≡ target.before separator bytes.now }
     ensures back { option_copied result.1 ≡ target.behind separator bytes.now }
@@ -23,7 +23,7 @@ pub(crate) fn before_and_behind(bytes: &[u8], separator: u8) -> (&[u8], Option<&
     }
 }
 
-/// What stands behind the slash with which a target begins.
+/// Returns the bytes after the slash with which a target begins, if it does.
 pub(crate) fn behind_slash(target: &[u8]) -> Option<&[u8]>
     ensures { MatchOption result (begins_with_slash target.now ≡ false)
         (λ relative. target.now ≡ byte "/" ∷ relative.now) }

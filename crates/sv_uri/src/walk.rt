@@ -21,10 +21,10 @@ fn is_idle(name: &[u8]) -> bool
     name.is_empty() || is_same(name)
 }
 
-/// How many names a walk keeps without memory of its own.
+/// The number of names that a walk holds without heap memory.
 const FEW: usize = 4;
 
-/// The names that are left of the segments that were entered.
+/// The names that remain of the segments entered so far.
 #[derive(Drop)]
 pub(crate) struct Walk<'a> {
     pub(crate) names: SmallVec<Name<'a>, FEW>,
@@ -33,7 +33,7 @@ pub(crate) struct Walk<'a> {
 }
 
 impl<'a> Walk<'a> {
-    /// Before the first segment.
+    /// Creates a walk before the first segment.
     pub(crate) fn new(alloc: Global) -> Walk<'a>
         ensures { HasSeen result [] }
     {
@@ -44,7 +44,7 @@ impl<'a> Walk<'a> {
         }
     }
 
-    /// Enters the next name.
+    /// Enters the name of the next segment.
     pub(crate) fn enter(&mut self, name: CowSlice<'a, u8, Global>) -> Result<(), NoMemory>
         ensures { IfOk result (λ _. (seen : List (List ℕ))
             → HasSeen self.old seen → HasSeen self.new (seen ++ cow_slice_items name.entry ∷ [])) }
@@ -62,7 +62,8 @@ impl<'a> Walk<'a> {
         Ok(())
     }
 
-    /// The path of the names that are left, a slash before each; it ends in a slash where the last segment was no name.
+    /// Returns the path of the remaining names, with a slash before each. It ends in a slash if the last segment was
+    /// empty, `.` or `..`.
     pub(crate) fn path(&self, alloc: Global) -> Result<Text, NoMemory>
         requires { All IsUtf8 (shown self.now.names.items) }
         ensures { GivesAnswer result (flat_map (λ name. byte "/" ∷ name)
@@ -76,7 +77,7 @@ impl<'a> Walk<'a> {
     }
 }
 
-// The bytes of all names, with a slash before each and one behind them.
+// Returns the length of all names, with a slash before each and one at the end.
 fn room_of(names: &[Name<'_>]) -> usize {
     let mut room: usize = 1;
     for name in names {
@@ -85,7 +86,7 @@ fn room_of(names: &[Name<'_>]) -> usize {
     room
 }
 
-// A slash and then the name, for each name.
+// Joins the names, with a slash before each.
 fn joined(alloc: Global, names: &[Name<'_>]) -> Result<Text, NoMemory>
     requires { All IsUtf8 (shown names.now) }
     ensures { GivesAnswer result (flat_map (λ name. byte "/" ∷ name) (shown names.now)) }

@@ -1,4 +1,4 @@
--- A call that was not refused left what it had to.
+-- The state after a call that was not refused.
 use Rattle.std.specs.Prelude.{Bool, Ok}
 use Rattle.std.proofs.Common.{◌≡◌, sym, ◌∙◌, ap}
 use Rattle.sv_exchange.specs.Changing.{Change, Does, answer, left_by}

@@ -1,4 +1,4 @@
--- A text that is written character by character: as a page shows it, and as a basic string has it.
+-- Texts that are escaped character by character: for a page, and for a basic string.
 use Rattle.std.proofs.Common.{◌≡◌, ℕ, List, [], ◌++◌, chars, encode_utf8, encode_utf8_all, IsUtf8, length, ap, ◌∙◌}
 use Rattle.std.proofs.lemmas.List.{nil_from_length}
 use Rattle.std.specs.List.{flat_map}

@@ -1,4 +1,4 @@
--- The first cookie of a name, along the fields and along the pieces of one.
+-- The first cookie of a name, in a list of fields and in the pieces of one field.
 use Rattle.std.proofs.Common.{◌≡◌, ℕ, zero, suc, ◌+◌, ◌<◌, true, false, inl, inr, Bool, List, [], ◌∷◌, ◌++◌, length, take, drop, get_or, position, Option, Some, None, refl, sym, ◌∙◌, ap, subst, append-nil, arith}
 use Rattle.std.specs.List.{cons_option, filter_map, onto_first, position_or_len, slice_split}
 use Rattle.std.specs.Option.{option_or}
@@ -15,7 +15,7 @@ first_both : {A : Type 0} (xs ys : List A) → first (xs ++ ys) ≡ option_or (f
 first_both [] ys = refl
 first_both (x ∷ xs) ys = refl
 
--- the fields send what the first of them does, or else the others
+-- the fields give the cookie of the first field, or else that of the others
 module _ (name : List ℕ) where
   pub sent_one : (field : Field) → is_named (codes "cookie") field ≡ true → first_cookie name (field ∷ []) ≡ first (values_in name field.value.bytes)
   sent_one field named = rw named (ap first (append-nil (values_in name field.value.bytes)))
@@ -30,7 +30,7 @@ module _ (name : List ℕ) where
     | inr other ↦ rw other refl
   ]
 
-  -- along the fields from a place on
+  -- the same for the fields from a position on
   sent_at : (fields : List Field) (i : ℕ) (field : Field) → i < length fields → field ≡ get_or fields i field
       → first_cookie name (drop i fields) ≡ option_or (first_cookie name (field ∷ [])) (first_cookie name (drop (suc i) fields))
   sent_at [] i field inside at = absurd (omega arith)
@@ -52,7 +52,7 @@ module _ (name : List ℕ) where
         subst (λ n. first_cookie name (drop n fields) ≡ first_cookie name fields) next
         (sym (ap (λ (h : Option (List ℕ)). option_or h (first_cookie name (drop (suc i) fields))) here) ∙ both)
 
--- the part before the first that passes, and the others
+-- a text is split into the part before the first byte that passes, and the parts of the rest
 pub parted : (test : ℕ → Bool) (text : List ℕ) (place : ℕ) → position test text ≡ Some place
     → slice_split test text ≡ take place text ∷ slice_split test (drop (place + 1) text)
 parted test text place found =
@@ -70,7 +70,7 @@ unparted test (b ∷ text) none = by (test b) refl (λ later. unparted test text
         let later : position test text ≡ None = grind (arith, common_steps) in
         slice_split-cons_no test b text same ∙ ap (onto_first b) (rest later)
 
--- the pieces that are left send what the first of them does, or else the others
+-- the remaining pieces give the cookie of the first piece, or else that of the others
 module _ (read : List ℕ → Option (List ℕ)) (front : List ℕ) (left behind : List (List ℕ)) (all : Option (List ℕ)) (cut : left ≡ front ∷ behind)
     (sends : first (filter_map read left) ≡ all) where
   pub found_here : (value : List ℕ) → read front ≡ Some value → Some value ≡ all

@@ -14,11 +14,11 @@ use Rattle.sv_web.specs.declared.cookies.SameSite.TheVariants.{Strict, Lax, Ever
 use Rattle.sv_web.specs.declared.fault.Fault.{Fault}
 use Rattle.sv_web.specs.declared.fault.Fault.TheVariants.{BadCookie}
 
--- a name is a token
+-- a name is a nonempty token
 abbrev pub has_name : List ℕ → Bool
 has_name name = not (length name == 0) && list_all is_token_byte name
 
--- the bytes of a value: visible ASCII but the quote, the comma, the semicolon and the backslash
+-- the bytes of a value: visible ASCII except the quote, the comma, the semicolon and the backslash
 abbrev pub is_octet : ℕ → Bool
 is_octet b =
     b == 0x21 || (nat_le 0x23 b && nat_le b 0x2b) || (nat_le 0x2d b && nat_le b 0x3a)
@@ -39,7 +39,7 @@ has_path (Some path) = is_path path
 abbrev pub is_cookie : NewCookie → Bool
 is_cookie cookie = has_name cookie.name.now && list_all is_octet cookie.value.now && has_path (option_copied cookie.path)
 
--- the attributes, where there are any
+-- the attributes, if there are any
 abbrev pub path_part : Option (List ℕ) → List ℕ
 path_part None = []
 path_part (Some path) = path_attribute path
@@ -54,17 +54,17 @@ same_site_attribute (Some Strict) = codes "; SameSite=Strict"
 same_site_attribute (Some Lax) = codes "; SameSite=Lax"
 same_site_attribute (Some Everywhere) = codes "; SameSite=None"
 
--- what sets the cookie: the pair, and then its attributes
+-- the text that sets the cookie: the pair, then its attributes
 abbrev pub cookie_text : NewCookie → List ℕ
 cookie_text cookie =
     (cookie.name.now ++ codes "=" ++ cookie.value.now) ++ path_part (option_copied cookie.path) ++ max_age_attribute cookie.max_age
     ++ http_only_attribute cookie.http_only ++ secure_attribute cookie.secure ++ same_site_attribute cookie.same_site
 
--- one field more
+-- one more header field
 abbrev pub with_cookie : NewCookie → State → State
 with_cookie cookie before = after_all (AddHeader (codes "set-cookie") (cookie_text cookie) ∷ []) before
 
--- what is answered, by whether it is a cookie: what adding the field answers
+-- the result of adding the field, or a fault if the cookie is invalid
 abbrev pub cookie_answer : Bool → NewCookie → State → Result Bool Fault
 cookie_answer true cookie before = told (answer (AddHeader (codes "set-cookie") (cookie_text cookie)) before)
 cookie_answer false cookie before = Err BadCookie

@@ -1,4 +1,4 @@
--- What an application is deployed with, put together call by call (Jakarta Servlet 6.0, sections 4.4 and 14.4).
+-- The contents of an application's context, built call by call (Jakarta Servlet 6.0, sections 4.4 and 14.4).
 use Rattle.std.specs.Prelude.{ℕ, List, [], ◌∷◌, ◌++◌, bytes_eq, codes, if◌then◌else◌}
 use Rattle.std.specs.Borrow.{Bor}
 use Rattle.sv_component.specs.declared.named.Named.{Named}
@@ -7,7 +7,7 @@ use Rattle.sv_web.specs.Elements.{filter_elements, listener_elements, servlet_el
 use Rattle.sv_web.specs.declared.content.Content.{Content}
 
 module _ {S F L : Type 0} where
-  -- a context at a path, with nothing in it
+  -- an empty context at a path
   abbrev pub at_path : List ℕ → Content S F L
   at_path path = record {
     path = if bytes_eq path (codes "/") then [] else path;
@@ -19,11 +19,11 @@ module _ {S F L : Type 0} where
     users = [];
   }
 
-  -- the same with more elements of a descriptor behind those that it has
+  -- with more descriptor elements, added at the end
   abbrev pub with_elements : List ℕ → Content S F L → Content S F L
   with_elements text content = record content { descriptor = content.descriptor ++ text ++ codes "\n" }
 
-  -- with one servlet more, declared behind all else
+  -- with one more servlet, filter or listener, declared last
   abbrev pub with_servlet : List ℕ → List (Bor (List ℕ)) → S → Content S F L → Content S F L
   with_servlet name patterns servlet content = record content {
     descriptor = content.descriptor ++ servlet_elements name patterns;
@@ -42,10 +42,10 @@ module _ {S F L : Type 0} where
     listeners = content.listeners ++ listener ∷ [];
   }
 
-  -- with one static file more
+  -- with one more static file
   abbrev pub with_file : List ℕ → List ℕ → Content S F L → Content S F L
   with_file path bytes content = record content { files = content.files ++ record { path = path; bytes = bytes } ∷ [] }
 
-  -- with the users of a users file, in place of those that it had
+  -- with the users of a users file, instead of earlier ones
   abbrev pub with_users : List ℕ → Content S F L → Content S F L
   with_users text content = record content { users = text }

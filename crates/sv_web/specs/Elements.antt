@@ -3,7 +3,7 @@ use Rattle.std.specs.Prelude.{ℕ, ◌==◌, List, [], ◌∷◌, ◌++◌, char
 use Rattle.std.specs.Borrow.{Bor}
 use Rattle.std.specs.Str.{byte}
 
--- the characters that a basic string has for one
+-- a character as a basic string writes it
 abbrev pub quoted_char : ℕ → List ℕ
 quoted_char c =
     if c == byte "\"" then codes "\\\""
@@ -12,7 +12,7 @@ quoted_char c =
     else if c == byte "\r" then codes "\\r"
     else c ∷ []
 
--- a text as a basic string has it between its quotes
+-- a text as it is between the quotes of a basic string
 unfoldable pub quoted : List ℕ → List ℕ
 quoted text = encode_utf8_all (flat_map quoted_char (chars text))
 
@@ -35,22 +35,22 @@ class_element header key class = header ++ text_line key class
 unfoldable pub named_element : List ℕ → List ℕ → List ℕ → List ℕ → List ℕ
 named_element header name_key class_key name = header ++ text_line name_key name ++ text_line class_key name
 
--- the patterns of a name
+-- the URL patterns of a name
 unfoldable pub mapping_element : List ℕ → List ℕ → List ℕ → List (Bor (List ℕ)) → List ℕ
 mapping_element header name_key name patterns = header ++ text_line name_key name ++ list_line (codes "url-pattern") patterns
 
--- a servlet whose class has its name, and its patterns
+-- a servlet with its name as class, and its patterns
 abbrev pub servlet_elements : List ℕ → List (Bor (List ℕ)) → List ℕ
 servlet_elements name patterns =
     named_element (codes "[[servlet]]\n") (codes "servlet-name") (codes "servlet-class") name
     ++ mapping_element (codes "[[servlet-mapping]]\n") (codes "servlet-name") name patterns
 
--- a filter whose class has its name, and its patterns
+-- a filter with its name as class, and its patterns
 abbrev pub filter_elements : List ℕ → List (Bor (List ℕ)) → List ℕ
 filter_elements name patterns =
     named_element (codes "[[filter]]\n") (codes "filter-name") (codes "filter-class") name
     ++ mapping_element (codes "[[filter-mapping]]\n") (codes "filter-name") name patterns
 
--- a listener, whose class is not told
+-- a listener, whose class is a fixed word
 abbrev pub listener_elements : List ℕ
 listener_elements = class_element (codes "[[listener]]\n") (codes "listener-class") (codes "listener")

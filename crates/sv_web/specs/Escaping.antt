@@ -2,7 +2,7 @@
 use Rattle.std.specs.Prelude.{ℕ, ◌==◌, List, [], ◌∷◌, chars, codes, flat_map, encode_utf8_all, if◌then◌else◌}
 use Rattle.std.specs.Str.{byte}
 
--- the characters that a page has for one
+-- a character as a page writes it
 abbrev pub escaped_char : ℕ → List ℕ
 escaped_char c =
     if c == byte "&" then codes "&amp;"
@@ -12,6 +12,6 @@ escaped_char c =
     else if c == byte "'" then codes "&#39;"
     else c ∷ []
 
--- a text as a page shows it: each character as the page has it
+-- a text as a page writes it, character by character
 unfoldable pub html_escaped : List ℕ → List ℕ
 html_escaped text = encode_utf8_all (flat_map escaped_char (chars text))

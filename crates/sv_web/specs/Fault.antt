@@ -1,4 +1,4 @@
--- The step of a servlet, and the gate of a filter, that came to a fault (Jakarta Servlet 6.0, sections 2.3.3 and 10.9).
+-- The step of a servlet, and the gate of a filter, after a fault (Jakarta Servlet 6.0, sections 2.3.3 and 10.9).
 use Rattle.std.specs.Prelude.{◌≡◌, ◌⊎◌, ℕ, List, Result, Ok, Err, codes}
 use Rattle.sv_component.specs.declared.answers.Gate.{Gate}
 use Rattle.sv_component.specs.declared.answers.Gate.TheVariants as gates
@@ -15,11 +15,11 @@ abbrev pub fault_from : ExchangeFault → Fault
 fault_from refusals.NoMemory = faults.NoMemory
 fault_from refused = faults.Refused refused
 
--- a failure of that kind
+-- a failure of this kind
 abbrev pub failed : List ℕ → Step
 failed kind = steps.Failed kind kind
 
--- the step of a fault: want of memory alone is `NoMemory`
+-- the step of a fault; only running out of memory gives `NoMemory`
 abbrev pub failure_of : Fault → Step
 failure_of faults.NoMemory = steps.NoMemory
 failure_of (faults.Refused refused) = failed (fault_name refused)
@@ -28,16 +28,16 @@ failure_of faults.BadCookie = failed (codes "BadCookie")
 failure_of (faults.Error code text) = steps.Error code text
 failure_of (faults.Failed kind text) = steps.Failed kind text
 
--- the step that was found, or that of the fault unless memory ran out for its words
+-- the given step, or the step of the fault; `NoMemory` if memory ran out for its text
 abbrev pub IsStepOf : Result Step Fault → Step → Type 0
 IsStepOf (Ok found) step = step ≡ found
 IsStepOf (Err fault) step = (step ≡ failure_of fault) ⊎ (step ≡ steps.NoMemory)
 
--- a filter's failure of that kind
+-- a filter's failure of this kind
 abbrev pub shut : List ℕ → Gate
 shut kind = gates.Failed kind kind
 
--- the gate of a fault: want of memory alone is `NoMemory`, and an error is a failure
+-- the gate of a fault; only running out of memory gives `NoMemory`, and an error is a failure
 abbrev pub shut_by : Fault → Gate
 shut_by faults.NoMemory = gates.NoMemory
 shut_by (faults.Refused refused) = shut (fault_name refused)
@@ -46,7 +46,7 @@ shut_by faults.BadCookie = shut (codes "BadCookie")
 shut_by (faults.Error code text) = gates.Failed (codes "Error") text
 shut_by (faults.Failed kind text) = gates.Failed kind text
 
--- the gate that was found, or that of the fault unless memory ran out for its words
+-- the given gate, or the gate of the fault; `NoMemory` if memory ran out for its text
 abbrev pub IsGateOf : Result Gate Fault → Gate → Type 0
 IsGateOf (Ok found) gate = gate ≡ found
 IsGateOf (Err fault) gate = (gate ≡ shut_by fault) ⊎ (gate ≡ gates.NoMemory)

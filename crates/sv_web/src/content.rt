@@ -1,15 +1,16 @@
-//! What an application is deployed with, as it was put together.
+//! The contents of an application's context.
 
 use sv_component::Named;
 use sv_files::File;
 use sv_text::{Listed, Text};
 
-/// What one context is deployed with. Its descriptor declares the servlets, filters and listeners in the order of their lists.
+/// The contents of one context. Its descriptor declares the servlets, filters and listeners in the order of their
+/// lists.
 #[derive(Drop)]
 pub struct Content<S, F, L> {
-    /// The context path: empty for the root context.
+    /// The context path, empty for the root context.
     pub path: Text,
-    /// The deployment descriptor, as a text.
+    /// The deployment descriptor as a text.
     pub descriptor: Text,
     /// The servlets, with their names.
     pub servlets: Listed<Named<S>>,
@@ -19,6 +20,6 @@ pub struct Content<S, F, L> {
     pub listeners: Listed<L>,
     /// The static files.
     pub files: Listed<File>,
-    /// The users file, as a text; empty where there are no users.
+    /// The users file as a text, empty if there are no users.
     pub users: Text,
 }

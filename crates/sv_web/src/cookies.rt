@@ -1,4 +1,4 @@
-//! Cookies that are set.
+//! Setting cookies.
 
 ghost use Rattle.std.specs.Prelude.{◌≡◌, ◌++◌, OnErr, OnOk, codes, string_bytes, true};
 ghost use Rattle.http_header.specs.Token.{is_token_byte};
@@ -17,43 +17,44 @@ use std::alloc::Global;
 use sv_component::Exchange;
 use sv_text::{NoMemory, Text};
 
-/// A cookie that is to be set (RFC 6265, section 4.1).
+/// A cookie to set (RFC 6265, section 4.1).
 #[derive(Clone, Copy)]
 pub struct NewCookie<'a> {
-    /// The name: a token that is not empty.
+    /// The name, a nonempty token.
     pub name: &'a str,
-    /// The value: visible ASCII but `"`, `,`, `;` and the backslash.
+    /// The value: visible ASCII except `"`, `,`, `;` and the backslash.
     pub value: &'a str,
-    /// The path below which it is sent back: it begins with `/`, and has no control byte and no `;`. Without one, it is the folder of the path
-    /// that the client asked for.
+    /// The path below which the client sends it back. It begins with `/`, and contains no control byte and no `;`. The
+    /// default is the folder of the requested path.
     pub path: Option<&'a str>,
-    /// How many seconds the client keeps it, 0 to remove it; without a number, until the client ends.
+    /// The number of seconds that the client keeps it, 0 to remove it. By default it is kept until the client ends.
     pub max_age: Option<u32>,
-    /// Whether it is kept from scripts.
+    /// Whether scripts cannot read it.
     pub http_only: bool,
-    /// Whether it is sent back over secure connections alone.
+    /// Whether it is sent back only over secure connections.
     pub secure: bool,
-    /// Whether it is sent with requests that other sites cause; without a word, as the client does by itself.
+    /// Whether it is sent with requests that other sites cause. The default is that of the client.
     pub same_site: Option<SameSite>,
 }
 
 /// Whether a cookie is sent with requests that other sites cause (the attribute `SameSite`).
 #[derive(Clone, Copy)]
 pub enum SameSite {
-    /// It is not.
+    /// Never.
     Strict,
-    /// With those alone by which the client goes to this site.
+    /// Only with requests that navigate to this site.
     Lax,
-    /// It is: clients want it to be secure then.
+    /// Always. Clients then require the cookie to be secure.
     Everywhere,
 }
 
-/// Adds the field `set-cookie` of a cookie (Jakarta Servlet 6.0, section 5.2; RFC 6265, section 4.1), as [`Exchange::add_header`] does: it is ignored, with the
-/// answer `false`, where the response is committed or an include is under way. The cookie of the session is the container's own.
+/// Adds the field `set-cookie` of a cookie (Jakarta Servlet 6.0, section 5.2; RFC 6265, section 4.1), as
+/// [`Exchange::add_header`] does. It is ignored, with the result `false`, if the response is committed or an include is
+/// active. The container sets the session cookie itself.
 ///
 /// # Errors
-/// [`Fault::BadCookie`]: the name, the value or the path is none, so that no text of a client becomes an attribute or a field of its own;
-/// [`Fault::NoMemory`]: a growth was refused. Nothing changes.
+/// [`Fault::BadCookie`]: the name, the value or the path is invalid, so that no text of a client can add an attribute
+/// or a field. [`Fault::NoMemory`]: out of memory. In both cases nothing changes.
 pub fn set_cookie(
     alloc: Global,
     exchange: &mut Exchange,
@@ -72,7 +73,7 @@ pub fn set_cookie(
     Ok(exchange.add_header("set-cookie", text.as_str())?)
 }
 
-// Whether a client takes it for a cookie.
+// Returns whether the cookie follows the grammar.
 fn is_cookie(cookie: &NewCookie<'_>) -> bool
     ensures { result ≡ is_cookie cookie.now }
 {
@@ -97,7 +98,7 @@ fn has_octets(value: &[u8]) -> bool
     value.iter().all(|b| is_octet(*b))
 }
 
-// Whether a cookie's value may have the byte.
+// Returns whether a cookie's value may contain the byte.
 fn is_octet(b: u8) -> bool
     ensures { result ≡ is_octet b }
 {
@@ -129,14 +130,14 @@ fn has_path_bytes(path: &[u8]) -> bool
     path.iter().all(|b| is_path_byte(*b))
 }
 
-// Whether a cookie's path may have the byte.
+// Returns whether a cookie's path may contain the byte.
 fn is_path_byte(b: u8) -> bool
     ensures { result ≡ is_path_byte b }
 {
     0x20 <= b && b <= 0x7e && b != b';'
 }
 
-// What sets the cookie.
+// Returns the text that sets the cookie.
 fn cookie_text(alloc: Global, cookie: &NewCookie<'_>) -> Result<Text, NoMemory>
     ensures { GivesAnswer result (cookie_text cookie.now) }
 {

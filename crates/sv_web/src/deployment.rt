@@ -1,4 +1,4 @@
-//! A context of an application, put together call by call.
+//! A context of an application, built call by call.
 
 ghost use Rattle.std.specs.Prelude.{◌≡◌, IfOk, Ok, OnOk, [], ◌∷◌, ◌++◌};
 ghost use Rattle.sv_text.specs.Gives.{GivesAnswer};
@@ -11,11 +11,12 @@ use sv_component::Named;
 use sv_files::File;
 use sv_text::{Bytes, Listed, NoMemory, Text};
 
-/// A context of an application: where it stands, its servlets, filters and listeners, its static files and its users. It is put together call by
-/// call, each of which takes it and gives it back; contracts see what it holds. What is called first is declared first (Jakarta Servlet 6.0,
-/// sections 6.2.4 and 11.3.1): filters stand in a chain, and listeners are told, in that order.
+/// A context of an application: its path, its servlets, filters and listeners, its static files and its users. Each call
+/// takes the context and returns it with an addition, and contracts see its contents. Components are declared in the order
+/// of the calls. Filters are chained, and listeners are notified, in this order (Jakarta Servlet 6.0, sections 6.2.4 and
+/// 11.3.1).
 ///
-/// A call that is refused with [`NoMemory`] lets all of it go.
+/// A call that fails with [`NoMemory`] drops the context.
 #[derive(Drop)]
 pub struct Deployment<S, F, L> {
     alloc: Global,
@@ -49,7 +50,8 @@ impl<S: Drop, F: Drop, L: Drop> Deployment<S, F, L> {
     ghost use Rattle.std.specs.Prelude.{◌≡◌, OnOk, string_bytes, [], ◌∷◌, ◌++◌};
     ghost use Rattle.sv_web.specs.Deploying as spec;
 
-    /// A context at a path, with nothing in it: `/` for the root context, or a path as `/shop` (Jakarta Servlet 6.0, section 3.5).
+    /// Creates an empty context at a path: `/` for the root context, or a path such as `/shop` (Jakarta Servlet 6.0,
+    /// section 3.5).
     pub fn at(alloc: Global, path: &str) -> Result<Deployment<S, F, L>, NoMemory>
         ensures { GivesAnswer result (spec.at_path path.now) }
     {
@@ -66,9 +68,9 @@ impl<S: Drop, F: Drop, L: Drop> Deployment<S, F, L> {
         })
     }
 
-    /// Adds elements of a descriptor (Jakarta Servlet 6.0, section 14.4) as TOML: constraints, a login, error pages, more mappings of what is added
-    /// by other calls. Servlets, filters and listeners are added by the other calls alone. Keys that stand in no table, as `version`, stand in
-    /// the first text, before all other calls.
+    /// Adds descriptor elements as TOML (Jakarta Servlet 6.0, section 14.4): constraints, a login, error pages, or more
+    /// mappings for components. Servlets, filters and listeners can only be added by the other calls. Keys outside
+    /// tables, such as `version`, must be in the first text, before any other call.
     pub fn describe(mut self, elements: &str) -> Result<Deployment<S, F, L>, NoMemory>
         ensures { IfOk result (λ deployment. deployment ≡ spec.with_elements elements.now self) }
     {
@@ -76,7 +78,7 @@ impl<S: Drop, F: Drop, L: Drop> Deployment<S, F, L> {
         kept(self, added)
     }
 
-    /// Adds a servlet by its name, at some URL patterns, at least one (Jakarta Servlet 6.0, sections 4.4.1 and 12.2).
+    /// Adds a servlet by its name, at one or more URL patterns (Jakarta Servlet 6.0, sections 4.4.1 and 12.2).
     pub fn servlet(
         mut self,
         name: &str,
@@ -89,8 +91,8 @@ impl<S: Drop, F: Drop, L: Drop> Deployment<S, F, L> {
         kept(self, added)
     }
 
-    /// Adds a filter by its name, for the client's requests whose paths fit some URL patterns, at least one (Jakarta Servlet 6.0, sections 4.4.2
-    /// and 6.2.4).
+    /// Adds a filter by its name, for client requests whose paths match one or more URL patterns (Jakarta Servlet 6.0,
+    /// sections 4.4.2 and 6.2.4).
     pub fn filter(
         mut self,
         name: &str,
@@ -119,7 +121,7 @@ impl<S: Drop, F: Drop, L: Drop> Deployment<S, F, L> {
         kept(self, added)
     }
 
-    /// Gives the context the users of a users file, a text in TOML, in place of those that it had.
+    /// Sets the users to those of a users file, a text in TOML. Earlier users are replaced.
     pub fn users(mut self, users: &str) -> Result<Deployment<S, F, L>, NoMemory>
         ensures { IfOk result (λ deployment. deployment ≡ spec.with_users users.now self) }
     {
@@ -127,7 +129,7 @@ impl<S: Drop, F: Drop, L: Drop> Deployment<S, F, L> {
         kept(self, given)
     }
 
-    /// The list of this context alone, for an application that has no other.
+    /// Returns a list of only this context, for an application that has no other.
     pub fn alone(self) -> Result<Vec<Deployment<S, F, L>>, NoMemory>
         ensures { IfOk result (λ contexts. contexts.items ≡ self ∷ []) }
     {
@@ -135,7 +137,7 @@ impl<S: Drop, F: Drop, L: Drop> Deployment<S, F, L> {
         Ok(vec![in alloc; self]?)
     }
 
-    /// Gives up what it holds, without taking memory.
+    /// Returns the contents of the context. Allocates no memory.
     pub fn into_content(self) -> Content<S, F, L>
         ensures { result ≡ self }
     {
@@ -149,7 +151,7 @@ impl<S: Drop, F: Drop, L: Drop> Deployment<S, F, L> {
             users: self.users,
         }
     }
-    // Declares the servlet, and keeps it.
+    // Declares the servlet and stores it.
     fn add_servlet(&mut self, name: &str, patterns: &[&str], servlet: S) -> Result<(), NoMemory>
         ensures { OnOk result (self.new ≡ spec.with_servlet name.now patterns.now servlet self.old) }
     {
@@ -157,7 +159,7 @@ impl<S: Drop, F: Drop, L: Drop> Deployment<S, F, L> {
         push_component(self.alloc, &mut self.servlets, name, servlet)
     }
 
-    // Declares the filter, and keeps it.
+    // Declares the filter and stores it.
     fn add_filter(&mut self, name: &str, patterns: &[&str], filter: F) -> Result<(), NoMemory>
         ensures { OnOk result (self.new ≡ spec.with_filter name.now patterns.now filter self.old) }
     {
@@ -165,7 +167,7 @@ impl<S: Drop, F: Drop, L: Drop> Deployment<S, F, L> {
         push_component(self.alloc, &mut self.filters, name, filter)
     }
 
-    // Declares the listener, and keeps it.
+    // Declares the listener and stores it.
     fn add_listener(&mut self, listener: L) -> Result<(), NoMemory>
         ensures { OnOk result (self.new ≡ spec.with_listener listener self.old) }
     {
@@ -175,7 +177,7 @@ impl<S: Drop, F: Drop, L: Drop> Deployment<S, F, L> {
     }
 }
 
-// What a call made of a deployment, if it was done. The one place where a deployment is let go.
+// Returns the deployment after a successful call. Only this function drops a deployment.
 fn kept<T: Drop>(value: T, done: Result<(), NoMemory>) -> Result<T, NoMemory>
     ensures kept { IfOk result (λ kept. kept ≡ value) }
     ensures done { IfOk result (λ _. done ≡ Ok tt) }
@@ -186,7 +188,7 @@ fn kept<T: Drop>(value: T, done: Result<(), NoMemory>) -> Result<T, NoMemory>
     }
 }
 
-// A component more, with its name.
+// Adds a component with its name.
 fn push_component<C: Drop>(
     alloc: Global,
     components: &mut Vec<Named<C>>,
@@ -200,7 +202,7 @@ fn push_component<C: Drop>(
     Ok(())
 }
 
-// A file more.
+// Adds a file.
 fn push_file(alloc: Global, files: &mut Vec<File>, path: &str, bytes: &[u8]) -> Result<(), NoMemory>
     ensures { OnOk result (files.new.items ≡ files.old.items ++ record { path = path.now; bytes = bytes.now } ∷ []) }
 {
@@ -210,7 +212,7 @@ fn push_file(alloc: Global, files: &mut Vec<File>, path: &str, bytes: &[u8]) -> 
     Ok(())
 }
 
-// A copy of a text in place of another.
+// Replaces a text by a copy of another.
 fn put_text(alloc: Global, place: &mut Text, text: &str) -> Result<(), NoMemory>
     ensures { OnOk result (place.new ≡ text.now) }
 {

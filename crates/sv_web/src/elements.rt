@@ -6,7 +6,7 @@ ghost use Rattle.sv_web.specs.Elements as spec;
 
 use sv_text::NoMemory;
 
-/// Adds elements as they are written, and a line feed.
+/// Adds elements unchanged, and a line feed.
 pub(crate) fn push_elements(descriptor: &mut String, elements: &str) -> Result<(), NoMemory>
     ensures { OnOk result (string_bytes descriptor.new ≡ string_bytes descriptor.old ++ elements.now ++ codes "\n") }
 {
@@ -15,7 +15,7 @@ pub(crate) fn push_elements(descriptor: &mut String, elements: &str) -> Result<(
     Ok(())
 }
 
-/// Adds a servlet whose class has its name, and its patterns.
+/// Adds a servlet with its name as class, and its patterns.
 pub(crate) fn push_servlet(
     descriptor: &mut String,
     name: &str,
@@ -40,7 +40,7 @@ pub(crate) fn push_servlet(
     Ok(())
 }
 
-/// Adds a filter whose class has its name, and its patterns.
+/// Adds a filter with its name as class, and its patterns.
 pub(crate) fn push_filter(
     descriptor: &mut String,
     name: &str,
@@ -65,7 +65,7 @@ pub(crate) fn push_filter(
     Ok(())
 }
 
-/// Adds a listener, whose class is not told.
+/// Adds a listener, whose class is a fixed word.
 pub(crate) fn push_listener(descriptor: &mut String) -> Result<(), NoMemory>
     ensures { OnOk result (string_bytes descriptor.new ≡ string_bytes descriptor.old ++ spec.listener_elements) }
 {
@@ -101,7 +101,7 @@ fn push_named(
     Ok(())
 }
 
-// Adds the patterns of a name.
+// Adds the URL patterns of a name.
 #[tactic(auto, unfolding(crate::specs::Elements::mapping_element))]
 fn push_mapping(
     descriptor: &mut String,
@@ -161,7 +161,7 @@ fn push_item(descriptor: &mut String, text: &str) -> Result<(), NoMemory>
     Ok(())
 }
 
-// Adds a text as a basic string has it between its quotes.
+// Adds a text as it is between the quotes of a basic string.
 fn push_quoted(descriptor: &mut String, text: &str) -> Result<(), NoMemory>
     ensures { OnOk result (string_bytes descriptor.new ≡ string_bytes descriptor.old ++ spec.quoted text.now) }
 {
@@ -171,7 +171,7 @@ fn push_quoted(descriptor: &mut String, text: &str) -> Result<(), NoMemory>
     Ok(())
 }
 
-// Adds a character as a basic string has it.
+// Adds a character as a basic string writes it.
 fn push_char(descriptor: &mut String, c: char) -> Result<(), NoMemory>
     ensures { OnOk result (string_bytes descriptor.new ≡ string_bytes descriptor.old ++ encode_utf8_all (spec.quoted_char c)) }
 {

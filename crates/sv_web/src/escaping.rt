@@ -7,11 +7,12 @@ ghost use Rattle.sv_web.specs.Escaping.{escaped_char, html_escaped};
 use std::alloc::Global;
 use sv_text::{NoMemory, Text};
 
-/// The text as a page shows it (HTML Standard, section 13.3): `&`, `<`, `>`, `"` and `'` are written as references, all else stays. What comes
-/// may stand in the content of an element, and within the quotes of an attribute's value, and is shown there as the text.
+/// Escapes a text for a page (HTML Standard, section 13.3). `&`, `<`, `>`, `"` and `'` are written as references, and
+/// other characters are unchanged. The result can be used in the content of an element and in a quoted attribute value,
+/// and is shown there as the text.
 ///
 /// # Errors
-/// [`NoMemory`]: a growth was refused.
+/// [`NoMemory`]: out of memory.
 pub fn escape_html(alloc: Global, text: &str) -> Result<Text, NoMemory>
     ensures { GivesAnswer result (html_escaped text.now) }
 {
@@ -22,7 +23,7 @@ pub fn escape_html(alloc: Global, text: &str) -> Result<Text, NoMemory>
     Ok(Text::from_string(page))
 }
 
-// Adds a character as a page has it.
+// Adds a character as a page writes it.
 fn push_escaped(page: &mut String, c: char) -> Result<(), NoMemory>
     ensures { OnOk result (string_bytes page.new ≡ string_bytes page.old ++ encode_utf8_all (escaped_char c)) }
 {

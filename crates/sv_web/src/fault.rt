@@ -1,4 +1,4 @@
-//! What keeps a servlet or a filter from its answer.
+//! Faults of a servlet or a filter.
 
 ghost use Rattle.std.specs.Prelude.{◌≡◌};
 ghost use Rattle.sv_text.specs.Gives.{GivesAnswer};
@@ -10,28 +10,29 @@ use std::alloc::{AllocError, AllocFailed, Global};
 use sv_component::{ExchangeFault, Gate, Step};
 use sv_text::{NoMemory, Text};
 
-/// What keeps a servlet from its answer: the error of functions that `service` calls, so that `?` takes each to where [`step_of`] makes a
-/// step of it.
+/// A fault that prevents a servlet's response. It is the error of the functions that `service` calls, so that `?`
+/// passes it to [`step_of`], which makes a step of it.
 #[derive(Drop)]
 pub enum Fault {
-    /// A growth was refused.
+    /// Out of memory.
     NoMemory,
-    /// A call of the exchange was refused, for another fault than want of memory.
+    /// A call of the exchange was refused, but not for lack of memory.
     Refused(ExchangeFault),
-    /// A text is no location for a redirect.
+    /// A text is not a valid location for a redirect.
     BadLocation,
-    /// A name, a value or a path is none of a cookie.
+    /// A name, a value or a path is not valid in a cookie.
     BadCookie,
-    /// The request is answered by an error: its code, and its text.
+    /// The response is an error, with its code and text.
     Error(u16, Text),
-    /// The servlet failed: the kind of the failure, by which an error page is chosen, and its text.
+    /// The servlet failed, with the kind of the failure, which selects an error page, and its text.
     Failed(Text, Text),
 }
 
-/// The step that a servlet answers (Jakarta Servlet 6.0, sections 2.3.3 and 10.9): the one that was found, or else that of the fault. Want of
-/// memory is [`Step::NoMemory`], which stops the container; an error is [`Step::Error`]; all others are failures of that request alone, which is
-/// answered by 500 or by the page for the kind. The kind of a call that was refused is the name of its [`ExchangeFault`], as `TooLarge`; the other
-/// kinds are `BadLocation` and `BadCookie`. Where there is no memory for these words, it is [`Step::NoMemory`].
+/// Returns the step of a servlet: the given one, or that of the fault (Jakarta Servlet 6.0, sections 2.3.3 and 10.9).
+/// Running out of memory is [`Step::NoMemory`], which stops the container, and an error is [`Step::Error`]. Any other
+/// fault fails only the request, with a response of status 500 or the error page of its kind. The kind of a refused
+/// call is the name of its [`ExchangeFault`], such as `TooLarge`; the other kinds are `BadLocation` and `BadCookie`. If
+/// there is no memory for these texts, the step is [`Step::NoMemory`].
 pub fn step_of(alloc: Global, answered: Result<Step, Fault>) -> Step
     ensures { IsStepOf answered result }
 {
@@ -44,7 +45,7 @@ pub fn step_of(alloc: Global, answered: Result<Step, Fault>) -> Step
     }
 }
 
-// The step of a fault.
+// Returns the step of a fault.
 fn failure_of(alloc: Global, fault: Fault) -> Result<Step, NoMemory>
     ensures { GivesAnswer result (failure_of fault) }
 {
@@ -58,8 +59,9 @@ fn failure_of(alloc: Global, fault: Fault) -> Result<Step, NoMemory>
     }
 }
 
-/// The gate that a filter answers (Jakarta Servlet 6.0, sections 6.2 and 10.9): the one that was found, or else that of the fault, as [`step_of`] has it. A
-/// filter answers no error by its code: [`Fault::Error`] is a failure of the kind `Error`, with the error's text.
+/// Returns the gate of a filter: the given one, or that of the fault, as in [`step_of`] (Jakarta Servlet 6.0, sections
+/// 6.2 and 10.9). A filter cannot respond with an error code. [`Fault::Error`] is a failure of the kind `Error`, with
+/// the error's text.
 pub fn gate_of(alloc: Global, answered: Result<Gate, Fault>) -> Gate
     ensures { IsGateOf answered result }
 {
@@ -72,7 +74,7 @@ pub fn gate_of(alloc: Global, answered: Result<Gate, Fault>) -> Gate
     }
 }
 
-// The gate of a fault.
+// Returns the gate of a fault.
 fn shut_by(alloc: Global, fault: Fault) -> Result<Gate, NoMemory>
     ensures { GivesAnswer result (shut_by fault) }
 {
@@ -86,7 +88,7 @@ fn shut_by(alloc: Global, fault: Fault) -> Result<Gate, NoMemory>
     }
 }
 
-// A filter's failure of that kind, whose text is the kind.
+// Returns a filter's failure of this kind, with the kind as its text.
 fn shut(alloc: Global, kind: &str) -> Result<Gate, NoMemory>
     ensures { GivesAnswer result (shut kind.now) }
 {
@@ -94,7 +96,7 @@ fn shut(alloc: Global, kind: &str) -> Result<Gate, NoMemory>
     Ok(Gate::Failed(Text::copy_of(alloc, kind)?, text))
 }
 
-// A failure of that kind, whose text is the kind.
+// Returns a failure of this kind, with the kind as its text.
 fn failed(alloc: Global, kind: &str) -> Result<Step, NoMemory>
     ensures { GivesAnswer result (failed kind.now) }
 {
@@ -102,7 +104,7 @@ fn failed(alloc: Global, kind: &str) -> Result<Step, NoMemory>
     Ok(Step::Failed(Text::copy_of(alloc, kind)?, text))
 }
 
-// The name of a refusal.
+// Returns the name of a refusal.
 fn name_of(fault: ExchangeFault) -> &'static str
     ensures { result.now ≡ fault_name fault }
 {

@@ -1,4 +1,5 @@
-//! What the author of a web application names: answers put together of an exchange's calls, and what an application is deployed with.
+//! The items for authors of web applications: responses that combine calls of an exchange, and the deployment of an
+//! application.
 #![tactic(auto)]
 
 mod content;

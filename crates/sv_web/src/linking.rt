@@ -9,12 +9,13 @@ use sv_component::Exchange;
 use sv_text::{NoMemory, Text};
 use sv_uri::location;
 
-/// The location of a path in the request's context, as [`redirect`](crate::redirect) and the links of a page name it (Jakarta Servlet 6.0, section
-/// 3.5): the context path with the path behind it, where every byte that a URI's path does not have becomes an escape (RFC 3986, section 2.1), and so do
-/// `?`, `#`, `;` and `%`. A query is put behind what comes. Into a page it goes by [`escape_html`](crate::escape_html), as every text does.
+/// Returns the location of a path in the request's context, for [`redirect`](crate::redirect) and for links in a page
+/// (Jakarta Servlet 6.0, section 3.5). It is the context path followed by the path. Every byte that a URI's path cannot
+/// contain is escaped (RFC 3986, section 2.1), and so are `?`, `#`, `;` and `%`. A query is appended to the result. In
+/// a page, the result must be escaped by [`escape_html`](crate::escape_html), like any text.
 ///
 /// # Errors
-/// [`NoMemory`]: a growth was refused.
+/// [`NoMemory`]: out of memory.
 pub fn link_to(alloc: Global, exchange: &Exchange, path: &str) -> Result<Text, NoMemory>
     ensures { GivesAnswer result (link_to path.now exchange.now) }
 {
@@ -22,7 +23,7 @@ pub fn link_to(alloc: Global, exchange: &Exchange, path: &str) -> Result<Text, N
     Ok(Text::from_string(location(alloc, whole.as_str())?))
 }
 
-// The path with the context's in front.
+// Returns the context path followed by the path.
 fn whole_path(alloc: Global, context_path: &str, path: &str) -> Result<String, NoMemory>
     ensures { IfOk result (λ whole. string_bytes whole ≡ context_path.now ++ path.now) }
 {

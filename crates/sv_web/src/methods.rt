@@ -1,4 +1,4 @@
-//! What a servlet answers, by the method of the request.
+//! The response to a request by its method.
 
 ghost use Rattle.std.specs.Prelude.{◌≡◌, IfOk, OnOk, None};
 ghost use Rattle.sv_exchange.specs.Changing.{Reaches};
@@ -11,10 +11,10 @@ use std::alloc::Global;
 use sv_component::Exchange;
 use sv_text::{NoMemory, Text};
 
-/// A method that a servlet answers (RFC 9110, section 9.3, and RFC 5789).
+/// A method that a servlet supports (RFC 9110, section 9.3, and RFC 5789).
 #[derive(Clone, Copy)]
 pub enum Verb {
-    /// GET, and HEAD with it: the server leaves the body out.
+    /// GET and HEAD. The server omits the body for HEAD.
     Get,
     /// POST.
     Post,
@@ -27,7 +27,7 @@ pub enum Verb {
 }
 
 impl Verb {
-    // Whether a request of that method asks for it.
+    // Returns whether a request of this method selects the verb.
     fn answers(self, method: &str) -> bool
         ensures { result ≡ answers method.now self }
     {
@@ -40,7 +40,7 @@ impl Verb {
         }
     }
 
-    // The methods that ask for it, as a list has them.
+    // Returns the methods that select the verb, as part of a list.
     fn names(self) -> &'static str
         ensures { result.now ≡ names_of self }
     {
@@ -54,11 +54,12 @@ impl Verb {
     }
 }
 
-/// Which of the methods that the servlet answers the request asks for (Jakarta Servlet 6.0, section 2.1.1): HEAD asks for GET. `None` where it
-/// asks for none of them: the answer is made then, with the field `allow` and the status 204 for OPTIONS, or 405, and the servlet is done.
+/// Returns the first allowed verb that the request's method selects; HEAD selects GET (Jakarta Servlet 6.0, section
+/// 2.1.1). If there is none, the response is made, and the servlet is done. It has the field `allow` and the status 204
+/// for OPTIONS, or else 405.
 ///
 /// # Errors
-/// [`Fault::NoMemory`]: a growth was refused; the status may have changed.
+/// [`Fault::NoMemory`]: out of memory; the status may have changed.
 pub fn asked_verb(
     alloc: Global,
     exchange: &mut Exchange,
@@ -87,7 +88,7 @@ fn asked_for(method: &str, allowed: &[Verb]) -> Option<Verb>
     None
 }
 
-// Tells the methods that are answered.
+// Responds with the methods that are allowed.
 fn refuse(alloc: Global, exchange: &mut Exchange, allowed: &[Verb]) -> Result<(), Fault>
     ensures left { OnOk result (exchange.new ≡ left_without None allowed.now exchange.old) }
     ensures answered { Gives told_fault result (refusal_answer allowed.now exchange.old) }

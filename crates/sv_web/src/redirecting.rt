@@ -1,4 +1,4 @@
-//! Answers that send the client elsewhere.
+//! Redirects.
 
 ghost use Rattle.std.specs.Prelude.{◌≡◌, [], ◌∷◌, OnOk, codes, false, true};
 ghost use Rattle.std.specs.List.{list_all};
@@ -10,23 +10,23 @@ ghost use Rattle.sv_web.specs.Redirecting.{is_location, is_location_byte, is_own
 use crate::fault::Fault;
 use sv_component::{Exchange, ExchangeFault};
 
-/// How a client is sent elsewhere (RFC 9110, section 15.4).
+/// The kind of a redirect (RFC 9110, section 15.4).
 #[derive(Clone, Copy)]
 pub enum RedirectKind {
-    /// 301: for good; a POST may become a GET.
+    /// 301: permanent; a POST may become a GET.
     MovedPermanently,
-    /// 302: for now; a POST may become a GET.
+    /// 302: temporary; a POST may become a GET.
     Found,
-    /// 303: the answer to a POST is shown there, by a GET.
+    /// 303: the result of a POST is there, for a GET.
     SeeOther,
-    /// 307: for now, with the same method and body.
+    /// 307: temporary, with the same method and body.
     Temporary,
-    /// 308: for good, with the same method and body.
+    /// 308: permanent, with the same method and body.
     Permanent,
 }
 
 impl RedirectKind {
-    /// The status of the answer.
+    /// Returns the status code.
     pub fn status(self) -> u16
         ensures { result ≡ status_of self }
     {
@@ -40,13 +40,14 @@ impl RedirectKind {
     }
 }
 
-/// Sends the client to another place of this site (Jakarta Servlet 6.0, section 5.3): sets the status and the field `location`, which both stay
-/// as they are, with the answer `false`, where the response is committed or an include is under way. The location is a path with its context's in
-/// front, and a query and a fragment, written as a URI is: it begins with one `/` that no second one follows, and has no byte that a URI may not
-/// have, so that no text leads to another site.
+/// Redirects the client to another location of this site (Jakarta Servlet 6.0, section 5.3). Sets the status and the
+/// field `location`. If the response is committed or an include is active, both stay unchanged and the result is
+/// `false`. The location is a path that includes the context path, with an optional query and fragment, written as in a
+/// URI. It begins with a single `/` and contains only bytes of a URI, so that no text leads to another site.
 ///
 /// # Errors
-/// [`Fault::BadLocation`]: the text is none of these; nothing changes. [`Fault::NoMemory`]: a growth was refused; the status may have changed.
+/// [`Fault::BadLocation`]: the text is not such a location; nothing changes. [`Fault::NoMemory`]: out of memory; the
+/// status may have changed.
 pub fn redirect(exchange: &mut Exchange, kind: RedirectKind, location: &str) -> Result<bool, Fault>
     ensures own { OnOk result (is_own_location location.now ≡ true) }
     ensures redirected { OnOk result (exchange.new ≡ redirected kind location.now exchange.old) }
@@ -60,8 +61,8 @@ pub fn redirect(exchange: &mut Exchange, kind: RedirectKind, location: &str) -> 
     Ok(put_location(exchange, kind, location)?)
 }
 
-/// Sends the client to a place that may be of another site, as [`redirect`] does: the location is one of this site, or begins with `http://` or
-/// `https://`. A text that a client sent is not passed here.
+/// Redirects the client to a location that may be on another site, as [`redirect`] does. The location is one of this
+/// site, or begins with `http://` or `https://`. Do not pass a text that a client sent.
 ///
 /// # Errors
 /// Those of [`redirect`].
@@ -97,14 +98,14 @@ fn put_location(
     exchange.set_header("location", location)
 }
 
-// Whether a text is a location of this site.
+// Returns whether a text is a location of this site.
 fn is_own_location(location: &[u8]) -> bool
     ensures { result ≡ is_own_location location.now }
 {
     location.starts_with(b"/") && !location.starts_with(b"//") && has_location_bytes(location)
 }
 
-// Whether a text is a location of any site.
+// Returns whether a text is a location of any site.
 fn is_location(location: &[u8]) -> bool
     ensures { result ≡ is_location location.now }
 {
@@ -119,7 +120,7 @@ fn has_location_bytes(location: &[u8]) -> bool
     location.iter().all(|b| is_location_byte(*b))
 }
 
-// Whether a URI may have the byte.
+// Returns whether a URI may contain the byte.
 fn is_location_byte(b: u8) -> bool
     ensures { result ≡ is_location_byte b }
 {

@@ -1,4 +1,4 @@
-//! Answers that are sent whole.
+//! Responses sent as a whole.
 
 ghost use Rattle.std.specs.Prelude.{◌≡◌, OnOk, codes};
 ghost use Rattle.sv_exchange.specs.Changing.{Reaches};
@@ -8,7 +8,7 @@ ghost use Rattle.sv_web.specs.Sending.{sent, sent_answer};
 
 use sv_component::{Exchange, ExchangeFault};
 
-/// Writes a text, and says that it is plain text in UTF-8. See [`send`].
+/// Writes a text as plain text in UTF-8. See [`send`].
 pub fn send_text(exchange: &mut Exchange, text: &str) -> Result<(), ExchangeFault>
     ensures sent { OnOk result (exchange.new ≡ sent (codes "text/plain; charset=utf-8") text.now exchange.old) }
     ensures answered { Gives call_fault result (sent_answer (codes "text/plain; charset=utf-8") text.now exchange.old) }
@@ -17,7 +17,8 @@ pub fn send_text(exchange: &mut Exchange, text: &str) -> Result<(), ExchangeFaul
     send(exchange, "text/plain; charset=utf-8", text.as_bytes())
 }
 
-/// Writes a page, and says that it is HTML in UTF-8. What a client said goes into it by [`escape_html`](crate::escape_html). See [`send`].
+/// Writes a page as HTML in UTF-8. Texts of a client must be escaped by [`escape_html`](crate::escape_html). See
+/// [`send`].
 pub fn send_html(exchange: &mut Exchange, page: &str) -> Result<(), ExchangeFault>
     ensures sent { OnOk result (exchange.new ≡ sent (codes "text/html; charset=utf-8") page.now exchange.old) }
     ensures answered { Gives call_fault result (sent_answer (codes "text/html; charset=utf-8") page.now exchange.old) }
@@ -26,12 +27,12 @@ pub fn send_html(exchange: &mut Exchange, page: &str) -> Result<(), ExchangeFaul
     send(exchange, "text/html; charset=utf-8", page.as_bytes())
 }
 
-/// Sets the field `content-type` and writes the bytes, as [`Exchange::set_header`] and [`Exchange::write`] do (Jakarta Servlet 6.0, sections
-/// 5.1 and 5.2): the field stays as it is where the response is committed, or an include is under way.
+/// Sets the field `content-type` and writes the bytes, as [`Exchange::set_header`] and [`Exchange::write`] do (Jakarta
+/// Servlet 6.0, sections 5.1 and 5.2). The field is unchanged if the response is committed or an include is active.
 ///
 /// # Errors
-/// Those of the two calls: `BadHeader` and `NoMemory`, after which nothing has changed, and then `TooLarge` and `NoMemory`, after which the field
-/// alone may have.
+/// Those of the two calls: `BadHeader` and `NoMemory`, after which nothing has changed, and then `TooLarge` and
+/// `NoMemory`, after which only the field may have changed.
 pub fn send(exchange: &mut Exchange, content_type: &str, bytes: &[u8]) -> Result<(), ExchangeFault>
     ensures sent { OnOk result (exchange.new ≡ sent content_type.now bytes.now exchange.old) }
     ensures answered { Gives call_fault result (sent_answer content_type.now bytes.now exchange.old) }

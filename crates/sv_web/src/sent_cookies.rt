@@ -10,17 +10,19 @@ ghost use Rattle.sv_web.specs.SentCookies.{first, first_cookie, pieces_left};
 use sv_component::Exchange;
 use sv_head::{Field, trim_blanks};
 
-/// The value of the first cookie of that name that the client sent (RFC 6265, sections 4.2 and 5.4), `None` where it sent none.
+/// Returns the value of the first cookie of this name that the client sent, or `None` if there is none (RFC 6265,
+/// sections 4.2 and 5.4).
 ///
-/// Cookie fields are taken in order and split at `;`; each piece is trimmed of spaces and tabs and cut at its first `=`, and one without `=` is no
-/// cookie. Names are compared with case; a value is not trimmed again, and quotes belong to it. It is what the client sent, of any bytes.
+/// Cookie fields are read in order and split at `;`. Each piece is trimmed of spaces and tabs and split at its first
+/// `=`; a piece without `=` is ignored. Names are case-sensitive. Values are not trimmed again, and keep their
+/// quotes. A value may contain any bytes.
 pub fn cookie<'a>(exchange: &'a Exchange, name: &str) -> Option<&'a [u8]>
     ensures { option_copied result ≡ first_cookie name.now exchange.now.request_fields }
 {
     cookie_in_fields(exchange.request_fields(), name)
 }
 
-// The value of the first cookie of that name in some fields.
+// Returns the value of the first cookie of this name in some fields.
 fn cookie_in_fields<'a>(fields: &'a [Field], name: &str) -> Option<&'a [u8]>
     ensures { option_copied result ≡ first_cookie name.now fields.now }
 {
@@ -32,7 +34,7 @@ fn cookie_in_fields<'a>(fields: &'a [Field], name: &str) -> Option<&'a [u8]>
     None
 }
 
-// The value of the first cookie of that name in a field, which may be no Cookie field.
+// Returns the value of the first cookie of this name in a field, if it is a Cookie field.
 fn cookie_in_field<'a>(field: &'a Field, name: &str) -> Option<&'a [u8]>
     ensures { option_copied result ≡ first_cookie name.now (field.now ∷ []) }
 {
@@ -42,7 +44,7 @@ fn cookie_in_field<'a>(field: &'a Field, name: &str) -> Option<&'a [u8]>
     cookie_in_value(field.value.as_bytes(), name)
 }
 
-// The value of the first cookie of that name in a Cookie field's value.
+// Returns the value of the first cookie of this name in a Cookie field's value.
 fn cookie_in_value<'a>(value: &'a [u8], name: &str) -> Option<&'a [u8]>
     ensures { option_copied result ≡ first (values_in name.now value.now) }
 {
@@ -57,7 +59,7 @@ fn cookie_in_value<'a>(value: &'a [u8], name: &str) -> Option<&'a [u8]>
     None
 }
 
-// What stands before the first semicolon, and what stands behind it where there is one.
+// Returns the text before the first semicolon, and the text after it if there is one.
 fn at_semicolon(text: &[u8]) -> (&[u8], Option<&[u8]>)
     ensures { slice_split (λ b. b == byte ";") text.now ≡ result.0.now ∷ pieces_left (option_copied result.1) }
 {
@@ -73,7 +75,7 @@ fn first_semicolon(text: &[u8]) -> Option<usize>
     text.iter().position(|b| *b == b';')
 }
 
-// The value of the cookie that a text without blanks around it is, where the cookie has that name.
+// Returns the value of the cookie in a trimmed text, if the cookie has this name.
 fn value_of<'a>(name: &str, text: &'a [u8]) -> Option<&'a [u8]>
     ensures { option_copied result ≡ value_of name.now text.now }
 {
@@ -88,7 +90,7 @@ fn first_equals(text: &[u8]) -> Option<usize>
     text.iter().position(|b| *b == b'=')
 }
 
-// What stands behind a place of the text, where the name stands before it.
+// Returns the text after the byte at a position, if the text before it is the name.
 #[tactic(auto, using(std::proofs::lemmas::List::take_rest))]
 fn behind_name<'a>(name: &str, text: &'a [u8], place: usize) -> Option<&'a [u8]>
     requires { place < length text.now }

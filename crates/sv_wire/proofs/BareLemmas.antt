@@ -1,4 +1,4 @@
--- A head none of whose fields tells of a body.
+-- A head without fields that describe a body.
 use Rattle.std.proofs.Common.{◌≡◌, ℕ, Bool, true, false, not, ◌&&◌, ◌||◌, ◌==◌, None, List, [], ◌∷◌, ◌++◌, refl, ap, ◌∙◌, cond, nat_lt, codes, length, map}
 use Rattle.std.specs.Prelude.{if◌then◌else◌, is_none}
 use Rattle.std.specs.List.{filter, flat_map, list_any}
@@ -19,7 +19,7 @@ either_none : (a b : Bool) → (a || b) ≡ false → (a ≡ false) × (b ≡ fa
 either_none false b none = (refl, none)
 either_none true b none = absurd (cc)
 
--- where no field tells of a body, none passes a test that only such fields pass
+-- If no field describes a body, none passes a test that only such fields pass.
 module _ (test : Field → Bool) (part : (field : Field) → tells_of_body field ≡ false → test field ≡ false) where
   no_field : (fields : List Field) → list_any tells_of_body fields ≡ false → (filter test fields ≡ []) × (list_any test fields ≡ false)
   no_field [] none = (refl, refl)

@@ -1,10 +1,10 @@
--- Empty lines before more bytes.
+-- Empty lines when more bytes follow.
 use Rattle.std.proofs.Common.{◌≡◌, ℕ, ◌≤◌, Bool, true, false, ◌&&◌, ◌||◌, List, [], ◌∷◌, ◌++◌, length, refl, sym, ap, ◌∙◌, cond, eqb, arith, length-append}
 use Rattle.std.proofs.lemmas.Bool.{cond-true, cond-false}
 use Rattle.std.proofs.lemmas.List.{append-nil}
 use Rattle.sv_wire.specs.EmptyLines.{is_of_empty_line, drop_empty_lines}
 
--- a byte of an empty line stays one where bytes follow
+-- A byte of an empty line stays one when bytes follow.
 is_of_empty_line-append : (b : ℕ) (text more : List ℕ) → is_of_empty_line b text ≡ true → is_of_empty_line b (text ++ more) ≡ true
 is_of_empty_line-append b [] more empty = by_test (eqb b 10) (eqb b 13) _ empty
   where
@@ -14,7 +14,7 @@ is_of_empty_line-append b [] more empty = by_test (eqb b 10) (eqb b 13) _ empty
     by_test false false z holds = absurd (cc)
 is_of_empty_line-append b (c ∷ text) more empty = empty
 
--- only the text behind the empty lines matters to what is dropped before more bytes
+-- When more bytes follow, dropping empty lines depends only on the text after the empty lines.
 pub drop_empty_lines-append : (text more : List ℕ) → drop_empty_lines (drop_empty_lines text ++ more) ≡ drop_empty_lines (text ++ more)
 drop_empty_lines-append [] more = refl
 drop_empty_lines-append (b ∷ text) more = by_test (drop_empty_lines-append text more) (is_of_empty_line b text) refl
@@ -26,7 +26,7 @@ drop_empty_lines-append (b ∷ text) more = by_test (drop_empty_lines-append tex
         later ∙ sym (cond-true _ (drop_empty_lines (text ++ more)) (b ∷ (text ++ more)) (is_of_empty_line-append b text more empty))
     by_test later false full = refl
 
--- where two bytes and more are behind the empty lines, no empty line begins there whatever follows
+-- If at least two bytes follow the empty lines, no empty line begins there, even when more bytes follow.
 pub drop_empty_lines_stays : (text more : List ℕ) → 2 ≤ length (drop_empty_lines text)
     → drop_empty_lines (text ++ more) ≡ drop_empty_lines text ++ more
 drop_empty_lines_stays [] more long = absurd (omega arith)
@@ -54,7 +54,7 @@ drop_empty_lines_fits (b ∷ text) = by_test (drop_empty_lines_fits text) (is_of
     by_test later true = omega (arith, later)
     by_test later false = omega arith
 
--- a text of which nothing is dropped begins with no empty line
+-- A text that loses no byte begins with no empty line.
 drop_empty_lines_none : (text : List ℕ) → length text ≤ length (drop_empty_lines text) → drop_empty_lines text ≡ text
 drop_empty_lines_none [] long = refl
 drop_empty_lines_none (b ∷ text) long = by_test (drop_empty_lines_fits text) (is_of_empty_line b text) long
@@ -68,7 +68,7 @@ pub drop_empty_lines_twice : (text : List ℕ) → drop_empty_lines (drop_empty_
 drop_empty_lines_twice text =
     ap drop_empty_lines (sym (append-nil (drop_empty_lines text))) ∙ drop_empty_lines-append text [] ∙ ap drop_empty_lines (append-nil text)
 
--- a front of a text that begins with no empty line does not either
+-- If a text begins with no empty line, neither do its prefixes.
 pub drop_empty_lines_front : (front rest : List ℕ) → drop_empty_lines (front ++ rest) ≡ front ++ rest → drop_empty_lines front ≡ front
 drop_empty_lines_front front rest same =
     let joined : drop_empty_lines (drop_empty_lines front ++ rest) ≡ front ++ rest = drop_empty_lines-append front rest ∙ same in

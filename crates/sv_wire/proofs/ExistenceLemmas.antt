@@ -1,4 +1,4 @@
--- No stream is without a reading.
+-- Every stream has a reading, up to double negation.
 use Rattle.std.proofs.Common.{◌≡◌, ℕ, zero, suc, ◌+◌, ◌*◌, ◌≤◌, ◌<◌, Bool, true, false, List, [], ◌∷◌, length, take, drop, Option, None, Some, refl, sym, subst, inl, inr, arith}
 use Rattle.std.specs.Bool.{MatchBool}
 use Rattle.std.proofs.lemmas.List.{length-drop}
@@ -54,7 +54,7 @@ abbrev to_read : Option OwedHead → ℕ → ℕ
 to_read None count = 2 * count
 to_read (Some owed) count = 2 * count + 1
 
--- what an item leaves is less than that
+-- The input left by an item is less than the bound.
 abbrev LeavesLess : ℕ → Start → Type 0
 LeavesLess bound (gives item next behind) = to_read next (length behind) < bound
 LeavesLess bound awaits = Unit {0}

@@ -1,4 +1,4 @@
--- What the spans of a parser show in the text of a head, and how many lines it has.
+-- The parts of a head that the spans of a parser show, and the number of its lines.
 use Rattle.std.proofs.Common.{◌≡◌, ℕ, zero, suc, ◌+◌, ◌<◌, ◌≤◌, Bool, true, false, true≢false, Result, Ok, Err, List, [], ◌∷◌, ◌++◌, length, get_or, take, drop, map, refl, ◌==◌, sym, ap, ◌∙◌, subst, inl, inr, cond, ne_eqb, le-ltb, arith, length-append}
 use Rattle.std.specs.Prelude.{All, IfOk}
 use Rattle.std.specs.List.{count_by, flat_map}
@@ -50,7 +50,7 @@ feeds-fields [] = omega arith
 feeds-fields (f ∷ fields) =
     omega (arith, feeds-append (print_field f) (flat_map print_field fields), feeds-field f, feeds-fields fields)
 
--- a head has a line for each field, and two more
+-- A head has a line for each field, and two more.
 pub feeds-request : (h : RequestHead) → length h.fields + 2 ≤ feeds (print_request h)
 unfolding print_request
 feeds-request h =
@@ -68,7 +68,7 @@ feeds-request h =
 
 -- ---- lines of a head that is read
 
--- bytes of a class that has no line feed
+-- Bytes of a class without the line feed contain no line feed.
 no_feed : (test : ℕ → Bool) → test 10 ≡ false → (bytes : List ℕ) → AllPass test bytes → feeds bytes ≡ 0
 no_feed test none [] all = refl
 no_feed test none (b ∷ bytes) all =
@@ -149,7 +149,7 @@ begins h at_once =
     let parted : print_request h ≡ print_blank h.blank ++ rest = grind (arith, common_steps) in
     no_blank h.blank rest (subst (λ t. begins_at_once t ≡ true) parted at_once)
 
--- a text that begins at once with a head of few fields, and holds nothing else, has no more lines than it may have
+-- A text that begins at once with a head of few fields, and holds nothing else, does not have too many lines.
 pub few_lines : (text : List ℕ) (h : RequestHead) → ReadsRequest text h [] → begins_at_once text ≡ true → length h.fields ≤ 128 → has_too_many_lines text ≡ false
 few_lines text h reads at_once few =
     let same : text ≡ print_request h = reads.1 ∙ append-nil (print_request h) in
@@ -158,7 +158,7 @@ few_lines text h reads at_once few =
 
 -- ---- names
 
--- a name is shorter than the section that it stands in
+-- A name is shorter than the section that contains it.
 name_fits : (fields : List Field) (last : LineEnd) → All (λ f. length f.name < length (print_section fields last)) fields
 name_fits [] last = All-nil _
 name_fits (f ∷ fields) last =
@@ -210,7 +210,7 @@ fields_valid h valid short k d inside =
 
 -- ---- spans
 
--- the field of a name and a value
+-- The field with this name and value.
 abbrev field_from : List ℕ × List ℕ → OwnField
 field_from pair = record { name = written.lowercase pair.0; value = plain_value pair.1 }
 
@@ -256,13 +256,13 @@ module _ (text : List ℕ) (headers : List HeaderSpan) (line : RequestSpans) (h 
 
 -- ---- the reading of a text
 
--- a head that takes the whole text
+-- A head that takes the whole text.
 pub reads_whole : (text : List ℕ) (headers : List HeaderSpan) (line : RequestSpans) (h : RequestHead)
     → IsRequestAt text headers line h → line.len ≡ length text → ReadsRequest text h []
 reads_whole text headers line h at whole =
     subst (λ rest. ReadsRequest text h rest) (ap (λ n. drop n text) whole ∙ drop_all (length text) text (omega arith)) at.reads
 
--- a text of which the parser does not read the whole is no head
+-- A text that the parser does not read as a whole is no head.
 pub no_head : (text : List ℕ) (headers : List HeaderSpan) (r : Result (Status RequestSpans) Error) (places : ℕ) → feeds text ≤ places + 2
     → FindsRequest text places headers r
     → ((line : RequestSpans) → r ≡ Ok (Complete line) → line.len ≡ length text → ⊥)
@@ -280,12 +280,12 @@ no_head text headers r places few finds part h reads = by_result r refl (finds h
     by_result (Ok Partial) is at = at
     by_result (Err e) is at = at
 
--- the judgement on a head that is read whole
+-- The judgement on a text that is a head.
 pub judged : (text : List ℕ) (h : RequestHead) (r : Result Judgement NoMemory) → has_too_many_lines text ≡ false
     → ReadsRequest text h [] → GivesAnswer r (judge h) → IfOk r (ReadsHead text)
 judged text h (Ok judgement) few reads gives = MatchBool-from_false (has_too_many_lines text) _ _ few (inl (h, reads, gives))
 judged text h (Err e) few reads gives = tt
 
--- the judgement on a text that is no head
+-- The judgement on a text that is no head.
 pub refused : (text : List ℕ) → has_too_many_lines text ≡ false → IsNoHead text → ReadsHead text (Refused BadHead)
 refused text few none = MatchBool-from_false (has_too_many_lines text) _ _ few (inr (none, refl))

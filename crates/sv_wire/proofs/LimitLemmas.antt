@@ -1,4 +1,4 @@
--- The bodies of messages are within the limit, and what stands behind an item is no longer than what stood before it.
+-- The bodies of messages are within the limit, and the text after an item is no longer than the text before it.
 use Rattle.std.proofs.Common.{◌≡◌, ℕ, ◌≤◌, Bool, true, false, List, [], ◌∷◌, ◌++◌, length, take, drop, Option, None, Some, Result, Ok, Err, refl, sym, subst, inl, inr, cond, ltb, not, codes, arith}
 use Rattle.std.specs.Prelude.{All}
 use Rattle.std.specs.Bool.{MatchBool}
@@ -53,7 +53,7 @@ fits_by false test faults count none =
 framing_fits : (minor : ℕ) (fields : List Field) → framing_faults minor fields ≡ [] → FitsLimit (framing_of fields)
 framing_fits minor fields none = fits_by (has_codings fields) _ _ (body_len fields) none
 
--- the head that a judgement owes has a body within the limit
+-- The head that a judgement owes has a body within the limit.
 abbrev OwesFit : Judgement → Type 0
 OwesFit (Refused fault) = Unit {0}
 OwesFit (Expecting owed) = FitsLimit owed.framing
@@ -90,9 +90,9 @@ ReadsHead_fits text judgement = by_lines (has_too_many_lines text)
     by_lines true refused = subst OwesFit (sym refused) tt
     by_lines false judged = by_head judged
 
--- ---- what a text begins with
+-- ---- the start of a text
 
--- the item is within the limit, and what is owed and stands behind it too
+-- The item and the head owed after it are within the limit, and the text after it is no longer than the whole.
 abbrev StartFits : List ℕ → Start → Type 0
 StartFits text (gives item next behind) = IsWithinLimit item × OwesWithinLimit next × (length behind ≤ length text)
 StartFits text awaits = Unit {0}

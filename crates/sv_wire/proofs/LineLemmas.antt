@@ -12,20 +12,20 @@ use Rattle.sv_wire.specs.Head.{ends_head}
 use Rattle.sv_wire.specs.Reads.{cut_head}
 use Rattle.sv_wire.specs.declared.limits.TheConstants.{MAX_HEAD_LEN}
 
--- lists that agree are as long
+-- Lists that agree have the same length.
 as_long : (xs ys : List ℕ) → pointwise nat_eq xs ys ≡ true → length xs ≡ length ys
 as_long [] [] agree = refl
 as_long [] (y ∷ ys) agree = absurd (cc)
 as_long (x ∷ xs) [] agree = absurd (cc)
 as_long (x ∷ xs) (y ∷ ys) agree = ap suc (as_long xs ys (and_parts (nat_eq x y) _ agree).1)
 
--- the last elements of lists that agree
+-- Lists that agree have last elements that agree.
 last_agrees : (front ys : List ℕ) → pointwise nat_eq (front ++ 10 ∷ []) ys ≡ true → pointwise nat_eq (10 ∷ []) (drop (length front) ys) ≡ true
 last_agrees [] ys agree = agree
 last_agrees (x ∷ front) [] agree = absurd (cc)
 last_agrees (x ∷ front) (y ∷ ys) agree = last_agrees front ys (and_parts (nat_eq x y) _ agree).1
 
--- what ends with a text that ends with a line feed ends with a line feed
+-- A text ends with a line feed if it ends with a text that does.
 ends_line : (text front : List ℕ) → ends_with nat_eq text (front ++ 10 ∷ []) ≡ true → ends_with nat_eq text (10 ∷ []) ≡ true
 ends_line text front ends =
     let at = length text - length (front ++ 10 ∷ []) in
@@ -44,7 +44,7 @@ module _ (text : List ℕ) (no_line : ends_with nat_eq text (10 ∷ []) ≡ fals
 
 -- ---- fronts whose last byte is no line feed
 
--- what ends with another byte ends no line
+-- A text that ends with another byte ends no line.
 other_last : (front : List ℕ) (last : ℕ) → nat_eq 10 last ≡ false → ends_with nat_eq (front ++ last ∷ []) (10 ∷ []) ≡ false
 other_last front last other =
     ap (pointwise nat_eq (10 ∷ [])) (drop_at front (last ∷ []) _ (omega (arith, length-append front (last ∷ []))))
@@ -54,13 +54,13 @@ other_byte : (byte : ℕ) → ¬ (byte == 10) ≡ true → nat_eq 10 byte ≡ fa
 other_byte byte other =
     ⊎_elim (λ same. absurd (other (ap (λ n. n == 10) (sym (eqb-true 10 byte same))))) (λ fails. fails) (cases_Bool (nat_eq 10 byte))
 
--- a front ends no head where its last byte is no line feed
+-- A prefix ends no head if its last byte is no line feed.
 no_head_at : (text : List ℕ) (k : ℕ) → k < length text → ¬ Passes (is_byte 10) text k → ends_head (take (k + 1) text) ≡ false
 no_head_at text k below other =
     no_head_ends (take (k + 1) text)
     (ap (λ t. ends_with nat_eq t (10 ∷ [])) (take_more text k 0 below) ∙ other_last (take k text) (slice_index text k) (other_byte _ other))
 
--- where no front up to a place ends a head, and no line feed stands in so many bytes behind it, no front up to their end does
+-- If no prefix up to a place ends a head, and the next `n` bytes contain no line feed, no prefix up to their end does.
 no_head_until : (text : List ℕ) (at n : ℕ) → at + n ≤ length text
     → ((k : ℕ) → k ≤ at → ends_head (take k text) ≡ false) → Nowhere (Passes (is_byte 10) (drop at text)) 0 n
     → (k : ℕ) → k ≤ at + n → ends_head (take k text) ≡ false
@@ -75,14 +75,14 @@ no_head_until text at n fits before nowhere k within = by (cases_lt at k)
     by (inl behind) = at_place (k - at - 1) (omega (arith, behind))
     by (inr front) = before k front
 
--- ---- the first front that ends a head, by the line feeds
+-- ---- the first prefix that ends a head, by the line feeds
 
 module _ (text rest : List ℕ) (at : ℕ) (behind : rest ≡ drop at text) (below : at < length text)
     (before : (k : ℕ) → k ≤ at → ends_head (take k text) ≡ false) where
   long : length rest ≡ length text - at
   long = ap length behind ∙ length-drop at text
 
-  -- no line feed stands behind the place
+  -- No line feed follows the place.
   pub no_head : Nowhere (Passes (is_byte 10) rest) 0 (length rest) → None ≡ shortest_front ends_head text
   no_head nowhere =
       let all : length (drop at text) ≡ length text - at = length-drop at text in
@@ -96,13 +96,13 @@ module _ (text rest : List ℕ) (at : ℕ) (behind : rest ≡ drop at text) (bel
     none_to_feed : (k : ℕ) → k ≤ at + place → ends_head (take k text) ≡ false
     none_to_feed = no_head_until text at place (omega (arith, fits)) before (rw behind at first.before)
 
-    -- the front up to the first line feed behind the place ends one
+    -- The prefix up to the first line feed after the place ends a head.
     pub head_at_feed : true ≡ ends_head (take (at + (place + 1)) text) → Some (at + (place + 1)) ≡ shortest_front ends_head text
     head_at_feed ends =
         sym (shortest_front_some ends_head text (at + (place + 1))
         (record { fits = fits; passes = sym ends; first = λ k within. none_to_feed k (omega (arith, within)) }))
 
-    -- it ends none
+    -- This prefix ends no head.
     pub no_head_to_feed : false ≡ ends_head (take (at + (place + 1)) text) → (k : ℕ) → k ≤ at + (place + 1) → ends_head (take k text) ≡ false
     no_head_to_feed fails k within = by (cases_lt (at + place) k)
       where
@@ -110,15 +110,15 @@ module _ (text rest : List ℕ) (at : ℕ) (behind : rest ≡ drop at text) (bel
         by (inl last) = let same : k ≡ at + (place + 1) = omega (arith, last, within) in ap (λ n. ends_head (take n text)) same ∙ sym fails
         by (inr front) = none_to_feed k front
 
--- no front of a text that is over ends one
+-- If no prefix up to the end of a text ends a head, none does.
 pub no_head_in_all : (text : List ℕ) (at : ℕ) → length text ≤ at → ((k : ℕ) → k ≤ at → ends_head (take k text) ≡ false)
     → None ≡ shortest_front ends_head text
 no_head_in_all text at over before = sym (shortest_front_none ends_head text (λ k within. before k (omega (arith, over, within))))
 
--- ---- where a head is cut from a stream, by a front of it
+-- ---- the head cut from a stream, by the front of the stream
 
 module _ (stream text : List ℕ) (front : text ≡ take MAX_HEAD_LEN stream) where
-  -- what ends no head in the stream ends none in its front
+  -- If no short prefix of the stream ends a head, no short prefix of its front does.
   pub no_head_in_front : (from : ℕ) → ((k : ℕ) → k < from → ends_head (take k stream) ≡ false)
       → (k : ℕ) → k < from → ends_head (take k text) ≡ false
   no_head_in_front from before k below = by (cases_lt MAX_HEAD_LEN k)
@@ -130,6 +130,6 @@ module _ (stream text : List ℕ) (front : text ≡ take MAX_HEAD_LEN stream) wh
           ap ends_head all ∙ before MAX_HEAD_LEN (omega (arith, long, below))
       by (inr short) = ap (λ t. ends_head (take k t)) front ∙ ap ends_head (take-take k MAX_HEAD_LEN stream short) ∙ before k below
 
-  -- where a front of it ends one, so much is cut
+  -- If a prefix of the front ends a head, the shortest one is cut.
   pub whole : (len : ℕ) → Some len ≡ shortest_front ends_head text → Whole len ≡ cut_head stream
   whole len is = ap (cut_at MAX_HEAD_LEN stream) (is ∙ ap (shortest_front ends_head) front)

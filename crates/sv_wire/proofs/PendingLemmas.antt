@@ -1,4 +1,4 @@
--- A body that is being read, and what its stream begins with.
+-- A body that is being read, and the start of its stream.
 use Rattle.std.proofs.Common.{◌≡◌, ◌==◌, ℕ, zero, suc, ◌+◌, ◌-◌, ◌≤◌, Bool, true, false, ◌⊎◌, List, [], ◌∷◌, ◌++◌, length, take, drop, None, Some, refl, sym, ap, ◌∙◌, subst, inl, inr, cond, arith, Result, Ok, Err}
 use Rattle.std.specs.Bool.{MatchBool}
 use Rattle.std.specs.Result.{IfOk}
@@ -36,9 +36,9 @@ use Rattle.sv_wire.specs.Reads.{Start, gives, awaits, ReadsHead, cut_head, item_
 use Rattle.sv_wire.proofs.EmptyLinesLemmas.{drop_empty_lines_twice, drop_empty_lines_front}
 use Rattle.sv_wire.proofs.ReadsLemmas.{IsSettled, settled}
 
--- ---- a body behind what has come
+-- ---- a body after the bytes received
 
--- a head, and what follows it
+-- A head, and the text after it.
 head_before : (head more : List ℕ) (owed : OwedHead) → IsHeadOf head owed
     → (drop_empty_lines (head ++ more) ≡ head ++ more) × (cut_head (head ++ more) ≡ Whole (length head))
 head_before head more owed is = by_cut (settled head more)
@@ -51,7 +51,7 @@ head_before head more owed is = by_cut (settled head more)
       ap (λ t. cut_head (t ++ more)) (sym is.behind) ∙ stays.same ∙ ap cut_head is.behind ∙ is.whole,
     )
 
--- where a body is awaited, and was asked for or not
+-- A body that is awaited, whether it was asked for or not.
 module _ (owed : OwedHead) (head came stream : List ℕ) where
   pub text_behind : (asked : Bool) → MatchBool asked (head ≡ []) (IsHeadOf head owed)
       → head ++ (came ++ stream) ≡ text_of (cond asked (Some owed) None) ((head ++ came) ++ stream)
@@ -116,7 +116,7 @@ module _ (pending : Pending) (stream : List ℕ) (at : ℕ) (inside : at ≤ len
 
 -- ---- a head at a place
 
--- the text of a head is a head
+-- The text of a head is a head.
 cut_front : (text : List ℕ) (n : ℕ) → cut_head text ≡ Whole n → cut_head (take n text) ≡ Whole n
 cut_front text n is =
     let found = cut-whole ends_head MAX_HEAD_LEN text n is in
@@ -131,7 +131,7 @@ cut_front text n is =
       first = λ k below. ap ends_head (front k (omega (arith, below))) ∙ found.first k below;
     }))
 
--- a body without bytes is there at once
+-- A body without bytes is complete at once.
 no_body : (framing : Framing) (text : List ℕ) → has_body framing ≡ false → ReadsBody framing text (complete [] text)
 no_body (Length zero) text none =
     sym (ap (λ t. cond t unfinished (complete (take 0 text) (drop 0 text))) (le-ltb _ _ (omega arith)))
@@ -259,7 +259,7 @@ module _ (stream : List ℕ) (at start : ℕ) (order : at ≤ start) (same : dro
   comes_before within (AwaitsHead to) next = (next.0, next.1, refl, next.3 ∙ same, starts_before awaits next.4)
   comes_before within (AwaitsBody body) next = (next.0, next.1, next.2 ∙ same, starts_before awaits next.3)
 
--- what stands behind the empty lines at a place
+-- The text after the empty lines at a place.
 module _ (stream head : List ℕ) (at start : ℕ) (within : at ≤ length stream) (is : head ≡ drop_empty_lines (drop at stream))
     (place : head ≡ drop (length (drop at stream) - length head) (drop at stream)) (fits : length head ≤ length (drop at stream))
     (starts_there : start ≡ length stream - length head) where
@@ -315,14 +315,14 @@ pub if_ok_map : {A E : Type 0} (P Q : A → Type 0) (r : Result A E) → ((x : A
 if_ok_map P Q (Ok x) map_it holds = map_it x holds
 if_ok_map P Q (Err e) map_it holds = tt
 
--- ---- what is awaited
+-- ---- the awaited input
 
--- a head that has begun and has no end yet
+-- A head that has begun and has no end yet.
 pub head_awaited : (rest : List ℕ) → cut_head rest ≡ Unended → (length rest == 0) ≡ false → awaited_within None rest ≡ awaited.Head
 head_awaited [] unended some = absurd (cc)
 head_awaited (b ∷ rest) unended some = ap (awaited_after (b ∷ rest)) unended
 
--- a body
+-- A body.
 pub body_awaited : (asked : Bool) (head came : List ℕ) (owed : OwedHead) → MatchBool asked (head ≡ []) (IsHeadOf head owed)
     → awaited_within (cond asked (Some owed) None) (head ++ came) ≡ awaited.Body
 body_awaited true head came owed sound = refl

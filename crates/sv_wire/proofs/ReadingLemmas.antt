@@ -20,7 +20,7 @@ use Rattle.sv_wire.specs.Pending.{owed_by, rest_of, AreSound}
 use Rattle.sv_wire.specs.Reads.{gives, awaits, cut_head, Starts, Reads}
 use Rattle.sv_wire.specs.State.{ReadsTo, ReadsAfter}
 
--- the items were read from the first bytes, and what is read behind them completes the reading
+-- The items were read from the bytes before the place, and reading from there completes the reading.
 pub record HasRead (stream : List ℕ) (items : List Item) (body : Option Pending) (at : ℕ) : Type 0 where
   pub inside : at ≤ length stream
   pub sound : AreSound body
@@ -65,12 +65,12 @@ module _ (stream : List ℕ) (items : List Item) (body : Option Pending) (at : �
           ));
     }
 
--- no front of the bytes that await more ends a head, whatever follows them
+-- No prefix of the bytes of an open head ends a head, whatever bytes follow.
 pub awaits_end : (rest piece : List ℕ) → cut_head rest ≡ Unended → (k : ℕ) → k < length rest + 1 → ends_head (take k (rest ++ piece)) ≡ false
 awaits_end rest piece unended k below =
     ap ends_head (take-append-le k rest piece (omega arith)) ∙ cut_unended-fronts ends_head MAX_HEAD_LEN rest unended k (omega arith)
 
--- a body that goes on with a piece
+-- A body that continues with a piece.
 module _ (pending : Pending) (piece : List ℕ) where
   pub body_goes_on : (after : Pending) → ComesNext (Some pending) piece 0 (AwaitsBody after)
       → ReadsTo (owed_by (Some pending)) (rest_of (Some pending) ++ piece) [] (state.Body after)
@@ -80,7 +80,7 @@ module _ (pending : Pending) (piece : List ℕ) where
     next.0,
   )
 
-  -- the piece completes an item
+  -- The piece completes an item.
   pub body_ends : (item : Item) (len : ℕ) (items : List Item) (left : State) → ComesNext (Some pending) piece 0 (Found item None (0 + len))
       → ReadsAfter item (drop len piece) items left → ReadsTo (owed_by (Some pending)) (rest_of (Some pending) ++ piece) items left
   body_ends item len items left next (more, is, behind) =

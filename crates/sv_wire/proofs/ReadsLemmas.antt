@@ -28,7 +28,7 @@ use Rattle.sv_wire.proofs.EmptyLinesLemmas.{drop_empty_lines-append, drop_empty_
 
 -- ---- the cut of a head
 
--- no text of fewer than two bytes ends as a head does
+-- A text of fewer than two bytes does not end as a head does.
 ends_head-long : (text : List ℕ) → ends_head text ≡ true → 2 ≤ length text
 ends_head-long [] ends = absurd (cc)
 ends_head-long (b ∷ []) ends = by_test (eqb 10 b) ends
@@ -38,7 +38,7 @@ ends_head-long (b ∷ []) ends = by_test (eqb 10 b) ends
     by_test false holds = absurd (cc)
 ends_head-long (b ∷ c ∷ text) ends = omega arith
 
--- what is cut from a stream is there
+-- The bytes that are cut from a stream are present.
 pub cut_holds : (stream : List ℕ) (c : Cut) → c ≡ cut_head stream → HoldsText stream c
 cut_holds stream (Whole n) is =
     let found = cut-whole ends_head MAX_HEAD_LEN stream n (sym is) in
@@ -55,18 +55,18 @@ holds_long stream (Whole n) holds = inr (omega (arith, holds.0, holds.1))
 holds_long stream Endless holds = inr (omega (arith, holds))
 holds_long stream Unended holds = inl refl
 
--- ---- what a text begins with, before more bytes
+-- ---- the start of a text, when more bytes follow
 
--- what a text begins with, where more bytes follow
+-- The start of a text, with more bytes after it.
 abbrev pub start_more : Start → List ℕ → Start
 start_more (gives item next rest) more = gives item next (rest ++ more)
 start_more awaits more = awaits
 
--- a start stays as it is, unless more is awaited
+-- A start does not change, unless more is awaited.
 abbrev Stays : Start → Type 0 → Type 0
 Stays start later = (start ≡ awaits) ⊎ later
 
--- a start of a longer text is one of the shorter, or more is awaited there
+-- A start of a longer text is one of the shorter, or the shorter awaits more.
 abbrev Fronts : (Start → Type 0) → List ℕ → Start → Type 0
 Fronts begins more start = (front : Start) × begins front × ((front ≡ awaits) ⊎ (start ≡ start_more front more))
 
@@ -177,9 +177,9 @@ pub Starts-unique : (owed : Option OwedHead) (text : List ℕ) (start other : St
 Starts-unique None text start other a b = StartsAt-unique (cut_head text) text start other a b
 Starts-unique (Some owed) text start other a b = StartsBody-unique owed text start other a b
 
--- ---- what a stream begins with, before more bytes
+-- ---- the start of a stream, when more bytes follow
 
--- what follows the stream changes neither the empty lines that it begins with nor the cut behind them
+-- More bytes change neither the empty lines at the start of the stream nor the cut after them.
 pub record IsSettled (stream more : List ℕ) : Type 0 where
   pub behind : drop_empty_lines (stream ++ more) ≡ drop_empty_lines stream ++ more
   pub same : cut_head (drop_empty_lines stream ++ more) ≡ cut_head (drop_empty_lines stream)
@@ -230,7 +230,7 @@ module _ (stream more : List ℕ) where
       by_cut (inl unended) = inl unended
       by_cut (inr stays) = inr (subst (λ (X : Type 0). X) (sym (at_settled stays start)) starts)
 
--- the item that a stream begins with stays, whatever follows
+-- The first item of a stream does not change when bytes follow.
 pub gives_more : (owed : Option OwedHead) (stream more : List ℕ) (item : Item) (next : Option OwedHead) (behind : List ℕ)
     → Starts owed (text_of owed stream) (gives item next behind)
     → Starts owed (text_of owed (stream ++ more)) (gives item next (behind ++ more))
@@ -258,7 +258,7 @@ text_of-append : (owed : Option OwedHead) (stream more : List ℕ) → text_of o
 text_of-append None stream more = drop_empty_lines-append stream more
 text_of-append (Some owed) stream more = refl
 
--- a reading does not see the empty lines that the stream begins with
+-- A reading does not depend on the empty lines at the start of the stream.
 pub Reads-behind : (owed : Option OwedHead) (stream other : List ℕ) (items : List Item) (left : Option OwedHead) (rest : List ℕ)
     → text_of owed stream ≡ text_of owed other → Reads owed stream items left rest → Reads owed other items left rest
 Reads-behind owed stream other [] left rest same reads = (reads.0, reads.1 ∙ same, reads.2)
@@ -279,7 +279,7 @@ readings_join owed first second (item ∷ items) more next between left rest goe
       MatchBool-from_false (is_last item) _ _ on.0 (readings_join reads.0 reads.1 second items more next between left rest on.1 behind later),
     )
 
--- the items behind one that both readings begin with
+-- The items after one that both readings begin with.
 same_behind : (t : Bool) (items others : List Item) (left other_left : Option OwedHead) (rest other_rest : List ℕ) (P Q : Type 0)
     → (P → Q → (items ≡ others) × (left ≡ other_left) × (rest ≡ other_rest))
     → MatchBool t ((items ≡ []) × (left ≡ None) × (rest ≡ [])) P → MatchBool t ((others ≡ []) × (other_left ≡ None) × (other_rest ≡ [])) Q
@@ -312,7 +312,7 @@ readings_are_unique owed stream (item ∷ items) (other ∷ others) left rest ot
 
 -- ---- cuts
 
--- a reading of both parts together is one of the first that has ended, or one that goes on
+-- A reading of both parts is one of the first part that has ended, or one that continues.
 abbrev Splits : Option OwedHead → List ℕ → List ℕ → List Item → Option OwedHead → List ℕ → Type 0
 Splits owed first second items left rest =
     ((are_ended items ≡ true) × Reads owed first items left rest)
@@ -320,7 +320,7 @@ Splits owed first second items left rest =
     × (items ≡ front ++ more) × (are_ended front ≡ false)
     × Reads owed first front next between × Reads next (between ++ second) more left rest)
 
--- where no item's text begins the first part, all items come later
+-- If the first part begins with no complete item, all items come later.
 splits_later : (owed : Option OwedHead) (first second : List ℕ) (items : List Item) (left : Option OwedHead) (rest : List ℕ)
     → Starts owed (text_of owed first) awaits → Reads owed (first ++ second) items left rest → Splits owed first second items left rest
 splits_later owed first second items left rest starts reads =
@@ -335,7 +335,7 @@ splits_later owed first second items left rest starts reads =
       Reads-behind owed (first ++ second) (text_of owed first ++ second) items left rest (sym (text_of-append owed first second)) reads,
     )
 
--- where an item comes first that ends the reading
+-- The first item ends the reading.
 splits_ended : (owed : Option OwedHead) (first second : List ℕ) (item : Item) (items : List Item) (next : Option OwedHead) (behind : List ℕ)
     (left : Option OwedHead) (rest : List ℕ) → is_last item ≡ true
     → Starts owed (text_of owed first) (gives item next behind) → (items ≡ []) × (left ≡ None) × (rest ≡ [])
@@ -343,7 +343,7 @@ splits_ended : (owed : Option OwedHead) (first second : List ℕ) (item : Item) 
 splits_ended owed first second item items next behind left rest last starts none =
     inl (or_left (is_last item) (are_ended items) last, (next, behind, starts, MatchBool-from_true (is_last item) _ _ last none))
 
--- where an item comes first and the reading goes on
+-- The first item does not end the reading.
 splits_on : (owed : Option OwedHead) (first second : List ℕ) (item : Item) (items : List Item) (next : Option OwedHead) (behind : List ℕ)
     (left : Option OwedHead) (rest : List ℕ) → is_last item ≡ false
     → Starts owed (text_of owed first) (gives item next behind) → Splits next behind second items left rest
@@ -365,7 +365,7 @@ splits_on owed first second item items next behind left rest goes_on starts (inr
       later.7,
     )
 
--- by the item that comes first in both parts together
+-- The cases of the first item of both parts.
 splits_after : (owed : Option OwedHead) (first second : List ℕ) (item : Item) (items : List Item) (next : Option OwedHead) (after : List ℕ)
     (left : Option OwedHead) (rest : List ℕ)
     → ((behind : List ℕ) → Reads next (behind ++ second) items left rest → Splits next behind second items left rest)

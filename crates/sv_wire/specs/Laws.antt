@@ -1,4 +1,5 @@
--- The laws of the reading of a stream: there is one, no cut of the stream into pieces matters to it, and how long bodies and what is stored are.
+-- Theorems about reading a stream: a reading exists, is unique, and does not depend on cuts of the stream into pieces.
+-- Bodies and held heads are within their limits.
 use Rattle.std.specs.Prelude.{◌≡◌, ℕ, ◌<◌, ◌≤◌, true, false, ◌⊎◌, List, ◌++◌, length, All, Option, None, Some, ⊤}
 use Rattle.sv_text.specs.declared.front.Cut.TheVariants.{Unended}
 use Rattle.sv_body.specs.declared.limits.TheConstants.{MAX_BODY_LEN}
@@ -10,7 +11,7 @@ use Rattle.sv_wire.specs.declared.owed_head.OwedHead.{OwedHead}
 use Rattle.sv_wire.specs.Items.{are_ended}
 use Rattle.sv_wire.specs.Reads.{Reads, cut_head}
 
--- a reading goes on with the reading of its rest and what follows, unless it has ended
+-- A reading continues with the reading of its rest and the bytes that follow, unless it has ended.
 abbrev pub ReadingsJoin : Type 0
 ReadingsJoin =
     (owed : Option OwedHead) (first second : List ℕ) (items more : List Item) (next : Option OwedHead) (between : List ℕ)
@@ -20,13 +21,13 @@ ReadingsJoin =
     → Reads next (between ++ second) more left rest
     → Reads owed (first ++ second) (items ++ more) left rest
 
--- no stream is without a reading
+-- Every stream has a reading, up to double negation.
 abbrev pub ReadingsExist : Type 0
 ReadingsExist =
     (owed : Option OwedHead) (stream : List ℕ)
     → ¬ ((items : List Item) (left : Option OwedHead) (rest : List ℕ) → ¬ (Reads owed stream items left rest))
 
--- a stream has at most one reading
+-- A stream has at most one reading.
 abbrev pub ReadingsAreUnique : Type 0
 ReadingsAreUnique =
     (owed : Option OwedHead) (stream : List ℕ) (items others : List Item)
@@ -35,7 +36,7 @@ ReadingsAreUnique =
     → Reads owed stream others other_left other_rest
     → (items ≡ others) × (left ≡ other_left) × (rest ≡ other_rest)
 
--- the reading of a stream that is cut in two is a reading of its first part which has ended, or one that goes on
+-- The reading of a stream that is cut in two is a reading of its first part, which has ended or continues.
 abbrev pub ReadingsSplitAtACut : Type 0
 ReadingsSplitAtACut =
     (owed : Option OwedHead) (first second : List ℕ) (items : List Item) (left : Option OwedHead) (rest : List ℕ)
@@ -45,22 +46,22 @@ ReadingsSplitAtACut =
     × (items ≡ front ++ more) × (are_ended front ≡ false)
     × Reads owed first front next between × Reads next (between ++ second) more left rest)
 
--- a head that has no end yet is shorter than a head may be
+-- A head that has no end yet is shorter than the limit.
 abbrev pub OpenHeadsAreShort : Type 0
 OpenHeadsAreShort = (held : List ℕ) → cut_head held ≡ Unended → length held < MAX_HEAD_LEN
 
--- a message's body has no more bytes than a body may have
+-- The body of a message is within the limit.
 abbrev pub IsWithinLimit : Item → Type 0
 IsWithinLimit Continue = ⊤
 IsWithinLimit (Message message) = length message.body ≤ MAX_BODY_LEN
 IsWithinLimit (Refuse fault) = ⊤
 
--- so it will be with the head that is owed, if one is
+-- The body of the head that is owed, if any, will be within the limit.
 abbrev pub OwesWithinLimit : Option OwedHead → Type 0
 OwesWithinLimit None = ⊤
 OwesWithinLimit (Some owed) = FitsLimit owed.framing
 
--- the body of every message of a stream is within the limit
+-- The body of every message of a stream is within the limit.
 abbrev pub BodiesAreWithinTheLimit : Type 0
 BodiesAreWithinTheLimit =
     (owed : Option OwedHead) (stream : List ℕ) (items : List Item) (left : Option OwedHead) (rest : List ℕ)

@@ -1,4 +1,4 @@
--- What comes next in a stream, and what a whole stream was read as, as the code says it (RFC 9112, section 2.2).
+-- The next item of a stream, and the state after all its items, in terms of the code (RFC 9112, section 2.2).
 use Rattle.std.specs.Prelude.{◌≡◌, ℕ, ◌+◌, ◌-◌, ◌*◌, ◌<◌, ◌≤◌, Bool, true, false, List, [], ◌++◌, length, take, drop, Option, None, Some}
 use Rattle.sv_text.specs.declared.front.Cut.{Cut}
 use Rattle.sv_text.specs.declared.front.Cut.TheVariants.{Whole, Endless, Unended}
@@ -14,22 +14,23 @@ use Rattle.sv_wire.specs.EmptyLines.{drop_empty_lines}
 use Rattle.sv_wire.specs.Pending.{owed_by, rest_of, AreSound, IsSound}
 use Rattle.sv_wire.specs.Reads.{Start, gives, awaits, cut_head, ReadsHead, text_of, Starts}
 
--- a text has the bytes of the head that is cut from it, and a head of at least two bytes is within the limit
+-- A cut takes only bytes that are present, and a whole head has at least two bytes and is within the limit.
 abbrev pub HoldsText : List ℕ → Cut → Type 0
 HoldsText stream (Whole len) = (1 < len) × (len ≤ length stream) × (len ≤ MAX_HEAD_LEN)
 HoldsText stream Endless = MAX_HEAD_LEN ≤ length stream
 HoldsText stream Unended = Unit {0}
 
--- how much is to be read where a body is pending or none is, and so many bytes are left: an item takes bytes or a body
+-- The measure of the work left, by whether a body is pending and the number of bytes left. An item takes bytes or a
+-- body.
 abbrev pub weight : Option Pending → ℕ → ℕ
 weight None count = 2 * count
 weight (Some pending) count = 2 * count + 1
 
--- what the stream begins with behind what has come
+-- The start of the stream after the bytes received of a pending body.
 abbrev pub StartsNext : Option Pending → List ℕ → Start → Type 0
 StartsNext body stream start = Starts (owed_by body) (text_of (owed_by body) (rest_of body ++ stream)) start
 
--- what comes next at a place of the stream
+-- The result of reading from a place in the stream.
 abbrev pub ComesNext : Option Pending → List ℕ → ℕ → Next → Type 0
 ComesNext body stream at (Found item next end) =
     (at ≤ end) × (end ≤ length stream) × AreSound next
@@ -42,14 +43,14 @@ ComesNext body stream at (AwaitsBody pending) =
     IsSound pending × (owed_by (Some pending) ≡ owed_by body)
     × (rest_of (Some pending) ≡ text_of (owed_by body) (rest_of body ++ drop at stream)) × StartsNext body (drop at stream) awaits
 
--- a head stands between the places, on which the judgement is that, and no empty line before it
+-- There is a head with this judgement between the places, and no empty line before it.
 pub record IsHeadAt (stream : List ℕ) (start end : ℕ) (judgement : Judgement) : Type 0 where
   pub behind : drop_empty_lines (drop start stream) ≡ drop start stream
   pub whole : cut_head (drop start stream) ≡ Whole (end - start)
   pub some : start < end
   pub reads : ReadsHead (take (end - start) (drop start stream)) judgement
 
--- what is owed, and the bytes that no item holds, behind the items of a stream
+-- The head that is owed, and the bytes that are in no item, after the items of a stream.
 abbrev pub owed_behind : Rest → Option OwedHead
 owed_behind Ended = None
 owed_behind (Head at) = None
@@ -65,7 +66,7 @@ is_ended Ended = true
 is_ended (Head at) = false
 is_ended (Body pending) = false
 
--- a head that is awaited begins within the stream and has no end yet, and a body that is awaited is that of its head
+-- An awaited head begins within the stream and has no end yet, and an awaited body is that of its head.
 abbrev pub IsSoundRest : List ℕ → Rest → Type 0
 IsSoundRest stream Ended = Unit {0}
 IsSoundRest stream (Head at) = (at ≤ length stream) × (cut_head (drop at stream) ≡ Unended)

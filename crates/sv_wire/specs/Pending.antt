@@ -11,27 +11,27 @@ use Rattle.sv_wire.specs.declared.pending.Pending.{Pending}
 use Rattle.sv_wire.specs.EmptyLines.{drop_empty_lines}
 use Rattle.sv_wire.specs.Reads.{ReadsHead, cut_head}
 
--- the text is a whole head with that body behind it, which was not asked for
+-- The text is a whole head, whose body follows without being asked for.
 pub record IsHeadOf (text : List ℕ) (owed : OwedHead) : Type 0 where
   pub behind : drop_empty_lines text ≡ text
   pub whole : cut_head text ≡ Whole (length text)
   pub reads : ReadsHead text (Accepted owed)
 
--- the bytes that have come of a body, and of its head where the body was not asked for
+-- The bytes received of a body, and of its head unless the body was asked for.
 abbrev pub came_of : Pending → List ℕ
 came_of pending = pending.head.bytes ++ pending.reader.came
 
--- what is owed where a body is pending or none is: the head whose body was asked for
+-- The head that is owed: that of a pending body, if the body was asked for.
 abbrev pub owed_by : Option Pending → Option OwedHead
 owed_by None = None
 owed_by (Some pending) = if pending.is_asked then Some pending.owed else None
 
--- the bytes that have come and that no item holds
+-- The bytes received that are in no item.
 abbrev pub rest_of : Option Pending → List ℕ
 rest_of None = []
 rest_of (Some pending) = came_of pending
 
--- the body is that of its head
+-- The body is that of its head.
 abbrev pub IsSound : Pending → Type 0
 IsSound pending =
     (pending.reader.framing ≡ pending.owed.framing)
@@ -41,14 +41,14 @@ abbrev pub AreSound : Option Pending → Type 0
 AreSound None = Unit {0}
 AreSound (Some pending) = IsSound pending
 
--- no byte of the body has come
+-- No byte of the body has been received.
 pub record Begins (is_asked : Bool) (head : List ℕ) (owed : OwedHead) (pending : Pending) : Type 0 where
   pub asked : pending.is_asked ≡ is_asked
   pub bytes : pending.head.bytes ≡ head
   pub owes : pending.owed ≡ owed
   pub reader : pending.reader ≡ nothing_came owed.framing
 
--- a piece is read behind what has come: the body is still that of its head
+-- A piece of the body is read. The head does not change.
 abbrev pub ReadsPiece : Pending → List ℕ → Progress → Pending → Type 0
 ReadsPiece before piece progress after =
     ReadsOn before.reader piece progress after.reader

@@ -23,77 +23,77 @@ use Rattle.sv_wire.specs.Items.{is_last}
 use Rattle.sv_message.specs.Messages.{with_body}
 use Rattle.sv_wire_fault.specs.WireFault.{fault_of}
 
--- what a text begins with
+-- The start of a text.
 pub data Start : Type 0 where
-  -- an item, the head that is owed behind it, and what follows
+  -- An item, the head that is owed after it, and the text after it.
   gives : Item → Option OwedHead → List ℕ → Start
-  -- no item's text
+  -- No complete item.
   awaits : Start
 
--- no request's head is the whole text
+-- The whole text is not the head of a request.
 abbrev pub IsNoHead : List ℕ → Type 0
 IsNoHead text = (head : RequestHead) → ¬ (ReadsRequest text head [])
 
--- how many lines a text has
+-- The number of lines in a text.
 abbrev pub lines : List ℕ → ℕ
 lines text = count_by (λ b. b == line_feed) text
 
--- whether the text of a head has too many lines: beside those of the fields it has a request line and an empty one
+-- Whether the text of a head has too many lines. Besides the field lines it has a request line and an empty line.
 abbrev pub has_too_many_lines : List ℕ → Bool
 has_too_many_lines text = nat_lt (MAX_FIELD_LINES + 2) (lines text)
 
--- the judgement on the text: that on the head that it holds, or the refusal of a text that holds none
+-- The judgement on the text: that on its head, or a refusal if it is no head.
 abbrev pub IsJudged : List ℕ → Judgement → Type 0
 IsJudged text judgement =
     ((head : RequestHead) × ReadsRequest text head [] × (judgement ≡ judge head)) ⊎ (IsNoHead text × (judgement ≡ Refused BadHead))
 
--- the judgement on the whole text of a head
+-- The judgement on the whole text of a head.
 abbrev pub ReadsHead : List ℕ → Judgement → Type 0
 ReadsHead text judgement = MatchBool (has_too_many_lines text) (judgement ≡ Refused HeadTooLarge) (IsJudged text judgement)
 
--- where the head that a text begins with ends
+-- The end of the head at the start of a text.
 abbrev pub cut_head : List ℕ → Cut
 cut_head text = cut ends_head MAX_HEAD_LEN text
 
--- what the stream says with a head and the end of its body
+-- The item for a head and the end of its body.
 abbrev pub item_of : OwedHead → BodyEnd → Item
 item_of owed (Complete bytes) = Message (with_body bytes owed.message)
 item_of owed (Broken fault) = Refuse (fault_of fault)
 
--- what the text begins with behind a head, by what is read of its body
+-- The start of a text after a head, by the reading of the body.
 abbrev pub after_body : OwedHead → Body → Start
 after_body owed unfinished = awaits
 after_body owed (complete bytes rest) = gives (item_of owed (Complete bytes)) None rest
 after_body owed (broken fault rest) = gives (item_of owed (Broken fault)) None rest
 
--- the text begins with the body of a head
+-- The text begins with the body of a head.
 abbrev pub StartsBody : OwedHead → List ℕ → Start → Type 0
 StartsBody owed text start = (body : Body) × ReadsBody owed.framing text body × (start ≡ after_body owed body)
 
--- the text stands behind a head, on which the judgement is that
+-- The start of the text after a head with this judgement.
 abbrev pub StartsBehind : Judgement → List ℕ → Start → Type 0
 StartsBehind (Refused fault) text start = start ≡ gives (Refuse fault) None text
 StartsBehind (Expecting owed) text start = start ≡ gives Continue (Some owed) text
 StartsBehind (Accepted owed) text start = StartsBody owed text start
 
--- the text begins with a head that ends there
+-- The start of a text, by the end of its head.
 abbrev pub StartsAt : Cut → List ℕ → Start → Type 0
 StartsAt (Whole len) text start = (judgement : Judgement) × ReadsHead (take len text) judgement × StartsBehind judgement (drop len text) start
 StartsAt Endless text start = start ≡ gives (Refuse HeadTooLarge) None (drop MAX_HEAD_LEN text)
 StartsAt Unended text start = start ≡ awaits
 
--- the stream without what is ignored: empty lines, where the next text is a head
+-- The stream without the empty lines that are ignored before a head.
 abbrev pub text_of : Option OwedHead → List ℕ → List ℕ
 text_of None stream = drop_empty_lines stream
 text_of (Some owed) stream = stream
 
--- what the text begins with, where that head is owed or none is
+-- The start of the text, with this head owed, or none.
 abbrev pub Starts : Option OwedHead → List ℕ → Start → Type 0
 Starts None text start = StartsAt (cut_head text) text start
 Starts (Some owed) text start = StartsBody owed text start
 
--- where that head is owed, the stream is the texts of the items in order, and a rest with which no item's text begins;
--- `left` is owed then. Behind a last item nothing is read.
+-- With this head owed, the stream consists of the texts of the items in order, and a rest that begins with no complete
+-- item. Afterwards `left` is owed. Nothing is read after a last item.
 abbrev pub Reads : Option OwedHead → List ℕ → List Item → Option OwedHead → List ℕ → Type 0
 Reads owed stream [] left rest = (left ≡ owed) × (rest ≡ text_of owed stream) × Starts owed rest awaits
 Reads owed stream (item ∷ items) left rest =

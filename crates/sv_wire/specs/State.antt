@@ -1,4 +1,4 @@
--- What contracts see of what an inbox awaits (RFC 9112, section 8).
+-- What contracts see of the state of an inbox (RFC 9112, section 8).
 use Rattle.std.specs.Prelude.{◌≡◌, ℕ, false, List, [], ◌∷◌, Option, None, Some}
 use Rattle.std.specs.Bool.{MatchBool}
 use Rattle.sv_text.specs.declared.front.Cut.TheVariants.{Unended}
@@ -16,20 +16,20 @@ held_of Spent = spent_for_good
 held_of (Head held) = record { spent = false; owed = None; rest = held.items }
 held_of (Body pending) = record { spent = false; owed = owed_by (Some pending); rest = rest_of (Some pending) }
 
--- a head that is awaited has no end yet, and a body that is awaited is that of its head
+-- An awaited head has no end yet, and an awaited body is that of its head.
 abbrev pub IsSoundState : State → Type 0
 IsSoundState Spent = Unit {0}
 IsSoundState (Head held) = cut_head held.items ≡ Unended
 IsSoundState (Body pending) = IsSound pending
 
--- the items are read from the stream, and what is held then is the state's
+-- The items are read from the stream, and the state holds the rest.
 abbrev pub ReadsTo : Option OwedHead → List ℕ → List Item → State → Type 0
 ReadsTo owed stream items state =
     Reads owed stream items (held_of state).owed (held_of state).rest
     × ((held_of state).spent ≡ are_ended items) × IsSoundState state
 
--- behind an item the stream goes on with that text, unless the item is the last one: the items are it and those that are read
--- from the text, and what is held then is the state's
+-- After an item the stream continues with this text, unless the item is the last. The items are this one and those read
+-- from the text, and the state holds the rest.
 abbrev pub ReadsAfter : Item → List ℕ → List Item → State → Type 0
 ReadsAfter item behind items state =
     (more : List Item) × (items ≡ item ∷ more)

@@ -1,4 +1,4 @@
-//! Where a head ends.
+//! The end of a head.
 
 ghost use Rattle.std.specs.Prelude.{◌≡◌, ℕ, ◌<◌, false, take};
 ghost use Rattle.sv_text.specs.Front.{shortest_front};
@@ -10,7 +10,8 @@ use crate::limits::MAX_HEAD_LEN;
 use memchr::memchr;
 use sv_text::Cut;
 
-/// Where the head ends that the stream begins with (RFC 9112, section 2.1). No front of fewer than `from` bytes ends it.
+/// Returns where the head at the start of the stream ends (RFC 9112, section 2.1). No prefix of fewer than `from` bytes
+/// ends it.
 pub(crate) fn cut_head(stream: &[u8], from: usize) -> Cut
     requires { (k : ℕ) → k < from → ends_head (take k stream.now) ≡ false }
     ensures value { result ≡ cut_head stream.now }
@@ -23,7 +24,7 @@ pub(crate) fn cut_head(stream: &[u8], from: usize) -> Cut
     }
 }
 
-/// As many bytes as a head may have, or all.
+/// Returns the first [`MAX_HEAD_LEN`] bytes, or all if there are fewer.
 fn front_of(stream: &[u8]) -> &[u8]
     ensures { result.now ≡ take MAX_HEAD_LEN stream.now }
 {
@@ -33,7 +34,8 @@ fn front_of(stream: &[u8]) -> &[u8]
     stream.split_at(MAX_HEAD_LEN).0
 }
 
-/// The length of the shortest front that ends a head, which is one behind a line feed. No front of fewer than `from` bytes does.
+/// Returns the length of the shortest prefix that ends a head. It ends with a line feed. No prefix of fewer than `from`
+/// bytes ends a head.
 fn head_len(text: &[u8], from: usize) -> Option<usize>
     requires { (k : ℕ) → k < from → ends_head (take k text.now) ≡ false }
     ensures { result ≡ shortest_front ends_head text.now }
@@ -51,7 +53,7 @@ fn head_len(text: &[u8], from: usize) -> Option<usize>
     None
 }
 
-/// Whether a text ends as a head does.
+/// Returns whether a text ends as a head does.
 fn ends_head(text: &[u8]) -> bool
     ensures { result ≡ ends_head text.now }
 {

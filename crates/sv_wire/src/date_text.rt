@@ -11,8 +11,8 @@ use std::marker::Model;
 /// The last second that a date can show: `Fri, 31 Dec 9999 23:59:59 GMT`.
 const LAST_SECOND: u64 = 253_402_300_799;
 
-/// The text of the date of a moment (RFC 9110, section 5.6.7), which all responses of one second share. Contracts see the moment, in seconds since 1970; behind the
-/// year 9999 each is shown as that year's last second.
+/// The text of a date (RFC 9110, section 5.6.7), shared by all responses of one second. Contracts see the time in
+/// seconds since 1970. A time after the year 9999 is shown as the last second of that year.
 #[derive(Drop)]
 pub struct DateText {
     moment: u64,
@@ -33,7 +33,7 @@ impl Model for DateText {
 }
 
 impl DateText {
-    /// The text of that moment's date.
+    /// Returns the text of the date at this time.
     pub fn at(moment: u64) -> DateText
         ensures { result ≡ moment }
     {
@@ -43,7 +43,7 @@ impl DateText {
         }
     }
 
-    /// The moment.
+    /// Returns the time.
     #[inline(always)]
     pub fn moment(&self) -> u64
         ensures { result ≡ self.now }
@@ -51,7 +51,7 @@ impl DateText {
         self.moment
     }
 
-    /// Has it be the text of that moment's date. Where it is that already, nothing is reckoned.
+    /// Changes the text to the date at this time. Computes nothing if the time is the same.
     #[inline(always)]
     pub fn set(&mut self, moment: u64)
         ensures { self.new ≡ moment }
@@ -61,7 +61,7 @@ impl DateText {
         }
     }
 
-    /// The text.
+    /// Returns the text.
     pub(crate) fn as_bytes(&self) -> &[u8]
         ensures { (date : Date) × IsDateAt self.now date × (result.now ≡ date_text date) }
     {

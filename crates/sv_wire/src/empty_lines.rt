@@ -3,7 +3,7 @@
 ghost use Rattle.std.specs.Prelude.{◌≡◌, ◌-◌, ◌≤◌, length, drop};
 ghost use Rattle.sv_wire.specs.EmptyLines.{is_of_empty_line, drop_empty_lines};
 
-/// The stream behind the empty lines that it begins with.
+/// Returns the stream after the empty lines at its start.
 pub(crate) fn behind_empty_lines(stream: &[u8]) -> &[u8]
     ensures value { result.now ≡ drop_empty_lines stream.now }
     ensures end { result.now ≡ drop (length stream.now - length result.now) stream.now }
@@ -12,7 +12,7 @@ pub(crate) fn behind_empty_lines(stream: &[u8]) -> &[u8]
     &stream[empty_lines_len(stream)..]
 }
 
-/// How many bytes the empty lines have that the stream begins with.
+/// Returns the number of bytes in the empty lines at the start of the stream.
 fn empty_lines_len(stream: &[u8]) -> usize
     ensures fits { result ≤ length stream.now }
     ensures behind { drop result stream.now ≡ drop_empty_lines stream.now }
@@ -25,7 +25,7 @@ fn empty_lines_len(stream: &[u8]) -> usize
     stream.len()
 }
 
-/// Whether a byte belongs to an empty line, where `next` is what follows it.
+/// Returns whether a byte belongs to an empty line, given the bytes after it.
 fn is_of_empty_line(b: u8, next: &[u8]) -> bool
     ensures { result ≡ is_of_empty_line b next.now }
 {

@@ -29,8 +29,8 @@ use sv_message::{Message, Target};
 use sv_text::{Bytes, Listed, NoMemory};
 use sv_wire_fault::WireFault;
 
-/// Reads the whole text of a head, which is no longer than a head may be, with room for its fields, of which nothing is said. Most heads have few fields and begin at once: of these
-/// no line is counted, since a head has two lines more than it has fields.
+/// Reads the whole text of a head, which is no longer than the limit. Its fields use the memory of `room`. Most heads
+/// have few fields and begin at once. Their lines need no count, since a head has two lines more than fields.
 pub(crate) fn read_head(
     alloc: Global,
     room: &mut Vec<Field>,
@@ -48,15 +48,15 @@ pub(crate) fn read_head(
     }
 }
 
-/// Whether a text does not begin with the end of a line.
+/// Returns whether a text does not begin with a line end.
 fn begins_at_once(text: &[u8]) -> bool
     ensures { result ≡ begins_at_once text.now }
 {
     !matches!(text, [b'\n', ..] | [b'\r', ..])
 }
 
-/// Reads the text of a head of any number of lines. A function makes its places where it begins, so those for many fields stand in a
-/// function of their own.
+/// Reads the text of a head with any number of lines. A separate function, since a function reserves its stack space on
+/// entry, and the spans of many fields need much of it.
 fn read_many(alloc: Global, room: &mut Vec<Field>, text: &[u8]) -> Result<Judgement, NoMemory>
     requires { length text.now ≤ MAX_HEAD_LEN }
     ensures { IfOk result (ReadsHead text.now) }
@@ -67,14 +67,14 @@ fn read_many(alloc: Global, room: &mut Vec<Field>, text: &[u8]) -> Result<Judgem
     read_lines(alloc, room, text, &mut [EMPTY_HEADER_SPAN; MAX_FIELD_LINES])
 }
 
-/// How many lines the text of a head has.
+/// Returns the number of lines in the text of a head.
 fn lines_of(text: &[u8]) -> usize
     ensures { result ≡ lines text.now }
 {
     text.iter().filter(|b| **b == b'\n').count()
 }
 
-/// Reads the text of a head that has no more lines than it may have, with places for as many fields as they may show.
+/// Reads the text of a head within the limit of lines, with spans for as many fields as these lines may have.
 fn read_lines(
     alloc: Global,
     room: &mut Vec<Field>,
@@ -96,7 +96,7 @@ fn read_lines(
     }
 }
 
-/// The judgement on a head that `httparse` has read.
+/// Judges a head that `httparse` has read.
 fn judge(
     alloc: Global,
     room: &mut Vec<Field>,
@@ -137,7 +137,7 @@ fn judge(
     })
 }
 
-/// What stands at a span of a text. It shares the text in the place of the whole one.
+/// Returns the part of a text at a span. It shares the memory of the text.
 #[inline(always)]
 fn at_span(text: bytes::Bytes, span: Span) -> bytes::Bytes
     requires { IsWithin (length text) span }
@@ -149,14 +149,15 @@ fn at_span(text: bytes::Bytes, span: Span) -> bytes::Bytes
     text
 }
 
-/// Whether some field tells of a body. Of most heads none does, and then their fields are gone through once for all that such a field would say.
+/// Returns whether some field describes the body. Most heads have none, so one pass over the fields replaces the
+/// separate searches for them.
 fn tell_of_body(fields: &[Field]) -> bool
     ensures { result ≡ tell_of_body fields.now }
 {
     fields.iter().any(|field| tells_of_body(field))
 }
 
-/// Whether a field tells how the end of a body is found, or expects something before it.
+/// Returns whether a field gives the framing of the body or an expectation.
 fn tells_of_body(field: &Field) -> bool
     ensures { result ≡ tells_of_body field.now }
 {
@@ -165,7 +166,7 @@ fn tells_of_body(field: &Field) -> bool
         || field.is_named("expect")
 }
 
-/// Accepts a head, or answers the first of its faults in the order in which they are judged.
+/// Accepts a head, or returns the first of its faults, in the order of judgement.
 fn accept(minor: u8, form: TargetForm, fields: &[Field], told: bool) -> Result<(), WireFault>
     requires { told ≡ tell_of_body fields.now }
     ensures { result ≡ accept minor form fields.now }
@@ -188,14 +189,14 @@ fn accept(minor: u8, form: TargetForm, fields: &[Field], told: bool) -> Result<(
     Ok(())
 }
 
-/// Whether a target is in no form that is served.
+/// Returns whether a target is in no form that is served.
 fn is_unknown(form: TargetForm) -> bool
     ensures { result ≡ is_unknown form }
 {
     matches!(form, TargetForm::Unknown)
 }
 
-/// Accepts a body's framing, or answers the first of its faults.
+/// Accepts the framing of a body, or returns the first of its faults.
 fn accept_framing(minor: u8, fields: &[Field]) -> Result<(), WireFault>
     ensures { result ≡ first_or (framing_faults minor fields.now) tt }
 {
@@ -212,7 +213,7 @@ fn accept_framing(minor: u8, fields: &[Field]) -> Result<(), WireFault>
     }
 }
 
-/// Accepts codings of that kind, or answers their fault.
+/// Accepts codings of this kind, or returns their fault.
 fn accept_codings(kind: Codings) -> Result<(), WireFault>
     ensures { result ≡ first_or (faults_by_kind kind) tt }
 {
@@ -235,14 +236,14 @@ fn has_length(fields: &[Field]) -> bool
     has_field("content-length", fields)
 }
 
-/// Whether a request of 1.1 expects anything but `100-continue`.
+/// Returns whether an HTTP/1.1 request has an expectation other than `100-continue`.
 fn is_unknown_expectation(minor: u8, fields: &[Field]) -> bool
     ensures { result ≡ is_unknown_expectation minor fields.now }
 {
     minor == 1 && has_field("expect", fields) && !asks_to_continue(fields)
 }
 
-/// Whether `100 Continue` is given before the body.
+/// Returns whether the client awaits `100 Continue` before it sends the body.
 fn awaits_continue(minor: u8, fields: &[Field], told: bool) -> bool
     requires { told ≡ tell_of_body fields.now }
     ensures { result ≡ awaits_continue minor fields.now }
@@ -253,7 +254,7 @@ fn awaits_continue(minor: u8, fields: &[Field], told: bool) -> bool
     minor == 1 && asks_to_continue(fields) && has_body(framing_of(fields, told))
 }
 
-/// How the end of the body is found.
+/// Returns how the end of the body is found.
 fn framing_of(fields: &[Field], told: bool) -> Framing
     requires { told ≡ tell_of_body fields.now }
     ensures { result ≡ framing_of fields.now }
@@ -270,7 +271,7 @@ fn framing_of(fields: &[Field], told: bool) -> Framing
     }
 }
 
-/// Sets the authority of an absolute form in the place of the host.
+/// Replaces the host by the authority of a target in absolute form.
 fn set_hosts(
     alloc: Global,
     form: TargetForm,
@@ -290,7 +291,7 @@ fn set_hosts(
     }
 }
 
-/// What a target in that form asks for. It shares the text of the target.
+/// Returns the target of a request, by its form. It shares the memory of the text, unless a slash is added.
 #[inline(always)]
 fn read_target(
     alloc: Global,
@@ -310,7 +311,8 @@ fn read_target(
     }
 }
 
-/// The path behind an authority. An empty path is a slash, and one that is copied stands before a query alone.
+/// Returns the path after an authority. If it does not begin with a slash, it is empty or only a query, and is copied
+/// after a slash.
 fn read_path(alloc: Global, behind: bytes::Bytes) -> Result<Target, NoMemory>
     ensures { GivesAnswer result (Path (with_slash behind)) }
 {
@@ -323,7 +325,7 @@ fn read_path(alloc: Global, behind: bytes::Bytes) -> Result<Target, NoMemory>
     Ok(Target::Path(bytes::Bytes::from_vec(path)?))
 }
 
-/// Reads the fields that the spans show in the text, which they share. The room is for them.
+/// Reads the fields at these spans of the text, whose memory they share. The list uses the memory of `room`.
 fn read_fields(
     alloc: Global,
     room: &mut Vec<Field>,

@@ -18,24 +18,24 @@ use sv_body::{BodyEnd, Progress};
 use sv_head::Field;
 use sv_text::NoMemory;
 
-/// What the end of a stream means.
+/// How a stream ended.
 #[derive(Clone, Copy)]
 pub enum Ended {
     /// No byte of an unfinished message was held.
     Clean,
     /// The stream ended within a message.
     Truncated,
-    /// The inbox was spent already.
+    /// The inbox was already spent.
     Spent,
 }
 
-/// What an inbox awaits next of its stream (RFC 9112, section 2.2).
+/// The input that an inbox awaits (RFC 9112, section 2.2).
 #[derive(Clone, Copy, Debug, PartialEq, Eq)]
 pub enum Awaited {
-    /// The first byte of a message: no byte of one is held. Empty lines before a request line are ignored, so after one this is
-    /// still awaited.
+    /// The first byte of a message. Empty lines before a request line are ignored, so after one this is still awaited.
     Message,
-    /// The rest of a head. A lone CR is held as the first byte of a head until the next byte shows whether it begins an empty line.
+    /// The rest of a head. A CR before a head is held as its first byte until the next byte shows whether it begins an
+    /// empty line.
     Head,
     /// A body, or the rest of one.
     Body,
@@ -43,22 +43,22 @@ pub enum Awaited {
     Nothing,
 }
 
-/// The bytes of an unfinished message, and what is known of them.
+/// The state of an inbox between two pieces.
 #[derive(Drop)]
 pub(crate) enum State {
-    /// Nothing more.
+    /// No more input is read.
     Spent,
-    /// A head, of which those bytes have come.
+    /// The bytes received of a head.
     Head(Vec<u8>),
-    /// A body.
+    /// A body that is being read.
     Body(PendingBox),
 }
 
-/// Reads the items of one stream of bytes, which comes in pieces (RFC 9112, section 2.2).
+/// Reads the items of one stream of bytes, which is received in pieces (RFC 9112, section 2.2).
 ///
-/// Contracts see whether it is spent, the head whose `100 Continue` was given and whose body is awaited, and the bytes
-/// that no item holds yet. Of a body it holds the decoded bytes, and of its chunks no more than one size line or
-/// trailer section.
+/// Contracts see whether it is spent, the head whose body was asked for by `100 Continue` and is awaited, and the bytes
+/// that are in no item yet. Of a body it holds the decoded bytes, and at most one incomplete size line, CRLF or trailer
+/// section.
 #[derive(Drop)]
 pub struct Inbox {
     alloc: Global,
@@ -77,7 +77,7 @@ impl Model for Inbox {
 }
 
 impl Inbox {
-    /// An inbox before the first byte of its stream. It takes no memory.
+    /// Returns an inbox before the first byte of its stream. Allocates nothing.
     pub fn new(alloc: Global) -> Inbox
         ensures { result ≡ nothing_held }
     {
@@ -87,12 +87,13 @@ impl Inbox {
         }
     }
 
-    /// Reads a piece of the stream into a list, which holds the items that it completes, in order, in place of what it held before. The memory of that is used again.
-    /// What no item holds is kept for the next piece. No cut of the stream into pieces changes the items.
+    /// Reads a piece of the stream. Replaces the contents of the list by the items that the piece completes, in order,
+    /// and reuses its memory. Bytes that are in no item yet are kept for the next piece. How the stream is cut into
+    /// pieces does not change the items.
     ///
-    /// Behind a refusal, or a message that does not keep the connection, nothing is read: the inbox is spent. A spent
-    /// inbox answers no items and stays as it is. `NoMemory` says that a growth was refused: the inbox is spent then too,
-    /// and nothing is said of the list.
+    /// After a refusal, or a message that does not keep the connection, nothing is read: the inbox is spent. A spent
+    /// inbox returns no items and does not change. `NoMemory` means that an allocation failed: the inbox is then spent
+    /// too, and the contents of the list are unspecified.
     #[inline(always)]
     pub fn feed(&mut self, piece: &[u8], items: &mut Vec<Item>) -> Result<(), NoMemory>
         ensures reads { self.old.spent ≡ false → OnOk result
@@ -112,7 +113,7 @@ impl Inbox {
         Ok(())
     }
 
-    /// Returns what it awaits.
+    /// Returns the input that the inbox awaits.
     #[inline(always)]
     pub fn awaits(&self) -> Awaited
         ensures { result ≡ awaited_of self.now }
@@ -120,7 +121,7 @@ impl Inbox {
         awaited_of(&self.state)
     }
 
-    /// Says what the end of the stream means. The inbox is spent afterwards.
+    /// Ends the stream, and returns how it ended. The inbox is spent afterwards.
     pub fn end(&mut self) -> Ended
         ensures ended { result ≡ end_of self.old }
         ensures after { self.new ≡ spent_for_good }
@@ -131,7 +132,7 @@ impl Inbox {
     }
 }
 
-/// The memory of the fields of the last of the items, where that is a message. The items are let go.
+/// Empties the list of items, and returns the memory of the fields of the last one, if it is a message.
 #[inline(always)]
 fn room_in(alloc: Global, items: &mut Vec<Item>) -> Vec<Field>
     ensures { items.new.items ≡ [] }
@@ -146,7 +147,7 @@ fn room_in(alloc: Global, items: &mut Vec<Item>) -> Vec<Field>
     room
 }
 
-/// What is awaited in a state.
+/// Returns the input that is awaited in a state.
 #[inline(always)]
 fn awaited_of(state: &State) -> Awaited
     requires { IsSoundState state.now }
@@ -164,7 +165,7 @@ fn awaited_of(state: &State) -> Awaited
     }
 }
 
-/// What the end of the stream means, by what is awaited.
+/// Returns how the stream ends, by the awaited input.
 fn end_awaiting(awaited: Awaited) -> Ended
     ensures { result ≡ end_awaiting awaited }
 {
@@ -175,7 +176,8 @@ fn end_awaiting(awaited: Awaited) -> Ended
     }
 }
 
-/// Reads a piece behind the bytes of a head. What was read is not kept: a buffer holds a head alone.
+/// Reads a piece that continues the held bytes of a head. Bytes of completed items are dropped: a buffer holds only a
+/// head.
 #[inline(always)]
 fn read_on(
     alloc: Global,
@@ -202,7 +204,7 @@ fn read_on(
     }
 }
 
-/// Reads a piece before which no byte of a head has come. It is copied where it holds the front of a head alone.
+/// Reads a piece when no byte of a head is held. Copies only the bytes of a head that the piece leaves open.
 #[inline(always)]
 fn read_alone(
     alloc: Global,
@@ -220,7 +222,7 @@ fn read_alone(
     }
 }
 
-/// Reads a piece that goes on with a body.
+/// Reads a piece that continues a body.
 fn read_behind(
     alloc: Global,
     mut pending: PendingBox,
@@ -238,7 +240,7 @@ fn read_behind(
     }
 }
 
-/// Reads what stands behind a body that ends so, and sets the body's item before it.
+/// Reads the text after a body that ended in this way, and inserts the body's item at the front of the list.
 fn read_after(
     alloc: Global,
     pending: PendingBox,

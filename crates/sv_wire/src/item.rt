@@ -1,25 +1,25 @@
-//! What an inbox reads from a stream, one after another.
+//! The items that an inbox reads from a stream.
 
 ghost use Rattle.std.specs.Prelude.{◌≡◌};
 
 use sv_message::Message;
 use sv_wire_fault::WireFault;
 
-/// One thing that a stream says.
+/// An item of a stream.
 #[derive(Drop)]
 pub enum Item {
     /// A head whose body is awaited asks for `100 Continue` (RFC 9110, section 10.1.1).
     Continue,
     /// A whole request.
     Message(Message),
-    /// A request is refused. It is the last item of its stream.
+    /// The refusal of a request. It is the last item of its stream.
     Refuse(WireFault),
 }
 
 impl Item {
     ghost use Rattle.sv_wire.specs.Items.{is_last};
 
-    /// Whether nothing is read behind the item.
+    /// Returns whether nothing is read after the item.
     pub(crate) fn is_last(&self) -> bool
         ensures { result ≡ is_last self.now }
     {

@@ -1,10 +1,10 @@
-//! The limits of what an inbox reads.
+//! The limits of the input of an inbox.
 
-/// A head's end lies within so many bytes.
+/// The number of bytes within which a head must end.
 pub const MAX_HEAD_LEN: usize = 65_536;
 
-/// A head has at most so many field lines.
+/// The maximum number of field lines in a head.
 pub const MAX_FIELD_LINES: usize = 128;
 
-/// A head has no more field lines than that mostly: it is read with places for as many first.
+/// The number of spans with which a head is read first. Most heads have no more field lines.
 pub(crate) const FEW_FIELD_LINES: usize = 24;

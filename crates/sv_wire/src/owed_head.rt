@@ -10,7 +10,8 @@ use sv_message::Message;
 use sv_text::Bytes;
 use sv_wire_fault::WireFault;
 
-/// A head whose body is awaited: the message without its body, and how its end is found (RFC 9112, section 6).
+/// A head whose body is awaited: the message without its body, and how the end of the body is found (RFC 9112, section
+/// 6).
 #[derive(Drop)]
 pub struct OwedHead {
     pub message: Message,
@@ -21,7 +22,7 @@ impl OwedHead {
     ghost use Rattle.sv_wire.specs.Reads.{item_of};
     ghost use Rattle.sv_body.specs.declared.body_reader.BodyEnd.TheVariants.{Complete};
 
-    /// What the stream says with the head alone: its body is empty.
+    /// Returns the message of the head with an empty body.
     pub(crate) fn alone(self, alloc: Global) -> Item
         ensures { result ≡ item_of self (Complete []) }
     {
@@ -36,11 +37,11 @@ pub(crate) enum Judgement {
     Refused(WireFault),
     /// It asks for `100 Continue` before its body is sent.
     Expecting(OwedHead),
-    /// Its body follows, which may be empty.
+    /// Its body follows, and may be empty.
     Accepted(OwedHead),
 }
 
-/// Whether a body of that framing has a byte, or may have one.
+/// Returns whether a body with this framing has, or may have, a byte.
 pub(crate) fn has_body(framing: Framing) -> bool
     ensures { result ≡ has_body framing }
 {

@@ -1,4 +1,4 @@
-//! A body that is being read, beside its head.
+//! A body that is being read, with its head.
 
 ghost use Rattle.std.specs.Prelude.{◌≡◌, true, false, [], ◌++◌, IfOk};
 ghost use Rattle.sv_wire.specs.Reads.{item_of};
@@ -22,7 +22,7 @@ pub(crate) struct Pending {
     pub(crate) reader: BodyReader,
 }
 
-/// The same in a box: it is moved with each piece of a stream, and what holds one stays small.
+/// A [`Pending`] in a box, since it is moved with each piece of a stream. Types that contain it stay small.
 #[derive(Drop)]
 pub(crate) struct PendingBox {
     inner: Box<Pending>,
@@ -39,7 +39,7 @@ impl Model for PendingBox {
 impl PendingBox {
     ghost use Rattle.sv_wire.specs.Pending.{Begins, ReadsPiece};
 
-    /// The body of a head is asked for.
+    /// Returns the body of a head that asks for `100 Continue`, before its first byte.
     pub(crate) fn asked(alloc: Global, owed: OwedHead) -> Result<PendingBox, NoMemory>
         ensures { IfOk result (Begins true [] owed) }
     {
@@ -54,7 +54,7 @@ impl PendingBox {
         })
     }
 
-    /// The body of a head follows it.
+    /// Returns the body of a head that it follows directly, before its first byte.
     pub(crate) fn behind(alloc: Global, owed: OwedHead, head: &[u8]) -> Result<PendingBox, NoMemory>
         ensures { IfOk result (Begins false head.now owed) }
     {
@@ -69,8 +69,8 @@ impl PendingBox {
         })
     }
 
-    /// Reads a piece up to the end of the body, if it is there.
-    // Where a piece is a single byte, its price is that of the calls.
+    /// Reads a piece, up to the end of the body if the piece contains it.
+    // Inlined: for pieces of a single byte, calls are most of the cost.
     #[inline(always)]
     pub(crate) fn read(&mut self, piece: &[u8]) -> Result<Progress, NoMemory>
         ensures { IfOk result (λ progress. ReadsPiece self.old piece.now progress self.new) }
@@ -78,7 +78,7 @@ impl PendingBox {
         self.inner.reader.read(piece)
     }
 
-    /// What the stream says with the head and the end of its body.
+    /// Returns the item for the head and the end of its body.
     pub(crate) fn into_item(self, end: BodyEnd) -> Item
         ensures { result ≡ item_of self.owed end }
     {

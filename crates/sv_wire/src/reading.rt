@@ -21,30 +21,31 @@ use sv_head::Field;
 use sv_text::{Cut, NoMemory};
 use sv_wire_fault::WireFault;
 
-/// What comes next in a stream.
+/// The result of reading one item of a stream.
 #[derive(Drop)]
 enum Next {
-    /// An item, the body that is asked for behind it, and the place where the item ends.
+    /// An item, the body that it asks for, and the place where the item ends.
     Found(Item, Option<PendingBox>, usize),
-    /// No item yet. A head is awaited, which begins at that place.
+    /// No item yet. A head that begins at this place is awaited.
     AwaitsHead(usize),
     /// No item yet. A body is awaited.
     AwaitsBody(PendingBox),
 }
 
-/// What follows the items of a stream.
+/// The state after the items of a stream.
 #[derive(Drop)]
 pub(crate) enum Rest {
     /// The last item ends the stream.
     Ended,
-    /// A head is awaited, which begins at that place.
+    /// A head that begins at this place is awaited.
     Head(usize),
     /// A body is awaited.
     Body(PendingBox),
 }
 
-/// Reads the items of a stream into a list, which is empty, and what follows them. No front of fewer than `from` bytes of the stream
-/// ends a head. There is room for the fields of one, of which nothing is said.
+/// Reads the items of a stream into an empty list, and returns the state after them. No prefix of fewer than `from`
+/// bytes of the stream ends a head. `room` is memory for the fields of one head, and its contents afterwards are
+/// unspecified.
 #[inline(always)]
 pub(crate) fn read_items(
     alloc: Global,
@@ -82,7 +83,7 @@ pub(crate) fn read_items(
     }
 }
 
-/// Reads what comes next at a place. No front of fewer than `from` bytes behind it ends a head.
+/// Reads the next item from a place. No prefix of fewer than `from` bytes after it ends a head.
 #[inline(always)]
 fn next_item(
     alloc: Global,
@@ -103,8 +104,8 @@ fn next_item(
     }
 }
 
-/// Reads the head that begins at a place behind empty lines, and its body if it is not asked for. No front of fewer than
-/// `from` bytes behind the place ends a head.
+/// Reads the head after the empty lines at a place, and its body unless it asks for `100 Continue`. No prefix of fewer
+/// than `from` bytes after the place ends a head.
 fn next_in_head(
     alloc: Global,
     stream: &[u8],
@@ -135,7 +136,7 @@ fn next_in_head(
     }
 }
 
-/// Reads what stands behind a head, which begins and ends at those places, by the judgement on it.
+/// Continues after a head between these places, by the judgement on it.
 fn next_behind(
     alloc: Global,
     judgement: Judgement,
@@ -158,7 +159,7 @@ fn next_behind(
     }
 }
 
-/// Reads what stands behind a head that is accepted and asks for nothing. Where it has no body it is an item at once.
+/// Continues after an accepted head that does not ask for `100 Continue`. A head without a body is an item at once.
 fn next_behind_accepted(
     alloc: Global,
     owed: OwedHead,
@@ -178,7 +179,7 @@ fn next_behind_accepted(
     next_in_body(pending, stream, end)
 }
 
-/// Reads the body that goes on at a place.
+/// Reads the body that continues at a place.
 fn next_in_body(mut pending: PendingBox, stream: &[u8], at: usize) -> Result<Next, NoMemory>
     requires within { at ≤ length stream.now }
     requires sound { IsSound pending }

@@ -23,20 +23,20 @@ const NO_CONTENT: u16 = 204;
 
 const CRLF: &[u8] = b"\r\n";
 
-/// How many bytes the text of a response has room for from the start: most heads have fewer, and a short body finds room behind them.
+/// The number of bytes reserved for the text of a response. Most heads are shorter, which leaves room for a short body.
 const TEXT_ROOM: usize = 512;
 
-/// Appends the text of a response to the output (RFC 9112, sections 4 and 5). Its status is from 100 to 999, which
+/// Appends the text of a response to the output (RFC 9112, sections 4 and 5). Its status must be from 100 to 999, which
 /// [`Response::has_status_code`] tests.
 ///
-/// The lines are: the status line; `date`; the response's fields in order; `set-cookie` where there is a cookie;
-/// `content-length` where the body is whole, or `transfer-encoding` where it leaves in chunks, except with 204; `connection: close` unless
-/// `keep` says that a further response may follow (RFC 9112, section 9.6) and the body says itself where it ends. An empty line and the
-/// body follow. With `head_only`, as in the answer to HEAD (RFC 9110, section 9.3.2), the body is left out and the lines are the same; with
-/// 204 there is no body either.
+/// The lines are: the status line; `date`; the response's fields in order; `set-cookie` if there is a cookie;
+/// `content-length` for a whole body, or `transfer-encoding` for a body in chunks, except with 204; and
+/// `connection: close`, unless `keep` allows a further response (RFC 9112, section 9.6) and the body marks its own end.
+/// An empty line and the body follow. With `head_only`, as in the response to HEAD (RFC 9110, section 9.3.2), the lines
+/// are the same but the body is left out. With 204 there is no body either.
 ///
-/// The output grows before the first byte is written: after [`NoMemory`] it is as it was. The text is made in the room, of which nothing is said, and which an output of
-/// no bytes then has for its own.
+/// After [`NoMemory`] the bytes and the capacity of the output are unchanged. The text is made in the memory of `room`,
+/// which an empty output then takes over.
 pub fn write_response(
     response: &Response,
     head_only: bool,
@@ -56,7 +56,7 @@ pub fn write_response(
     Ok(())
 }
 
-/// The law that a response has one text at a moment: whichever date shows the moment, the text is the same.
+/// The text of a response at a time is unique: it does not depend on which date shows the time.
 pub fn response_texts_are_unique()
     ensures { ResponseTextsAreUnique }
 {}
@@ -84,7 +84,7 @@ fn head_of(
     Ok(head)
 }
 
-// Appends the head and what is sent of the body, or neither.
+// Appends the head and the part of the body that is sent, or neither.
 fn append_text(
     output: &mut Vec<u8>,
     head: Vec<u8>,
@@ -136,7 +136,7 @@ fn append_both(output: &mut Vec<u8>, first: Vec<u8>, second: &[u8]) -> Result<()
     Ok(())
 }
 
-// Makes both texts the output, which is empty, or leaves it as it is.
+// Makes both texts the output, which must be empty, or leaves it unchanged.
 #[inline(always)]
 fn set_both(output: &mut Vec<u8>, first: Vec<u8>, second: &[u8]) -> Result<(), AllocError>
     requires { output.old.items ≡ [] }
@@ -293,7 +293,7 @@ fn push_length_line(head: &mut Vec<u8>, length: usize) -> Result<(), AllocError>
     push_field_line(head, b"content-length", digits.as_bytes())
 }
 
-// Whether a further response may follow behind the body.
+// Returns whether a further response may follow the body.
 fn is_kept(keep: bool, body: &Body) -> bool
     ensures { result ≡ (keep && has_own_end body.now) }
 {

@@ -7,14 +7,14 @@ use std::error::Error;
 use std::fmt;
 use sv_body::BodyFault;
 
-/// Why a message is refused. A refusal is the last item of a stream: nothing behind it is read.
+/// Why a message is refused. A refusal is the last item of a stream: nothing after it is read.
 #[derive(Clone, Copy, Debug)]
 pub enum WireFault {
     /// The head is not in the form of a request (RFC 9112, section 2.1).
     BadHead = 1,
-    /// The Host field is missing, doubled or invalid (RFC 9112, section 3.2).
+    /// The Host field is missing, repeated or invalid (RFC 9112, section 3.2).
     BadHost = 2,
-    /// The length of the body cannot be told (RFC 9112, section 6).
+    /// The length of the body cannot be determined (RFC 9112, section 6).
     BadFraming = 3,
     /// The body has a coding other than `chunked` (RFC 9112, section 6.1).
     UnknownCoding = 4,
@@ -29,7 +29,7 @@ pub enum WireFault {
 }
 
 impl WireFault {
-    /// The fault of a message whose body has that fault.
+    /// Returns the fault of a message whose body has this fault.
     pub fn of_body(fault: BodyFault) -> WireFault
         ensures { result ≡ fault_of fault }
     {
@@ -40,7 +40,7 @@ impl WireFault {
         }
     }
 
-    /// The status of the answer to a message that is refused for this fault.
+    /// Returns the status of the response to a message refused for this fault.
     pub fn status(self) -> u16
         ensures { result ≡ fault_status self }
     {

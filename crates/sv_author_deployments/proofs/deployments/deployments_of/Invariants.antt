@@ -5,7 +5,7 @@ use Rattle.sv_program.specs.Configuration.{each}
 use Rattle.sv_author_deployments.specs.Deployments.{deployed, deployment_of}
 use Rattle.sv_author_deployments.proofs.deployments.deployments_of.Given as goal
 
--- what is left gives the rest of the deployments
+-- the remaining contexts give the remaining deployments
 abbrev pub invariant-loop-context : goal.invariant-loop-context
 invariant-loop-context g l =
     (each deployment_of (into_iter_items l.context-iterator) >>= λ rest. Ok (map deployed l.deployments.items ++ rest)) ≡ each deployment_of l.fn.contexts.items

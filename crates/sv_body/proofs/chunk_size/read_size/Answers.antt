@@ -5,7 +5,7 @@ use Rattle.httparse.specs.Spans.{IsChunkLineAt}
 use Rattle.httparse.proofs.ChunkLemmas.{chunk_line_unique}
 use Rattle.sv_body.proofs.chunk_size.read_size.Goals as goal
 
--- a line of which a front is a size line, and not the whole, is none
+-- A line that is longer than the size line at its start is not a size line.
 not_whole : (line : List ℕ) (len size : ℕ) (l k : ChunkLine) → IsChunkLineAt line len size l → (len ≡ length line → ⊥)
     → ReadsChunkLine line k [] → ⊥
 not_whole line len size l k at part reads =

@@ -6,7 +6,7 @@ use Rattle.sv_constraints.specs.Verdict.{first_case, cases, because, least_numbe
 use Rattle.sv_constraints.specs.declared.cause.Cause.TheVariants.{NoRole}
 use Rattle.sv_constraints.proofs.laws.just_one_case_holds.Goals as goal
 
--- a table with full conditions, where no row before it holds if `left` does
+-- The rows with their full conditions: `left` holds, the tests of all earlier rows fail, and the test of the row holds.
 abbrev full : Bool → List (Bool × OwnedDecision) → OwnedDecision → List (Bool × OwnedDecision)
 full left [] last = (left, last) ∷ []
 full left (row ∷ rows) last = (left && row.0, row.1) ∷ full (left && not row.0) rows last

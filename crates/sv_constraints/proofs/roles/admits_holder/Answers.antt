@@ -5,7 +5,7 @@ use Rattle.sv_constraints.specs.Covering.{lists}
 use Rattle.sv_constraints.specs.Roles.{roles_named, admits_holder}
 use Rattle.sv_constraints.proofs.roles.admits_holder.Goals as goal
 
--- a list that does not name every caller admits by the roles that it is read as
+-- A list that does not name every caller admits exactly the holders of a role that it means.
 admits_by_role : (declared names held : List (List ℕ)) (fits : Bool) → lists names (codes "**") ≡ false → fits ≡ list_any (λ name. list_any (lists held) (roles_named declared name)) names → fits ≡ admits_holder declared names held
 admits_by_role declared names held fits unnamed fitting =
     rw (unnamed, any_of_joined (lists held) (roles_named declared) names) fitting

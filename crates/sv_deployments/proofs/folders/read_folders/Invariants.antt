@@ -3,7 +3,7 @@ use Rattle.std.specs.Vec.Iter.{into_iter_items}
 use Rattle.sv_deployments.specs.Folders.{AreFound, context_readings}
 use Rattle.sv_deployments.proofs.folders.read_folders.Given as goal
 
--- the texts of what was found are those that went before, and the store gave their folders
+-- the contexts found so far have the texts passed so far, and the store gave their folders
 abbrev pub invariant-loop-texts : goal.invariant-loop-texts
 invariant-loop-texts g l =
     (map (λ context. context.texts) l.found.items ≡ l.yielded) × (l.yielded ++ into_iter_items l.texts-iterator ≡ l.fn.contexts)

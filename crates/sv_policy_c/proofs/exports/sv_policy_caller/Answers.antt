@@ -1,4 +1,4 @@
--- The number is that of what was done.
+-- The returned number is that of the status.
 use Rattle.sv_policy_c.specs.declared.status.Status.TheVariants as status
 use Rattle.sv_policy_c.proofs.Held.{done_held, nothing_held}
 use Rattle.sv_policy_c.proofs.exports.sv_policy_caller.Goals as goal

@@ -1,10 +1,9 @@
--- Where the handle holds nothing, nothing is done.
+-- If the handle holds nothing, nothing is done.
 use Rattle.std.proofs.Common.{refl}
 use Rattle.sv_policy_c.specs.declared.status.Status.TheVariants as status
 use Rattle.sv_policy_c.proofs.Held.{nothing_calls, nothing_held}
 use Rattle.sv_policy_c.proofs.exports.sv_policy_decide.Goals as goal
 
--- src/exports.rt:95:9
 pub returns-in_default-clause-decided : goal.returns-in_default-clause-decided
 returns-in_default-clause-decided c = (status.Nothing, c.number.ensures, nothing_held _ _ c.in_default.ensures.taken)
 

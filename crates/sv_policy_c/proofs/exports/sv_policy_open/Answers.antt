@@ -1,4 +1,4 @@
--- A descriptor that is read is called a text.
+-- A descriptor that is read is not reported as invalid text.
 use Rattle.sv_policy_c.specs.declared.status.Status.TheVariants as status
 use Rattle.sv_policy_c.proofs.Held.{written_calls}
 use Rattle.sv_policy_c.proofs.exports.sv_policy_open.Goals as goal

@@ -4,7 +4,7 @@ use Rattle.sv_program.specs.ConfigurationFiles.{context_readings}
 use Rattle.sv_program.specs.FileStore.{AreRead}
 use Rattle.sv_program.proofs.configuration_files.read_contexts.Given as goal
 
--- the contexts of the texts are those that went before, and the store gave their texts
+-- the texts read so far belong to the contexts passed so far, and the store gave them
 abbrev pub invariant-loop-context : goal.invariant-loop-context
 invariant-loop-context g l =
     (map (λ text. text.context) l.texts.items ≡ l.yielded) × (l.yielded ++ into_iter_items l.context-iterator ≡ l.fn.contexts)

@@ -4,6 +4,6 @@ use Rattle.sv_text.specs.Steps.{◌>>=◌}
 use Rattle.sv_program.specs.Uncovered as spec
 use Rattle.sv_program.proofs.uncovered_command.uncovered_lines.Given as goal
 
--- what is left gives the rest of the lines
+-- the remaining texts give the remaining lines
 abbrev pub invariant-loop-texts : goal.invariant-loop-texts
 invariant-loop-texts l = (spec.uncovered_lines (drop l.texts-index l.texts) >>= λ rest. Ok (string_bytes l.lines ++ rest)) ≡ spec.uncovered_lines l.texts

@@ -3,7 +3,7 @@ use Rattle.std.specs.List.{concat}
 use Rattle.sv_streams.specs.Calls.{AreMade, Took}
 use Rattle.sv_streams.proofs.writing.write_all.Given as goal
 
--- the sink took the bytes before the rest, in pieces
+-- The sink took the bytes before the rest, in pieces.
 abbrev pub invariant-loop-rest : goal.invariant-loop-rest
 invariant-loop-rest g l =
     (pieces : List (List ℕ)) × AreMade g.W.Stream.makes l.fn.sink (map Took pieces) l.sink × (concat pieces ++ l.rest ≡ l.bytes)

@@ -7,14 +7,14 @@ use Rattle.sv_uri.specs.Name.{bytes_of}
 use Rattle.sv_uri.proofs.TargetLemmas.{slashed}
 use Rattle.sv_uri.proofs.walk.joined.Goals as goal
 
--- one more slash and name
+-- One more slash and name.
 slashed_more : {X : Type 0} (bytes_of : X → List ℕ) (names : List X) (i : ℕ) (name : X) (path pushed after bytes : List ℕ) → i < length names → name ≡ get_or names i name → path ≡ slashed (map bytes_of (take i names)) → pushed ≡ path ++ 47 ∷ [] → bytes ≡ bytes_of name → after ≡ pushed ++ bytes → after ≡ slashed (map bytes_of (take (i + 1) names))
 slashed_more bytes_of names i name path pushed after bytes within at was push is_bytes extend =
     let more : take (i + 1) names ≡ take i names ++ name ∷ [] = take_more names i name within ∙ ap (λ x. take i names ++ x ∷ []) (sym at) in
     rw (extend, push, is_bytes, was, more, map_push bytes_of (take i names) name, flat_map-append (λ x. 47 ∷ x) (map bytes_of (take i names)) (bytes_of name ∷ []))
     (append_assoc (slashed (map bytes_of (take i names))) (47 ∷ []) (bytes_of name) ∙ ap (λ x. slashed (map bytes_of (take i names)) ++ 47 ∷ x) (sym (append-nil (bytes_of name))))
 
--- each name is a text
+-- Each name is a text.
 name_is_text : {X : Type 0} (bytes_of : X → List ℕ) (names : List X) (i : ℕ) (name : X) → All IsUtf8 (map bytes_of names) → i < length names → name ≡ get_or names i name → IsUtf8 (bytes_of name)
 name_is_text bytes_of names i name all within at =
     subst IsUtf8 (get_or-map bytes_of names i name (bytes_of name) within ∙ ap bytes_of (sym at))

@@ -6,7 +6,7 @@ use Rattle.sv_cookies.specs.Cookies.{value_of, values_in}
 use Rattle.sv_web.specs.SentCookies.{first, pieces_left}
 use Rattle.sv_web.proofs.sent_cookies.cookie_in_value.Given as goal
 
--- the pieces that are left send what all send
+-- the remaining pieces give the same cookie as all pieces
 abbrev pub invariant-loop-rest : goal.invariant-loop-rest
 invariant-loop-rest l =
     first (filter_map (λ piece. value_of l.name (trim_ows piece)) (pieces_left (option_copied l.rest))) ≡ first (values_in l.name l.value)

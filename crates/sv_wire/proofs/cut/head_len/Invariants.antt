@@ -2,7 +2,7 @@ use Rattle.std.proofs.Common.{◌≡◌, ℕ, ◌-◌, ◌≤◌, false, length,
 use Rattle.sv_wire.specs.Head.{ends_head}
 use Rattle.sv_wire.proofs.cut.head_len.Given as goal
 
--- no front up to that place ends a head
+-- No prefix up to this place ends a head.
 abbrev pub invariant-loop-at : goal.invariant-loop-at
 invariant-loop-at l = (k : ℕ) → k ≤ l.at → ends_head (take k l.text) ≡ false
 

@@ -1,4 +1,4 @@
--- `of` picks the descriptor. Assumes `Logic`.
+-- `of` sets the ghost descriptor. Assumes `Logic`.
 use Rattle.std.proofs.Common.{List, [], ◌∷◌, ◌++◌, refl}
 use seplogic.Ra.Ura.{Ura}
 use mir.Syntax.{Fn}

@@ -4,7 +4,7 @@ use Rattle.sv_login.specs.Credentials.{value_or}
 use Rattle.sv_parameters.specs.Parameters.{first_named, parameters_of, texts_of}
 use Rattle.sv_login.proofs.credentials.Credentials.of_form.Given as goal
 
--- what was seen, or else what is left has, is what all fields have
+-- The value found before, or otherwise the first in the remaining fields, is the first in all fields.
 abbrev pub invariant-loop-field : goal.invariant-loop-field
 invariant-loop-field l = record {
   name_kept : value_or l.name (codes "j_username") (texts_of (pairs_left l.field-iterator)) ≡ first_named (codes "j_username") (parameters_of l.form);

@@ -8,7 +8,7 @@ use Rattle.sv_mapping.specs.BestMatch.{best, is_best}
 use Rattle.sv_pattern_table.proofs.Found.{segments_most}
 use Rattle.sv_pattern_table.proofs.table.PatternTable.lookup.Goals as goal
 
--- the element at the place of the first one is the first one
+-- The element at the first place that passes is the first element that passes.
 get-position : {X : Type 0} (t : X → Bool) (xs : List X) → option_and_then (λ i. slice_get xs i) (position t xs) ≡ find t xs
 get-position t xs =
     elim (cases_Bool (ltb (position_or_len t xs) (length xs))) [ inl e ↦ rw e (sym (find_at t xs)) | inr e ↦ rw e (sym (find_at t xs ∙ slice_get_past xs _ (ltb-false _ _ e))) ]

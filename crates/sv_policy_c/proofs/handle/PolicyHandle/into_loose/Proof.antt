@@ -1,4 +1,4 @@
--- `into_loose` tests the pointer: null holds nothing, and any other is that of a box.
+-- `into_loose` tests the pointer: null means that nothing is held, and any other pointer is that of a box.
 use Rattle.std.proofs.Common.{◌≡◌, List, [], ◌∷◌, ◌++◌, refl, sym, ap, ◌∙◌, subst, lit<}
 use mir.Syntax.{impl, tnil, dnil}
 use mir.Raw.{raw as bare}
