@@ -1,10 +1,10 @@
 -- The fault of the command `policy` if there is no explanation.
 use Rattle.std.specs.Prelude.{MatchOption}
 use Rattle.std.proofs.Common.{◌≡◌, ℕ, List, Option, Err, refl, subst, sym}
-use Rattle.sv_explain.specs.Explanation as explained
-use Rattle.sv_explain.specs.Fault.{explain_fault}
-use Rattle.sv_explain.specs.declared.fault.ExplainFault.{ExplainFault}
-use Rattle.sv_explain.specs.declared.fault.ExplainFault.TheVariants as explain
+use Rattle.sv_policy.specs.Explanation as explained
+use Rattle.sv_policy.specs.Fault.{explain_fault}
+use Rattle.sv_policy.specs.declared.fault.ExplainFault.{ExplainFault}
+use Rattle.sv_policy.specs.declared.fault.ExplainFault.TheVariants as explain
 use Rattle.sv_program.specs.CommandFault.{command_fault}
 use Rattle.sv_program.specs.declared.command_fault.CommandFault.{CommandFault}
 use Rattle.sv_program.specs.declared.command_fault.CommandFault.TheVariants as fault

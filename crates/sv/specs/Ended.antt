@@ -1,9 +1,9 @@
 -- The end of the program by the fault of a command.
 use Rattle.std.specs.Prelude.{◌≡◌, ℕ, List, Option, Some, None}
 use denote.Ref.{Bor}
-use Rattle.sv_fault_detail.specs.Detail.{IsDetail}
-use Rattle.sv_options.specs.declared.command.Command.{Command}
-use Rattle.sv_options.specs.declared.command.Command.TheVariants.{First, Policy, Uncovered, Replay, Serve, Run, SelfTest, Help, Version}
+use Rattle.sv_program.specs.Detail.{IsDetail}
+use Rattle.sv.specs.declared.command.Command.{Command}
+use Rattle.sv.specs.declared.command.Command.TheVariants.{First, Policy, Uncovered, Replay, Serve, Run, SelfTest, Help, Version}
 use Rattle.sv_program.specs.declared.command_fault.CommandFault.{CommandFault}
 use Rattle.sv_program.specs.declared.command_fault.CommandFault.TheVariants.{NoMemory}
 use Rattle.sv.specs.declared.ended.Ended.{Ended}

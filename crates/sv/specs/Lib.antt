@@ -1,5 +1,13 @@
-pub mod Asked
+pub mod Options
 pub mod Command
+pub mod Laws
+pub mod Question
+pub mod Reading
+pub mod Service
+pub mod Settings
+pub mod Values
+pub mod Replies
+pub mod Execution
 pub mod Ended
 pub mod Policy
 pub mod Printed

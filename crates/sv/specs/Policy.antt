@@ -1,9 +1,9 @@
 -- The command `policy`: explains what a server would do with a request.
 use Rattle.std.specs.Prelude.{◌≡◌, ℕ, List, [], ◌∷◌, ◌++◌, Option, Result, Ok, Err}
 use Rattle.std.specs.Option.{option_copied}
-use Rattle.sv_application.specs.declared.program_filter.ProgramFilter.{ProgramFilter}
-use Rattle.sv_application.specs.declared.program_listener.ProgramListener.{ProgramListener}
-use Rattle.sv_application.specs.declared.program_servlet.ProgramServlet.{ProgramServlet}
+use Rattle.sv_deployments.specs.declared.program_filter.ProgramFilter.{ProgramFilter}
+use Rattle.sv_deployments.specs.declared.program_listener.ProgramListener.{ProgramListener}
+use Rattle.sv_deployments.specs.declared.program_servlet.ProgramServlet.{ProgramServlet}
 use Rattle.sv_component.specs.Steps.{ComponentSteps}
 use Rattle.sv_container.specs.Explaining.{policies_of}
 use Rattle.sv_container.specs.declared.container.Container.{Container}
@@ -11,11 +11,11 @@ use Rattle.sv_deployments.specs.Configuration.{FindsConfiguration}
 use Rattle.sv_deployments.specs.Deployments.{ProgramDeployment}
 use Rattle.sv_deployments.specs.Folders.{FolderGiving}
 use Rattle.sv_deployments.specs.declared.configuration.Configuration.{Configuration}
-use Rattle.sv_explain.specs.Explanation as explained
-use Rattle.sv_explain.specs.Text.{explanation_text}
-use Rattle.sv_explain.specs.declared.fault.ExplainFault.{ExplainFault}
-use Rattle.sv_explain.specs.declared.fault.ExplainFault.TheVariants as explain
-use Rattle.sv_options.specs.declared.question.Question.{Question}
+use Rattle.sv_policy.specs.Explanation as explained
+use Rattle.sv_policy.specs.Text.{explanation_text}
+use Rattle.sv_policy.specs.declared.fault.ExplainFault.{ExplainFault}
+use Rattle.sv_policy.specs.declared.fault.ExplainFault.TheVariants as explain
+use Rattle.sv.specs.declared.question.Question.{Question}
 use Rattle.sv_program.specs.CommandFault.{UnlessNoMemory}
 use Rattle.sv_program.specs.Configuration.{Step}
 use Rattle.sv_program.specs.FileStore.{Giving}

@@ -1,8 +1,8 @@
 -- The command `replay`: runs a script over a server's container.
 use Rattle.std.specs.Prelude.{◌≡◌, ℕ, List, Result, Ok, Err}
-use Rattle.sv_application.specs.declared.program_filter.ProgramFilter.{ProgramFilter}
-use Rattle.sv_application.specs.declared.program_listener.ProgramListener.{ProgramListener}
-use Rattle.sv_application.specs.declared.program_servlet.ProgramServlet.{ProgramServlet}
+use Rattle.sv_deployments.specs.declared.program_filter.ProgramFilter.{ProgramFilter}
+use Rattle.sv_deployments.specs.declared.program_listener.ProgramListener.{ProgramListener}
+use Rattle.sv_deployments.specs.declared.program_servlet.ProgramServlet.{ProgramServlet}
 use Rattle.sv_component.specs.Steps.{ComponentSteps}
 use Rattle.sv_container.specs.NewCode.{code_number}
 use Rattle.sv_deployments.specs.Configuration.{FindsConfiguration}

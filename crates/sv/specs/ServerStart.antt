@@ -1,9 +1,9 @@
 -- Starts a server's container from its configuration files.
 use Rattle.std.specs.Prelude.{◌≡◌, ℕ, List, Result, Ok, Err}
 use Rattle.sv_component.specs.Steps.{ComponentSteps}
-use Rattle.sv_application.specs.declared.program_filter.ProgramFilter.{ProgramFilter}
-use Rattle.sv_application.specs.declared.program_listener.ProgramListener.{ProgramListener}
-use Rattle.sv_application.specs.declared.program_servlet.ProgramServlet.{ProgramServlet}
+use Rattle.sv_deployments.specs.declared.program_filter.ProgramFilter.{ProgramFilter}
+use Rattle.sv_deployments.specs.declared.program_listener.ProgramListener.{ProgramListener}
+use Rattle.sv_deployments.specs.declared.program_servlet.ProgramServlet.{ProgramServlet}
 use Rattle.sv_deployments.specs.Configuration.{FindsConfiguration}
 use Rattle.sv_deployments.specs.Folders.{FolderGiving}
 use Rattle.sv_deployments.specs.declared.configuration.Configuration.{Configuration}

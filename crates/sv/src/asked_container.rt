@@ -2,13 +2,13 @@
 
 ghost use Rattle.std.specs.Option.{option_copied};
 ghost use Rattle.std.specs.Prelude.{◌++◌, codes};
-ghost use Rattle.sv.specs.Asked as spec;
+ghost use Rattle.sv.specs.Replies as spec;
 ghost use Rattle.sv_component.specs.Steps.{steps_of};
 ghost use Rattle.sv_container.specs.Container.{state_of};
 ghost use Rattle.sv_container.specs.Explaining.{explanation_of};
 ghost use Rattle.sv_context.specs.Theory.{theory};
-ghost use Rattle.sv_explain.specs.Text.{explanation_text};
-ghost use Rattle.sv_host.specs.Host.{StepsSo};
+ghost use Rattle.sv_policy.specs.Text.{explanation_text};
+ghost use Rattle.sv_run.specs.Host.{StepsSo};
 ghost use Rattle.sv_run.specs.Connections.{awaited_in};
 ghost use Rattle.sv_text.specs.Gives.{GivesAnswer};
 

@@ -1,102 +1,123 @@
-//! Runs a command.
+//! The command that the program's arguments name.
 
-ghost use Rattle.sv_component.specs.Steps.{steps_of};
-ghost use Rattle.std.specs.Prelude.{◌≡◌, ◌≢◌, IfErr};
-ghost use Rattle.sv.specs.Command.{ReadsFiles, RunsCommand, ServesNothing};
+ghost use Rattle.std.specs.Prelude.{◌≡◌, [], ◌∷◌, IfSome, IsSome, codes, map, string_bytes};
+ghost use Rattle.sv.specs.Command.{IsNamed};
+ghost use Rattle.sv.specs.Values.{Finds};
+ghost use Rattle.sv_program.specs.Arguments.{Names, name_words};
 
-use crate::policy_command::policy;
-use crate::replay_command::replay;
-use crate::run_command::run;
-use crate::self_test_command::self_test;
-use crate::serve_command::serve;
-use crate::site::{limits_of, seeding_by};
-use crate::texts::{HELP, VERSION};
-use std::alloc::Global;
-use std::io::{Read, Write};
-use std::net::Net;
-use std::random::RandomSource;
-use std::rt::Files;
-use std::time::Clock;
-use sv_application::{ProgramFilter, ProgramListener, ProgramServlet};
-use sv_component::{Filter, Listener, Servlet};
-use sv_deployments::FolderStore;
-use sv_options::{Command, RunOptions};
-use sv_program::{CommandFault, FileStore, first, print_text, uncovered};
-use sv_streams::{ReadSource, WriteSink};
+use crate::question::Question;
+use crate::run_options::RunOptions;
+use crate::service::Service;
+use sv_program::denies_uncovered;
 
-/// Runs the command. Its parameters are a store of files and folders, a host with a network, a clock, random bytes,
-/// files and standard error, a reader and a writer. They are those of the system or substitutes. Each command
-/// documents what it reads and writes and what a fault leaves.
-pub fn carry_out<
-    S: FileStore + FolderStore,
-    H: Net + Clock + RandomSource + Files + Eprint,
-    R: Read + Drop,
-    W: Write,
->(
-    command: Command<'_>,
-    alloc: Global,
-    store: &mut S,
-    host: &H,
-    reader: R,
-    writer: &mut W,
-) -> Result<(), CommandFault>
-    ensures run { RunsCommand (steps_of ⟦<ProgramServlet as Servlet>⟧.servlet_step ⟦<ProgramFilter as Filter>⟧.filter_step ⟦<ProgramListener as Listener>⟧.listener_step)
-        S.gives_text S.gives_files command.entry result store.old store.new (R.remaining reader) (W.contents writer.old) (W.contents writer.new) }
-    ensures untouched { ServesNothing command.entry → IfErr result (λ fault. fault ≢ CommandFault.Output → writer.new ≡ writer.old) }
-{
-    match command {
-        Command::First { deny_uncovered } => first(alloc, reader, writer, deny_uncovered),
-        Command::Policy(question) => policy(alloc, store, writer, &question),
-        Command::Uncovered { config } => uncovered(alloc, store, writer, config),
-        Command::Replay { config } => replay_streams(alloc, store, reader, writer, config),
-        Command::Serve(service) => {
-            let count = service.connections.value();
-            serve(alloc, store, host, writer, service.config, count)
+/// A command of the program.
+#[derive(Clone, Copy)]
+pub enum Command<'a> {
+    /// `first [deny]`: prints the decision of the example policy on the first request on standard input.
+    First {
+        /// Whether uncovered methods are denied (Jakarta Servlet 6.0, section 13.8.4.2).
+        deny_uncovered: bool,
+    },
+    /// `policy CONFIG METHOD TARGET [USER]`: prints the decision of a server's container on a request.
+    Policy(Question<'a>),
+    /// `uncovered CONFIG`: prints the methods that the constraints of a server's contexts leave uncovered.
+    Uncovered {
+        /// The name of the server file.
+        config: &'a str,
+    },
+    /// `replay CONFIG`: runs the script on standard input on a server's container, and prints the results.
+    Replay {
+        /// The name of the server file.
+        config: &'a str,
+    },
+    /// `serve CONFIG N`: serves N connections, one after another.
+    Serve(Service<'a>),
+    /// `run CONFIG [OPTION ..]`: serves any number of connections, many at once. [`RunOptions::parse`] lists the
+    /// options.
+    Run(RunOptions<'a>),
+    /// `selftest CONFIG`: sends one request to a server's container over its own connection, and prints the first line
+    /// of the response.
+    SelfTest {
+        /// The name of the server file.
+        config: &'a str,
+    },
+    /// `help`: prints the usage of each command.
+    Help,
+    /// `version`: prints the program's name and version.
+    Version,
+}
+
+impl<'a> Command<'a> {
+    /// Parses the arguments, without the program's own name. Returns none if they name no command.
+    pub fn parse(arguments: &'a [String]) -> Option<Command<'a>>
+        ensures { Finds (IsNamed (map string_bytes arguments.now)) result }
+    {
+        let (name, rest) = arguments.split_first()?;
+        if name.as_str() == "first" {
+            let deny_uncovered = denies_uncovered(rest)?;
+            return Some(Command::First { deny_uncovered });
         }
-        Command::Run(options) => run_asked(alloc, store, host, writer, &options),
-        Command::SelfTest { config } => self_test(alloc, store, host, writer, config),
-        Command::Help => print_text(writer, HELP),
-        Command::Version => print_text(writer, VERSION),
+        if name.as_str() == "policy" {
+            return Some(Command::Policy(Question::parse(rest)?));
+        }
+        if name.as_str() == "uncovered" {
+            let config = config_in(rest)?;
+            return Some(Command::Uncovered { config });
+        }
+        if name.as_str() == "replay" {
+            let config = config_in(rest)?;
+            return Some(Command::Replay { config });
+        }
+        if name.as_str() == "serve" {
+            return Some(Command::Serve(Service::parse(rest)?));
+        }
+        if name.as_str() == "run" {
+            return run_in(rest);
+        }
+        if name.as_str() == "selftest" {
+            let config = config_in(rest)?;
+            return Some(Command::SelfTest { config });
+        }
+        if name.as_str() == "help" {
+            return alone(rest, Command::Help);
+        }
+        if name.as_str() == "version" {
+            return alone(rest, Command::Version);
+        }
+        None
     }
 }
 
-/// Replays the script from a reader, and writes the output to a writer.
-fn replay_streams<S: FileStore + FolderStore, R: Read + Drop, W: Write>(
-    alloc: Global,
-    store: &mut S,
-    reader: R,
-    writer: &mut W,
-    config: &str,
-) -> Result<(), CommandFault>
-    ensures { ReadsFiles S.gives_text S.gives_files config.now result store.old store.new }
+/// Returns the only argument, the name of the server file.
+fn config_in(arguments: &[String]) -> Option<&str>
+    ensures { Names name_words (map string_bytes arguments.now) result }
 {
-    let mut script = ReadSource::new(reader);
-    let mut output = WriteSink::new(writer);
-    replay(alloc, store, &mut script, &mut output, config)
+    let (config, rest) = arguments.split_first()?;
+    if rest.is_empty() {
+        Some(config.as_str())
+    } else {
+        None
+    }
 }
 
-/// Runs a server with these options.
-fn run_asked<S: FileStore + FolderStore, H: Net + Clock + RandomSource + Files + Eprint, W: Write>(
-    alloc: Global,
-    store: &mut S,
-    host: &H,
-    writer: &mut W,
-    options: &RunOptions<'_>,
-) -> Result<(), CommandFault>
-    ensures { ReadsFiles S.gives_text S.gives_files options.now.config.now result store.old store.new }
+// Returns the command `run` with the options in its arguments, or none.
+fn run_in(arguments: &[String]) -> Option<Command<'_>>
+    ensures { Finds (IsNamed (codes "run" ∷ map string_bytes arguments.now)) result }
 {
-    let seeding = seeding_by(options.same_seed);
-    let limits = limits_of(options);
-    run(
-        alloc,
-        store,
-        host,
-        writer,
-        options.config,
-        options.listen,
-        seeding,
-        limits,
-        options.control,
-        options.journal,
-    )
+    match RunOptions::parse(arguments) {
+        Some(options) => Some(Command::Run(options)),
+        None => None,
+    }
+}
+
+/// Returns the command if it has no arguments.
+fn alone<'a>(arguments: &[String], command: Command<'a>) -> Option<Command<'a>>
+    ensures it { IfSome result (λ found. (found ≡ command.entry) × (map string_bytes arguments.now ≡ [])) }
+    ensures some { map string_bytes arguments.now ≡ [] → IsSome result }
+{
+    if arguments.is_empty() {
+        Some(command)
+    } else {
+        None
+    }
 }

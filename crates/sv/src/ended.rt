@@ -3,11 +3,10 @@
 ghost use Rattle.std.specs.Prelude.{◌≡◌, None};
 ghost use Rattle.sv.specs.Ended as spec;
 
+use crate::command::Command;
 use crate::program_fault::ProgramFault;
 use std::alloc::Global;
-use sv_fault_detail::fault_detail;
-use sv_options::Command;
-use sv_program::{CommandFault, FileStore};
+use sv_program::{CommandFault, FileStore, fault_detail};
 use sv_text::Text;
 
 /// The early end of the program.

@@ -3,20 +3,30 @@
 
 mod asked_container;
 mod command;
+mod count;
+mod counted;
 mod ended;
+mod execution;
+mod key;
+mod laws;
 mod policy_command;
 mod program_fault;
+mod question;
 mod replay_command;
 mod run_command;
+mod run_options;
 mod self_test_command;
 mod serve_command;
 mod server_start;
+mod service;
 mod site;
 mod standing;
+mod taking;
 mod texts;
 
-use command::carry_out;
+use crate::command::Command;
 use ended::Ended;
+use execution::carry_out;
 use program_fault::ProgramFault;
 use std::net::Net;
 use std::process::ExitCode;
@@ -24,7 +34,6 @@ use std::random::RandomSource;
 use std::rt::{Env, Files};
 use std::time::Clock;
 use std::{env, io};
-use sv_options::Command;
 use sv_program::{CommandFault, Disk};
 
 fn main(rt: HostRuntime) -> ExitCode {

@@ -5,20 +5,21 @@ ghost use Rattle.std.specs.Prelude.{◌≡◌, ◌≢◌, [], ◌∷◌, ◌++�
 ghost use Rattle.std.specs.Option.{option_copied};
 ghost use Rattle.sv_container.specs.Container.{state_of};
 ghost use Rattle.sv_container.specs.Explaining.{explanation_of};
-ghost use Rattle.sv_explain.specs.Text.{explanation_text};
+ghost use Rattle.sv_policy.specs.Text.{explanation_text};
 ghost use Rattle.sv_program.specs.CommandFault.{UnlessNoMemory};
 ghost use Rattle.sv.specs.Policy as spec;
 ghost use Rattle.sv.specs.Printed.{Shows};
 
+use crate::question::Question;
 use std::alloc::Global;
 use std::io::Write;
-use sv_application::{ProgramFilter, ProgramListener, ProgramServlet};
 use sv_component::{Filter, Listener, Servlet};
 use sv_container::{
     Container, ExplainFault, Explanation, containers_explain_what_was_deployed, start,
 };
-use sv_deployments::{Configuration, FolderStore, read_deployments};
-use sv_options::Question;
+use sv_deployments::{
+    Configuration, FolderStore, ProgramFilter, ProgramListener, ProgramServlet, read_deployments,
+};
 use sv_program::{CommandFault, FileStore, print_line};
 
 /// Reads the server file of the question and all files that it names, and starts a container with them. Asks the

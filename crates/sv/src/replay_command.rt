@@ -5,10 +5,11 @@ ghost use Rattle.std.specs.Prelude.{◌≡◌};
 ghost use Rattle.sv.specs.Replay as spec;
 
 use std::alloc::Global;
-use sv_application::{ProgramFilter, ProgramListener, ProgramServlet};
 use sv_component::{Filter, Listener, Servlet};
 use sv_container::{RunFault, run_script};
-use sv_deployments::{FolderStore, read_deployments};
+use sv_deployments::{
+    FolderStore, ProgramFilter, ProgramListener, ProgramServlet, read_deployments,
+};
 use sv_program::{CommandFault, FileStore};
 use sv_streams::{Sink, Source};
 

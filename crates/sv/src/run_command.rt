@@ -11,10 +11,9 @@ use std::net::{IpAddr, Ipv4Addr, Net, SocketAddr};
 use std::random::RandomSource;
 use std::rt::Files;
 use std::time::Clock;
-use sv_application::{ProgramFilter, ProgramListener, ProgramServlet};
 use sv_component::{Filter, Listener, Servlet};
 use sv_connection::Limits;
-use sv_deployments::FolderStore;
+use sv_deployments::{FolderStore, ProgramFilter, ProgramListener, ProgramServlet};
 use sv_listening::{Seeding, run_plainly, run_recorded};
 use sv_program::{CommandFault, FileStore};
 

@@ -11,9 +11,8 @@ use std::io::Write;
 use std::net::Net;
 use std::random::RandomSource;
 use std::time::Clock;
-use sv_application::{ProgramFilter, ProgramListener, ProgramServlet};
 use sv_component::{Filter, Listener, Servlet};
-use sv_deployments::FolderStore;
+use sv_deployments::{FolderStore, ProgramFilter, ProgramListener, ProgramServlet};
 use sv_listening::{Seeding, own_answer};
 use sv_program::{CommandFault, FileStore};
 

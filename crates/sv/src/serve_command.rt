@@ -10,9 +10,8 @@ use std::io::Write;
 use std::net::Net;
 use std::random::RandomSource;
 use std::time::Clock;
-use sv_application::{ProgramFilter, ProgramListener, ProgramServlet};
 use sv_component::{Filter, Listener, Servlet};
-use sv_deployments::FolderStore;
+use sv_deployments::{FolderStore, ProgramFilter, ProgramListener, ProgramServlet};
 use sv_listening::{Seeding, listen_and_serve};
 use sv_program::{CommandFault, FileStore};
 

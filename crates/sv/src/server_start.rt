@@ -5,10 +5,11 @@ ghost use Rattle.sv.specs.ServerStart as spec;
 
 use std::alloc::Global;
 use std::random::RandomSource;
-use sv_application::{ProgramFilter, ProgramListener, ProgramServlet};
 use sv_component::{Filter, Listener, Servlet};
 use sv_container::{Container, let_go, start};
-use sv_deployments::{Configuration, FolderStore, read_deployments};
+use sv_deployments::{
+    Configuration, FolderStore, ProgramFilter, ProgramListener, ProgramServlet, read_deployments,
+};
 use sv_listening::{Seeding, seed_for};
 use sv_program::{CommandFault, FileStore};
 use sv_run::SeededWords;

@@ -4,9 +4,9 @@ ghost use Rattle.std.specs.Prelude.{◌≡◌};
 ghost use Rattle.std.specs.Option.{unwrap_or};
 ghost use Rattle.sv.specs.Site as spec;
 
+use crate::run_options::RunOptions;
 use sv_connection::Limits;
 use sv_listening::Seeding;
-use sv_options::RunOptions;
 
 /// The number of bytes in a mebibyte.
 const MEBIBYTE: u64 = 1_048_576;

@@ -3,14 +3,14 @@
 ghost use Rattle.std.specs.Prelude.{◌≡◌, ◌++◌, codes, flat_map, IfOk, OnOk};
 ghost use Rattle.std.specs.Fmt.{decimal};
 ghost use Rattle.std.specs.String.{string_bytes};
-ghost use Rattle.sv.specs.Asked as spec;
+ghost use Rattle.sv.specs.Replies as spec;
 ghost use Rattle.sv_text.specs.Gives.{GivesAnswer};
 ghost use Rattle.sv_uri.specs.ContextPath.{shown_context};
 
 use std::alloc::{AllocError, Global};
 use sv_context::Context;
-use sv_context_path::HasContextPath;
-use sv_explain::HasPolicy;
+use sv_mapping::HasContextPath;
+use sv_policy::HasPolicy;
 use sv_program::gap_lines;
 use sv_text::{Bytes, NoMemory, Text};
 use sv_uri::shown_context;

@@ -8,14 +8,14 @@ use Rattle.sv_admission.specs.Held.{accessed, session_held}
 use Rattle.sv_admission.specs.Judged.{left_by_login, post_in}
 use Rattle.sv_admission.proofs.Saving.{no_fault}
 use Rattle.sv_admission.specs.Settled.{interrupted, opened_with, saved_in, settled_by, unchanged}
-use Rattle.sv_context_path.specs.Protected.{is_protected}
+use Rattle.sv_mapping.specs.Protected.{is_protected}
 use Rattle.sv_descriptor.specs.declared.login.FormLogin.{FormLogin}
 use Rattle.sv_descriptor.specs.declared.web_app.WebApp.{WebApp}
 use Rattle.sv_login.specs.Login.{has_no_session, login}
 use Rattle.sv_login.specs.Post.{Post, is_login, user_sent}
 use Rattle.sv_login.specs.Session.{living, session_faults, session_number, with_session}
-use Rattle.sv_outcome.specs.declared.outcome.Outcome.{Outcome}
-use Rattle.sv_outcome.specs.declared.outcome.Outcome.TheVariants as outcomes
+use Rattle.sv_login.specs.declared.outcome.Outcome.{Outcome}
+use Rattle.sv_login.specs.declared.outcome.Outcome.TheVariants as outcomes
 use Rattle.sv_policy.specs.Compiled.{Standing}
 use Rattle.sv_realm.specs.declared.user.User.{User}
 use Rattle.sv_session.specs.Calls.{opened, opening_faults, renamed, renaming_faults, with_saved}
@@ -24,8 +24,8 @@ use Rattle.sv_session.specs.Laws.{CallsLeaveNoneExpired}
 use Rattle.sv_session.specs.Runs.{Call, EnterCaller, IsAt, Open, Rename, Save, TakeSaved, Touch, left_by, unless}
 use Rattle.sv_session.specs.Store.{Store}
 use Rattle.sv_session.specs.declared.session_fault.SessionFault.{SessionFault}
-use Rattle.sv_site.specs.FileServlet.{sent_to}
-use Rattle.sv_site.specs.Site.{Content}
+use Rattle.sv_tree.specs.FileServlet.{sent_to}
+use Rattle.sv_tree.specs.SiteOfDescriptor.{Content}
 use Rattle.std.specs.Str.{bytes_eq}
 use Rattle.std.specs.Prelude.{codes, is_none}
 

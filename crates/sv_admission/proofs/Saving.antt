@@ -12,7 +12,7 @@ use Rattle.sv_session.specs.Runs.{unless}
 use Rattle.sv_session.specs.Store.{Store}
 use Rattle.sv_session.specs.declared.session_fault.SessionFault.{SessionFault}
 use Rattle.sv_session.specs.declared.session_fault.SessionFault.TheVariants.{SerialSpent, TooMany}
-use Rattle.sv_site.specs.FileServlet.{sent_to}
+use Rattle.sv_tree.specs.FileServlet.{sent_to}
 use Rattle.sv_text.specs.declared.no_memory.NoMemory.{NoMemory}
 
 pub no_fault : {A : Type 0} (faults : List SessionFault) (done refused : A) → faults ≡ [] → unless faults done refused ≡ done

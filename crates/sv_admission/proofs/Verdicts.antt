@@ -3,8 +3,8 @@ use Rattle.std.proofs.Common.{◌≡◌, Bool, true, false, refl, Option, None, 
 use Rattle.std.specs.Prelude.{is_some}
 use Rattle.std.specs.Option.{option_map}
 use Rattle.sv_constraints.specs.declared.owned_decision.OwnedDecision.{OwnedDecision}
-use Rattle.sv_login.specs.declared.outcome.LoginOutcome.{LoginOutcome}
-use Rattle.sv_outcome.specs.Outcome.{login_outcome, outcome, verdict_outcome}
+use Rattle.sv_login.specs.declared.login_outcome.LoginOutcome.{LoginOutcome}
+use Rattle.sv_login.specs.Outcome.{login_outcome, outcome, verdict_outcome}
 
 -- The verdict decides a message that is no login post.
 pub decided_so : {Pages Store : Type 0} (hidden : Bool) (pages : Option Pages) (step : Pages → LoginOutcome × Store) (decision : OwnedDecision) → hidden ≡ false → is_some pages ≡ true

@@ -1,12 +1,12 @@
 -- The admission of a message to its context, before any component is called. The session that it holds is accessed, it
 -- is judged, and the sessions are settled (Jakarta Servlet 6.0, chapters 7 and 13).
 use Rattle.std.specs.Prelude.{List}
-use Rattle.sv_outcome.specs.declared.outcome.Outcome.{Outcome}
-use Rattle.sv_outcome.specs.OutcomeEntry.{outcome_entry}
+use Rattle.sv_login.specs.declared.outcome.Outcome.{Outcome}
+use Rattle.sv_login.specs.OutcomeEntry.{outcome_entry}
 use Rattle.sv_policy.specs.Compiled.{Standing}
 use Rattle.sv_realm.specs.declared.user.User.{User}
 use Rattle.sv_session.specs.Store.{Store}
-use Rattle.sv_site.specs.Site.{Content}
+use Rattle.sv_tree.specs.SiteOfDescriptor.{Content}
 use Rattle.sv_admission.specs.Answer.{answer_to}
 use Rattle.sv_admission.specs.Asked.{Asked}
 use Rattle.sv_admission.specs.Held.{accessed, session_held}

@@ -3,9 +3,9 @@ use Rattle.std.specs.Prelude.{ℕ, List, ◌++◌, Option, None, codes, unwrap_o
 use Rattle.std.specs.Option.{option_map}
 use Rattle.std.specs.Result.{result_ok}
 use Rattle.sv_descriptor.specs.declared.web_app.WebApp.{WebApp}
-use Rattle.sv_outcome.specs.declared.outcome.Outcome.{Outcome}
-use Rattle.sv_outcome.specs.declared.outcome.Outcome.TheVariants as outcomes
-use Rattle.sv_site.specs.Site.{Content, error_page}
+use Rattle.sv_login.specs.declared.outcome.Outcome.{Outcome}
+use Rattle.sv_login.specs.declared.outcome.Outcome.TheVariants as outcomes
+use Rattle.sv_tree.specs.SiteOfDescriptor.{Content, error_page}
 use Rattle.sv_tree.specs.declared.limits.TheConstants.{NOT_FOUND, SERVICE_UNAVAILABLE}
 use Rattle.sv_uri.specs.Canonical.{canonical}
 use Rattle.sv_uri.specs.LocationField.{location}

@@ -1,6 +1,6 @@
 -- The session that a message holds, and its caller (Jakarta Servlet 6.0, sections 7.1.1, 7.6 and 13.3).
 use Rattle.std.specs.Prelude.{ℕ, List, Option, None, Some, option_and_then}
-use Rattle.sv_cookies.specs.Held.{held}
+use Rattle.sv_login.specs.Held.{held}
 use Rattle.sv_descriptor.specs.declared.web_app.WebApp.{WebApp}
 use Rattle.sv_realm.specs.Realm.{caller_at}
 use Rattle.sv_realm.specs.declared.caller.Caller.{Caller}

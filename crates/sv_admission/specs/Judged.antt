@@ -2,15 +2,15 @@
 use Rattle.std.specs.Prelude.{ℕ, List, Option, codes, find, if◌then◌else◌}
 use Rattle.std.specs.Option.{option_map, option_map_or}
 use Rattle.sv_constraints.specs.Verdict.{verdict}
-use Rattle.sv_context_path.specs.Protected.{is_protected}
+use Rattle.sv_mapping.specs.Protected.{is_protected}
 use Rattle.sv_descriptor.specs.declared.web_app.WebApp.{WebApp}
-use Rattle.sv_head.specs.Fields.{is_named}
-use Rattle.sv_head.specs.declared.field.Field.{Field}
+use Rattle.sv_message.specs.Fields.{is_named}
+use Rattle.sv_message.specs.declared.field.Field.{Field}
 use Rattle.sv_login.specs.Login.{login}
 use Rattle.sv_login.specs.Post.{Post, post_of}
-use Rattle.sv_login.specs.declared.outcome.LoginOutcome.{LoginOutcome}
-use Rattle.sv_outcome.specs.Outcome.{Findings, outcome}
-use Rattle.sv_outcome.specs.declared.outcome.Outcome.{Outcome}
+use Rattle.sv_login.specs.declared.login_outcome.LoginOutcome.{LoginOutcome}
+use Rattle.sv_login.specs.Outcome.{Findings, outcome}
+use Rattle.sv_login.specs.declared.outcome.Outcome.{Outcome}
 use Rattle.sv_policy.specs.Compiled.{Standing}
 use Rattle.sv_realm.specs.declared.user.User.{User}
 use Rattle.sv_session.specs.Store.{Store}

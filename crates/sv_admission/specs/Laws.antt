@@ -7,13 +7,13 @@ use Rattle.sv_admission.specs.Judged.{findings}
 use Rattle.sv_constraints.specs.declared.owned_decision.OwnedDecision.TheVariants as decisions
 use Rattle.sv_constraints.specs.declared.owned_decision.OwnedWhy.{OwnedWhy}
 use Rattle.sv_journal.specs.declared.entry.Entry.TheVariants as entries
-use Rattle.sv_outcome.specs.Laws.{IsOrdinary}
-use Rattle.sv_outcome.specs.Outcome.{Findings}
+use Rattle.sv_login.specs.OutcomeLaws.{IsOrdinary}
+use Rattle.sv_login.specs.Outcome.{Findings}
 use Rattle.sv_policy.specs.Compiled.{Standing}
 use Rattle.sv_realm.specs.declared.user.User.{User}
 use Rattle.sv_session.specs.Expiry.{HasNoneExpired}
 use Rattle.sv_session.specs.Store.{Store}
-use Rattle.sv_site.specs.Site.{Content}
+use Rattle.sv_tree.specs.SiteOfDescriptor.{Content}
 
 -- The findings about a message.
 abbrev pub found_of : Content → Standing → List User → Asked → Store → Findings

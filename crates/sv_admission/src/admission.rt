@@ -11,15 +11,14 @@ use crate::judging::judge;
 use crate::request::Request;
 use crate::settling::{session_of, settle};
 use std::alloc::Global;
-use sv_cookies::held;
-use sv_event::Event;
 use sv_exchange::HeldSession;
 use sv_journal::Entry;
+use sv_login::held;
 use sv_policy::Policy;
 use sv_realm::Realm;
-use sv_session::Sessions;
-use sv_site::Site;
+use sv_session::{Event, Sessions};
 use sv_text::NoMemory;
+use sv_tree::Site;
 
 /// The admission of a message to its context, before any component is called.
 #[derive(Drop)]

@@ -3,18 +3,17 @@
 ghost use Rattle.std.specs.Prelude.{◌≡◌, None, unwrap_or};
 ghost use Rattle.std.specs.Option.{option_copied, option_map};
 ghost use Rattle.sv_text.specs.Gives.{GivesAnswer};
-ghost use Rattle.sv_outcome.specs.OutcomeEntry.{outcome_entry};
+ghost use Rattle.sv_login.specs.OutcomeEntry.{outcome_entry};
 ghost use Rattle.sv_admission.specs.Answer.{answer_to, error_with, page_at, root_of};
 
 use crate::limits::FORBIDDEN;
 use std::alloc::Global;
 use sv_descriptor::FormLogin;
 use sv_journal::{Entry, RefusalCause};
+use sv_login::Outcome;
 use sv_message::{Apart, Rare};
-use sv_outcome::Outcome;
-use sv_site::Site;
 use sv_text::{NoMemory, Text};
-use sv_tree::{NOT_FOUND, SERVICE_UNAVAILABLE};
+use sv_tree::{NOT_FOUND, SERVICE_UNAVAILABLE, Site};
 use sv_uri::fault::CanonFault;
 use sv_uri::path::Canon;
 use sv_uri::{canon, location};

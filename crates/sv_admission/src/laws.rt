@@ -4,7 +4,7 @@ ghost use Rattle.std.specs.Prelude.{◌≡◌};
 ghost use Rattle.sv_admission.specs.Laws.{EntersExactlyByAnOpenVerdict, LeavesNoneExpired};
 
 use crate::limits::{FORBIDDEN, SEE_OTHER};
-use sv_outcome::a_message_enters_exactly_by_an_open_verdict;
+use sv_login::a_message_enters_exactly_by_an_open_verdict;
 use sv_session::no_call_leaves_an_expired_session;
 
 /// The journal entry of a message says that it entered exactly if its path is not hidden, it is no login post, and the

@@ -11,14 +11,13 @@ ghost use Rattle.sv_admission.specs.Settled as spec;
 use crate::judging::caller_held;
 use crate::request::Request;
 use std::alloc::Global;
-use sv_event::Event;
 use sv_exchange::HeldSession;
+use sv_login::Outcome;
 use sv_message::{Message, Rare};
-use sv_outcome::Outcome;
 use sv_realm::{Caller, Realm};
-use sv_session::{SessionFault, Sessions};
-use sv_site::sent_to;
+use sv_session::{Event, SessionFault, Sessions};
 use sv_text::{NoMemory, Text};
+use sv_tree::sent_to;
 
 /// The session of a message, whether the message opened or renamed it, and the event of doing so.
 #[derive(Drop)]

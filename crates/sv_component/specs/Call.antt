@@ -6,7 +6,7 @@ use Rattle.sv_component.specs.declared.answers.Init.{Init}
 use Rattle.sv_component.specs.declared.answers.Step.{Step}
 use Rattle.sv_component.specs.declared.config.Config.{Config}
 use Rattle.sv_exchange.specs.State.{State}
-use Rattle.sv_event.specs.declared.event.Event.{Event}
+use Rattle.sv_session.specs.declared.event.Event.{Event}
 
 pub data Call : Type 0 where
   Inited : Config → Init → Call

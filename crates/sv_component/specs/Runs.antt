@@ -8,7 +8,7 @@ use Rattle.sv_component.specs.Steps.{ComponentSteps}
 use Rattle.sv_journal.specs.Entry.{heard}
 use Rattle.sv_journal.specs.Journal.{Takes}
 use Rattle.sv_journal.specs.declared.entry.Entry.{Entry}
-use Rattle.sv_event.specs.declared.event.Event.{Event}
+use Rattle.sv_session.specs.declared.event.Event.{Event}
 
 -- A call of a servlet or filter, or an event that a listener receives. The component is given by its index in the
 -- descriptor, from 0.

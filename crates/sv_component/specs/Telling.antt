@@ -6,8 +6,8 @@ use Rattle.sv_component.specs.Call.{Call}
 use Rattle.sv_component.specs.Runs.{OfListener, Record, Runs}
 use Rattle.sv_component.specs.World.{World}
 use Rattle.sv_journal.specs.Journal.{JournalState}
-use Rattle.sv_event.specs.declared.event.Event.{Event}
-use Rattle.sv_event.specs.declared.event.Event.TheVariants.{ContextInitialized, ContextDestroyed, RequestInitialized, RequestDestroyed, SessionCreated, SessionDestroyed, SessionIdChanged, AttributeAdded, AttributeReplaced, AttributeRemoved}
+use Rattle.sv_session.specs.declared.event.Event.{Event}
+use Rattle.sv_session.specs.declared.event.Event.TheVariants.{ContextInitialized, ContextDestroyed, RequestInitialized, RequestDestroyed, SessionCreated, SessionDestroyed, SessionIdChanged, AttributeAdded, AttributeReplaced, AttributeRemoved}
 use Rattle.sv_component.specs.Steps.{listening}
 
 -- Whether a context, a request or a session ends.

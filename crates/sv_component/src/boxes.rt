@@ -4,8 +4,8 @@ use crate::answers::{Gate, Init, Step};
 use crate::components::{Filter, Listener, Servlet};
 use crate::config::Config;
 use std::alloc::Global;
-use sv_event::Event;
 use sv_exchange::Exchange;
+use sv_session::Event;
 use sv_text::NoMemory;
 
 impl Servlet for Box<dyn Servlet> {

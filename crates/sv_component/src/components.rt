@@ -3,8 +3,8 @@
 use crate::answers::{Gate, Init, Step};
 use crate::config::Config;
 use std::alloc::Global;
-use sv_event::Event;
 use sv_exchange::Exchange;
+use sv_session::Event;
 use sv_text::NoMemory;
 
 /// A servlet (Jakarta Servlet 6.0, chapter 2). If its author states no step, it may change itself in any way. It

@@ -18,6 +18,6 @@ pub use laws::{runs_are_journalled, runs_are_whole, runs_join, runs_move_compone
 pub use named::Named;
 pub use noted::{gate_answer, init_answer, step_answer};
 pub use standing::Standing;
-pub use sv_event::Event;
 pub use sv_exchange::{Exchange, ExchangeFault};
+pub use sv_session::Event;
 pub use telling::tell;

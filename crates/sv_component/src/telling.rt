@@ -7,8 +7,8 @@ ghost use Rattle.sv_component.specs.Telling.{Tells, is_end, listeners_alone};
 
 use crate::components::Listener;
 use std::alloc::Global;
-use sv_event::Event;
 use sv_journal::{Entry, Journal};
+use sv_session::Event;
 
 /// Notifies each listener once, in notification order (Jakarta Servlet 6.0, sections 11.3.3 and 11.3.4), and journals
 /// each notification. If memory for an entry runs out, the journal breaks, and the listeners are still notified.

@@ -1,9 +1,9 @@
 //! A journal and the answers of calls that may be refused memory, with memory at hand.
 
 use std::alloc::Global;
-use sv_event::Event;
 use sv_journal::{Answer, CallName, Entry, Journal};
 use sv_rows::{Asks, Draft, Strays, cell, hold};
+use sv_session::Event;
 use sv_text::NoMemory;
 
 /// Whether the entry between two others could not be made, and the lines of the journal.

@@ -3,8 +3,7 @@
 use crate::runs::{Sees, add_seen};
 use std::alloc::Global;
 use sv_exchange::Exchange;
-use sv_head::Field;
-use sv_message::{Body, Response};
+use sv_message::{Body, Field, Response};
 use sv_rows::{Asks, Draft, Strays, cell, hold};
 use sv_text::NoMemory;
 use sv_wire::{DateText, write_response};

@@ -3,12 +3,12 @@
 use crate::changes::add_fields_and_body;
 use crate::runs::{Sees, add_seen};
 use std::alloc::Global;
-use sv_classes::{
-    Bad, Bye, ErrorCode, Fail, Go, Gone, Halt, Keep, Log, Mark, Nest, Out, Paths, Stream, Who,
-};
 use sv_component::{
     Config, Event, Exchange, Filter, Init, Listener, Param, Servlet, gate_answer, init_answer,
     step_answer,
+};
+use sv_deployments::{
+    Bad, Bye, ErrorCode, Fail, Go, Gone, Halt, Keep, Log, Mark, Nest, Out, Paths, Stream, Who,
 };
 use sv_journal::Answer;
 use sv_message::Response;

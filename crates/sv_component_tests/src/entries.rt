@@ -2,12 +2,12 @@
 
 use std::alloc::Global;
 use sv_constraints::{Cause, OwnedWhy};
-use sv_event::Event;
 use sv_journal::{Answer, CallName, Entry, RefusalCause};
 use sv_rows::cell;
+use sv_session::Event;
 use sv_text::{NoMemory, Text};
 use sv_uri::fault::PathFault;
-use sv_wire_fault::WireFault;
+use sv_wire::WireFault;
 
 /// The entry of a row: what happened, the context path, and what the entry is made of.
 pub fn entry(alloc: Global, row: &str) -> Result<Entry, NoMemory> {

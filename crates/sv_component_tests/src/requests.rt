@@ -3,8 +3,7 @@
 use http::Method;
 use http_header::{HeaderName, HeaderValue};
 use std::alloc::Global;
-use sv_head::Field;
-use sv_message::{CookieSettings, Message, Target};
+use sv_message::{CookieSettings, Field, Message, Target};
 use sv_text::{Bytes, Listed, NoMemory, Text};
 use sv_uri::path::Canon;
 

@@ -1,9 +1,9 @@
 //! The password of the demonstration's user.
 
 use std::alloc::Global;
+use sv_descriptor::read_users;
 use sv_realm::{Caller, Realm};
 use sv_rows::{Asks, Draft, Strays, cell, hold};
-use sv_settings::read_users;
 use sv_text::NoMemory;
 
 const USERS: &str = r#"[[user]]

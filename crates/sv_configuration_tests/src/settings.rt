@@ -2,9 +2,9 @@
 
 use crate::elements::add_texts;
 use crate::summary::begin;
+use sv_descriptor::{ContextEntry, Server};
 use sv_realm::User;
 use sv_rows::Draft;
-use sv_settings::{ContextEntry, Server};
 
 /// Adds a server.
 pub fn add_server(draft: &mut Draft, server: &Server) {

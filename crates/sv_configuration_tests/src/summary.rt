@@ -3,9 +3,8 @@
 use crate::elements::add_web_app;
 use crate::settings::{add_server, add_user};
 use std::alloc::Global;
-use sv_descriptor::{DescriptorFault, ReadFault, read_descriptor};
+use sv_descriptor::{DescriptorFault, ReadFault, read_descriptor, read_server, read_users};
 use sv_rows::Draft;
-use sv_settings::{read_server, read_users};
 
 /// Adds the elements of a descriptor, or its fault.
 pub fn add_descriptor(draft: &mut Draft, alloc: Global, text: &str) {

@@ -4,7 +4,7 @@ use Rattle.sv_component.specs.Steps.{ComponentSteps}
 use Rattle.sv_context.specs.Conduct.{conduct}
 use Rattle.sv_context.specs.State.{ContextState}
 use Rattle.sv_run.specs.Events.{Alters, AltersAll}
-use Rattle.sv_site.specs.Site.{Content}
+use Rattle.sv_tree.specs.SiteOfDescriptor.{Content}
 
 module _ {S F L : Type 0} (moving : ComponentSteps S F L) where
   path_kept : (before after : ContextState S F L) → Alters (conduct moving) before after

@@ -12,7 +12,7 @@ use Rattle.sv_lifecycle.specs.declared.deployment.Deployment.{Deployment}
 use Rattle.sv_journal.specs.Journal.{JournalState}
 use Rattle.sv_live.specs.Calls.{stop_calls}
 use Rattle.sv_live.specs.World.{world}
-use Rattle.sv_site.specs.Site.{Content}
+use Rattle.sv_tree.specs.SiteOfDescriptor.{Content}
 
 module _ {S F L : Type 0} (moving : ComponentSteps S F L) where
   one_quiet : (context : ContextState S F L) (before after : JournalState) (back : Deployment S F L) → Undeploys moving (without_sessions context) before back after

@@ -2,8 +2,8 @@
 use Rattle.std.proofs.Common.{◌≡◌, ℕ, ◌+◌, ◌<◌, true, List, [], ◌∷◌, ◌++◌, map, length, get_or, take, drop, sym, ap, ◌∙◌, append_assoc}
 use Rattle.std.proofs.lemmas.List.{take_more, take-append-drop, map-append}
 use Rattle.sv_container.specs.Paths.{IsRepeatedFirst}
-use Rattle.sv_schema.proofs.Differing.{Distinct, names_before}
-use Rattle.sv_schema.specs.Table.{is_among}
+use Rattle.sv_descriptor.proofs.Differing.{Distinct, names_before}
+use Rattle.sv_descriptor.specs.Table.{is_among}
 
 pub repeated_at : {X : Type 0} (f : X → List ℕ) (items : List X) (names : List (List ℕ)) (i : ℕ) (item : X)
     → i < length items → item ≡ get_or items i item → Distinct f items names i → is_among names (f item) ≡ true

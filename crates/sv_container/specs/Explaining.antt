@@ -5,9 +5,9 @@ use Rattle.sv_context.specs.Several.{DeploysAll}
 use Rattle.sv_context.specs.Deployment.{declared_policy}
 use Rattle.sv_context.specs.State.{ContextState}
 use Rattle.sv_lifecycle.specs.declared.deployment.Deployment.{Deployment}
-use Rattle.sv_explain.specs.Context.{policy}
-use Rattle.sv_explain.specs.Explanation as explanation
-use Rattle.sv_explain.specs.declared.context.ContextPolicy.{ContextPolicy}
+use Rattle.sv_policy.specs.Context.{policy}
+use Rattle.sv_policy.specs.Explanation as explanation
+use Rattle.sv_policy.specs.declared.context.ContextPolicy.{ContextPolicy}
 use Rattle.sv_journal.specs.Journal.{JournalState}
 
 -- contexts by their paths, their current constraints and their users

@@ -3,8 +3,8 @@ use Rattle.std.specs.Prelude.{◌≡◌, ℕ, ◌≤◌, true, false, List, [], 
 use Rattle.sv_container.specs.declared.limits.TheConstants.{MAX_CONTEXTS}
 use Rattle.sv_container.specs.declared.new_fault.NewCode.{NewCode}
 use Rattle.sv_container.specs.declared.new_fault.NewCode.TheVariants.{DuplicateContext, TooManyContexts, PartsMismatch, InitFailed, NoMemory}
-use Rattle.sv_schema.specs.Names.{repeats}
-use Rattle.sv_schema.specs.Table.{is_among}
+use Rattle.sv_descriptor.specs.Names.{repeats}
+use Rattle.sv_descriptor.specs.Table.{is_among}
 
 -- the first path of a list that repeats an earlier one
 pub record IsRepeatedFirst (paths : List (List ℕ)) (path : List ℕ) : Type 0 where

@@ -5,7 +5,7 @@ use Rattle.sv_container.specs.Container.{state_of}
 use Rattle.sv_container.specs.Stopping.{ShutsDown}
 use Rattle.sv_context.specs.State.{ContextState}
 use Rattle.sv_context.specs.Theory.{theory}
-use Rattle.sv_host.specs.Host.{StepsSo}
+use Rattle.sv_run.specs.Host.{StepsSo}
 use Rattle.sv_journal.specs.Journal.{JournalState}
 use Rattle.sv_live.specs.declared.parts.Parts.{Parts}
 use Rattle.sv_run.specs.Reacting.{Reacting}

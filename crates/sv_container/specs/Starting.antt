@@ -10,7 +10,7 @@ use Rattle.sv_context.specs.Several.{DeploysAll, FailsAll, paths_of}
 use Rattle.sv_context.specs.State.{ContextState}
 use Rattle.sv_context.specs.declared.deploy_fault.DeployAllFault.{DeployAllFault}
 use Rattle.sv_lifecycle.specs.declared.deployment.Deployment.{Deployment}
-use Rattle.sv_host.specs.Host.{opening}
+use Rattle.sv_run.specs.Host.{opening}
 use Rattle.sv_journal.specs.Journal.{JournalState}
 
 module _ {S F L : Type 0} (moving : ComponentSteps S F L) where

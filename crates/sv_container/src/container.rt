@@ -3,11 +3,11 @@
 ghost use Rattle.std.specs.Prelude.{length, map};
 ghost use Rattle.sv_container.specs.Paths.{ArePermitted};
 ghost use Rattle.sv_context.specs.Room.{HasRoomToStop};
-ghost use Rattle.sv_host.specs.Host.{state_of};
+ghost use Rattle.sv_run.specs.Host.{state_of};
 
 use std::alloc::Global;
 use sv_context::{Context, StopRoom};
-use sv_host::Host;
+use sv_run::Host;
 
 /// Started contexts and their connections, with a source of random words. The context paths differ. The owner must shut
 /// the container down.

@@ -5,7 +5,7 @@ ghost use Rattle.sv_component.specs.Steps.{steps_of};
 ghost use Rattle.sv_container.specs.Container.{state_of};
 ghost use Rattle.sv_context.specs.Conduct.{conduct};
 ghost use Rattle.sv_context.specs.Theory.{theory};
-ghost use Rattle.sv_host.specs.Host.{StepsSo};
+ghost use Rattle.sv_run.specs.Host.{StepsSo};
 ghost use Rattle.sv_run.specs.Connections.{awaited_in};
 ghost use Rattle.sv_run.specs.Events.{AltersAll};
 ghost use Rattle.sv_run.specs.Seen.{happening_of};

@@ -4,12 +4,12 @@ ghost use Rattle.std.specs.Prelude.{◌≡◌};
 ghost use Rattle.std.specs.Option.{option_copied};
 ghost use Rattle.sv_container.specs.Container.{state_of};
 ghost use Rattle.sv_container.specs.Explaining.{explanation_of};
-ghost use Rattle.sv_explain.specs.Fault.{explain_fault};
+ghost use Rattle.sv_policy.specs.Fault.{explain_fault};
 ghost use Rattle.sv_text.specs.Gives.{Gives};
 
 use crate::container::Container;
 use sv_context::Context;
-use sv_explain::{ExplainFault, Explanation, explain_request};
+use sv_policy::{ExplainFault, Explanation, explain_request};
 
 impl<S, F, L, W> Container<S, F, L, W> {
     /// Returns the contexts in their current state, in the order in which they were deployed.

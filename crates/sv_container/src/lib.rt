@@ -28,4 +28,4 @@ pub use running::Running;
 pub use script::run_script;
 pub use seeded_start::start;
 pub use sv_context::{Shutdown, let_go};
-pub use sv_explain::{ExplainFault, Explanation, HiddenCause};
+pub use sv_policy::{ExplainFault, Explanation, HiddenCause};

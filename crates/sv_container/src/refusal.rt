@@ -3,13 +3,13 @@
 ghost use Rattle.std.specs.Prelude.{◌≡◌, false, [], IfOk, MatchOption, MatchResult};
 ghost use Rattle.sv_container.specs.Paths.{ArePermitted, Forbids, IsRepeatedFirst};
 ghost use Rattle.sv_context.specs.Several.{paths_of};
-ghost use Rattle.sv_schema.specs.Names.{repeats};
+ghost use Rattle.sv_descriptor.specs.Names.{repeats};
 
 use crate::limits::MAX_CONTEXTS;
 use crate::new_fault::{NewCode, NewFault};
 use std::alloc::Global;
+use sv_descriptor::Names;
 use sv_lifecycle::Deployment;
-use sv_schema::Names;
 use sv_text::{NoMemory, Text};
 
 /// The reason why nothing is started, and the context path that goes with it.

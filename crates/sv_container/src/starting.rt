@@ -8,7 +8,7 @@ ghost use Rattle.sv_container.specs.Paths.{ArePermitted};
 ghost use Rattle.sv_container.specs.Starting.{Starts};
 ghost use Rattle.sv_context.specs.Room.{HasRoomToStop, IsReady};
 ghost use Rattle.sv_context.specs.Several.{paths_of};
-ghost use Rattle.sv_host.specs.Host.{opening};
+ghost use Rattle.sv_run.specs.Host.{opening};
 
 use crate::container::Container;
 use crate::new_fault::{NewCode, NewFault};
@@ -16,10 +16,10 @@ use crate::refusal::{Refusal, no_path, permit};
 use std::alloc::Global;
 use sv_component::{Filter, Listener, Servlet};
 use sv_context::{Context, DeployAllFault, Room, StopRoom, deploy_all};
-use sv_context_index::ContextIndex;
-use sv_host::Host;
 use sv_journal::Journal;
 use sv_lifecycle::{Deployment, StartCode};
+use sv_mapping::ContextIndex;
+use sv_run::Host;
 use sv_text::{NoMemory, Text};
 
 impl<S: Servlet, F: Filter, L: Listener, W: Drop> Container<S, F, L, W> {

@@ -5,15 +5,15 @@ ghost use Rattle.std.specs.Prelude.{◌≡◌, map};
 ghost use Rattle.sv_container.specs.Container.{state_of};
 ghost use Rattle.sv_container.specs.Stopping.{ShutsDown, contexts_to_stop, journal_to_stop};
 ghost use Rattle.sv_context.specs.Forgetting.{without_sessions};
-ghost use Rattle.sv_host.specs.Host as hosts;
+ghost use Rattle.sv_run.specs.Host as hosts;
 
 use crate::container::Container;
 use std::alloc::Global;
 use sv_component::{Filter, Listener, Servlet};
 use sv_context::{Context, Shutdown, undeploy_all};
-use sv_context_path::HasContextPath;
-use sv_host::Host;
 use sv_journal::Journal;
+use sv_mapping::HasContextPath;
+use sv_run::Host;
 use sv_text::NoMemory;
 
 impl<S: Servlet, F: Filter, L: Listener, W: Drop> Container<S, F, L, W> {

@@ -3,8 +3,8 @@
 use crate::counted::{Counted, Counts};
 use crate::deployments::{deployments, shown};
 use std::alloc::Global;
-use sv_application::{ProgramFilter, ProgramListener, ProgramServlet};
 use sv_container::{Container, NewCode, NewFault};
+use sv_deployments::{ProgramFilter, ProgramListener, ProgramServlet};
 use sv_journal::Journal;
 use sv_rows::{Draft, cell};
 use sv_run::CountedWords;

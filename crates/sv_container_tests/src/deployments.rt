@@ -4,14 +4,13 @@ use crate::counted::{Counted, Counts};
 use crate::descriptors::descriptor_text;
 use crate::results::{beside, both, made, push};
 use std::alloc::Global;
-use sv_application::{ProgramFilter, ProgramListener, ProgramServlet, parts_of};
 use sv_component::Named;
-use sv_descriptor::{Descriptor, read_descriptor};
+use sv_deployments::{ProgramFilter, ProgramListener, ProgramServlet, parts_of};
+use sv_descriptor::{Descriptor, read_descriptor, read_users};
 use sv_files::Files;
 use sv_lifecycle::Deployment;
 use sv_live::Parts;
 use sv_realm::{MAX_USERS, Realm};
-use sv_settings::read_users;
 use sv_text::{NoMemory, Text};
 
 /// What a context is deployed with, whose components are of the program's own classes, and counted.

@@ -3,9 +3,8 @@
 use std::alloc::Global;
 use std::fmt::Display;
 use sv_constraints::{Auth, Collection, Constraint, Methods, Rules, Transport};
-use sv_explain::{ContextPolicy, explain_parts};
 use sv_mapping::Pattern;
-use sv_policy::Policy;
+use sv_policy::{ContextPolicy, Policy, explain_parts};
 use sv_realm::{MAX_USERS, Realm};
 use sv_text::{Listed, NoMemory, Text};
 

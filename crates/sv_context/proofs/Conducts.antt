@@ -11,7 +11,7 @@ use Rattle.sv_journal.specs.Journal.{JournalState, new_journal, with_entry}
 use Rattle.sv_journal.specs.declared.entry.Entry.{Entry}
 use Rattle.sv_run.specs.Contexts.{Request}
 use Rattle.sv_run.specs.Effect.{noting, whole}
-use Rattle.sv_site.specs.Site.{site_of}
+use Rattle.sv_tree.specs.SiteOfDescriptor.{site_of}
 use Rattle.sv_text.specs.declared.no_memory.NoMemory.{NoMemory}
 use Rattle.sv_message.specs.declared.response.Response.{Response}
 use Rattle.sv_context.specs.Conduct.{IsMoved, asked_of, conduct, unnoted}

@@ -19,7 +19,7 @@ use Rattle.sv_lifecycle.specs.declared.start_fault.StartFault.{StartFault}
 use Rattle.sv_policy.specs.Compiled.{Standing}
 use Rattle.sv_realm.specs.declared.user.User.{User}
 use Rattle.sv_session.specs.Store.{Store}
-use Rattle.sv_site.specs.Site.{Content}
+use Rattle.sv_tree.specs.SiteOfDescriptor.{Content}
 use Rattle.sv_context.specs.Deployment.{Deploys, Undeploys, content_of, declared_policy, deployed, no_sessions}
 use Rattle.sv_context.specs.State.{AreComponentsOf, context_of, in_service, world_of}
 use Rattle.sv_lifecycle.specs.declared.deployment.Deployment.{Deployment}

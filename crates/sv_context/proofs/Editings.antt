@@ -9,7 +9,7 @@ use Rattle.sv_policy.specs.declared.edit.Edit.{Edit}
 use Rattle.sv_policy.specs.declared.edit_fault.EditFault.{EditFault}
 use Rattle.sv_realm.specs.declared.user.User.{User}
 use Rattle.sv_session.specs.Store.{Store}
-use Rattle.sv_site.specs.Site.{Content}
+use Rattle.sv_tree.specs.SiteOfDescriptor.{Content}
 
 -- A refused edit leaves the constraints unchanged.
 policy_stays : (old new : Standing) (answer : Result ℕ EditFault) (fault : EditFault) (outcome : Result (ℕ × Standing) EditFault)

@@ -21,7 +21,7 @@ use Rattle.sv_session.specs.declared.ended_session.EndedSession.{EndedSession}
 use Rattle.sv_context.specs.Expiry.{Expires, ends_told}
 use Rattle.sv_policy.specs.Compiled.{Standing}
 use Rattle.sv_realm.specs.declared.user.User.{User}
-use Rattle.sv_site.specs.Site.{Content}
+use Rattle.sv_tree.specs.SiteOfDescriptor.{Content}
 use Rattle.sv_context.specs.State.{AreComponentsOf, AreCounted, ContextState, IsSameDeployment, context_of, world_of}
 
 -- Contexts with the same parts are equal.

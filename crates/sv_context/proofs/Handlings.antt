@@ -12,14 +12,14 @@ use Rattle.sv_exchange.specs.State as exchanges
 use Rattle.sv_exchange.specs.declared.held_session.HeldSession.{HeldSession}
 use Rattle.sv_journal.specs.Journal.{JournalState, Takes, with_entry}
 use Rattle.sv_journal.specs.declared.entry.Entry.{Entry}
-use Rattle.sv_event.specs.declared.event.Event.{Event}
+use Rattle.sv_session.specs.declared.event.Event.{Event}
 use Rattle.sv_live.specs.Standing.{LiveState, live_world}
 use Rattle.sv_policy.specs.Compiled.{Standing}
 use Rattle.sv_realm.specs.declared.user.User.{User}
 use Rattle.sv_dispatch.specs.Did.{seen}
 use Rattle.sv_dispatch.specs.ServedBy.{ServedBy}
 use Rattle.sv_session.specs.Store.{Store}
-use Rattle.sv_site.specs.Site.{Content, site_of}
+use Rattle.sv_tree.specs.SiteOfDescriptor.{Content, site_of}
 use Rattle.sv_text.specs.declared.no_memory.NoMemory.{NoMemory}
 use Rattle.sv_tree.specs.Site.{Site}
 use Rattle.sv_uri.specs.declared.path.Canon.{Canon}

@@ -14,8 +14,8 @@ use Rattle.sv_exchange.specs.Changing.{Change, SetHeader, SetStatus, Write}
 use Rattle.sv_exchange.specs.State as exchanges
 use Rattle.sv_exchange.specs.declared.exchange_fault.ExchangeFault.{ExchangeFault}
 use Rattle.sv_journal.specs.Journal.{JournalState}
-use Rattle.sv_event.specs.declared.event.Event.{Event}
-use Rattle.sv_event.specs.declared.event.Event.TheVariants.{RequestDestroyed, RequestInitialized}
+use Rattle.sv_session.specs.declared.event.Event.{Event}
+use Rattle.sv_session.specs.declared.event.Event.TheVariants.{RequestDestroyed, RequestInitialized}
 use Rattle.sv_live.specs.Calling.{StandsAsBefore}
 use Rattle.sv_live.specs.Standing.{LiveState, live_world}
 use Rattle.sv_component.specs.Telling.{told}

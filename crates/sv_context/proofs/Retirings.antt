@@ -18,8 +18,8 @@ use Rattle.sv_context.specs.Expiry.{ends_told}
 use Rattle.sv_context.specs.Retiring.{EndsSo, Retires, calls_of, gone_at, is_destroy_of_filter}
 use Rattle.sv_context.specs.Retirement.{ends_none, retires_join, retires_none}
 use Rattle.sv_exchange.specs.Changing.{SetHeader, SetStatus}
-use Rattle.sv_event.specs.declared.event.Event.{Event}
-use Rattle.sv_event.specs.declared.event.Event.TheVariants.{RequestDestroyed, RequestInitialized}
+use Rattle.sv_session.specs.declared.event.Event.{Event}
+use Rattle.sv_session.specs.declared.event.Event.TheVariants.{RequestDestroyed, RequestInitialized}
 use Rattle.sv_live.specs.SessionEnds.{end_events}
 use Rattle.sv_live.specs.Standing as lifecycle
 use Rattle.sv_component.specs.Telling.{told}

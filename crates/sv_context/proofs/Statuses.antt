@@ -14,8 +14,8 @@ use Rattle.sv_exchange.specs.Changing.{Change, SetStatus, SetHeader, AddHeader, 
 use Rattle.sv_exchange.specs.Sessions.{ended, has_session, logged_out, on_session, opened, session_of, session_value, with_attribute, without_attribute, without_caller}
 use Rattle.sv_exchange.specs.declared.exchange_fault.ExchangeFault.{ExchangeFault}
 use Rattle.sv_exchange.specs.declared.limits.TheConstants.{LEAST_STATUS, MAX_STATUS, NOT_MODIFIED, RESET_CONTENT}
-use Rattle.sv_event.specs.declared.event.Event.{Event}
-use Rattle.sv_event.specs.declared.event.Event.TheVariants.{RequestDestroyed, RequestInitialized}
+use Rattle.sv_session.specs.declared.event.Event.{Event}
+use Rattle.sv_session.specs.declared.event.Event.TheVariants.{RequestDestroyed, RequestInitialized}
 use Rattle.sv_mapping.specs.declared.kind.Kind.{Kind}
 use Rattle.sv_mapping.specs.declared.kind.Kind.TheVariants as kinds
 use Rattle.sv_tree.proofs.Keeping.{FilterSteps, Keeps, Opens, Steps, away_same, becomes_keeps, gives_keeps, keeps_keeps, then_keeps, tree_keeps, wants_keeps, within_keeps}

@@ -12,7 +12,7 @@ use Rattle.sv_live.specs.World.{world}
 use Rattle.sv_lifecycle.specs.declared.start_fault.StartFault.{StartFault}
 use Rattle.sv_policy.specs.Compiled.{Standing, compiled}
 use Rattle.sv_session.specs.Store.{Store, empty_store}
-use Rattle.sv_site.specs.Site.{Content}
+use Rattle.sv_tree.specs.SiteOfDescriptor.{Content}
 use Rattle.sv_context.specs.State.{ContextState, context_of, in_service, world_of}
 use Rattle.sv_context.specs.declared.deploy_fault.DeployFault.{DeployFault}
 use Rattle.sv_lifecycle.specs.declared.deployment.Deployment.{Deployment}

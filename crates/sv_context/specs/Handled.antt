@@ -5,11 +5,11 @@ use Rattle.sv_admission.specs.Asked.{Asked}
 use Rattle.sv_admission.specs.declared.admission.Admission.{Admission}
 use Rattle.sv_component.specs.Runs.{IsRun, Record}
 use Rattle.sv_component.specs.Steps.{ComponentSteps}
-use Rattle.sv_context_path.specs.Within.{path_within}
+use Rattle.sv_mapping.specs.Within.{path_within}
 use Rattle.sv_exchange.specs.Beginning.{begun, finished}
 use Rattle.sv_exchange.specs.State as exchanges
 use Rattle.sv_journal.specs.Journal.{JournalState, Takes, with_entry}
-use Rattle.sv_site.specs.Site.{site_of}
+use Rattle.sv_tree.specs.SiteOfDescriptor.{site_of}
 use Rattle.sv_tree.specs.State.{State}
 use Rattle.sv_uri.specs.declared.path.Canon.{Canon}
 use Rattle.sv_message.specs.declared.response.Response.{Response}

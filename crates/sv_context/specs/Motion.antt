@@ -5,7 +5,7 @@ use Rattle.sv_component.proofs.Running.{runs_join}
 use Rattle.sv_component.specs.Runs.{IsRun}
 use Rattle.sv_component.specs.Steps.{ComponentSteps}
 use Rattle.sv_run.specs.Lawful.{EditsAlone, IsMotion, KeepsPath}
-use Rattle.sv_site.specs.Site.{Content}
+use Rattle.sv_tree.specs.SiteOfDescriptor.{Content}
 use Rattle.sv_context.specs.Conduct.{IsMoved, conduct, unnoted}
 use Rattle.sv_context.specs.Retirement.{retires_join, retires_none}
 use Rattle.sv_context.specs.State.{ContextState, IsSameDeployment, world_of}

@@ -6,7 +6,7 @@ use Rattle.sv_exchange.specs.Beginning.{finished}
 use Rattle.sv_exchange.specs.State as exchanges
 use Rattle.sv_journal.specs.Journal.{JournalState, Takes, with_entry}
 use Rattle.sv_journal.specs.declared.entry.Entry.{Entry}
-use Rattle.sv_event.specs.declared.event.Event.{Event}
+use Rattle.sv_session.specs.declared.event.Event.{Event}
 use Rattle.sv_live.specs.Standing.{LiveState}
 use Rattle.sv_dispatch.specs.ServedBy.{ServedBy}
 use Rattle.sv_session.specs.Store.{Store}

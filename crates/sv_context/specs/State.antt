@@ -11,7 +11,7 @@ use Rattle.sv_live.specs.declared.place.Place.{Place}
 use Rattle.sv_policy.specs.Compiled as policies
 use Rattle.sv_realm.specs.declared.user.User.{User}
 use Rattle.sv_session.specs.Store.{Store}
-use Rattle.sv_site.specs.Site.{Content}
+use Rattle.sv_tree.specs.SiteOfDescriptor.{Content}
 
 pub record ContextState (S F L : Type 0) : Type 0 where
   -- The context's path, its descriptor and its files.

@@ -4,7 +4,7 @@ ghost use Rattle.sv_component.specs.Steps.{steps_of};
 ghost use Rattle.std.specs.Prelude.{◌≡◌, Err, IfOk};
 ghost use Rattle.sv_descriptor.specs.WellFormed.{IsWellFormed};
 ghost use Rattle.sv_journal.specs.Journal.{JournalState};
-ghost use Rattle.sv_site.specs.ServletMappings.{mappings_of};
+ghost use Rattle.sv_tree.specs.ServletMappings.{mappings_of};
 ghost use Rattle.sv_context.specs.Deployment.{Deploys, Undeploys, declared_policy, no_sessions};
 
 use crate::context::Context;
@@ -21,8 +21,8 @@ use sv_lifecycle::{Deployment, StartCode, StartFault, fits};
 use sv_live::Live;
 use sv_policy::Policy;
 use sv_session::Sessions;
-use sv_site::{ServletPatterns, Site};
 use sv_text::NoMemory;
+use sv_tree::{ServletPatterns, Site};
 
 impl<S: Servlet, F: Filter, L: Listener> Context<S, F, L> {
     /// Deploys a context: starts its components, with no session yet (Jakarta Servlet 6.0, sections 2.3.1, 6.2.1 and

@@ -3,8 +3,8 @@
 use crate::context::Context;
 use std::alloc::Global;
 use sv_component::{Filter, Listener, Servlet};
-use sv_context_path::HasContextPath;
 use sv_journal::Journal;
+use sv_mapping::HasContextPath;
 use sv_message::{Message, Response};
 use sv_policy::{Edit, EditFault};
 use sv_text::NoMemory;

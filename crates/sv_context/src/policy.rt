@@ -1,8 +1,7 @@
 //! The policy and the users of a context, for explanations.
 
 use crate::context::Context;
-use sv_explain::HasPolicy;
-use sv_policy::Policy;
+use sv_policy::{HasPolicy, Policy};
 use sv_realm::Realm;
 
 impl<S, F, L> HasPolicy for Context<S, F, L> {

@@ -15,7 +15,7 @@ ghost use Rattle.sv_live.specs.World.{HasSameCounts};
 ghost use Rattle.sv_policy.specs.Compiled.{Standing};
 ghost use Rattle.sv_realm.specs.declared.user.User.{User};
 ghost use Rattle.sv_session.specs.Store.{Store};
-ghost use Rattle.sv_site.specs.Site.{site_of};
+ghost use Rattle.sv_tree.specs.SiteOfDescriptor.{site_of};
 ghost use Rattle.sv_tree.specs.Served.{Served, ShowsError};
 ghost use Rattle.sv_tree.specs.Site.{Site as SiteData};
 ghost use Rattle.sv_tree.specs.Telling.{hears};
@@ -35,8 +35,8 @@ use sv_live::Live;
 use sv_mapping::Kind;
 use sv_message::Response;
 use sv_session::Sessions;
-use sv_site::Site;
 use sv_text::NoMemory;
+use sv_tree::Site;
 use sv_uri::path::Canon;
 
 /// The part of a context that answers requests: its site, its started components, and an exchange that serves one

@@ -1,6 +1,6 @@
 -- The configuration of a server, from the results of its parts.
 use Rattle.std.proofs.Common.{◌≡◌, ℕ, List, [], ◌∷◌, map, Option, Some, None, MatchOption, Result, Ok, Err, IsErrAnd, refl, ap}
-use Rattle.sv_settings.specs.declared.server.Server.{Server}
+use Rattle.sv_descriptor.specs.declared.server.Server.{Server}
 use Rattle.sv_program.specs.CommandFault.{command_fault}
 use Rattle.sv_program.specs.Configuration.{Step, each, server_in}
 use Rattle.sv_program.specs.ConfigurationFiles.{ReadsContexts, ReadsServer}

@@ -2,7 +2,7 @@
 use Rattle.std.specs.Prelude.{◌≡◌, ℕ, List, map, flat_map, Option, Result, Ok}
 use Rattle.sv_text.specs.Gives.{Gives}
 use Rattle.sv_text.specs.Steps.{◌>>=◌}
-use Rattle.sv_application.specs.Parts.{seen}
+use Rattle.sv_deployments.specs.Parts.{seen}
 use Rattle.sv_program.specs.CommandFault.{command_fault, UnlessNoMemory}
 use Rattle.sv_program.specs.Configuration.{Step, each, server_in}
 use Rattle.sv_program.specs.ConfigurationFiles.{contexts_in, readings}

@@ -1,11 +1,11 @@
 -- The deployments of a server's contexts.
 use Rattle.std.specs.Prelude.{ℕ, List, map, Option, Ok, Err}
 use Rattle.sv_text.specs.Steps.{◌>>=◌}
-use Rattle.sv_application.specs.Parts.{Components, Made, components, components_of}
-use Rattle.sv_application.specs.Results.{both}
-use Rattle.sv_application.specs.declared.program_filter.ProgramFilter.{ProgramFilter}
-use Rattle.sv_application.specs.declared.program_listener.ProgramListener.{ProgramListener}
-use Rattle.sv_application.specs.declared.program_servlet.ProgramServlet.{ProgramServlet}
+use Rattle.sv_deployments.specs.Parts.{Components, Made, components, components_of}
+use Rattle.sv_deployments.specs.Results.{both}
+use Rattle.sv_deployments.specs.declared.program_filter.ProgramFilter.{ProgramFilter}
+use Rattle.sv_deployments.specs.declared.program_listener.ProgramListener.{ProgramListener}
+use Rattle.sv_deployments.specs.declared.program_servlet.ProgramServlet.{ProgramServlet}
 use Rattle.sv_lifecycle.specs.declared.deployment.Deployment as context
 use Rattle.sv_descriptor.specs.declared.web_app.WebApp.{WebApp}
 use Rattle.sv_files.specs.declared.file.File.{File}

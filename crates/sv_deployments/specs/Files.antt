@@ -4,10 +4,10 @@ use Rattle.std.specs.Option.{ok_or}
 use Rattle.sv_text.specs.Steps.{◌>>=◌}
 use Rattle.sv_files.specs.Fault.{files_of}
 use Rattle.sv_files.specs.declared.file.File.{File}
-use Rattle.sv_settings.specs.declared.server.ContextEntry.{ContextEntry}
+use Rattle.sv_descriptor.specs.declared.server.ContextEntry.{ContextEntry}
 use Rattle.sv_program.specs.Configuration.{Step}
 use Rattle.sv_program.specs.declared.command_fault.CommandFault.TheVariants as fault
-use Rattle.sv_application.specs.Files.{told}
+use Rattle.sv_deployments.specs.FilesFault.{told}
 
 -- the files in the folder of this name; none if the name is empty
 abbrev pub listed_files : List ℕ → Option (List File) → Step (List File)

@@ -1,3 +1,11 @@
+pub mod Counting
+pub mod ClassFault
+pub mod FilesFault
+pub mod FilterClasses
+pub mod ListenerClasses
+pub mod Parts
+pub mod Results
+pub mod ServletClasses
 pub mod Configuration
 pub mod Deployments
 pub mod Files

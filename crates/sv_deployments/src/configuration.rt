@@ -7,8 +7,8 @@ use crate::deploying::{ProgramDeployment, deployments_in};
 use crate::folder_store::FolderStore;
 use crate::folders::read_folders;
 use std::alloc::Global;
+use sv_descriptor::Server;
 use sv_program::{CommandFault, FileStore, read_contexts, read_server_file};
-use sv_settings::Server;
 use sv_text::Bytes;
 
 /// The configuration in a server file.

@@ -1,24 +1,21 @@
 //! The deployments of a server's contexts.
 
 ghost use Rattle.sv_text.specs.Gives.{Gives};
-ghost use Rattle.sv_application.specs.Parts.{components, seen};
+ghost use Rattle.sv_deployments.specs.Parts.{components, seen};
 ghost use Rattle.sv_program.specs.CommandFault.{command_fault};
 ghost use Rattle.sv_program.specs.Configuration.{each};
 ghost use Rattle.sv_deployments.specs.Deployments as spec;
 ghost use Rattle.sv_deployments.specs.Files.{files_in, listed_files};
 
 use crate::folders::FoundContext;
+use crate::{ClassFault, ProgramFilter, ProgramListener, ProgramServlet, both, files_of, parts_of};
 use std::alloc::Global;
-use sv_application::{
-    ClassFault, ProgramFilter, ProgramListener, ProgramServlet, both, files_of, parts_of,
-};
-use sv_descriptor::Descriptor;
+use sv_descriptor::{ContextEntry, Descriptor};
 use sv_files::{File, Files};
 use sv_lifecycle::Deployment;
 use sv_live::Parts;
 use sv_program::{CommandFault, ContextTexts, descriptor_in, realm_in};
 use sv_realm::Realm;
-use sv_settings::ContextEntry;
 use sv_text::{Listed, Text};
 
 /// The deployment of a context whose components are of the program's own classes.

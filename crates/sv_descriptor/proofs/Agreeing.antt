@@ -4,12 +4,12 @@ use Rattle.std.specs.List.{list_all}
 use Rattle.std.proofs.lemmas.Option.{IfSome_then}
 use Rattle.std.proofs.lemmas.List.Sums.{AllPass-from_list_all}
 use Rattle.toml.specs.Data.{Members}
-use Rattle.sv_schema.specs.Fault.{check}
-use Rattle.sv_schema.specs.Names.{repeats}
-use Rattle.sv_schema.specs.Table.{is_among}
-use Rattle.sv_schema.specs.declared.fault.FaultCode.TheVariants.{DuplicatePattern, UnknownServlet, UnknownFilter, DuplicateName}
-use Rattle.sv_schema.proofs.Differing.{Differ-repeats, Contains-is_among}
-use Rattle.sv_schema.proofs.Yields.{bind-Ok, check-Ok}
+use Rattle.sv_descriptor.specs.Fault.{check}
+use Rattle.sv_descriptor.specs.Names.{repeats}
+use Rattle.sv_descriptor.specs.Table.{is_among}
+use Rattle.sv_descriptor.specs.declared.fault.FaultCode.TheVariants.{DuplicatePattern, UnknownServlet, UnknownFilter, DuplicateName}
+use Rattle.sv_descriptor.proofs.Differing.{Differ-repeats, Contains-is_among}
+use Rattle.sv_descriptor.proofs.Yields.{bind-Ok, check-Ok}
 use Rattle.sv_descriptor.specs.Agreement.{elements_agree, names_differ, servlet_mappings_fit, servlet_names, filter_names, servlet_patterns, is_known_servlet}
 use Rattle.sv_descriptor.specs.Descriptor.{descriptor}
 use Rattle.sv_descriptor.specs.WebApp.{web_app}

@@ -10,13 +10,13 @@ use Rattle.sv_constraints.specs.declared.constraint.Auth.TheVariants as auth
 use Rattle.sv_constraints.specs.declared.constraint.Transport.TheVariants as transport
 use Rattle.sv_constraints.specs.declared.constraint.Collection.{Collection}
 use Rattle.sv_constraints.specs.declared.constraint.Constraint.{Constraint}
-use Rattle.sv_schema.specs.Fault.{check}
-use Rattle.sv_schema.specs.ListOf.{list_items, list_of_texts}
-use Rattle.sv_schema.specs.Table.{optional, optional_or, required}
-use Rattle.sv_schema.specs.Value.{is_table, is_text, name, table_of, text_of}
-use Rattle.sv_schema.specs.declared.fault.FaultCode.TheVariants.{BothMethodLists}
-use Rattle.sv_schema.specs.declared.limits.TheConstants.{MAX_LIST_ITEMS}
-use Rattle.sv_schema.proofs.Yields.{Yields, bind-Ok, holds-Ok, list_of-short, table_of-yields, list_of-yields, list_items-Ok, required-Ok, optional-Ok, optional_or-Ok}
+use Rattle.sv_descriptor.specs.Fault.{check}
+use Rattle.sv_descriptor.specs.ListOf.{list_items, list_of_texts}
+use Rattle.sv_descriptor.specs.Table.{optional, optional_or, required}
+use Rattle.sv_descriptor.specs.Value.{is_table, is_text, name, table_of, text_of}
+use Rattle.sv_descriptor.specs.declared.fault.FaultCode.TheVariants.{BothMethodLists}
+use Rattle.sv_descriptor.specs.declared.limits.TheConstants.{MAX_LIST_ITEMS}
+use Rattle.sv_descriptor.proofs.Yields.{Yields, bind-Ok, holds-Ok, list_of-short, table_of-yields, list_of-yields, list_items-Ok, required-Ok, optional-Ok, optional_or-Ok}
 use Rattle.sv_descriptor.specs.Collection.{collection, collection_table, collections, collections_within, covered_methods, method, methods, omitted_methods}
 use Rattle.sv_descriptor.specs.Constraint.{auth_constraint, constraint, constraints, numbered, user_data_constraint}
 use Rattle.sv_descriptor.specs.Ignored.{element_keys, ignored_text}

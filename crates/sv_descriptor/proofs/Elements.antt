@@ -1,12 +1,12 @@
 -- Properties of the elements of a descriptor, each read independently.
 use Rattle.std.proofs.Common.{◌≡◌, ℕ, ◌≤◌, Bool, false, true, codes, List, [], length, Ok, arith}
 use Rattle.std.specs.Prelude.{IfSome}
-use Rattle.sv_schema.proofs.Yields.{IsListOf, bind-Ok, holds-Ok, table_of-yields, list_of-yields, optional-Ok, optional_or-Ok}
+use Rattle.sv_descriptor.proofs.Yields.{IsListOf, bind-Ok, holds-Ok, table_of-yields, list_of-yields, optional-Ok, optional_or-Ok}
 use Rattle.toml.specs.Data.{Members}
-use Rattle.sv_schema.specs.Fault.{Reads}
-use Rattle.sv_schema.specs.Table.{optional, optional_or}
-use Rattle.sv_schema.specs.Value.{truth, table_of}
-use Rattle.sv_schema.specs.declared.limits.TheConstants.{MAX_LIST_ITEMS}
+use Rattle.sv_descriptor.specs.Fault.{Reads}
+use Rattle.sv_descriptor.specs.Table.{optional, optional_or}
+use Rattle.sv_descriptor.specs.Value.{truth, table_of}
+use Rattle.sv_descriptor.specs.declared.limits.TheConstants.{MAX_LIST_ITEMS}
 use Rattle.sv_descriptor.specs.Components.{components}
 use Rattle.sv_descriptor.specs.Constraint.{constraints}
 use Rattle.sv_descriptor.specs.ErrorPage.{error_page}

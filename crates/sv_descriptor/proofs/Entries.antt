@@ -4,14 +4,14 @@ use Rattle.std.specs.Prelude.{◌||◌, if◌then◌else◌, int_lt, IfSome}
 use Rattle.std.proofs.lemmas.Bool.Decides.{nat_tests}
 use Rattle.http_header.specs.Token.{is_token_byte}
 use Rattle.toml.specs.Data.{Members}
-use Rattle.sv_schema.specs.Fault.{Reads, refuse, check}
-use Rattle.sv_schema.specs.ListOf.{list_of_texts}
-use Rattle.sv_schema.specs.Table.{has_key, optional, optional_or, required}
-use Rattle.sv_schema.specs.Value.{is_text, name, table_of, text_of, truth, whole_of, number_between}
-use Rattle.sv_schema.specs.declared.fault.FaultCode.{FaultCode}
-use Rattle.sv_schema.specs.declared.fault.FaultCode.TheVariants.{BadValue, MissingKey, ReservedRole, BadTimeout}
-use Rattle.sv_schema.specs.declared.limits.TheConstants.{MAX_LIST_ITEMS}
-use Rattle.sv_schema.proofs.Yields.{bind-Ok, holds-Ok, list_of-short, text_of-yields, whole_of-yields, table_of-yields, required-Ok, optional-Ok, optional_or-Ok}
+use Rattle.sv_descriptor.specs.Fault.{Reads, refuse, check}
+use Rattle.sv_descriptor.specs.ListOf.{list_of_texts}
+use Rattle.sv_descriptor.specs.Table.{has_key, optional, optional_or, required}
+use Rattle.sv_descriptor.specs.Value.{is_text, name, table_of, text_of, truth, whole_of, number_between}
+use Rattle.sv_descriptor.specs.declared.fault.FaultCode.{FaultCode}
+use Rattle.sv_descriptor.specs.declared.fault.FaultCode.TheVariants.{BadValue, MissingKey, ReservedRole, BadTimeout}
+use Rattle.sv_descriptor.specs.declared.limits.TheConstants.{MAX_LIST_ITEMS}
+use Rattle.sv_descriptor.proofs.Yields.{bind-Ok, holds-Ok, list_of-short, text_of-yields, whole_of-yields, table_of-yields, required-Ok, optional-Ok, optional_or-Ok}
 use Rattle.sv_message.specs.Cookies.{standard_settings}
 use Rattle.sv_message.specs.declared.cookie_settings.CookieSettings.{CookieSettings}
 use Rattle.sv_descriptor.specs.CookieConfig.{age_of, cookie_config, cookie_name, cookie_path, is_cookie_name, is_cookie_path, max_age}

@@ -1,3 +1,10 @@
+pub mod Settings
+pub mod Lists
+pub mod SchemaTables
+pub mod Sets
+pub mod Differing
+pub mod Yields
+pub mod HexTexts
 pub mod Entries
 pub mod Numbering
 pub mod Constraining

@@ -2,10 +2,10 @@
 use Rattle.std.specs.Prelude.{ℕ, Bool, not, ◌||◌, List, map, codes}
 use Rattle.std.specs.List.{list_all, flat_map}
 use Rattle.sv_text.specs.Steps.{◌>>◌}
-use Rattle.sv_schema.specs.Fault.{Reads, check}
-use Rattle.sv_schema.specs.Table.{is_among}
-use Rattle.sv_schema.specs.declared.fault.FaultCode.TheVariants.{DuplicatePattern, UnknownServlet, UnknownFilter, DuplicateName}
-use Rattle.sv_schema.specs.Names.{repeats}
+use Rattle.sv_descriptor.specs.Fault.{Reads, check}
+use Rattle.sv_descriptor.specs.Table.{is_among}
+use Rattle.sv_descriptor.specs.declared.fault.FaultCode.TheVariants.{DuplicatePattern, UnknownServlet, UnknownFilter, DuplicateName}
+use Rattle.sv_descriptor.specs.Names.{repeats}
 use Rattle.sv_descriptor.specs.Servlet.{is_reserved_servlet}
 use Rattle.sv_descriptor.specs.declared.web_app.WebApp.{WebApp}
 

@@ -7,12 +7,12 @@ use Rattle.sv_constraints.specs.declared.constraint.Collection.{Collection}
 use Rattle.sv_constraints.specs.declared.constraint.Methods.{Methods}
 use Rattle.sv_constraints.specs.declared.constraint.Methods.TheVariants.{All, Only, Except}
 use Rattle.sv_text.specs.Steps.{◌>>=◌, ◌>>◌}
-use Rattle.sv_schema.specs.Fault.{Reads, refuse, check}
-use Rattle.sv_schema.specs.ListOf.{list_items, list_of_texts}
-use Rattle.sv_schema.specs.Table.{required, optional}
-use Rattle.sv_schema.specs.Value.{Reader, is_within, is_text, is_table, text_of, table_of}
-use Rattle.sv_schema.specs.declared.fault.FaultCode.TheVariants.{BothMethodLists, BadValue}
-use Rattle.sv_schema.specs.declared.limits.TheConstants.{MAX_LIST_ITEMS}
+use Rattle.sv_descriptor.specs.Fault.{Reads, refuse, check}
+use Rattle.sv_descriptor.specs.ListOf.{list_items, list_of_texts}
+use Rattle.sv_descriptor.specs.Table.{required, optional}
+use Rattle.sv_descriptor.specs.Value.{Reader, is_within, is_text, is_table, text_of, table_of}
+use Rattle.sv_descriptor.specs.declared.fault.FaultCode.TheVariants.{BothMethodLists, BadValue}
+use Rattle.sv_descriptor.specs.declared.limits.TheConstants.{MAX_LIST_ITEMS}
 use Rattle.sv_descriptor.specs.Ignored.{element_keys, ignored_text}
 use Rattle.sv_descriptor.specs.Pattern.{patterns}
 use Rattle.sv_descriptor.specs.declared.limits.TheConstants.{MAX_METHOD_BYTES, MAX_PATTERNS_OF_CONSTRAINT}

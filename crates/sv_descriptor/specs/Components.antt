@@ -2,8 +2,8 @@
 use Rattle.std.specs.Prelude.{[], codes, Ok}
 use Rattle.toml.specs.Data.{Members}
 use Rattle.sv_text.specs.Steps.{◌>>=◌}
-use Rattle.sv_schema.specs.Fault.{Reads}
-use Rattle.sv_schema.specs.Table.{optional_or}
+use Rattle.sv_descriptor.specs.Fault.{Reads}
+use Rattle.sv_descriptor.specs.Table.{optional_or}
 use Rattle.sv_descriptor.specs.Filter.{filter_entry, filter_mapping}
 use Rattle.sv_descriptor.specs.Listener.{listener}
 use Rattle.sv_descriptor.specs.Servlet.{servlet, servlet_mapping}

@@ -8,12 +8,12 @@ use Rattle.sv_constraints.specs.declared.constraint.Auth.TheVariants as auth
 use Rattle.sv_constraints.specs.declared.constraint.Transport.{Transport}
 use Rattle.sv_constraints.specs.declared.constraint.Transport.TheVariants as transport
 use Rattle.sv_text.specs.Steps.{◌>>=◌, ◌>>◌}
-use Rattle.sv_schema.specs.Fault.{Reads, refuse}
-use Rattle.sv_schema.specs.ListOf.{list_of_texts}
-use Rattle.sv_schema.specs.Table.{required, optional_or}
-use Rattle.sv_schema.specs.Value.{Reader, name, text_of, table_of}
-use Rattle.sv_schema.specs.declared.fault.FaultCode.TheVariants.{BadValue}
-use Rattle.sv_schema.specs.declared.limits.TheConstants.{MAX_LIST_ITEMS}
+use Rattle.sv_descriptor.specs.Fault.{Reads, refuse}
+use Rattle.sv_descriptor.specs.ListOf.{list_of_texts}
+use Rattle.sv_descriptor.specs.Table.{required, optional_or}
+use Rattle.sv_descriptor.specs.Value.{Reader, name, text_of, table_of}
+use Rattle.sv_descriptor.specs.declared.fault.FaultCode.TheVariants.{BadValue}
+use Rattle.sv_descriptor.specs.declared.limits.TheConstants.{MAX_LIST_ITEMS}
 use Rattle.sv_descriptor.specs.Collection.{collections}
 use Rattle.sv_descriptor.specs.Ignored.{element_keys}
 use Rattle.sv_descriptor.specs.Tables.{tables}

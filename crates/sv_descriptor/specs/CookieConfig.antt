@@ -6,11 +6,11 @@ use Rattle.std.specs.Str.{byte}
 use Rattle.http_header.specs.Token.{is_token_byte}
 use Rattle.toml.specs.Data.{Members}
 use Rattle.sv_text.specs.Steps.{◌>>=◌, ◌>>◌}
-use Rattle.sv_schema.specs.Fault.{Reads, refuse}
-use Rattle.sv_schema.specs.Table.{optional, optional_or}
-use Rattle.sv_schema.specs.Value.{is_within, text_of, truth, whole_of}
-use Rattle.sv_schema.specs.declared.fault.FaultCode.TheVariants.{BadValue}
-use Rattle.sv_schema.specs.declared.limits.TheConstants.{MAX_NAME_BYTES}
+use Rattle.sv_descriptor.specs.Fault.{Reads, refuse}
+use Rattle.sv_descriptor.specs.Table.{optional, optional_or}
+use Rattle.sv_descriptor.specs.Value.{is_within, text_of, truth, whole_of}
+use Rattle.sv_descriptor.specs.declared.fault.FaultCode.TheVariants.{BadValue}
+use Rattle.sv_descriptor.specs.declared.limits.TheConstants.{MAX_NAME_BYTES}
 use Rattle.sv_message.specs.Cookies.{standard_settings}
 use Rattle.sv_message.specs.declared.cookie_settings.CookieSettings.{CookieSettings}
 use Rattle.sv_descriptor.specs.Ignored.{element_keys}

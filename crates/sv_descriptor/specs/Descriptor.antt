@@ -1,9 +1,9 @@
 -- Jakarta Servlet 6.0 chapter 14: deployment descriptors.
 use Rattle.std.specs.Prelude.{ℕ, List, Ok}
 use Rattle.toml.specs.Data.{Members}
-use Rattle.sv_schema.specs.Document.{document}
+use Rattle.sv_descriptor.specs.Document.{document}
 use Rattle.sv_text.specs.Steps.{◌>>=◌, ◌>>◌}
-use Rattle.sv_schema.specs.Fault.{Reads}
+use Rattle.sv_descriptor.specs.Fault.{Reads}
 use Rattle.sv_descriptor.specs.Agreement.{elements_agree}
 use Rattle.sv_descriptor.specs.WebApp.{web_app}
 use Rattle.sv_descriptor.specs.declared.web_app.WebApp.{WebApp}

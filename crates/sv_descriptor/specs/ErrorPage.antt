@@ -2,10 +2,10 @@
 use Rattle.std.specs.Prelude.{ℕ, List, [], ◌∷◌, codes, Option, Some, None, Ok}
 use Rattle.toml.specs.Data.{Members}
 use Rattle.sv_text.specs.Steps.{◌>>=◌, ◌>>◌}
-use Rattle.sv_schema.specs.Fault.{Reads, refuse}
-use Rattle.sv_schema.specs.Table.{required, optional}
-use Rattle.sv_schema.specs.Value.{name, number_between, text_of, whole_of}
-use Rattle.sv_schema.specs.declared.fault.FaultCode.TheVariants.{BadValue}
+use Rattle.sv_descriptor.specs.Fault.{Reads, refuse}
+use Rattle.sv_descriptor.specs.Table.{required, optional}
+use Rattle.sv_descriptor.specs.Value.{name, number_between, text_of, whole_of}
+use Rattle.sv_descriptor.specs.declared.fault.FaultCode.TheVariants.{BadValue}
 use Rattle.sv_descriptor.specs.Ignored.{element_keys}
 use Rattle.sv_descriptor.specs.Location.{location}
 use Rattle.sv_descriptor.specs.declared.error_page.ErrorPage.{ErrorPage}

@@ -3,12 +3,12 @@ use Rattle.std.specs.Prelude.{ℕ, ◌||◌, List, [], ◌∷◌, codes, if◌th
 use Rattle.std.specs.Str.{bytes_eq}
 use Rattle.toml.specs.Data.{Members}
 use Rattle.sv_text.specs.Steps.{◌>>=◌, ◌>>◌}
-use Rattle.sv_schema.specs.Fault.{Reads, refuse, check}
-use Rattle.sv_schema.specs.ListOf.{list_of_texts}
-use Rattle.sv_schema.specs.Table.{has_key, required, optional_or}
-use Rattle.sv_schema.specs.Value.{name, text_of, table_of}
-use Rattle.sv_schema.specs.declared.fault.FaultCode.TheVariants.{MissingKey, BadValue}
-use Rattle.sv_schema.specs.declared.limits.TheConstants.{MAX_LIST_ITEMS}
+use Rattle.sv_descriptor.specs.Fault.{Reads, refuse, check}
+use Rattle.sv_descriptor.specs.ListOf.{list_of_texts}
+use Rattle.sv_descriptor.specs.Table.{has_key, required, optional_or}
+use Rattle.sv_descriptor.specs.Value.{name, text_of, table_of}
+use Rattle.sv_descriptor.specs.declared.fault.FaultCode.TheVariants.{MissingKey, BadValue}
+use Rattle.sv_descriptor.specs.declared.limits.TheConstants.{MAX_LIST_ITEMS}
 use Rattle.sv_descriptor.specs.Ignored.{element_keys}
 use Rattle.sv_descriptor.specs.InitParam.{init_params}
 use Rattle.sv_descriptor.specs.Pattern.{patterns}

@@ -1,8 +1,8 @@
 -- Jakarta Servlet 6.0 section 14.4: the keys that any element may have and that the container ignores.
 use Rattle.std.specs.Prelude.{ℕ, List, [], ◌∷◌, codes, Ok}
 use Rattle.toml.specs.Data.{Members}
-use Rattle.sv_schema.specs.Fault.{Reads}
-use Rattle.sv_schema.specs.Table.{only_keys}
+use Rattle.sv_descriptor.specs.Fault.{Reads}
+use Rattle.sv_descriptor.specs.Table.{only_keys}
 
 abbrev pub ignored_keys : List (List ℕ)
 ignored_keys = codes "description" ∷ codes "display-name" ∷ []

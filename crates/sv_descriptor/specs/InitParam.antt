@@ -2,8 +2,8 @@
 use Rattle.std.specs.Prelude.{List, [], ◌∷◌, Ok}
 use Rattle.toml.specs.Data.{Members, no_members, member}
 use Rattle.sv_text.specs.Steps.{◌>>=◌}
-use Rattle.sv_schema.specs.Fault.{Reads}
-use Rattle.sv_schema.specs.Value.{text_of, any_text}
+use Rattle.sv_descriptor.specs.Fault.{Reads}
+use Rattle.sv_descriptor.specs.Value.{text_of, any_text}
 use Rattle.sv_descriptor.specs.declared.init_param.InitParam.{InitParam}
 
 abbrev pub init_params : Members → Reads (List InitParam)

@@ -1,3 +1,12 @@
+pub mod ContextPath
+pub mod Server
+pub mod Users
+pub mod Fault
+pub mod Value
+pub mod Table
+pub mod ListOf
+pub mod Document
+pub mod Names
 pub mod Pattern
 pub mod Location
 pub mod InitParam

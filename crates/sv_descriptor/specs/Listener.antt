@@ -2,9 +2,9 @@
 use Rattle.std.specs.Prelude.{[], ◌∷◌, codes, Ok}
 use Rattle.toml.specs.Data.{Members}
 use Rattle.sv_text.specs.Steps.{◌>>=◌, ◌>>◌}
-use Rattle.sv_schema.specs.Fault.{Reads}
-use Rattle.sv_schema.specs.Table.{required}
-use Rattle.sv_schema.specs.Value.{name, text_of}
+use Rattle.sv_descriptor.specs.Fault.{Reads}
+use Rattle.sv_descriptor.specs.Table.{required}
+use Rattle.sv_descriptor.specs.Value.{name, text_of}
 use Rattle.sv_descriptor.specs.Ignored.{element_keys}
 use Rattle.sv_descriptor.specs.declared.listener.ListenerEntry.{ListenerEntry}
 

@@ -1,8 +1,8 @@
 -- Locations of pages within a context: texts that have a canonical path (Jakarta Servlet 6.0 section 3.5.2).
 use Rattle.std.specs.Prelude.{ℕ, Bool, List, if◌then◌else◌, Option, Some, None, Ok, is_ok}
 use Rattle.sv_uri.specs.Canonical.{canonical}
-use Rattle.sv_schema.specs.Fault.{Reads, refuse}
-use Rattle.sv_schema.specs.declared.fault.FaultCode.TheVariants.{BadValue}
+use Rattle.sv_descriptor.specs.Fault.{Reads, refuse}
+use Rattle.sv_descriptor.specs.declared.fault.FaultCode.TheVariants.{BadValue}
 
 -- The text has a canonical path, with or without a query.
 unfoldable pub is_location : List ℕ → Bool

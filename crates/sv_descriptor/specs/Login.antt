@@ -3,10 +3,10 @@ use Rattle.std.specs.Prelude.{ℕ, List, [], ◌∷◌, codes, if◌then◌else�
 use Rattle.std.specs.Str.{bytes_eq}
 use Rattle.toml.specs.Data.{Members}
 use Rattle.sv_text.specs.Steps.{◌>>=◌, ◌>>◌}
-use Rattle.sv_schema.specs.Fault.{Reads, refuse}
-use Rattle.sv_schema.specs.Table.{required}
-use Rattle.sv_schema.specs.Value.{text_of, table_of}
-use Rattle.sv_schema.specs.declared.fault.FaultCode.TheVariants.{BadValue}
+use Rattle.sv_descriptor.specs.Fault.{Reads, refuse}
+use Rattle.sv_descriptor.specs.Table.{required}
+use Rattle.sv_descriptor.specs.Value.{text_of, table_of}
+use Rattle.sv_descriptor.specs.declared.fault.FaultCode.TheVariants.{BadValue}
 use Rattle.sv_descriptor.specs.Ignored.{element_keys}
 use Rattle.sv_descriptor.specs.Location.{location}
 use Rattle.sv_descriptor.specs.declared.login.FormLogin.{FormLogin}

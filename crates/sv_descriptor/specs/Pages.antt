@@ -2,9 +2,9 @@
 use Rattle.std.specs.Prelude.{[], codes, Ok}
 use Rattle.toml.specs.Data.{Members}
 use Rattle.sv_text.specs.Steps.{◌>>=◌}
-use Rattle.sv_schema.specs.Fault.{Reads}
-use Rattle.sv_schema.specs.Table.{optional_or}
-use Rattle.sv_schema.specs.Value.{table_of}
+use Rattle.sv_descriptor.specs.Fault.{Reads}
+use Rattle.sv_descriptor.specs.Table.{optional_or}
+use Rattle.sv_descriptor.specs.Value.{table_of}
 use Rattle.sv_descriptor.specs.ErrorPage.{error_page}
 use Rattle.sv_descriptor.specs.Tables.{tables}
 use Rattle.sv_descriptor.specs.WelcomeFile.{welcome_file_list}

@@ -1,10 +1,10 @@
 -- Jakarta Servlet 6.0 section 12.2: the URL patterns of a mapping or a collection.
 use Rattle.std.specs.Prelude.{ℕ, List, if◌then◌else◌, Ok}
 use Rattle.sv_mapping.specs.Pattern.{is_pattern}
-use Rattle.sv_schema.specs.Fault.{Reads, refuse}
-use Rattle.sv_schema.specs.Value.{Reader}
-use Rattle.sv_schema.specs.ListOf.{list_of_texts}
-use Rattle.sv_schema.specs.declared.fault.FaultCode.TheVariants.{BadPattern}
+use Rattle.sv_descriptor.specs.Fault.{Reads, refuse}
+use Rattle.sv_descriptor.specs.Value.{Reader}
+use Rattle.sv_descriptor.specs.ListOf.{list_of_texts}
+use Rattle.sv_descriptor.specs.declared.fault.FaultCode.TheVariants.{BadPattern}
 
 abbrev pub pattern : List ℕ → List ℕ → Reads (List ℕ)
 pattern key text = if is_pattern text then Ok text else refuse BadPattern key

@@ -3,10 +3,10 @@ use Rattle.std.specs.Prelude.{ℕ, Bool, ◌||◌, List, [], ◌∷◌, codes, i
 use Rattle.std.specs.Str.{bytes_eq}
 use Rattle.toml.specs.Data.{Members}
 use Rattle.sv_text.specs.Steps.{◌>>◌}
-use Rattle.sv_schema.specs.Fault.{Reads, refuse}
-use Rattle.sv_schema.specs.Table.{required}
-use Rattle.sv_schema.specs.Value.{name, text_of}
-use Rattle.sv_schema.specs.declared.fault.FaultCode.TheVariants.{ReservedRole}
+use Rattle.sv_descriptor.specs.Fault.{Reads, refuse}
+use Rattle.sv_descriptor.specs.Table.{required}
+use Rattle.sv_descriptor.specs.Value.{name, text_of}
+use Rattle.sv_descriptor.specs.declared.fault.FaultCode.TheVariants.{ReservedRole}
 use Rattle.sv_descriptor.specs.Ignored.{element_keys}
 
 -- The reserved names: `*` for all declared roles and `**` for every authenticated caller (section 13.8).

@@ -2,9 +2,9 @@
 use Rattle.std.specs.Prelude.{Bool, [], codes, Ok}
 use Rattle.toml.specs.Data.{Members}
 use Rattle.sv_text.specs.Steps.{◌>>=◌}
-use Rattle.sv_schema.specs.Fault.{Reads}
-use Rattle.sv_schema.specs.Table.{optional, optional_or}
-use Rattle.sv_schema.specs.Value.{table_of}
+use Rattle.sv_descriptor.specs.Fault.{Reads}
+use Rattle.sv_descriptor.specs.Table.{optional, optional_or}
+use Rattle.sv_descriptor.specs.Value.{table_of}
 use Rattle.sv_descriptor.specs.Constraint.{constraints}
 use Rattle.sv_descriptor.specs.Login.{login_config}
 use Rattle.sv_descriptor.specs.Role.{security_role}

@@ -3,11 +3,11 @@ use Rattle.std.specs.Prelude.{ℕ, ℤ, pos, negsuc, int_lt, Bool, ◌||◌, Lis
 use Rattle.std.specs.Str.{bytes_eq}
 use Rattle.toml.specs.Data.{Members}
 use Rattle.sv_text.specs.Steps.{◌>>=◌, ◌>>◌}
-use Rattle.sv_schema.specs.Fault.{Reads, refuse}
-use Rattle.sv_schema.specs.Table.{required, optional, optional_or}
-use Rattle.sv_schema.specs.Value.{name, text_of, whole_of, table_of}
-use Rattle.sv_schema.specs.declared.fault.FaultCode.TheVariants.{BadValue}
-use Rattle.sv_schema.specs.declared.limits.TheConstants.{MAX_LIST_ITEMS}
+use Rattle.sv_descriptor.specs.Fault.{Reads, refuse}
+use Rattle.sv_descriptor.specs.Table.{required, optional, optional_or}
+use Rattle.sv_descriptor.specs.Value.{name, text_of, whole_of, table_of}
+use Rattle.sv_descriptor.specs.declared.fault.FaultCode.TheVariants.{BadValue}
+use Rattle.sv_descriptor.specs.declared.limits.TheConstants.{MAX_LIST_ITEMS}
 use Rattle.sv_descriptor.specs.Ignored.{element_keys}
 use Rattle.sv_descriptor.specs.InitParam.{init_params}
 use Rattle.sv_descriptor.specs.Pattern.{patterns}

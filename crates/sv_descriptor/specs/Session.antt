@@ -3,10 +3,10 @@
 use Rattle.std.specs.Prelude.{ℕ, ℤ, pos, negsuc, int_lt, List, [], ◌∷◌, codes, if◌then◌else◌, Ok}
 use Rattle.toml.specs.Data.{Members}
 use Rattle.sv_text.specs.Steps.{◌>>=◌, ◌>>◌}
-use Rattle.sv_schema.specs.Fault.{Reads, refuse}
-use Rattle.sv_schema.specs.Table.{optional_or}
-use Rattle.sv_schema.specs.Value.{table_of, whole_of}
-use Rattle.sv_schema.specs.declared.fault.FaultCode.TheVariants.{BadTimeout}
+use Rattle.sv_descriptor.specs.Fault.{Reads, refuse}
+use Rattle.sv_descriptor.specs.Table.{optional_or}
+use Rattle.sv_descriptor.specs.Value.{table_of, whole_of}
+use Rattle.sv_descriptor.specs.declared.fault.FaultCode.TheVariants.{BadTimeout}
 use Rattle.sv_message.specs.Cookies.{standard_settings}
 use Rattle.sv_descriptor.specs.CookieConfig.{cookie_config}
 use Rattle.sv_descriptor.specs.Ignored.{element_keys}

@@ -2,9 +2,9 @@
 use Rattle.std.specs.Prelude.{ℕ, ◌==◌, codes, if◌then◌else◌, Option, None, Some, Ok}
 use Rattle.toml.specs.Data.{Members}
 use Rattle.sv_text.specs.Steps.{◌>>=◌}
-use Rattle.sv_schema.specs.Fault.{Reads}
-use Rattle.sv_schema.specs.Table.{optional}
-use Rattle.sv_schema.specs.Value.{number_between, whole_of}
+use Rattle.sv_descriptor.specs.Fault.{Reads}
+use Rattle.sv_descriptor.specs.Table.{optional}
+use Rattle.sv_descriptor.specs.Value.{number_between, whole_of}
 use Rattle.sv_descriptor.specs.declared.limits.TheConstants.{MAX_SESSIONS_OF_VERSION_1, MAX_SESSIONS_OF_VERSION_2}
 use Rattle.sv_descriptor.specs.declared.version.Version.{Version}
 use Rattle.sv_descriptor.specs.declared.version.Version.TheVariants.{One, Two}

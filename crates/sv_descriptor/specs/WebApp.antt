@@ -2,9 +2,9 @@
 use Rattle.std.specs.Prelude.{ℕ, Bool, false, List, [], ◌∷◌, codes, Ok}
 use Rattle.toml.specs.Data.{Members}
 use Rattle.sv_text.specs.Steps.{◌>>=◌, ◌>>◌}
-use Rattle.sv_schema.specs.Fault.{Reads}
-use Rattle.sv_schema.specs.Table.{optional_or}
-use Rattle.sv_schema.specs.Value.{truth}
+use Rattle.sv_descriptor.specs.Fault.{Reads}
+use Rattle.sv_descriptor.specs.Table.{optional_or}
+use Rattle.sv_descriptor.specs.Value.{truth}
 use Rattle.sv_descriptor.specs.Components.{components}
 use Rattle.sv_descriptor.specs.Ignored.{element_keys}
 use Rattle.sv_descriptor.specs.Pages.{pages}

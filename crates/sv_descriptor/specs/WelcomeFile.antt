@@ -4,11 +4,11 @@ use Rattle.std.specs.List.{starts_with, ends_with}
 use Rattle.std.specs.Str.{bytes_eq}
 use Rattle.toml.specs.Data.{Members}
 use Rattle.sv_text.specs.Steps.{◌>>◌}
-use Rattle.sv_schema.specs.Fault.{Reads, refuse}
-use Rattle.sv_schema.specs.ListOf.{list_of_texts}
-use Rattle.sv_schema.specs.Table.{required}
-use Rattle.sv_schema.specs.declared.fault.FaultCode.TheVariants.{BadValue}
-use Rattle.sv_schema.specs.declared.limits.TheConstants.{MAX_LIST_ITEMS}
+use Rattle.sv_descriptor.specs.Fault.{Reads, refuse}
+use Rattle.sv_descriptor.specs.ListOf.{list_of_texts}
+use Rattle.sv_descriptor.specs.Table.{required}
+use Rattle.sv_descriptor.specs.declared.fault.FaultCode.TheVariants.{BadValue}
+use Rattle.sv_descriptor.specs.declared.limits.TheConstants.{MAX_LIST_ITEMS}
 use Rattle.sv_descriptor.specs.Ignored.{element_keys}
 
 -- A partial path has no slash at either end, and is not empty.

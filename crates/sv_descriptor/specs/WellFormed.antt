@@ -7,8 +7,8 @@ use Rattle.sv_constraints.specs.declared.constraint.Auth.TheVariants as auth
 use Rattle.sv_constraints.specs.declared.constraint.Constraint.{Constraint}
 use Rattle.sv_constraints.specs.declared.constraint.Methods.{Methods}
 use Rattle.sv_constraints.specs.declared.constraint.Methods.TheVariants as methods
-use Rattle.sv_schema.specs.Names.{Differ}
-use Rattle.sv_schema.specs.declared.limits.TheConstants.{MAX_LIST_ITEMS}
+use Rattle.sv_descriptor.specs.Names.{Differ}
+use Rattle.sv_descriptor.specs.declared.limits.TheConstants.{MAX_LIST_ITEMS}
 use Rattle.sv_message.specs.declared.cookie_settings.CookieSettings.{CookieSettings}
 use Rattle.sv_descriptor.specs.Agreement.{servlet_names, filter_names, servlet_patterns, is_known_servlet}
 use Rattle.sv_descriptor.specs.CookieConfig.{is_cookie_name, is_cookie_path}

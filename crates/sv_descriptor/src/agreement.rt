@@ -4,17 +4,17 @@ ghost use Rattle.std.specs.Prelude.{◌≡◌, ◌||◌, ◌++◌, IfOk, OnOk};
 ghost use Rattle.std.specs.List.{flat_map, list_all};
 ghost use Rattle.sv_text.specs.Gives.{Gives};
 ghost use Rattle.sv_descriptor.specs.Agreement as spec;
-ghost use Rattle.sv_schema.specs.Names.{HaveSame};
+ghost use Rattle.sv_descriptor.specs.Names.{HaveSame};
 ghost use Rattle.sv_descriptor.specs.Servlet.{is_reserved_servlet};
-ghost use Rattle.sv_schema.specs.Fault.{fault};
-ghost use Rattle.sv_schema.specs.Table.{is_among, texts as texts_of};
+ghost use Rattle.sv_descriptor.specs.Fault.{fault};
+ghost use Rattle.sv_descriptor.specs.Table.{is_among, texts as texts_of};
 
 use crate::filter::FilterMapping;
 use crate::servlet::{ServletMapping, is_reserved_servlet};
 use crate::web_app::WebApp;
+use crate::{FaultCode, Names, ReadFault, distinct_names, refuse, repeats};
 use std::alloc::Global;
 use sv_mapping::Pattern;
-use sv_schema::{FaultCode, Names, ReadFault, distinct_names, refuse, repeats};
 use sv_text::{NoMemory, Text};
 
 /// Checks that the elements of a descriptor agree with one another.

@@ -6,19 +6,19 @@ ghost use Rattle.http_header.specs.Token.{is_token_byte};
 ghost use Rattle.sv_text.specs.Gives.{Gives};
 ghost use Rattle.toml.specs.View.{view};
 ghost use Rattle.sv_descriptor.specs.Collection as spec;
-ghost use Rattle.sv_schema.specs.Fault.{fault};
-ghost use Rattle.sv_schema.specs.ListOf.{is_array};
+ghost use Rattle.sv_descriptor.specs.Fault.{fault};
+ghost use Rattle.sv_descriptor.specs.ListOf.{is_array};
 
 use crate::ignored::{IgnoredText, element_keys};
 use crate::limits::{MAX_METHOD_BYTES, MAX_PATTERNS_OF_CONSTRAINT};
 use crate::pattern::{UrlPattern, UrlPatterns};
-use http_header::is_token_char;
-use std::alloc::Global;
-use sv_constraints::{Collection, Methods};
-use sv_schema::{
+use crate::{
     FaultCode, ListOf, MAX_LIST_ITEMS, ReadFault, Schema, TableOf, TableSchema, TextOf, TextSchema,
     is_within, list_items, optional, refuse, required,
 };
+use http_header::is_token_char;
+use std::alloc::Global;
+use sv_constraints::{Collection, Methods};
 use sv_text::{Listed, Text};
 use toml::{Table, Value};
 

@@ -3,14 +3,14 @@
 ghost use Rattle.sv_text.specs.Gives.{Gives};
 ghost use Rattle.toml.specs.View.{table_view};
 ghost use Rattle.sv_descriptor.specs.Components.{components};
-ghost use Rattle.sv_schema.specs.Fault.{fault};
+ghost use Rattle.sv_descriptor.specs.Fault.{fault};
 
+use crate::ReadFault;
 use crate::filter::{FilterEntry, FilterMapping, FilterMappingTable, FilterTable};
 use crate::listener::{ListenerEntry, ListenerTable};
 use crate::servlet::{ServletEntry, ServletMapping, ServletMappingTable, ServletTable};
 use crate::tables::tables;
 use std::alloc::Global;
-use sv_schema::ReadFault;
 use sv_text::Listed;
 use toml::Table;
 

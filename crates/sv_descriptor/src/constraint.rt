@@ -2,16 +2,16 @@
 
 ghost use Rattle.std.specs.Prelude.{◌≡◌};
 ghost use Rattle.sv_descriptor.specs.Constraint as spec;
-ghost use Rattle.sv_schema.specs.ListOf.{is_array};
+ghost use Rattle.sv_descriptor.specs.ListOf.{is_array};
 
 use crate::collection::Collections;
 use crate::ignored::element_keys;
-use std::alloc::Global;
-use sv_constraints::{Auth, Constraint, Transport};
-use sv_schema::{
+use crate::{
     FaultCode, ListOf, MAX_LIST_ITEMS, Name, ReadFault, Schema, TableOf, TableSchema, TextOf,
     TextSchema, list_or_empty, optional_or, refuse, required,
 };
+use std::alloc::Global;
+use sv_constraints::{Auth, Constraint, Transport};
 use sv_text::Listed;
 use toml::{Table, Value};
 

@@ -7,12 +7,12 @@ ghost use Rattle.sv_descriptor.specs.CookieConfig as spec;
 use crate::collection::is_token_text;
 use crate::ignored::element_keys;
 use crate::limits::{MAX_COOKIE_AGE, MAX_COOKIE_PATH_BYTES};
-use std::alloc::Global;
-use sv_message::CookieSettings;
-use sv_schema::{
+use crate::{
     FaultCode, MAX_NAME_BYTES, ReadFault, TableSchema, TextOf, TextSchema, Truth, WholeOf,
     WholeSchema, is_within, optional, optional_or, refuse,
 };
+use std::alloc::Global;
+use sv_message::CookieSettings;
 use sv_text::Text;
 use toml::Table;
 

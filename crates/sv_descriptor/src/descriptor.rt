@@ -4,13 +4,13 @@ ghost use Rattle.std.specs.Prelude.{◌≡◌, IfOk};
 ghost use Rattle.sv_text.specs.Gives.{Gives};
 ghost use Rattle.sv_descriptor.specs.Descriptor.{descriptor, descriptor_of};
 ghost use Rattle.sv_descriptor.specs.WellFormed.{IsWellFormed};
-ghost use Rattle.sv_schema.specs.Fault.{fault};
+ghost use Rattle.sv_descriptor.specs.Fault.{fault};
 
 use crate::agreement::check_agreement;
 use crate::web_app::{WebApp, read_web_app};
+use crate::{ReadFault, TableSchema, read_document};
 use std::alloc::Global;
 use std::marker::Model;
-use sv_schema::{ReadFault, TableSchema, read_document};
 use toml::Table;
 
 /// A well-formed deployment descriptor. Contracts see its elements.

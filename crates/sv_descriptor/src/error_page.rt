@@ -2,16 +2,16 @@
 
 ghost use Rattle.sv_text.specs.Gives.{Gives};
 ghost use Rattle.sv_descriptor.specs.ErrorPage as spec;
-ghost use Rattle.sv_schema.specs.Fault.{fault};
+ghost use Rattle.sv_descriptor.specs.Fault.{fault};
 
 use crate::ignored::element_keys;
 use crate::limits::{MAX_ERROR_CODE, MIN_ERROR_CODE};
 use crate::location::{Location, PageLocation};
-use std::alloc::Global;
-use sv_schema::{
+use crate::{
     FaultCode, Name, NumberBetween, ReadFault, TableSchema, TextOf, WholeOf, optional, refuse,
     required,
 };
+use std::alloc::Global;
 use sv_text::Text;
 use toml::Table;
 

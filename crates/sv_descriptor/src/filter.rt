@@ -3,17 +3,17 @@
 ghost use Rattle.sv_text.specs.Gives.{Gives};
 ghost use Rattle.toml.specs.View.{table_view};
 ghost use Rattle.sv_descriptor.specs.Filter as spec;
-ghost use Rattle.sv_schema.specs.Fault.{fault};
+ghost use Rattle.sv_descriptor.specs.Fault.{fault};
 
 use crate::ignored::element_keys;
 use crate::init_param::{InitParam, InitParams};
 use crate::pattern::{UrlPattern, UrlPatterns};
-use std::alloc::Global;
-use sv_mapping::{Kind, Pattern};
-use sv_schema::{
+use crate::{
     FaultCode, ListOf, MAX_LIST_ITEMS, Name, Named, ReadFault, TableOf, TableSchema, TextOf,
     TextSchema, has_key, list_or_empty, refuse, required,
 };
+use std::alloc::Global;
+use sv_mapping::{Kind, Pattern};
 use sv_text::{Listed, Text};
 use toml::Table;
 

@@ -3,11 +3,11 @@
 ghost use Rattle.sv_text.specs.Gives.{Gives};
 ghost use Rattle.toml.specs.View.{table_view};
 ghost use Rattle.sv_descriptor.specs.Ignored as spec;
-ghost use Rattle.sv_schema.specs.Fault.{fault};
-ghost use Rattle.sv_schema.specs.Table.{texts};
+ghost use Rattle.sv_descriptor.specs.Fault.{fault};
+ghost use Rattle.sv_descriptor.specs.Table.{texts};
 
+use crate::{ReadFault, TextSchema, only_keys};
 use std::alloc::Global;
-use sv_schema::{ReadFault, TextSchema, only_keys};
 use toml::Table;
 
 /// Checks that an element has only known keys, `description` and `display-name`. Any element may have the last two.

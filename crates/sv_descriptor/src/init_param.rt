@@ -2,8 +2,8 @@
 
 ghost use Rattle.sv_descriptor.specs.InitParam.{init_params};
 
+use crate::{AnyText, ReadFault, Schema, TableSchema, TextOf};
 use std::alloc::Global;
-use sv_schema::{AnyText, ReadFault, Schema, TableSchema, TextOf};
 use sv_text::{Listed, Text};
 use toml::Table;
 

@@ -3,9 +3,10 @@
 ghost use Rattle.std.specs.Prelude.{◌≡◌};
 
 use crate::limits::{
-    DEFAULT_SESSION_TIMEOUT, MAX_COOKIE_AGE, MAX_COOKIE_PATH_BYTES, MAX_ERROR_CODE,
-    MAX_METHOD_BYTES, MAX_PATTERNS_OF_CONSTRAINT, MAX_SESSION_TIMEOUT, MAX_SESSIONS_OF_VERSION_1,
-    MAX_SESSIONS_OF_VERSION_2, MIN_ERROR_CODE,
+    DEFAULT_SESSION_TIMEOUT, DIGEST_BYTES, DIGEST_DIGITS, MAX_COOKIE_AGE, MAX_COOKIE_PATH_BYTES,
+    MAX_ERROR_CODE, MAX_LIST_ITEMS, MAX_METHOD_BYTES, MAX_NAME_BYTES, MAX_PATTERNS_OF_CONSTRAINT,
+    MAX_PORT, MAX_SALT_DIGITS, MAX_SESSION_TIMEOUT, MAX_SESSIONS_OF_VERSION_1,
+    MAX_SESSIONS_OF_VERSION_2, MIN_ERROR_CODE, NO_LIMIT, SEED_BYTES, SEED_DIGITS,
 };
 
 /// The session timeout is 30 minutes by default and at most 525,600. A context has at most 1,000 live sessions with
@@ -23,4 +24,22 @@ pub fn limits_of_the_descriptor()
     ensures greatest_status { MAX_ERROR_CODE ≡ 599 }
     ensures method_bytes { MAX_METHOD_BYTES ≡ 15 }
     ensures patterns { MAX_PATTERNS_OF_CONSTRAINT ≡ 64 }
+{}
+
+/// A list has at most 1,000 items and a name at most 64 bytes. A list without a limit is bounded only by memory.
+pub fn limits_of_all_formats()
+    ensures items { MAX_LIST_ITEMS ≡ 1000 }
+    ensures name_bytes { MAX_NAME_BYTES ≡ 64 }
+    ensures none { NO_LIMIT ≡ usize.MAX }
+{}
+
+/// A port is at most 65,535. A seed and a digest have 32 bytes each, written as 64 hexadecimal digits. A salt has at
+/// most 64 digits.
+pub fn limits_of_the_settings()
+    ensures port { MAX_PORT ≡ 65535 }
+    ensures seed_bytes { SEED_BYTES ≡ 32 }
+    ensures seed_digits { SEED_DIGITS ≡ 64 }
+    ensures digest_bytes { DIGEST_BYTES ≡ 32 }
+    ensures digest_digits { DIGEST_DIGITS ≡ 64 }
+    ensures salt_digits { MAX_SALT_DIGITS ≡ 64 }
 {}

@@ -29,3 +29,30 @@ pub const MAX_METHOD_BYTES: usize = 15;
 
 /// Maximum number of patterns in all collections of one constraint.
 pub const MAX_PATTERNS_OF_CONSTRAINT: usize = 64;
+
+/// Maximum number of items of a list.
+pub const MAX_LIST_ITEMS: usize = 1000;
+
+/// Maximum length of a name, in bytes.
+pub const MAX_NAME_BYTES: usize = 64;
+
+/// Maximum length of a list for which its format sets no limit.
+pub const NO_LIMIT: usize = usize::MAX;
+
+/// Maximum port number.
+pub const MAX_PORT: u16 = 65_535;
+
+/// Length of a seed, in bytes.
+pub const SEED_BYTES: usize = 32;
+
+/// Number of hexadecimal digits of a seed.
+pub const SEED_DIGITS: usize = 2 * SEED_BYTES;
+
+/// Length of a digest, in bytes.
+pub const DIGEST_BYTES: usize = 32;
+
+/// Number of hexadecimal digits of a digest.
+pub const DIGEST_DIGITS: usize = 2 * DIGEST_BYTES;
+
+/// Maximum number of hexadecimal digits of a salt.
+pub const MAX_SALT_DIGITS: usize = 64;

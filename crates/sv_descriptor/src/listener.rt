@@ -3,8 +3,8 @@
 ghost use Rattle.sv_descriptor.specs.Listener.{listener};
 
 use crate::ignored::element_keys;
+use crate::{Name, ReadFault, TableSchema, TextOf, required};
 use std::alloc::Global;
-use sv_schema::{Name, ReadFault, TableSchema, TextOf, required};
 use sv_text::Text;
 use toml::Table;
 

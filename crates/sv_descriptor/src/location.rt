@@ -5,9 +5,9 @@ ghost use Rattle.sv_text.specs.Gives.{GivesAnswer};
 ghost use Rattle.sv_uri.specs.Canonical.{begins_with_slash};
 ghost use Rattle.sv_descriptor.specs.Location as spec;
 
+use crate::{FaultCode, ReadFault, TextSchema, refuse};
 use std::alloc::Global;
 use std::marker::Model;
-use sv_schema::{FaultCode, ReadFault, TextSchema, refuse};
 use sv_text::{NoMemory, Text};
 use sv_uri::canon;
 use sv_uri::fault::CanonFault;

@@ -4,8 +4,8 @@ ghost use Rattle.sv_descriptor.specs.Login as spec;
 
 use crate::ignored::element_keys;
 use crate::location::{Location, PageLocation};
+use crate::{FaultCode, ReadFault, TableOf, TableSchema, TextOf, TextSchema, refuse, required};
 use std::alloc::Global;
-use sv_schema::{FaultCode, ReadFault, TableOf, TableSchema, TextOf, TextSchema, refuse, required};
 use toml::Table;
 
 /// Form based authentication (`login-config`, Jakarta Servlet 6.0 section 13.6.3).

@@ -3,13 +3,13 @@
 ghost use Rattle.sv_text.specs.Gives.{Gives};
 ghost use Rattle.toml.specs.View.{table_view};
 ghost use Rattle.sv_descriptor.specs.Pages.{pages};
-ghost use Rattle.sv_schema.specs.Fault.{fault};
+ghost use Rattle.sv_descriptor.specs.Fault.{fault};
 
 use crate::error_page::{ErrorPage, ErrorPageTable};
 use crate::tables::tables;
 use crate::welcome_file::WelcomeFileTable;
+use crate::{ReadFault, TableOf, list_or_empty};
 use std::alloc::Global;
-use sv_schema::{ReadFault, TableOf, list_or_empty};
 use sv_text::{Listed, Text};
 use toml::Table;
 

@@ -2,9 +2,9 @@
 
 ghost use Rattle.sv_descriptor.specs.Pattern.{pattern};
 
+use crate::{FaultCode, ListOf, ReadFault, TextOf, TextSchema, refuse};
 use std::alloc::Global;
 use sv_mapping::{Pattern, PatternFault};
-use sv_schema::{FaultCode, ListOf, ReadFault, TextOf, TextSchema, refuse};
 
 /// A URL pattern.
 #[derive(Clone, Copy)]

@@ -4,8 +4,8 @@ ghost use Rattle.std.specs.Prelude.{◌≡◌};
 ghost use Rattle.sv_descriptor.specs.Role as spec;
 
 use crate::ignored::element_keys;
+use crate::{FaultCode, Name, ReadFault, TableSchema, TextOf, TextSchema, refuse, required};
 use std::alloc::Global;
-use sv_schema::{FaultCode, Name, ReadFault, TableSchema, TextOf, TextSchema, refuse, required};
 use sv_text::Text;
 use toml::Table;
 

@@ -3,15 +3,15 @@
 ghost use Rattle.sv_text.specs.Gives.{Gives};
 ghost use Rattle.toml.specs.View.{table_view};
 ghost use Rattle.sv_descriptor.specs.Security.{security};
-ghost use Rattle.sv_schema.specs.Fault.{fault};
+ghost use Rattle.sv_descriptor.specs.Fault.{fault};
 
 use crate::constraint::Constraints;
 use crate::login::{FormLogin, LoginTable};
 use crate::role::RoleTable;
 use crate::tables::tables;
+use crate::{ReadFault, TableOf, list_or_empty, optional};
 use std::alloc::Global;
 use sv_constraints::{Constraint, Rules};
-use sv_schema::{ReadFault, TableOf, list_or_empty, optional};
 use sv_text::Listed;
 use toml::Table;
 

@@ -6,12 +6,12 @@ ghost use Rattle.sv_descriptor.specs.Servlet as spec;
 use crate::ignored::element_keys;
 use crate::init_param::{InitParam, InitParams};
 use crate::pattern::{UrlPattern, UrlPatterns};
-use std::alloc::Global;
-use sv_mapping::Pattern;
-use sv_schema::{
+use crate::{
     FaultCode, MAX_LIST_ITEMS, Name, Named, ReadFault, TableOf, TableSchema, TextOf, TextSchema,
     WholeOf, WholeSchema, list_or_empty, optional, refuse, required,
 };
+use std::alloc::Global;
+use sv_mapping::Pattern;
 use sv_text::{Listed, Text};
 use toml::Table;
 

@@ -4,17 +4,17 @@ ghost use Rattle.sv_text.specs.Gives.{Gives, GivesAnswer};
 ghost use Rattle.toml.specs.View.{table_view};
 ghost use Rattle.sv_descriptor.specs.Ignored.{element_keys};
 ghost use Rattle.sv_descriptor.specs.Session as spec;
-ghost use Rattle.sv_schema.specs.Fault.{fault};
+ghost use Rattle.sv_descriptor.specs.Fault.{fault};
 
 use crate::cookie_config::CookieTable;
 use crate::ignored::element_keys;
 use crate::limits::{DEFAULT_SESSION_TIMEOUT, MAX_SESSION_TIMEOUT};
 use crate::version::Version;
-use std::alloc::Global;
-use sv_message::CookieSettings;
-use sv_schema::{
+use crate::{
     FaultCode, ReadFault, TableOf, TableSchema, WholeOf, WholeSchema, optional_or, refuse,
 };
+use std::alloc::Global;
+use sv_message::CookieSettings;
 use sv_text::NoMemory;
 use toml::Table;
 

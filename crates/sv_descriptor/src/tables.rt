@@ -4,11 +4,11 @@ ghost use Rattle.std.specs.Prelude.{[]};
 ghost use Rattle.sv_text.specs.Gives.{Gives};
 ghost use Rattle.toml.specs.View.{table_view};
 ghost use Rattle.sv_descriptor.specs.Tables as spec;
-ghost use Rattle.sv_schema.specs.Fault.{fault};
-ghost use Rattle.sv_schema.specs.Table.{optional_or};
+ghost use Rattle.sv_descriptor.specs.Fault.{fault};
+ghost use Rattle.sv_descriptor.specs.Table.{optional_or};
 
+use crate::{ListOf, MAX_LIST_ITEMS, ReadFault, TableOf, TableSchema, list_or_empty};
 use std::alloc::Global;
-use sv_schema::{ListOf, MAX_LIST_ITEMS, ReadFault, TableOf, TableSchema, list_or_empty};
 use sv_text::Listed;
 use toml::Table;
 

@@ -4,11 +4,11 @@ ghost use Rattle.std.specs.Prelude.{◌≡◌};
 ghost use Rattle.sv_text.specs.Gives.{Gives};
 ghost use Rattle.toml.specs.View.{table_view};
 ghost use Rattle.sv_descriptor.specs.Version as spec;
-ghost use Rattle.sv_schema.specs.Fault.{fault};
+ghost use Rattle.sv_descriptor.specs.Fault.{fault};
 
 use crate::limits::{MAX_SESSIONS_OF_VERSION_1, MAX_SESSIONS_OF_VERSION_2};
+use crate::{NumberBetween, ReadFault, WholeOf, optional};
 use std::alloc::Global;
-use sv_schema::{NumberBetween, ReadFault, WholeOf, optional};
 use toml::Table;
 
 /// A version of the descriptor's format.

@@ -4,7 +4,7 @@ ghost use Rattle.std.specs.Prelude.{◌≡◌};
 ghost use Rattle.sv_text.specs.Gives.{Gives};
 ghost use Rattle.toml.specs.View.{table_view};
 ghost use Rattle.sv_descriptor.specs.WebApp as spec;
-ghost use Rattle.sv_schema.specs.Fault.{fault};
+ghost use Rattle.sv_descriptor.specs.Fault.{fault};
 
 use crate::components::{Components, read_components};
 use crate::error_page::ErrorPage;
@@ -17,9 +17,9 @@ use crate::security::{Security, read_security};
 use crate::servlet::{ServletEntry, ServletMapping};
 use crate::session::{SessionConfig, read_session};
 use crate::version::{Version, read_version};
+use crate::{ReadFault, Truth, optional_or};
 use std::alloc::Global;
 use sv_constraints::{Constraint, Rules};
-use sv_schema::{ReadFault, Truth, optional_or};
 use sv_text::{Listed, Text};
 use toml::Table;
 

@@ -4,10 +4,10 @@ ghost use Rattle.std.specs.Prelude.{◌≡◌};
 ghost use Rattle.sv_descriptor.specs.WelcomeFile as spec;
 
 use crate::ignored::element_keys;
-use std::alloc::Global;
-use sv_schema::{
+use crate::{
     FaultCode, ListOf, MAX_LIST_ITEMS, ReadFault, TableSchema, TextOf, TextSchema, refuse, required,
 };
+use std::alloc::Global;
 use sv_text::{Listed, Text};
 use toml::Table;
 

@@ -2,7 +2,7 @@
 
 ghost use Rattle.std.specs.Prelude.{◌≡◌, codes};
 ghost use Rattle.sv_dispatch.specs.Did.{Did, seen};
-ghost use Rattle.sv_site.specs.Seen.{found_seen};
+ghost use Rattle.sv_tree.specs.Seen.{found_seen};
 ghost use Rattle.sv_tree.specs.Files.{Filed, Misses, Sends, SendsTo};
 
 use crate::endings::{fault, missing, not_allowed};
@@ -10,9 +10,8 @@ use crate::machine::Machine;
 use crate::tables::Tables;
 use std::alloc::Global;
 use sv_mapping::Kind;
-use sv_site::FileFound;
 use sv_text::NoMemory;
-use sv_tree::{DispatchFault, FOUND, Finished, Resource};
+use sv_tree::{DispatchFault, FOUND, FileFound, Finished, Resource};
 
 /// Answers with the file servlet's result (Jakarta Servlet 6.0, section 12.2).
 pub(crate) fn filed<M: Machine, T: Tables>(

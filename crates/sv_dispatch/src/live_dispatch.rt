@@ -4,7 +4,7 @@ ghost use Rattle.sv_component.specs.Steps.{steps_of};
 ghost use Rattle.std.specs.Prelude.{◌≡◌, OnOk, false, length, true};
 ghost use Rattle.sv_dispatch.specs.Did.{seen};
 ghost use Rattle.sv_dispatch.specs.Dispatched.{Dispatched, Refused};
-ghost use Rattle.sv_site.specs.Site.{site_of};
+ghost use Rattle.sv_tree.specs.SiteOfDescriptor.{site_of};
 
 use crate::dispatching::dispatch_by;
 use crate::running::Running;
@@ -13,9 +13,8 @@ use sv_component::{Exchange, Filter, Listener, Servlet};
 use sv_journal::Journal;
 use sv_live::Live;
 use sv_mapping::Kind;
-use sv_site::Site;
 use sv_text::NoMemory;
-use sv_tree::{Finished, MAX_NESTING};
+use sv_tree::{Finished, MAX_NESTING, Site};
 use sv_uri::path::Canon;
 
 /// Dispatches an exchange to a path within the context: the filters, then the servlet or the file servlet, and the

@@ -3,8 +3,8 @@
 use crate::error_field::ErrorField;
 use sv_component::{Gate, Standing, Step};
 use sv_mapping::Kind;
-use sv_site::Chosen;
 use sv_text::NoMemory;
+use sv_tree::Chosen;
 use sv_uri::path::Canon;
 
 /// The exchange of a request, with the components of its context and their journal.
@@ -15,7 +15,7 @@ pub(crate) trait Machine: Sized {
     ghost use Rattle.sv_dispatch.specs.Seen.{IsHere, field_of, offers};
     ghost use Rattle.sv_exchange.specs.Changing.{SetHeader, SetStatus};
     ghost use Rattle.sv_exchange.specs.Dispatches.{is_within_include};
-    ghost use Rattle.sv_site.specs.Seen.{chosen_seen};
+    ghost use Rattle.sv_tree.specs.Seen.{chosen_seen};
     ghost use Rattle.sv_tree.specs.Asking.{asks};
     ghost use Rattle.sv_tree.specs.Does.{becomes, leaves, makes, tries};
     ghost use Rattle.sv_tree.specs.Endings.{keeps};

@@ -6,7 +6,7 @@ ghost use Rattle.std.specs.Option.{option_copied};
 ghost use Rattle.sv_dispatch.specs.Did.{seen};
 ghost use Rattle.sv_dispatch.specs.Dispatched.{Refused};
 ghost use Rattle.sv_dispatch.specs.ServedBy.{Alone, ServedBy};
-ghost use Rattle.sv_site.specs.Site.{site_of};
+ghost use Rattle.sv_tree.specs.SiteOfDescriptor.{site_of};
 ghost use Rattle.sv_text.specs.Gives.{GivesAnswer};
 ghost use Rattle.sv_tree.specs.Served.{Pages, Shown, Shows, ShowsError, kept_field};
 
@@ -19,9 +19,8 @@ use sv_exchange::{KeptError, KeptField};
 use sv_journal::Journal;
 use sv_live::Live;
 use sv_mapping::Kind;
-use sv_site::Site;
 use sv_text::{NoMemory, Text};
-use sv_tree::Finished;
+use sv_tree::{Finished, Site};
 use sv_uri::path::Canon;
 
 /// The parts of an error that its response needs: the status, and the header field if any.

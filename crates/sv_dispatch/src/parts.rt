@@ -7,7 +7,7 @@ ghost use Rattle.sv_dispatch.specs.Running.{done_seen, gate_seen, made_seen, off
 ghost use Rattle.sv_dispatch.specs.Seen.{field_of};
 ghost use Rattle.sv_exchange.specs.Keeping.{with_kept};
 ghost use Rattle.sv_live.specs.Calling.{unless_broken};
-ghost use Rattle.sv_site.specs.Seen.{chosen_seen};
+ghost use Rattle.sv_tree.specs.Seen.{chosen_seen};
 ghost use Rattle.sv_tree.specs.Files.{emptied};
 ghost use Rattle.sv_tree.specs.Site.{begun_by, emptied_for};
 ghost use Rattle.sv_tree.specs.State.{moment_after};
@@ -18,8 +18,8 @@ use sv_component::{Exchange, Gate, Step};
 use sv_exchange::{ExchangeFault, KeptField};
 use sv_journal::Journal;
 use sv_mapping::Kind;
-use sv_site::Chosen;
 use sv_text::{NoMemory, Text};
+use sv_tree::Chosen;
 use sv_uri::path::Canon;
 
 /// Begins a dispatch to a path that is split this way.

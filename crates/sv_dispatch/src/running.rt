@@ -12,9 +12,8 @@ use sv_component::{Exchange, Filter, Gate, Listener, Servlet, Standing, Step};
 use sv_journal::Journal;
 use sv_live::Live;
 use sv_mapping::Kind;
-use sv_site::Chosen;
 use sv_text::NoMemory;
-use sv_tree::MAX_CALLS;
+use sv_tree::{Chosen, MAX_CALLS};
 use sv_uri::path::Canon;
 
 /// A started context, with the exchange of a request and their journal.

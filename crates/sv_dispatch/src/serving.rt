@@ -5,7 +5,7 @@ ghost use Rattle.std.specs.Prelude.{◌≡◌, OnOk, false, length, true};
 ghost use Rattle.sv_dispatch.specs.Did.{seen};
 ghost use Rattle.sv_dispatch.specs.Dispatched.{Refused};
 ghost use Rattle.sv_dispatch.specs.ServedBy.{ServedBy};
-ghost use Rattle.sv_site.specs.Site.{site_of};
+ghost use Rattle.sv_tree.specs.SiteOfDescriptor.{site_of};
 ghost use Rattle.sv_tree.specs.Served.{Served, Settled};
 
 use crate::live_dispatch::dispatch;
@@ -15,9 +15,8 @@ use sv_component::{Exchange, Filter, Listener, Servlet};
 use sv_journal::Journal;
 use sv_live::Live;
 use sv_mapping::Kind;
-use sv_site::Site;
 use sv_text::NoMemory;
-use sv_tree::{Finished, INTERNAL_SERVER_ERROR};
+use sv_tree::{Finished, INTERNAL_SERVER_ERROR, Site};
 use sv_uri::path::Canon;
 
 /// Answers a request by a dispatch of this kind to a path within the context. An error or failure is answered by its

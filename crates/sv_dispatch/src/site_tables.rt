@@ -4,14 +4,13 @@ use crate::tables::Tables;
 use std::alloc::Global;
 use sv_chain::Chain;
 use sv_mapping::Kind;
-use sv_site::{Chosen, FileFound, Site};
 use sv_text::NoMemory;
-use sv_tree::Resource;
+use sv_tree::{Chosen, FileFound, Resource, Site};
 use sv_uri::path::Canon;
 
 impl Tables for Site {
     ghost use Rattle.std.specs.Prelude.{length};
-    ghost use Rattle.sv_site.specs.Site.{site_of};
+    ghost use Rattle.sv_tree.specs.SiteOfDescriptor.{site_of};
 
     ghost site = { λ t. site_of t };
 

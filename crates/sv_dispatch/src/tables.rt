@@ -3,16 +3,15 @@
 use std::alloc::Global;
 use sv_chain::Chain;
 use sv_mapping::Kind;
-use sv_site::{Chosen, FileFound};
 use sv_text::NoMemory;
-use sv_tree::Resource;
+use sv_tree::{Chosen, FileFound, Resource};
 use sv_uri::path::Canon;
 
 /// The tables of a context, which dispatches leave unchanged.
 pub(crate) trait Tables {
     ghost use Rattle.std.specs.Prelude.{◌≡◌, ◌<◌, ℕ, IfOk};
     ghost use Rattle.std.specs.List.{All};
-    ghost use Rattle.sv_site.specs.Seen.{chosen_seen, found_seen};
+    ghost use Rattle.sv_tree.specs.Seen.{chosen_seen, found_seen};
     ghost use Rattle.sv_tree.specs.Site.{Site, chosen, name_of};
     ghost use Rattle.sv_tree.specs.declared.resource.Resource.TheVariants.{Servlet};
 

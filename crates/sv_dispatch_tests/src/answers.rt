@@ -11,9 +11,8 @@ use sv_journal::Journal;
 use sv_message::{Body, Response};
 use sv_rows::Draft;
 use sv_session::Sessions;
-use sv_site::Site;
 use sv_text::NoMemory;
-use sv_tree::Finished;
+use sv_tree::{Finished, Site};
 use sv_uri::path::Canon;
 use sv_wire::{DateText, write_response};
 

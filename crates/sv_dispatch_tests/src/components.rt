@@ -4,8 +4,10 @@ use crate::results::both;
 use crate::scripts::Script;
 use crate::words::{first_word, is_nothing};
 use std::alloc::Global;
-use sv_classes::{Bye, ErrorCode, Fail, Go, Gone, Halt, Keep, Log, Mark, Nest, Out, Paths, Who};
 use sv_component::{Filter, Servlet};
+use sv_deployments::{
+    Bye, ErrorCode, Fail, Go, Gone, Halt, Keep, Log, Mark, Nest, Out, Paths, Who,
+};
 use sv_live::{Live, Named, Parts};
 use sv_rows::cell;
 use sv_text::{NoMemory, Text};

@@ -11,8 +11,8 @@ use sv_files::{File, Files};
 use sv_journal::Journal;
 use sv_rows::cell;
 use sv_session::Sessions;
-use sv_site::{ServletPatterns, Site};
 use sv_text::{Bytes, NoMemory, Text};
+use sv_tree::{ServletPatterns, Site};
 
 /// A started context: its components, its site and its sessions.
 #[derive(Drop)]

@@ -2,8 +2,8 @@
 use Rattle.std.proofs.Common.{◌≡◌, ℕ, List, [], ◌∷◌, ◌++◌, reverse, None, Some, ◌∙◌, ap}
 use Rattle.std.specs.List.{IsLastAndRest, flat_map}
 use Rattle.std.proofs.lemmas.List.{reverse-append}
-use Rattle.sv_parameters.proofs.Joining.{first_behind, first_in_front}
-use Rattle.sv_parameters.specs.Parameters.{first_named}
+use Rattle.sv_message.proofs.Joining.{first_behind, first_in_front}
+use Rattle.sv_message.specs.Parameters.{first_named}
 use Rattle.sv_exchange.specs.declared.dispatch.Dispatch.{Dispatch}
 use Rattle.sv_exchange.specs.Parameters.{dispatch_parameters}
 

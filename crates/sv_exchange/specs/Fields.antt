@@ -3,8 +3,8 @@ use Rattle.std.specs.Prelude.{ℕ, Bool, not, ◌&&◌, ◌||◌, List, [], ◌�
 use Rattle.std.specs.List.{filter, list_all}
 use Rattle.http_header.specs.FieldValue.{plain_value}
 use Rattle.http_header.specs.Token.{is_token_byte, is_value_byte, lowercase}
-use Rattle.sv_head.specs.declared.field.Field.{Field}
-use Rattle.sv_head.specs.Fields.{is_named}
+use Rattle.sv_message.specs.declared.field.Field.{Field}
+use Rattle.sv_message.specs.Fields.{is_named}
 use Rattle.sv_exchange.specs.declared.limits.TheConstants.{MAX_FIELD_NAME_LEN}
 
 -- Whether a field has the name, in any case.

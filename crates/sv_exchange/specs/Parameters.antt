@@ -1,8 +1,8 @@
 -- The parameters of a request (Jakarta Servlet 6.0, sections 3.1 and 9.1.1).
 use Rattle.std.specs.Prelude.{ℕ, List, [], ◌++◌, reverse, codes, Option, None, Some}
 use Rattle.std.specs.List.{flat_map}
-use Rattle.sv_parameters.specs.Form.{form_parameters}
-use Rattle.sv_parameters.specs.Parameters.{first_named, parameters_of}
+use Rattle.sv_message.specs.Form.{form_parameters}
+use Rattle.sv_message.specs.Parameters.{first_named, parameters_of}
 use Rattle.sv_exchange.specs.declared.dispatch.Dispatch.{Dispatch}
 use Rattle.sv_exchange.specs.Fields.{first_value}
 use Rattle.sv_exchange.specs.State.{State}

@@ -2,9 +2,9 @@
 use Rattle.std.specs.Prelude.{ℕ, List, Option, codes, slice_get}
 use Rattle.std.specs.Option.{option_map}
 use Rattle.http_header.specs.Token.{lowercase}
-use Rattle.sv_head.specs.declared.field.Field.{Field}
-use Rattle.sv_head.specs.Fields.{values_of}
-use Rattle.sv_parameters.specs.Form.{media_type}
+use Rattle.sv_message.specs.declared.field.Field.{Field}
+use Rattle.sv_message.specs.Fields.{values_of}
+use Rattle.sv_message.specs.Form.{media_type}
 use Rattle.sv_exchange.specs.Fields.{first_value}
 use Rattle.sv_exchange.specs.State.{State}
 

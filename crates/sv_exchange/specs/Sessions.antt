@@ -2,8 +2,8 @@
 use Rattle.std.specs.Prelude.{ℕ, ◌+◌, Bool, true, false, ◌||◌, ◌&&◌, not, List, [], ◌∷◌, ◌++◌, map, Option, None, Some, is_some, Result, Ok, Err, if◌then◌else◌, bytes_eq, codes}
 use Rattle.std.specs.List.{list_any}
 use Rattle.std.specs.Option.{option_and_then, option_map, option_map_or}
-use Rattle.sv_event.specs.declared.event.Event.{Event}
-use Rattle.sv_event.specs.declared.event.Event.TheVariants.{SessionCreated, SessionDestroyed, AttributeAdded, AttributeReplaced, AttributeRemoved}
+use Rattle.sv_session.specs.declared.event.Event.{Event}
+use Rattle.sv_session.specs.declared.event.Event.TheVariants.{SessionCreated, SessionDestroyed, AttributeAdded, AttributeReplaced, AttributeRemoved}
 use Rattle.sv_realm.specs.declared.caller.Caller.{Caller}
 use Rattle.sv_session.specs.Calls as calls
 use Rattle.sv_session.specs.Id.{id_text}

@@ -3,8 +3,8 @@
 -- to the last flush and the bytes written since. It also holds the number of calls of `before` and `service`, the error
 -- that the response will report, and the session with its pending events.
 use Rattle.std.specs.Prelude.{ℕ, Bool, List, Option}
-use Rattle.sv_head.specs.declared.field.Field.{Field}
-use Rattle.sv_event.specs.declared.event.Event.{Event}
+use Rattle.sv_message.specs.declared.field.Field.{Field}
+use Rattle.sv_session.specs.declared.event.Event.{Event}
 use Rattle.sv_realm.specs.declared.caller.Caller.{Caller}
 use Rattle.sv_session.specs.Store.{Store}
 use Rattle.sv_message.specs.declared.cookie_settings.CookieSettings.{CookieSettings}

@@ -3,7 +3,7 @@
 ghost use Rattle.std.specs.Prelude.{◌≡◌};
 
 use crate::exchange::Exchange;
-use sv_head::Field;
+use sv_message::Field;
 
 impl Exchange {
     ghost use Rattle.sv_exchange.specs.Answered.{written_len};

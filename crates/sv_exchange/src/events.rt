@@ -7,8 +7,7 @@ ghost use Rattle.sv_exchange.specs.Sessions.{ending_events};
 use crate::exchange::Exchange;
 use std::alloc::Global;
 use std::collections::VecDeque;
-use sv_event::Event;
-use sv_session::Attribute;
+use sv_session::{Attribute, Event};
 use sv_text::{NoMemory, Text};
 
 impl Exchange {

@@ -18,11 +18,9 @@ use std::alloc::Global;
 use std::collections::VecDeque;
 use std::marker::Model;
 use std::mem;
-use sv_event::Event;
-use sv_head::Field;
-use sv_message::{Body, Cookie, CookieSettings, Message, Rare, Response};
+use sv_message::{Body, Cookie, CookieSettings, Field, Message, Rare, Response};
 use sv_realm::Caller;
-use sv_session::Sessions;
+use sv_session::{Event, Sessions};
 use sv_text::{Bytes, Listed, NoMemory, Text};
 use sv_uri::path::Canon;
 

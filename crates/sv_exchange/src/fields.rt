@@ -6,7 +6,7 @@ ghost use Rattle.sv_exchange.specs.Fields.{add_field, field_of, is_called, is_fi
 ghost use Rattle.sv_text.specs.Gives.{GivesAnswer};
 
 use std::alloc::Global;
-use sv_head::Field;
+use sv_message::Field;
 use sv_text::NoMemory;
 
 /// Returns whether the field has the name, in any case.

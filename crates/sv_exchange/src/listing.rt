@@ -3,15 +3,15 @@
 ghost use Rattle.std.specs.Prelude.{◌≡◌, ◌++◌, reverse, IfOk, OnOk};
 ghost use Rattle.std.specs.List.{flat_map};
 ghost use Rattle.std.specs.Option.{option_copied};
-ghost use Rattle.sv_parameters.specs.Form.{form_parameters};
-ghost use Rattle.sv_parameters.specs.Parameters.{parameters_of};
+ghost use Rattle.sv_message.specs.Form.{form_parameters};
+ghost use Rattle.sv_message.specs.Parameters.{parameters_of};
 ghost use Rattle.sv_exchange.specs.Parameters.{dispatch_parameters, query_parameters};
 
 use crate::dispatch::Dispatch;
 use crate::exchange::Exchange;
 use form_urlencoded::raw_pairs;
 use std::alloc::Global;
-use sv_parameters::{is_form, text_of};
+use sv_message::{is_form, text_of};
 use sv_text::{NoMemory, Text};
 
 impl Exchange {

@@ -3,13 +3,13 @@
 ghost use Rattle.std.specs.Prelude.{◌≡◌, reverse};
 ghost use Rattle.std.specs.List.{flat_map};
 ghost use Rattle.sv_text.specs.Gives.{GivesAnswer};
-ghost use Rattle.sv_parameters.specs.Parameters.{first_named};
+ghost use Rattle.sv_message.specs.Parameters.{first_named};
 ghost use Rattle.sv_exchange.specs.Parameters.{dispatch_parameters, query_parameters};
 
 use crate::dispatch::Dispatch;
 use crate::exchange::Exchange;
 use std::alloc::Global;
-use sv_parameters::{first_of_form, first_of_query};
+use sv_message::{first_of_form, first_of_query};
 use sv_text::{NoMemory, Text};
 
 impl Exchange {

@@ -5,8 +5,7 @@ ghost use Rattle.std.specs.Option.{option_copied};
 
 use crate::exchange::Exchange;
 use crate::fields::is_called;
-use sv_head::Field;
-use sv_parameters::media_type;
+use sv_message::{Field, media_type};
 
 impl Exchange {
     ghost use Rattle.sv_exchange.specs.Request.{client_path_of, client_uri_of, media_type_of, value_at};

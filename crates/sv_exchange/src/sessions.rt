@@ -8,8 +8,8 @@ use crate::events::{ending_events, push};
 use crate::exchange::Exchange;
 use crate::exchange_fault::ExchangeFault;
 use crate::holding::cookie_of;
-use sv_event::Event;
 use sv_message::Rare;
+use sv_session::Event;
 use sv_text::Text;
 
 impl Exchange {

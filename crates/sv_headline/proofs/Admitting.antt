@@ -13,16 +13,16 @@ use Rattle.sv_admission.specs.Judged.{left_by_login, post_in}
 use Rattle.sv_admission.specs.Settled.{interrupted, opened_with, saved_in, settled_by, unchanged}
 use Rattle.sv_constraints.specs.Verdict.{verdict}
 use Rattle.sv_constraints.specs.declared.owned_decision.OwnedDecision.{OwnedDecision}
-use Rattle.sv_context_path.specs.Protected.{is_protected}
+use Rattle.sv_mapping.specs.Protected.{is_protected}
 use Rattle.sv_descriptor.specs.declared.login.FormLogin.{FormLogin}
 use Rattle.sv_login.specs.Login.{has_no_session, login}
 use Rattle.sv_login.specs.Post.{Post, is_login, user_sent}
 use Rattle.sv_login.specs.Session.{living, logged_in, saved_target, session_faults, session_number, with_session}
-use Rattle.sv_login.specs.declared.outcome.LoginOutcome.{LoginOutcome}
-use Rattle.sv_login.specs.declared.outcome.LoginOutcome.TheVariants.{NoSession, NotLogin, Passed, WrongUser}
-use Rattle.sv_outcome.specs.Outcome.{outcome}
-use Rattle.sv_outcome.specs.declared.outcome.Outcome.{Outcome}
-use Rattle.sv_outcome.specs.declared.outcome.Outcome.TheVariants as outcomes
+use Rattle.sv_login.specs.declared.login_outcome.LoginOutcome.{LoginOutcome}
+use Rattle.sv_login.specs.declared.login_outcome.LoginOutcome.TheVariants.{NoSession, NotLogin, Passed, WrongUser}
+use Rattle.sv_login.specs.Outcome.{outcome}
+use Rattle.sv_login.specs.declared.outcome.Outcome.{Outcome}
+use Rattle.sv_login.specs.declared.outcome.Outcome.TheVariants as outcomes
 use Rattle.sv_policy.specs.Compiled.{Standing}
 use Rattle.sv_realm.specs.declared.user.User.{User}
 use Rattle.sv_session.specs.Calls.{HoldsCaller, opened, opening_faults, renamed, renaming_faults, with_saved}
@@ -30,8 +30,8 @@ use Rattle.sv_session.specs.Laws.{CallersAreEntered, CallsLeaveOrder}
 use Rattle.sv_session.specs.Runs.{Call, EnterCaller, Open, Rename, Save, TakeSaved, Touch, left_after, left_by, unless}
 use Rattle.sv_session.specs.Store.{IsOrderly, Store}
 use Rattle.sv_session.specs.declared.session_fault.SessionFault.{SessionFault}
-use Rattle.sv_site.specs.FileServlet.{sent_to}
-use Rattle.sv_site.specs.Site.{Content}
+use Rattle.sv_tree.specs.FileServlet.{sent_to}
+use Rattle.sv_tree.specs.SiteOfDescriptor.{Content}
 
 none_from_length : (faults : List SessionFault) → not (eqb (length faults) 0) ≡ false → faults ≡ []
 none_from_length [] h = refl

@@ -3,7 +3,7 @@ use Rattle.std.proofs.Common.{◌≡◌, ℕ, ◌+◌, zero, suc, Bool, cond, fa
 use Rattle.std.specs.List.{AllByRecursion, position, position_from}
 use Rattle.std.proofs.lemmas.Iterator.Adapters.{position_from-zero}
 use Rattle.sv_headline.specs.Record.{IsDestinedBy}
-use Rattle.sv_context_path.specs.Chosen.{is_chosen}
+use Rattle.sv_mapping.specs.Chosen.{is_chosen}
 use Rattle.sv_journal.specs.declared.entry.Entry.{Entry}
 use Rattle.sv_policy.specs.declared.edit.Edit.{Edit}
 use Rattle.sv_policy.specs.declared.edit_fault.EditFault.{EditFault}

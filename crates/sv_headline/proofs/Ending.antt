@@ -10,8 +10,8 @@ use Rattle.sv_component.specs.Call.{Call, Destroyed}
 use Rattle.sv_component.specs.Runs.{OfFilter, OfListener, OfServlet, Record}
 use Rattle.sv_component.specs.declared.standing.Standing.{Standing}
 use Rattle.sv_context.specs.Retiring.{EndsSo, Retires, calls_of, gone_at, is_destroy, is_destroy_of_filter}
-use Rattle.sv_event.specs.declared.event.Event.{Event}
-use Rattle.sv_event.specs.declared.event.Event.TheVariants.{ContextDestroyed}
+use Rattle.sv_session.specs.declared.event.Event.{Event}
+use Rattle.sv_session.specs.declared.event.Event.TheVariants.{ContextDestroyed}
 use Rattle.sv_live.specs.Calls.{destroyed, stop_calls}
 use Rattle.sv_live.specs.SessionEnds.{all_told, by_number, end_events, ends_told}
 use Rattle.sv_live.specs.Standing.{is_in_service}

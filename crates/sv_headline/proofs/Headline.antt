@@ -21,16 +21,16 @@ use Rattle.sv_context.specs.State.{ContextState, world_of}
 use Rattle.sv_context.specs.Theory.{theory}
 use Rattle.sv_journal.specs.Journal.{JournalState, new_journal, with_entry}
 use Rattle.sv_journal.specs.declared.entry.Entry.{Entry}
-use Rattle.sv_outcome.specs.Laws.{JustOneCaseHolds}
-use Rattle.sv_outcome.specs.OutcomeEntry.{outcome_entry}
-use Rattle.sv_outcome.specs.declared.outcome.Outcome.{Outcome}
-use Rattle.sv_outcome.specs.declared.outcome.Outcome.TheVariants as outcomes
+use Rattle.sv_login.specs.OutcomeLaws.{JustOneCaseHolds}
+use Rattle.sv_login.specs.OutcomeEntry.{outcome_entry}
+use Rattle.sv_login.specs.declared.outcome.Outcome.{Outcome}
+use Rattle.sv_login.specs.declared.outcome.Outcome.TheVariants as outcomes
 use Rattle.sv_policy.specs.declared.edit.Edit.{Edit}
 use Rattle.sv_policy.specs.declared.edit_fault.EditFault.{EditFault}
 use Rattle.sv_run.specs.Contexts.{Handling}
 use Rattle.sv_run.specs.Effect.{Handled, whole}
 use Rattle.sv_run.specs.Lawful.{ChangesConstraintsByEdits, is_outcome}
-use Rattle.sv_site.specs.Site.{Content, site_of}
+use Rattle.sv_tree.specs.SiteOfDescriptor.{Content, site_of}
 use Rattle.sv_tree.specs.Does.{Does, ◌>>◌}
 use Rattle.sv_tree.specs.Site.{Site}
 use Rattle.sv_tree.specs.State.{State}

@@ -27,7 +27,7 @@ use Rattle.sv_session.specs.Laws.{CallersAreEntered, CallsLeaveOrder, EmptyIsOrd
 use Rattle.sv_session.specs.Runs.{Expire, Expires}
 use Rattle.sv_session.specs.Store.{IsOrderly, Store}
 use Rattle.sv_session.specs.declared.ended_session.EndedSession.{EndedSession}
-use Rattle.sv_site.specs.Site.{Content, site_of}
+use Rattle.sv_tree.specs.SiteOfDescriptor.{Content, site_of}
 use Rattle.sv_tree.specs.Laws.{AnswersMoveSessions, MovedGiveNoCaller, MovedLeaveNoneExpired, MovesJoin, StepsMoveSessions}
 use Rattle.sv_tree.specs.Moving.{IsMoved}
 use Rattle.sv_tree.specs.Site.{Site}

@@ -30,7 +30,7 @@ use Rattle.sv_headline.proofs.Ending.{filter_ends, servlet_ends}
 use Rattle.sv_headline.proofs.Living.{components_are_destroyed_once}
 use Rattle.sv_run.specs.State.{State}
 use Rattle.sv_session.specs.Store.{Session}
-use Rattle.sv_site.specs.Site.{Content}
+use Rattle.sv_tree.specs.SiteOfDescriptor.{Content}
 
 -- the state of a context just after its start
 abbrev IsStarted : {S F L : Type 0} → ContextState S F L → Type 0

@@ -21,13 +21,13 @@ use Rattle.sv_context.specs.Theory.{theory}
 use Rattle.sv_exchange.specs.Changing.{SetHeader, SetStatus, Write}
 use Rattle.sv_exchange.specs.State as exchanges
 use Rattle.sv_journal.specs.Journal.{JournalState, new_journal, with_entry}
-use Rattle.sv_event.specs.declared.event.Event.{Event}
+use Rattle.sv_session.specs.declared.event.Event.{Event}
 use Rattle.sv_live.specs.SessionEnds.{end_events}
 use Rattle.sv_component.specs.Telling.{told}
 use Rattle.sv_run.proofs.Breaking.{event_same}
 use Rattle.sv_run.specs.Effect.{whole}
 use Rattle.sv_session.specs.declared.ended_session.EndedSession.{EndedSession}
-use Rattle.sv_site.specs.Site.{site_of}
+use Rattle.sv_tree.specs.SiteOfDescriptor.{site_of}
 use Rattle.sv_tree.proofs.Doing.{chosen_then}
 use Rattle.sv_tree.proofs.Hearing.{all_keep, all_keep_alone}
 use Rattle.sv_tree.proofs.Silence.{Silent, gives_silent, makes_silent, then_silent}

@@ -10,7 +10,7 @@ use Rattle.sv_connection.specs.declared.over.Over.{Over}
 use Rattle.sv_container.specs.Container.{state_of}
 use Rattle.sv_container.specs.declared.container.Container.{Container}
 use Rattle.sv_context.specs.Theory.{theory}
-use Rattle.sv_host.specs.Host.{StepsSo}
+use Rattle.sv_run.specs.Host.{StepsSo}
 use Rattle.sv_run.specs.Lawful.{is_outcome}
 use Rattle.sv_run.specs.Laws.{EntersWhereAllowed, deed_entry}
 use Rattle.sv_run.specs.Reacting.{Reacting}

@@ -21,21 +21,21 @@ use Rattle.sv_context.specs.Conduct.{asked_of, unnoted}
 use Rattle.sv_context.specs.Handled.{admitted, exchange_begun, state_in, within}
 use Rattle.sv_context.specs.State.{ContextState, world_of}
 use Rattle.sv_context.specs.Theory.{theory}
-use Rattle.sv_context_path.specs.Protected.{is_protected}
-use Rattle.sv_context_path.specs.Within.{path_within}
+use Rattle.sv_mapping.specs.Protected.{is_protected}
+use Rattle.sv_mapping.specs.Within.{path_within}
 use Rattle.sv_exchange.specs.Beginning.{finished}
 use Rattle.sv_exchange.specs.State as exchanges
 use Rattle.sv_journal.specs.declared.entry.Entry.{Entry}
 use Rattle.sv_journal.specs.declared.entry.Entry.TheVariants as entries
 use Rattle.sv_journal.specs.declared.refusal_cause.RefusalCause.{RefusalCause}
 use Rattle.sv_journal.specs.declared.refusal_cause.RefusalCause.TheVariants as causes
-use Rattle.sv_login.specs.declared.outcome.LoginOutcome.{LoginOutcome}
-use Rattle.sv_login.specs.declared.outcome.LoginOutcome.TheVariants.{NotLogin}
+use Rattle.sv_login.specs.declared.login_outcome.LoginOutcome.{LoginOutcome}
+use Rattle.sv_login.specs.declared.login_outcome.LoginOutcome.TheVariants.{NotLogin}
 use Rattle.sv_mapping.specs.declared.kind.Kind.TheVariants as kinds
-use Rattle.sv_outcome.specs.Laws.{IsCase}
-use Rattle.sv_outcome.specs.OutcomeEntry.{outcome_entry}
-use Rattle.sv_outcome.specs.declared.outcome.Outcome.{Outcome}
-use Rattle.sv_outcome.specs.declared.outcome.Outcome.TheVariants as outcomes
+use Rattle.sv_login.specs.OutcomeLaws.{IsCase}
+use Rattle.sv_login.specs.OutcomeEntry.{outcome_entry}
+use Rattle.sv_login.specs.declared.outcome.Outcome.{Outcome}
+use Rattle.sv_login.specs.declared.outcome.Outcome.TheVariants as outcomes
 use Rattle.sv_policy.specs.Compiled.{Standing}
 use Rattle.sv_realm.specs.declared.caller.Caller.{Caller}
 use Rattle.sv_run.specs.Contexts.{Handling, Request}
@@ -46,13 +46,13 @@ use Rattle.sv_run.specs.Messages.{Destination, Itself, Within, destination}
 use Rattle.sv_run.specs.Runs.{Answer, Run, deeds_of, journal_of}
 use Rattle.sv_run.specs.State.{State}
 use Rattle.sv_session.specs.Store.{Store}
-use Rattle.sv_site.specs.Site.{site_of}
+use Rattle.sv_tree.specs.SiteOfDescriptor.{site_of}
 use Rattle.sv_tree.specs.Does.{Does, ◌>>◌, never}
 use Rattle.sv_tree.specs.Served.{Served, ShowsError}
 use Rattle.sv_tree.specs.Site.{Site}
 use Rattle.sv_message.specs.declared.message.Target.{Target}
 use Rattle.sv_message.specs.declared.response.Response.{Response}
-use Rattle.sv_wire_fault.specs.declared.wire_fault.WireFault.{WireFault}
+use Rattle.sv_wire.specs.declared.wire_fault.WireFault.{WireFault}
 
 module _ {S F L : Type 0} (context : ContextState S F L) (request : Request) where
   abbrev pub path_in : List ℕ

@@ -7,7 +7,7 @@ ghost use Rattle.sv_headline.specs.Until.{EveryRunIsLawfulUntilRefused};
 use crate::contexts::edits_alone_change_the_constraints;
 use sv_component::{Filter, Listener, Servlet, runs_are_journalled, runs_move_components};
 use sv_context::Context;
-use sv_outcome::just_one_case_holds;
+use sv_login::just_one_case_holds;
 use sv_run::{Words, want_of_memory_stops};
 
 /// Every run over a list of events is lawful, until memory runs out:

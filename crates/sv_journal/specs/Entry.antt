@@ -8,9 +8,9 @@ use Rattle.sv_journal.specs.declared.called.CallName.{CallName}
 use Rattle.sv_journal.specs.declared.called.Component.TheVariants.{Servlet, Filter}
 use Rattle.sv_journal.specs.declared.entry.Entry.{Entry}
 use Rattle.sv_journal.specs.declared.entry.Entry.TheVariants.{Entered, SentToLogin, Refused, Hidden, Told, Called}
-use Rattle.sv_event.specs.declared.event.Event.{Event}
+use Rattle.sv_session.specs.declared.event.Event.{Event}
 use Rattle.sv_journal.specs.Called.{answer_text, call_text, component_text}
-use Rattle.sv_event.specs.Event.{event_text}
+use Rattle.sv_session.specs.Event.{event_text}
 use Rattle.sv_journal.specs.RefusalCause.{cause_text}
 
 -- The listener at a place, counted from 0, is notified of an event.

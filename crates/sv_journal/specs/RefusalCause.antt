@@ -4,9 +4,9 @@ use Rattle.sv_constraints.specs.Decision.{why_text}
 use Rattle.sv_uri.specs.Fault.{fault_name as path_name}
 use Rattle.sv_uri.specs.declared.fault.PathFault.{PathFault}
 use Rattle.sv_uri.specs.declared.fault.PathFault.TheVariants.{Fragment, NoSlash, BadEscape, EncodedSlash, Backslash, Control, NotUtf8, DotSegment, EmptyParameter, Climbs}
-use Rattle.sv_wire_fault.specs.WireFault.{fault_name as wire_name}
-use Rattle.sv_wire_fault.specs.declared.wire_fault.WireFault.{WireFault}
-use Rattle.sv_wire_fault.specs.declared.wire_fault.WireFault.TheVariants.{BadHead, BadHost, BadFraming, UnknownCoding, HeadTooLarge, BodyTooLarge, BadExpect, BadTarget}
+use Rattle.sv_wire.specs.WireFault.{fault_name as wire_name}
+use Rattle.sv_wire.specs.declared.wire_fault.WireFault.{WireFault}
+use Rattle.sv_wire.specs.declared.wire_fault.WireFault.TheVariants.{BadHead, BadHost, BadFraming, UnknownCoding, HeadTooLarge, BodyTooLarge, BadExpect, BadTarget}
 use Rattle.sv_journal.specs.declared.refusal_cause.RefusalCause.{RefusalCause}
 use Rattle.sv_journal.specs.declared.refusal_cause.RefusalCause.TheVariants.{Wire, Path, Star, NoContext, Protected, LoggedIn, LoginFailed, NoSession, Denied, NoLogin}
 

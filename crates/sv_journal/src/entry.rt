@@ -10,7 +10,7 @@ use crate::refusal_cause::RefusalCause;
 use std::alloc::Global;
 use std::fmt;
 use sv_constraints::OwnedWhy;
-use sv_event::Event;
+use sv_session::Event;
 use sv_text::{NoMemory, Text};
 use sv_uri::shown_context;
 

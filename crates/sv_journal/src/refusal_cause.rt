@@ -6,7 +6,7 @@ ghost use Rattle.sv_journal.specs.RefusalCause.{cause_number, cause_text, path_n
 use std::fmt;
 use sv_constraints::OwnedWhy;
 use sv_uri::fault::PathFault;
-use sv_wire_fault::WireFault;
+use sv_wire::WireFault;
 
 /// Why the container itself answers a message, with no dispatch to the requested path. Two of the causes are not
 /// faults. Printed as its name; `Denied` and `NoLogin` are followed by their reason.

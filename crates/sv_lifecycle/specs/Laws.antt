@@ -6,7 +6,7 @@ use Rattle.sv_component.specs.Runs.{OfFilter, OfListener, OfServlet, Record}
 use Rattle.sv_component.specs.declared.answers.Init.TheVariants.{Ready}
 use Rattle.sv_descriptor.specs.declared.web_app.WebApp.{WebApp}
 use Rattle.sv_journal.specs.Journal.{JournalState}
-use Rattle.sv_event.specs.declared.event.Event.TheVariants.{ContextDestroyed, ContextInitialized}
+use Rattle.sv_session.specs.declared.event.Event.TheVariants.{ContextDestroyed, ContextInitialized}
 use Rattle.sv_live.specs.Calls.{stop_calls}
 use Rattle.sv_lifecycle.specs.Calls.{start_calls}
 use Rattle.sv_live.specs.Standing.{LiveState, in_service}

@@ -4,9 +4,8 @@ ghost use Rattle.std.specs.Prelude.{◌≡◌, map, MatchBool};
 ghost use Rattle.sv_lifecycle.specs.Fit.{Fits};
 
 use sv_component::Named;
-use sv_descriptor::WebApp;
+use sv_descriptor::{Named as Declared, WebApp};
 use sv_live::Parts;
-use sv_schema::Named as Declared;
 
 /// Returns whether the servlets and filters have the names in the descriptor, in its order, and the number of listeners
 /// is the declared one. If not, [`start`](crate::start) refuses the components before it calls any.

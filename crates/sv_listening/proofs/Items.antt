@@ -7,10 +7,10 @@ use Rattle.std.proofs.Math.Seq.{get_or-append_seam}
 use Rattle.std.proofs.lemmas.List.Elements.{All-drop, All-take}
 use Rattle.std.proofs.lemmas.List.Sums.{sum_by-append}
 use Rattle.httparse.specs.Grammar.{RequestHead, ReadsRequest, print_blank, print_end, print_request, print_section, print_version}
-use Rattle.sv_body.proofs.ListLemmas.{drop_behind}
-use Rattle.sv_body.specs.declared.framing.Framing.{Framing}
-use Rattle.sv_body.specs.Body.{ReadsBody}
-use Rattle.sv_body.specs.Chunks.{Body, unfinished, complete, broken}
+use Rattle.sv_wire.proofs.ListLemmas.{drop_behind}
+use Rattle.sv_wire.specs.declared.framing.Framing.{Framing}
+use Rattle.sv_wire.specs.Body.{ReadsBody}
+use Rattle.sv_wire.specs.Chunks.{Body, unfinished, complete, broken}
 use Rattle.sv_text.proofs.FrontLemmas.{cut-whole, cut_unended-fronts}
 use Rattle.sv_text.specs.declared.front.Cut.{Cut}
 use Rattle.sv_text.specs.declared.front.Cut.TheVariants.{Endless, Unended, Whole}
@@ -18,12 +18,12 @@ use Rattle.sv_wire.specs.declared.item.Item.{Item}
 use Rattle.sv_wire.specs.declared.item.Item.TheVariants.{Continue, Message, Refuse}
 use Rattle.sv_wire.specs.declared.limits.TheConstants.{MAX_HEAD_LEN}
 use Rattle.sv_wire.specs.declared.owed_head.OwedHead.{OwedHead}
-use Rattle.sv_wire_fault.specs.declared.wire_fault.WireFault.{WireFault}
-use Rattle.sv_wire_fault.specs.declared.wire_fault.WireFault.TheVariants.{BadHead, HeadTooLarge}
+use Rattle.sv_wire.specs.declared.wire_fault.WireFault.{WireFault}
+use Rattle.sv_wire.specs.declared.wire_fault.WireFault.TheVariants.{BadHead, HeadTooLarge}
 use Rattle.sv_wire.specs.EmptyLines.{drop_empty_lines, is_of_empty_line}
 use Rattle.sv_wire.specs.Head.{ends_head, judgement_of}
 use Rattle.sv_wire.specs.Items.{is_last}
-use Rattle.sv_wire_fault.specs.WireFault.{fault_of}
+use Rattle.sv_wire.specs.WireFault.{fault_of}
 use Rattle.sv_message.specs.declared.message.Message.{Message as MessageRecord}
 use Rattle.sv_wire.specs.Next.{HoldsText}
 use Rattle.sv_message.specs.Messages.{with_body}

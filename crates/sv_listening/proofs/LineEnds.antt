@@ -6,7 +6,7 @@ use Rattle.std.specs.Cmp.Lexicographic.{same_text}
 use Rattle.std.proofs.lemmas.Bool.{and_from, cases_lt, eq-eqb, false≢true, or_cases, or_left, or_right}
 use Rattle.std.proofs.lemmas.List.{drop-drop, drop-take, drop_all, get_or-append-add, get_or-drop, get_or-take, get_or_append_left, length-drop, length-take-le, take-append-drop, take-append-le, take_all}
 use Rattle.std.proofs.lemmas.List.Elements.{All-from_get_or, All-nil}
-use Rattle.sv_body.proofs.ListLemmas.{drop_behind, take_behind}
+use Rattle.sv_wire.proofs.ListLemmas.{drop_behind, take_behind}
 use Rattle.sv_connection.specs.Pieces.{begins_line, ends_empty_line, is_lone_return}
 use Rattle.sv_listening.specs.Bound.{PiecesAreParts}
 use Rattle.sv_listening.specs.Parts.{is_line_end}

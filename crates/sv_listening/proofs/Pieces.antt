@@ -21,7 +21,7 @@ use Rattle.sv_run.specs.State.{State, World, settled_at}
 use Rattle.sv_run.specs.declared.step_fault.StepFault.TheVariants.{BadConnection, NoMemory, Stopped, TooManyConnections}
 use Rattle.sv_wire.specs.Items.{are_ended}
 use Rattle.sv_wire.specs.Reads.{Reads}
-use Rattle.sv_wire_fault.specs.declared.wire_fault.WireFault.{WireFault}
+use Rattle.sv_wire.specs.declared.wire_fault.WireFault.{WireFault}
 use Rattle.sv_wire.specs.Inbox.{Held, nothing_held}
 use Rattle.sv_wire.specs.declared.item.Item.{Item}
 use Rattle.sv_wire.specs.declared.item.Item.TheVariants.{Continue, Message, Refuse}

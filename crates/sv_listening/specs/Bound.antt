@@ -6,7 +6,7 @@ use Rattle.sv_listening.specs.Parts.{IsPart}
 use Rattle.sv_wire.specs.declared.item.Item.{Item}
 use Rattle.sv_wire.specs.declared.item.Item.TheVariants.{Continue, Message, Refuse}
 use Rattle.sv_wire.specs.declared.owed_head.OwedHead.{OwedHead}
-use Rattle.sv_wire_fault.specs.declared.wire_fault.WireFault.{WireFault}
+use Rattle.sv_wire.specs.declared.wire_fault.WireFault.{WireFault}
 use Rattle.sv_wire.specs.Reads.{Reads}
 
 abbrev pub is_message : Item → Bool

@@ -10,7 +10,7 @@ use Rattle.sv_run.specs.Messages.{plain_response}
 use Rattle.sv_run.specs.Runs.{Answer, Run}
 use Rattle.sv_run.specs.State.{State}
 use Rattle.sv_listening.specs.Parts.{IsPart}
-use Rattle.sv_wire_fault.specs.WireFault.{fault_status}
+use Rattle.sv_wire.specs.WireFault.{fault_status}
 use Rattle.sv_wire.specs.declared.item.Item.{Item}
 use Rattle.sv_wire.specs.declared.item.Item.TheVariants.{Continue, Message, Refuse}
 use Rattle.sv_message.specs.declared.response.Response.{Response}

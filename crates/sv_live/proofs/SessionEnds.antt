@@ -9,7 +9,7 @@ use Rattle.sv_component.specs.Runs.{Record, Runs}
 use Rattle.sv_component.specs.World.{World}
 use Rattle.sv_component.specs.Steps.{ComponentSteps}
 use Rattle.sv_component.proofs.Growing.{grows_join, grows_none}
-use Rattle.sv_event.specs.declared.event.Event.TheVariants.{AttributeRemoved}
+use Rattle.sv_session.specs.declared.event.Event.TheVariants.{AttributeRemoved}
 use Rattle.sv_session.specs.declared.attribute.Attribute.{Attribute}
 use Rattle.sv_session.specs.declared.ended_session.EndedSession.{EndedSession}
 use Rattle.sv_session.specs.Calls.{ended}

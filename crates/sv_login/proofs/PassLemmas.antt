@@ -5,8 +5,8 @@ use Rattle.sv_realm.specs.declared.user.User.{User}
 use Rattle.sv_session.specs.Calls.{caller_of, id_of}
 use Rattle.sv_session.specs.Id.{id_text}
 use Rattle.sv_session.specs.Store.{IsOrderly, Session, Store}
-use Rattle.sv_login.specs.declared.outcome.LoginOutcome.{LoginOutcome}
-use Rattle.sv_login.specs.declared.outcome.LoginOutcome.TheVariants.{NotLogin, Passed, WrongUser, NoSession}
+use Rattle.sv_login.specs.declared.login_outcome.LoginOutcome.{LoginOutcome}
+use Rattle.sv_login.specs.declared.login_outcome.LoginOutcome.TheVariants.{NotLogin, Passed, WrongUser, NoSession}
 use Rattle.sv_login.specs.Login.{first_case, has_no_session, login}
 use Rattle.sv_login.specs.Post.{Post, is_login, user_sent}
 use Rattle.sv_login.specs.Session.{logged_in, saved_target, session_number}

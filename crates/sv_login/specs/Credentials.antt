@@ -2,7 +2,7 @@
 use Rattle.std.specs.Prelude.{ℕ, List, Option, codes}
 use Rattle.std.specs.Option.{option_or}
 use Rattle.sv_login.specs.declared.credentials.Credentials.{Credentials}
-use Rattle.sv_parameters.specs.Parameters.{first_named}
+use Rattle.sv_message.specs.Parameters.{first_named}
 
 -- The values of the first fields with these names.
 abbrev pub credentials_in : List (List ℕ × List ℕ) → Credentials

@@ -1,3 +1,8 @@
+pub mod OutcomeLaws
+pub mod Outcome
+pub mod OutcomeEntry
+pub mod Cookies
+pub mod Held
 pub mod Credentials
 pub mod Laws
 pub mod Login

@@ -5,8 +5,8 @@ use Rattle.std.specs.Option.{option_map}
 use Rattle.std.specs.Str.{bytes_eq}
 use Rattle.sv_realm.specs.declared.user.User.{User}
 use Rattle.sv_realm.specs.Realm.{caller_checked}
-use Rattle.sv_parameters.specs.Form.{form_parameters}
-use Rattle.sv_parameters.specs.Parameters.{first_named}
+use Rattle.sv_message.specs.Form.{form_parameters}
+use Rattle.sv_message.specs.Parameters.{first_named}
 
 -- The parts of a request that decide a login. The path is that within the context.
 pub record Post : Type 0 where

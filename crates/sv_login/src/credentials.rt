@@ -5,11 +5,11 @@ ghost use Rattle.std.specs.Option.{option_copied};
 ghost use Rattle.sv_text.specs.Gives.{GivesAnswer};
 ghost use Rattle.sv_login.specs.Credentials.{credentials_in, value_or};
 ghost use Rattle.sv_login.specs.Post.{user_of};
-ghost use Rattle.sv_parameters.specs.Form.{form_parameters};
-ghost use Rattle.sv_parameters.specs.Parameters.{parameters_of};
+ghost use Rattle.sv_message.specs.Form.{form_parameters};
+ghost use Rattle.sv_message.specs.Parameters.{parameters_of};
 
 use std::alloc::Global;
-use sv_parameters::is_form;
+use sv_message::is_form;
 use sv_realm::Realm;
 use sv_text::{NoMemory, Text};
 

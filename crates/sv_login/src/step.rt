@@ -8,11 +8,11 @@ ghost use Rattle.sv_text.specs.Gives.{GivesAnswer};
 ghost use Rattle.sv_login.specs.Login.{has_no_session, login};
 ghost use Rattle.sv_login.specs.Post.{post_of};
 ghost use Rattle.sv_login.specs.Session.{logged_in, saved_target, session_number};
-ghost use Rattle.sv_login.specs.declared.outcome.LoginOutcome.TheVariants as outcomes;
+ghost use Rattle.sv_login.specs.declared.login_outcome.LoginOutcome.TheVariants as outcomes;
 
 use crate::credentials::Credentials;
 use crate::held_session::renewed;
-use crate::outcome::LoginOutcome;
+use crate::login_outcome::LoginOutcome;
 use std::alloc::Global;
 use sv_realm::Realm;
 use sv_session::{SessionFault, Sessions};

@@ -1,3 +1,12 @@
+pub mod Fronts
+pub mod ContextIndexPlaces
+pub mod Chosen
+pub mod Protected
+pub mod Within
+pub mod Index
+pub mod Places
+pub mod Segments
+pub mod Trie
 pub mod BestMatch
 pub mod Fault
 pub mod Form

@@ -1,0 +1,5 @@
+pub mod Joining
+pub mod FieldsLemmas
+pub mod PartsLemmas
+pub mod HostLemmas
+pub mod NamesLemmas

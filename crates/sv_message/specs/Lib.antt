@@ -1,3 +1,14 @@
+pub mod Form
+pub mod Parameters
+pub mod Codings
+pub mod Expectation
+pub mod Fields
+pub mod Host
+pub mod Length
+pub mod Lengths
+pub mod Persistence
+pub mod Seen
+pub mod TargetForm
 pub mod Chunking
 pub mod Content
 pub mod Cookies

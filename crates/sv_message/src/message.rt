@@ -3,8 +3,8 @@
 ghost use Rattle.std.specs.Prelude.{◌≡◌};
 ghost use Rattle.sv_message.specs.Messages.{with_body};
 
+use crate::Field;
 use http::Method;
-use sv_head::Field;
 use sv_text::{Bytes, Listed};
 
 /// A whole request (RFC 9112, section 2).

@@ -3,9 +3,9 @@
 ghost use Rattle.std.specs.Prelude.{◌↔◌, IsTrue};
 ghost use Rattle.http.specs.StatusCode.{IsStatusCode};
 
+use crate::Field;
 use crate::body::Body;
 use crate::rare::Rare;
-use sv_head::Field;
 use sv_text::{Listed, Text};
 
 /// A response (RFC 9110, section 6).

@@ -1,7 +1,7 @@
 //! Each call that may be refused memory, with memory at hand.
 
-use sv_body::{BodyEnd, BodyReader, Framing, Progress};
-use sv_head::{Field, replace_hosts};
+use sv_message::{Field, replace_hosts};
+use sv_wire::{BodyEnd, BodyReader, Framing, Progress};
 
 #[test]
 fn a_field_is_copied(rt: HostRuntime) {

@@ -6,6 +6,8 @@ mod ample_memory;
 #[cfg(test)]
 mod ample_paths;
 #[cfg(test)]
+mod calls;
+#[cfg(test)]
 mod canonical_paths;
 #[cfg(test)]
 mod chunked_bodies;
@@ -18,13 +20,19 @@ mod path_rows;
 #[cfg(test)]
 mod reading;
 #[cfg(test)]
+mod requests;
+#[cfg(test)]
 mod response_texts;
 #[cfg(test)]
 mod responses;
 #[cfg(test)]
 mod specification_table;
 #[cfg(test)]
+mod steps;
+#[cfg(test)]
 mod streams;
+#[cfg(test)]
+mod tables;
 #[cfg(test)]
 mod targets;
 #[cfg(test)]

@@ -3,11 +3,9 @@
 ghost use Rattle.std.specs.Prelude.{◌<◌};
 
 use std::alloc::Global;
-use sv_head::Field;
-use sv_message::{Message, Target};
+use sv_message::{Field, Message, Target};
 use sv_rows::Draft;
-use sv_wire::{Ended, Inbox, Item};
-use sv_wire_fault::WireFault;
+use sv_wire::{Ended, Inbox, Item, WireFault};
 
 /// What is read of a stream.
 #[derive(Drop)]

@@ -8,11 +8,11 @@ use Rattle.sv_constraints.specs.Covering.{covers, covers_method, lists}
 use Rattle.sv_constraints.specs.declared.constraint.Collection.{Collection}
 use Rattle.sv_constraints.specs.declared.constraint.Constraint.{Constraint}
 use Rattle.sv_constraints.specs.declared.rules.Rules.{Rules}
-use Rattle.sv_merged.specs.Entries.{entry_for}
-use Rattle.sv_merged.specs.Merged.{IsMerged}
-use Rattle.sv_merged.specs.Table.{IsTable}
-use Rattle.sv_merged.specs.Uncovered.{differ}
-use Rattle.sv_merged.specs.declared.table.Table.{Table}
+use Rattle.sv_policy.specs.Entries.{entry_for}
+use Rattle.sv_policy.specs.Merged.{IsMerged}
+use Rattle.sv_policy.specs.Table.{IsTable}
+use Rattle.sv_policy.specs.Uncovered.{differ}
+use Rattle.sv_policy.specs.declared.table.Table.{Table}
 use Rattle.sv_policy.proofs.Listed.{any_seen, covers_listed, length_seen}
 use Rattle.sv_policy.specs.Likeness.{are_alike, tells_apart}
 use Rattle.sv_policy.specs.Patterns.{lists_pattern}

@@ -13,8 +13,8 @@ use Rattle.sv_constraints.specs.declared.owned_decision.OwnedDecision.{OwnedDeci
 use Rattle.sv_constraints.specs.Findings.{decided, findings_of}
 use Rattle.sv_constraints.specs.Laws.{FindingsDecide}
 use Rattle.sv_constraints.specs.Verdict.{verdict, verdict_at}
-use Rattle.sv_merged.specs.Table.{IsTable}
-use Rattle.sv_merged.specs.declared.table.Table.{Table}
+use Rattle.sv_policy.specs.Table.{IsTable}
+use Rattle.sv_policy.specs.declared.table.Table.{Table}
 use Rattle.sv_policy.specs.Compiled.{AreCompiled}
 use Rattle.sv_policy.proofs.Whole.{seen_twice}
 use Rattle.sv_policy.specs.Patterns.{BestIsOfTexts}

@@ -10,10 +10,10 @@ use Rattle.std.proofs.lemmas.List.Folds.{list_any-append}
 use Rattle.sv_constraints.specs.Covering.{all_patterns, covers, lists}
 use Rattle.sv_constraints.specs.declared.constraint.Constraint.{Constraint}
 use Rattle.sv_constraints.specs.declared.rules.Rules.{Rules}
-use Rattle.sv_merged.specs.Merged.{IsMerged}
-use Rattle.sv_merged.specs.Entries.{entry_for}
-use Rattle.sv_merged.specs.Table.{IsTable}
-use Rattle.sv_merged.specs.declared.table.Table.{Table}
+use Rattle.sv_policy.specs.Merged.{IsMerged}
+use Rattle.sv_policy.specs.Entries.{entry_for}
+use Rattle.sv_policy.specs.Table.{IsTable}
+use Rattle.sv_policy.specs.declared.table.Table.{Table}
 use Rattle.sv_policy.proofs.Listed.{any_seen, covers_listed, different_lists, filter_within, listed_any, listed_by, some_filtered}
 use Rattle.sv_policy.proofs.Filing.{length_map}
 use Rattle.sv_policy.proofs.Whole.{all_none, seen_twice}

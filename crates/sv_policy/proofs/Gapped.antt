@@ -15,10 +15,10 @@ use Rattle.sv_constraints.specs.Covering.{all_patterns, covers_method, lists}
 use Rattle.sv_constraints.specs.declared.constraint.Constraint.{Constraint}
 use Rattle.sv_constraints.specs.declared.constraint.Methods.{Methods}
 use Rattle.sv_constraints.specs.declared.constraint.Methods.TheVariants as methods
-use Rattle.sv_merged.specs.Covering.{method_names, named_methods}
-use Rattle.sv_merged.specs.Laws.{RisingHasTheTexts, RisingIsAlone, RisingRises, UncoveredIsExact, UncoveredRises}
-use Rattle.sv_merged.specs.Uncovered.{IsRising, are_others_uncovered, has_methods, is_uncovered, rising, uncovered_methods}
-use Rattle.sv_merged.specs.declared.table.Table.{Table}
+use Rattle.sv_policy.specs.Covering.{method_names, named_methods}
+use Rattle.sv_policy.specs.MergedLaws.{RisingHasTheTexts, RisingIsAlone, RisingRises, UncoveredIsExact, UncoveredRises}
+use Rattle.sv_policy.specs.Uncovered.{IsRising, are_others_uncovered, has_methods, is_uncovered, rising, uncovered_methods}
+use Rattle.sv_policy.specs.declared.table.Table.{Table}
 use Rattle.sv_policy.proofs.Whole.{all_none}
 use Rattle.sv_policy.specs.Gaps.{GapsAreExact, GapsRise, gap_at, holds, is_all}
 use Rattle.sv_policy.specs.declared.gap.Gap.{Gap}

@@ -1,3 +1,13 @@
+pub mod Contexts
+pub mod Methods
+pub mod Lowered
+pub mod Joined
+pub mod Admitted
+pub mod Named
+pub mod MergedWhole
+pub mod Rising
+pub mod Excepted
+pub mod UncoveredLemmas
 pub mod Steps
 pub mod Listed
 pub mod Whole

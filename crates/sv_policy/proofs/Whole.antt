@@ -7,10 +7,10 @@ use Rattle.std.proofs.lemmas.List.Elements.{filter-append}
 use Rattle.sv_constraints.specs.Covering.{covers}
 use Rattle.sv_constraints.specs.declared.constraint.Constraint.{Constraint}
 use Rattle.sv_constraints.specs.declared.rules.Rules.{Rules}
-use Rattle.sv_merged.specs.Merged.{IsMerged}
-use Rattle.sv_merged.specs.Entries.{entry_for}
-use Rattle.sv_merged.specs.Table.{IsTable}
-use Rattle.sv_merged.specs.declared.table.Table.{Table}
+use Rattle.sv_policy.specs.Merged.{IsMerged}
+use Rattle.sv_policy.specs.Entries.{entry_for}
+use Rattle.sv_policy.specs.Table.{IsTable}
+use Rattle.sv_policy.specs.declared.table.Table.{Table}
 use Rattle.sv_policy.proofs.Listed.{covers_listed, filter_within}
 use Rattle.sv_policy.specs.Patterns.{lists_pattern}
 use Rattle.sv_policy.proofs.Steps.{seen_more}

@@ -3,8 +3,8 @@ use Rattle.std.specs.Prelude.{◌≡◌, ℕ, List, map, fold, max, All}
 use Rattle.sv_constraints.specs.Covering.{all_patterns, lists}
 use Rattle.sv_constraints.specs.declared.constraint.Constraint.{Constraint}
 use Rattle.sv_constraints.specs.declared.rules.Rules.{Rules}
-use Rattle.sv_merged.specs.Table.{IsTable}
-use Rattle.sv_merged.specs.declared.table.Table.{Table}
+use Rattle.sv_policy.specs.Table.{IsTable}
+use Rattle.sv_policy.specs.declared.table.Table.{Table}
 
 -- The current constraints, their rules, the greatest number assigned so far, and the count of patterns affected by
 -- edits.

@@ -2,8 +2,8 @@
 use Rattle.std.specs.Prelude.{◌≡◌, ℕ, List, Contains, map}
 use Rattle.std.specs.Borrow.{Bor}
 use Rattle.std.specs.List.{AllByRecursion}
-use Rattle.sv_merged.specs.Uncovered.{rising}
-use Rattle.sv_merged.specs.declared.table.Table.{Table}
+use Rattle.sv_policy.specs.Uncovered.{rising}
+use Rattle.sv_policy.specs.declared.table.Table.{Table}
 
 -- The keys are the sorted patterns of `tables`. Each has a table with its pattern, which is in `all`.
 pub record IsFiled (all tables : List Table) (entries : List (Bor (List ℕ) × Bor Table)) : Type 0 where

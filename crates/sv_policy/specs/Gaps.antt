@@ -6,8 +6,8 @@ use Rattle.sv_constraints.specs.Covering.{all_patterns, covers_method, lists}
 use Rattle.sv_constraints.specs.declared.constraint.Constraint.{Constraint}
 use Rattle.sv_constraints.specs.declared.constraint.Methods.{Methods}
 use Rattle.sv_constraints.specs.declared.constraint.Methods.TheVariants as methods
-use Rattle.sv_merged.specs.Covering.{method_names}
-use Rattle.sv_merged.specs.Uncovered.{IsRising, has_methods, is_uncovered, rising, uncovered_methods}
+use Rattle.sv_policy.specs.Covering.{method_names}
+use Rattle.sv_policy.specs.Uncovered.{IsRising, has_methods, is_uncovered, rising, uncovered_methods}
 use Rattle.sv_policy.specs.declared.gap.Gap.{Gap}
 
 -- The gap at a pattern.

@@ -1,3 +1,13 @@
+pub mod Context
+pub mod Text
+pub mod Fault
+pub mod Explanation
+pub mod Covering
+pub mod Entries
+pub mod MergedLaws
+pub mod Merged
+pub mod Table
+pub mod Uncovered
 pub mod Compiled
 pub mod EditFault
 pub mod Edits

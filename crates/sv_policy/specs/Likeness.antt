@@ -3,7 +3,7 @@ use Rattle.std.specs.Prelude.{ℕ, Bool, not, ◌&&◌, ◌==◌, List, length}
 use Rattle.std.specs.List.{list_any}
 use Rattle.sv_constraints.specs.Covering.{lists}
 use Rattle.sv_constraints.specs.declared.constraint.Constraint.{Constraint}
-use Rattle.sv_merged.specs.Uncovered.{differ}
+use Rattle.sv_policy.specs.Uncovered.{differ}
 
 -- Whether a collection of the constraint lists exactly one of the two patterns.
 abbrev pub tells_apart : Constraint → List ℕ → List ℕ → Bool

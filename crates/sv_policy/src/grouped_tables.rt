@@ -3,11 +3,12 @@
 ghost use Rattle.std.specs.Prelude.{◌≡◌, ◌++◌, ◌∷◌, [], List, map, filter, if◌then◌else◌, All, IfOk, OnOk};
 ghost use Rattle.sv_constraints.specs.Covering.{all_patterns, lists};
 ghost use Rattle.sv_constraints.specs.declared.constraint.Constraint.{Constraint};
-ghost use Rattle.sv_merged.specs.Table.{IsTable};
+ghost use Rattle.sv_policy.specs.Table.{IsTable};
 ghost use Rattle.sv_policy.specs.Compiled.{AreCompiled};
 ghost use Rattle.sv_policy.specs.Groups.{IsGrouped};
 ghost use Rattle.sv_policy.specs.Patterns.{lists_pattern};
 
+use crate::Table;
 use crate::grouping::{Groups, grouped};
 use crate::likeness::mark_of;
 use crate::making::Making;
@@ -16,7 +17,6 @@ use std::alloc::Global;
 use std::rc::Rc;
 use sv_constraints::{Constraint, Rules};
 use sv_mapping::Pattern;
-use sv_merged::Table;
 use sv_text::NoMemory;
 
 /// Returns the tables of constraints. Each is made from the constraints on its pattern, without a search through the

@@ -5,8 +5,8 @@ ghost use Rattle.sv_policy.specs.Gaps.{GapsAreExact, GapsRise};
 ghost use Rattle.sv_policy.specs.Patterns.{BestIsOfTexts};
 ghost use Rattle.sv_policy.specs.declared.limits.TheConstants.{MAX_CONSTRAINTS, MAX_PATTERNS_OF_CONSTRAINT};
 
+use crate::{rising_is_in_order, uncovered_methods_are_exact};
 use sv_mapping::laws::best_is_unique;
-use sv_merged::{rising_is_in_order, uncovered_methods_are_exact};
 
 /// Patterns with the same texts have the same best match for each path, whatever their order and number.
 pub fn best_is_of_texts()

@@ -3,7 +3,7 @@
 ghost use Rattle.std.specs.Prelude.{◌≡◌, map};
 ghost use Rattle.std.specs.List.{list_any};
 ghost use Rattle.sv_constraints.specs.Covering.{lists};
-ghost use Rattle.sv_merged.specs.Uncovered.{differ};
+ghost use Rattle.sv_policy.specs.Uncovered.{differ};
 ghost use Rattle.sv_policy.specs.Likeness.{are_alike, tells_apart};
 
 use crate::patterns::lists_pattern;

@@ -2,9 +2,10 @@
 
 ghost use Rattle.std.specs.Prelude.{◌≡◌, ◌++◌, ◌∷◌, [], List, map, filter, if◌then◌else◌, All, IfOk, OnOk};
 ghost use Rattle.sv_constraints.specs.Covering.{all_patterns, lists};
-ghost use Rattle.sv_merged.specs.Table.{IsTable};
+ghost use Rattle.sv_policy.specs.Table.{IsTable};
 ghost use Rattle.sv_policy.specs.Patterns.{lists_pattern};
 
+use crate::Table;
 use crate::likeness::mark_of;
 use crate::making::Making;
 use crate::patterns::is_listed;
@@ -12,7 +13,6 @@ use crate::tables::{merged, table_like};
 use std::alloc::Global;
 use sv_constraints::{Constraint, Rules};
 use sv_mapping::Pattern;
-use sv_merged::Table;
 use sv_text::NoMemory;
 
 /// Returns the constraints of two lists, one after the other, that list a pattern.

@@ -3,12 +3,12 @@
 ghost use Rattle.std.specs.Prelude.{◌≡◌, ◌++◌, ◌∷◌, [], List, map, All, IfOk, IfSome, OnOk};
 ghost use Rattle.std.specs.Option.{option_and_then, option_copied};
 ghost use Rattle.std.specs.Prelude.{slice_get};
-ghost use Rattle.sv_merged.specs.Table.{IsTable};
+ghost use Rattle.sv_policy.specs.Table.{IsTable};
 
+use crate::Table;
 use std::alloc::Global;
 use std::collections::HashMap;
 use std::rc::Rc;
-use sv_merged::Table;
 use sv_text::NoMemory;
 
 /// The tables made so far, and the index of the last one with each mark.

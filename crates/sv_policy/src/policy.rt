@@ -6,11 +6,12 @@ ghost use Rattle.sv_constraints.specs.Covering.{all_patterns};
 ghost use Rattle.sv_constraints.specs.Decision.{seen};
 ghost use Rattle.sv_constraints.specs.Verdict.{verdict};
 ghost use Rattle.sv_mapping.specs.BestMatch.{best_pattern};
-ghost use Rattle.sv_pattern_table.specs.Segments.{segments};
+ghost use Rattle.sv_mapping.specs.Segments.{segments};
 ghost use Rattle.sv_policy.specs.Compiled.{compiled, greatest_number};
 ghost use Rattle.sv_policy.specs.Gaps.{gaps};
 ghost use Rattle.sv_text.specs.Gives.{GivesAnswer};
 
+use crate::Table;
 use crate::gap::Gap;
 use crate::grouped_tables::tables_of;
 use crate::laws::best_is_of_texts;
@@ -21,8 +22,7 @@ use std::alloc::Global;
 use std::marker::Model;
 use std::rc::Rc;
 use sv_constraints::{Cause, Constraint, Decision, Rules, Why, findings_decide};
-use sv_merged::Table;
-use sv_pattern_table::PatternTable;
+use sv_mapping::PatternTable;
 use sv_realm::Caller;
 use sv_text::NoMemory;
 

@@ -7,6 +7,7 @@ ghost use Rattle.sv_policy.specs.Compiled.{AreCompiled};
 ghost use Rattle.sv_policy.specs.Patterns.{listed_in};
 ghost use Rattle.sv_policy.specs.Rebuilt.{AreSameElsewhere, IsRebuilt};
 
+use crate::Table;
 use crate::listed_tables::push_tables;
 use crate::making::Making;
 use crate::patterns::{is_among, patterns_of};
@@ -15,9 +16,7 @@ use std::alloc::Global;
 use std::rc::Rc;
 use std::slice;
 use sv_constraints::{Collection, Constraint, Rules};
-use sv_mapping::Pattern;
-use sv_merged::Table;
-use sv_pattern_table::PatternTable;
+use sv_mapping::{Pattern, PatternTable};
 use sv_text::NoMemory;
 
 /// The tables of edited constraints.

@@ -2,18 +2,17 @@
 
 ghost use Rattle.std.specs.Prelude.{◌≡◌, List, map, filter, IfOk};
 ghost use Rattle.sv_constraints.specs.declared.constraint.Constraint.{Constraint};
-ghost use Rattle.sv_merged.specs.Table.{IsTable};
+ghost use Rattle.sv_policy.specs.Table.{IsTable};
 ghost use Rattle.sv_policy.specs.Patterns.{lists_pattern};
 ghost use Rattle.sv_text.specs.Gives.{GivesAnswer};
 
+use crate::Table;
 use crate::likeness::are_alike;
 use crate::patterns::copied;
 use std::alloc::Global;
 use std::rc::Rc;
 use sv_constraints::{Constraint, Rules};
-use sv_mapping::Pattern;
-use sv_merged::Table;
-use sv_pattern_table::PatternTable;
+use sv_mapping::{Pattern, PatternTable};
 use sv_text::NoMemory;
 
 /// Returns the table of a pattern, merged from the constraints that list it.

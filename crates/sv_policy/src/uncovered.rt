@@ -3,19 +3,19 @@
 ghost use Rattle.std.specs.Prelude.{◌≡◌, ◌++◌, ◌∷◌, [], List, All, Contains, IfOk, OnOk, map, if◌then◌else◌};
 ghost use Rattle.sv_constraints.specs.declared.constraint.Constraint.{Constraint};
 ghost use Rattle.sv_constraints.specs.declared.rules.Rules.{Rules};
-ghost use Rattle.sv_merged.specs.Table.{IsTable};
-ghost use Rattle.sv_merged.specs.Uncovered.{has_methods, rising, uncovered_methods};
+ghost use Rattle.sv_policy.specs.Table.{IsTable};
+ghost use Rattle.sv_policy.specs.Uncovered.{has_methods, rising, uncovered_methods};
 ghost use Rattle.sv_policy.specs.Compiled.{AreCompiled};
 ghost use Rattle.sv_policy.specs.Filed.{IsFiled};
 ghost use Rattle.sv_policy.specs.Gaps.{gap_at, gaps};
 
 use crate::gap::Gap;
 use crate::patterns::copied;
+use crate::{Table, rising_is_in_order};
 use std::alloc::Global;
 use std::collections::BTreeMap;
 use std::rc::Rc;
 use sv_constraints::Methods;
-use sv_merged::{Table, rising_is_in_order};
 use sv_text::NoMemory;
 
 /// Returns the gaps of the constraints that the tables were merged from.

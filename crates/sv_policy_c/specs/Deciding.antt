@@ -1,12 +1,12 @@
 -- The effects of the exported functions on an engine.
 use Rattle.std.specs.Prelude.{◌≡◌, ℕ, Bool, true, false, List, [], ◌∷◌, ◌++◌, Option, None, Some, IsSome, Ok, Err, IsUtf8}
 use Rattle.std.specs.Option.{option_map}
-use Rattle.sv_schema.specs.Fault.{Reads, descriptor_fault_text}
-use Rattle.sv_schema.specs.declared.fault.DescriptorFault.{DescriptorFault}
-use Rattle.sv_explain.specs.Explanation.{Answer}
-use Rattle.sv_explain.specs.Text.{explanation_text}
-use Rattle.sv_explain.specs.declared.explanation.Explanation.{Explanation}
-use Rattle.sv_explain.specs.declared.fault.ExplainFault.TheVariants.{BadMethod, NoSuchUser}
+use Rattle.sv_descriptor.specs.Fault.{Reads, descriptor_fault_text}
+use Rattle.sv_descriptor.specs.declared.fault.DescriptorFault.{DescriptorFault}
+use Rattle.sv_policy.specs.Explanation.{Answer}
+use Rattle.sv_policy.specs.Text.{explanation_text}
+use Rattle.sv_policy.specs.declared.explanation.Explanation.{Explanation}
+use Rattle.sv_policy.specs.declared.fault.ExplainFault.TheVariants.{BadMethod, NoSuchUser}
 use Rattle.sv_policy_c.specs.Answer.{IsShort, IsUntouched, IsWritten}
 use Rattle.sv_policy_c.specs.Engine.{engine_of, explained}
 use Rattle.sv_policy_c.specs.Status.{number}

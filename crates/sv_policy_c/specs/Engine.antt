@@ -1,12 +1,12 @@
 -- The policy of one context, and the caller: Jakarta Servlet 6.0, section 13.8.
 use Rattle.std.specs.Prelude.{ℕ, List, [], ◌∷◌, codes, Option, None, Some, Ok}
 use Rattle.sv_text.specs.Steps.{◌>>=◌}
-use Rattle.sv_schema.specs.Fault.{Reads}
+use Rattle.sv_descriptor.specs.Fault.{Reads}
 use Rattle.sv_descriptor.specs.Descriptor.{descriptor_of}
 use Rattle.sv_policy.specs.Compiled.{compiled}
 use Rattle.sv_realm.specs.declared.user.User.{User}
-use Rattle.sv_explain.specs.Context.{policy}
-use Rattle.sv_explain.specs.Explanation.{Answer, explanation}
+use Rattle.sv_policy.specs.Context.{policy}
+use Rattle.sv_policy.specs.Explanation.{Answer, explanation}
 use Rattle.sv_policy_c.specs.declared.engine.Engine.{Engine}
 
 -- the engine of a context with this path and a descriptor with this text, without a caller

@@ -1,6 +1,6 @@
 -- The methods that a descriptor leaves uncovered: Jakarta Servlet 6.0, section 13.8.4.
 use Rattle.std.specs.Prelude.{◌≡◌, ℕ, List, [], ◌∷◌, Option, None, Some, Ok, Err}
-use Rattle.sv_schema.specs.Fault.{descriptor_fault_text}
+use Rattle.sv_descriptor.specs.Fault.{descriptor_fault_text}
 use Rattle.sv_program.specs.Configuration.{Step}
 use Rattle.sv_program.specs.Uncovered.{uncovered_lines}
 use Rattle.sv_program.specs.declared.command_fault.CommandFault.TheVariants.{Descriptor}

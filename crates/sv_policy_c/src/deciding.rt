@@ -13,9 +13,9 @@ use crate::gaps::uncovered;
 use crate::status::Status;
 use std::alloc::Global;
 use std::str;
-use sv_explain::{ExplainFault, Explanation};
+use sv_descriptor::{DescriptorFault, ReadFault};
+use sv_policy::{ExplainFault, Explanation};
 use sv_program::CommandFault;
-use sv_schema::{DescriptorFault, ReadFault};
 use sv_text::{Listed, Text};
 
 /// Writes the decision on a request.

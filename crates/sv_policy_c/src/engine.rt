@@ -1,20 +1,18 @@
 //! The contents of a handle: the policy of one context, and the caller.
 
 ghost use Rattle.std.specs.Prelude.{◌≡◌, IfOk, IfErr, Err, Ok, None, Some};
-ghost use Rattle.sv_explain.specs.Fault.{explain_fault};
-ghost use Rattle.sv_explain.specs.declared.fault.ExplainFault.TheVariants.{BadMethod};
+ghost use Rattle.sv_policy.specs.Fault.{explain_fault};
+ghost use Rattle.sv_policy.specs.declared.fault.ExplainFault.TheVariants.{BadMethod};
 ghost use Rattle.sv_policy_c.specs.Engine as spec;
-ghost use Rattle.sv_schema.specs.Fault.{fault};
+ghost use Rattle.sv_descriptor.specs.Fault.{fault};
 ghost use Rattle.sv_text.specs.Gives.{Gives, GivesAnswer};
 
 use std::alloc::Global;
 use std::str;
-use sv_context_path::HasContextPath;
-use sv_descriptor::read_descriptor;
-use sv_explain::{ExplainFault, Explanation, HasPolicy, explain_request};
-use sv_policy::Policy;
+use sv_descriptor::{ReadFault, read_descriptor};
+use sv_mapping::HasContextPath;
+use sv_policy::{ExplainFault, Explanation, HasPolicy, Policy, explain_request};
 use sv_realm::{Realm, User};
-use sv_schema::ReadFault;
 use sv_text::{Bytes, Listed, NoMemory, Text, copied_texts};
 
 /// The policy of one context, and the caller.

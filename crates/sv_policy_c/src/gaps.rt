@@ -5,8 +5,8 @@ ghost use Rattle.sv_program.specs.CommandFault.{command_fault};
 ghost use Rattle.sv_text.specs.Gives.{Gives, GivesAnswer};
 
 use std::alloc::Global;
+use sv_descriptor::ContextEntry;
 use sv_program::{CommandFault, ContextTexts, uncovered_lines};
-use sv_settings::ContextEntry;
 use sv_text::{NoMemory, Text};
 
 /// Returns the lines that `sv uncovered` prints for a server with one context, of this path and with this descriptor.

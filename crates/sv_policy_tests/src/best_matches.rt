@@ -2,8 +2,7 @@
 
 use crate::policies::patterns_of;
 use std::alloc::Global;
-use sv_mapping::{Pattern, best, split};
-use sv_pattern_table::PatternTable;
+use sv_mapping::{Pattern, PatternTable, best, split};
 use sv_rows::{Asks, Strays, cell, hold};
 use sv_text::NoMemory;
 

@@ -6,6 +6,10 @@ mod ample_memory;
 #[cfg(test)]
 mod best_matches;
 #[cfg(test)]
+mod calls;
+#[cfg(test)]
+mod cookies;
+#[cfg(test)]
 mod credentials;
 #[cfg(test)]
 mod edit_load;
@@ -14,8 +18,16 @@ mod edits;
 #[cfg(test)]
 mod load;
 #[cfg(test)]
+mod logins;
+#[cfg(test)]
 mod numbered;
 #[cfg(test)]
 mod pattern_texts;
 #[cfg(test)]
 mod policies;
+#[cfg(test)]
+mod realm;
+#[cfg(test)]
+mod rows;
+#[cfg(test)]
+mod stores;

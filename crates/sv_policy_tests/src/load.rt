@@ -7,7 +7,7 @@ use std::rt::Clock;
 use std::test::Fail;
 use std::time::{Duration, Instant};
 use sv_constraints::Decision;
-use sv_pattern_table::PatternTable;
+use sv_mapping::PatternTable;
 use sv_policy::Policy;
 use sv_rows::Draft;
 use sv_text::NoMemory;

@@ -1,6 +1,6 @@
 -- The faults that the texts of files can have.
 use Rattle.std.proofs.Common.{◌≡◌, ℕ, List, [], ◌∷◌, Option, Some, None, Result, Ok, Err, refl, subst}
-use Rattle.sv_schema.specs.Fault.{Reads}
+use Rattle.sv_descriptor.specs.Fault.{Reads}
 use Rattle.sv_text.specs.Steps.{◌>>=◌}
 use Rattle.sv_program.specs.Configuration.{Step, each, text_of, told}
 use Rattle.sv_program.specs.declared.command_fault.CommandFault.{CommandFault}

@@ -1,7 +1,7 @@
 -- The loop that collects the lines of the command `uncovered`.
 use Rattle.std.proofs.Common.{◌≡◌, ◌∙◌, ℕ, ◌+◌, ◌<◌, List, [], ◌∷◌, ◌++◌, flat_map, length, drop, get_or, drop-cons, add-one, Ok, Err, refl, suc, sym, ap, append_assoc, Option, Some, None, MatchOption, IsErrAnd}
 use Rattle.sv_text.specs.Steps.{◌>>=◌}
-use Rattle.sv_settings.specs.Server.{server_of}
+use Rattle.sv_descriptor.specs.Server.{server_of}
 use Rattle.sv_descriptor.specs.Descriptor.{descriptor_of}
 use Rattle.sv_program.specs.CommandFault.{command_fault}
 use Rattle.sv_program.specs.Configuration.{Step, descriptor_in, each, server_in, text_of}

@@ -2,8 +2,8 @@
 use Rattle.std.specs.Prelude.{ℕ, List, [], ◌++◌, codes, if◌then◌else◌, Option, Some, None, MatchOption, Result, Ok, Err}
 use Rattle.std.specs.Fmt.{decimal}
 use Rattle.std.specs.Str.{bytes_eq}
-use Rattle.sv_schema.specs.Fault.{number}
-use Rattle.sv_schema.specs.declared.fault.DescriptorFault.{DescriptorFault}
+use Rattle.sv_descriptor.specs.Fault.{number}
+use Rattle.sv_descriptor.specs.declared.fault.DescriptorFault.{DescriptorFault}
 use Rattle.sv_uri.specs.ContextPath.{shown_context}
 use Rattle.sv_program.specs.declared.command_fault.CommandFault.{CommandFault}
 use Rattle.sv_program.specs.declared.command_fault.CommandFault.TheVariants.{Input, Output, File, Server, Descriptor, Users, Class, Files, Start, Socket, Script, User, Method, NoMemory}

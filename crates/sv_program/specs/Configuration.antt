@@ -4,11 +4,11 @@ use Rattle.std.specs.Prelude.{ℕ, List, [], ◌∷◌, Option, Some, None, Resu
 use Rattle.std.specs.Option.{ok_or}
 use Rattle.sv_text.specs.Steps.{◌>>=◌}
 use Rattle.sv_realm.specs.declared.user.User.{User}
-use Rattle.sv_schema.specs.Fault.{Reads}
-use Rattle.sv_schema.specs.declared.fault.DescriptorFault.{DescriptorFault}
-use Rattle.sv_settings.specs.Server.{server_of}
-use Rattle.sv_settings.specs.Users.{users_of}
-use Rattle.sv_settings.specs.declared.server.Server.{Server}
+use Rattle.sv_descriptor.specs.Fault.{Reads}
+use Rattle.sv_descriptor.specs.declared.fault.DescriptorFault.{DescriptorFault}
+use Rattle.sv_descriptor.specs.Server.{server_of}
+use Rattle.sv_descriptor.specs.Users.{users_of}
+use Rattle.sv_descriptor.specs.declared.server.Server.{Server}
 use Rattle.sv_descriptor.specs.Descriptor.{descriptor_of}
 use Rattle.sv_descriptor.specs.declared.web_app.WebApp.{WebApp}
 use Rattle.sv_program.specs.declared.command_fault.CommandFault.{CommandFault}

@@ -3,8 +3,8 @@
 use Rattle.std.specs.Prelude.{◌≡◌, ℕ, List, [], ◌∷◌, map, flat_map, Option, Some, None, Result, Ok, Err}
 use Rattle.std.specs.Path.{path_with_file_name}
 use Rattle.sv_text.specs.Gives.{Gives}
-use Rattle.sv_settings.specs.declared.server.ContextEntry.{ContextEntry}
-use Rattle.sv_settings.specs.declared.server.Server.{Server}
+use Rattle.sv_descriptor.specs.declared.server.ContextEntry.{ContextEntry}
+use Rattle.sv_descriptor.specs.declared.server.Server.{Server}
 use Rattle.sv_program.specs.CommandFault.{command_fault, UnlessNoMemory}
 use Rattle.sv_program.specs.Configuration.{Step, server_in}
 use Rattle.sv_program.specs.FileStore.{AreRead, Giving, Reading}

@@ -4,7 +4,7 @@ use Rattle.std.specs.Prelude.{◌≡◌, ℕ, Bool, List, ◌∷◌, [], ◌++�
 use Rattle.std.specs.Io.KnownBytes.{Appends}
 use Rattle.sv_wire.specs.Reads.{Reads}
 use Rattle.sv_wire.specs.Items.{first_item}
-use Rattle.sv_wire_fault.specs.WireFault as wire_fault
+use Rattle.sv_wire.specs.WireFault as wire_fault
 use Rattle.sv_wire.specs.declared.item.Item.{Item}
 use Rattle.sv_wire.specs.declared.owed_head.OwedHead.{OwedHead}
 use Rattle.sv_wire.specs.declared.item.Item.TheVariants.{Continue, Refuse}

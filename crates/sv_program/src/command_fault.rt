@@ -7,7 +7,7 @@ ghost use Rattle.sv_program.specs.FaultLine.{line_text, shown_text};
 use std::alloc::{AllocError, AllocFailed};
 use std::error::Error;
 use std::fmt;
-use sv_schema::DescriptorFault;
+use sv_descriptor::DescriptorFault;
 use sv_text::{NoMemory, Text};
 use sv_uri::shown_context;
 

@@ -3,17 +3,17 @@
 ghost use Rattle.std.specs.Prelude.{Err, IfOk};
 ghost use Rattle.std.specs.Option.{option_copied};
 ghost use Rattle.sv_text.specs.Gives.{Gives};
-ghost use Rattle.sv_settings.specs.Server.{IsWellFormedServer};
+ghost use Rattle.sv_descriptor.specs.Server.{IsWellFormedServer};
 ghost use Rattle.sv_program.specs.CommandFault.{command_fault};
 ghost use Rattle.sv_program.specs.Configuration as spec;
 ghost use Rattle.sv_program.specs.declared.command_fault.CommandFault.TheVariants.{File};
 
 use crate::command_fault::CommandFault;
 use std::alloc::Global;
-use sv_descriptor::{Descriptor, read_descriptor};
+use sv_descriptor::{
+    ContextEntry, Descriptor, ReadFault, Server, read_descriptor, read_server, read_users,
+};
 use sv_realm::Realm;
-use sv_schema::ReadFault;
-use sv_settings::{ContextEntry, Server, read_server, read_users};
 use sv_text::Text;
 
 /// A context of a server file, with the texts of the files that it names.

@@ -2,7 +2,7 @@
 
 ghost use Rattle.std.specs.Prelude.{IfOk};
 ghost use Rattle.std.specs.Path.{path_with_file_name};
-ghost use Rattle.sv_settings.specs.Server.{IsWellFormedServer};
+ghost use Rattle.sv_descriptor.specs.Server.{IsWellFormedServer};
 ghost use Rattle.sv_program.specs.ConfigurationFiles.{ReadsContext, ReadsContexts, ReadsNamed, ReadsServer};
 
 use crate::command_fault::CommandFault;
@@ -10,7 +10,7 @@ use crate::configuration::{ContextTexts, server_in};
 use crate::file_store::FileStore;
 use std::alloc::Global;
 use std::path::Path;
-use sv_settings::{ContextEntry, Server};
+use sv_descriptor::{ContextEntry, Server};
 use sv_text::{Listed, NoMemory, Text};
 
 /// Reads the server file of this name.

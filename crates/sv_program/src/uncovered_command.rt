@@ -16,9 +16,8 @@ use crate::output::print_text;
 use std::alloc::Global;
 use std::io::Write;
 use sv_constraints::Methods;
-use sv_descriptor::Descriptor;
+use sv_descriptor::{ContextEntry, Descriptor};
 use sv_policy::{Gap, Policy};
-use sv_settings::ContextEntry;
 use sv_text::{Listed, NoMemory, Text};
 use sv_uri::shown_context;
 

@@ -1,7 +1,7 @@
 -- Cut pieces, over whole states.
 use Rattle.std.proofs.Common.{◌≡◌, ℕ, Bool, true, false, ◌||◌, ◌⊎◌, inl, inr, List, [], ◌∷◌, ◌++◌, map, Ok, Option, Some, refl, sym, ap, ◌∙◌, subst, eqb, append-nil, append_assoc}
 use Rattle.std.proofs.lemmas.Map.{update_here, update-update}
-use Rattle.sv_body.proofs.BoolLemmas.{MatchBool-from_false}
+use Rattle.sv_wire.proofs.BoolLemmas.{MatchBool-from_false}
 use Rattle.sv_run.specs.Contexts.{Theory}
 use Rattle.sv_run.specs.Effect.{Effect, nothing, telling, joined, joined_all}
 use Rattle.sv_run.specs.Events.{Accepts, Piece, TakesPiece, raised, unknown_fault}

@@ -1,3 +1,13 @@
+mod Adding
+mod HostBreaking
+mod Contexts
+mod EditedContexts
+mod HostFeedings
+mod Handling
+mod HostHappening
+mod Iterating
+mod Places
+mod HostTaking
 mod Beside
 pub mod Breaking
 pub mod Callers

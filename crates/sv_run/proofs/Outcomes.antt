@@ -5,15 +5,15 @@ use Rattle.std.proofs.lemmas.List.{map-append}
 use Rattle.std.proofs.lemmas.List.Elements.{filter-append}
 use Rattle.sv_journal.specs.declared.entry.Entry.{Entry}
 use Rattle.sv_journal.specs.declared.entry.Entry.TheVariants as entries
-use Rattle.sv_outcome.specs.Laws.{EntersExactlyByAnOpenVerdict}
-use Rattle.sv_outcome.specs.declared.outcome.Outcome.{Outcome}
-use Rattle.sv_outcome.specs.declared.outcome.Outcome.TheVariants.{Protected, LoggedIn, LoginFailed, NoSession, Entered, SentToLogin, NoLogin, Denied}
-use Rattle.sv_context_path.specs.Within.{path_within}
+use Rattle.sv_login.specs.OutcomeLaws.{EntersExactlyByAnOpenVerdict}
+use Rattle.sv_login.specs.declared.outcome.Outcome.{Outcome}
+use Rattle.sv_login.specs.declared.outcome.Outcome.TheVariants.{Protected, LoggedIn, LoginFailed, NoSession, Entered, SentToLogin, NoLogin, Denied}
+use Rattle.sv_mapping.specs.Within.{path_within}
 use Rattle.sv_run.specs.Contexts.{Handling, Theory}
 use Rattle.sv_run.specs.Effect.{Deed, Effect, Handled}
 use Rattle.sv_run.specs.Events.{Accepts, Edited, Ended, ExpiresAll, Happening, Happens, Lost, Opened, Piece, Tick}
 use Rattle.sv_run.specs.Items.{Responds, Takes, TakesItem}
-use Rattle.sv_outcome.specs.OutcomeEntry.{outcome_entry}
+use Rattle.sv_login.specs.OutcomeEntry.{outcome_entry}
 use Rattle.sv_run.specs.Lawful.{TellsOutcomes, entry_of, is_outcome, outcome_of}
 use Rattle.sv_run.specs.Laws.{EntersWhereAllowed, RequestsEnterExactlyWhereAllowed, deed_entry}
 use Rattle.sv_run.specs.Messages.{Destination, Itself, Within, destination, destination_at, destination_in, destination_of}

@@ -2,7 +2,7 @@
 -- random words are drawn.
 use Rattle.std.specs.Prelude.{ℕ, List, Option, Result}
 use Rattle.sv_journal.specs.declared.entry.Entry.{Entry}
-use Rattle.sv_outcome.specs.Outcome.{Findings}
+use Rattle.sv_login.specs.Outcome.{Findings}
 use Rattle.sv_policy.specs.Compiled.{Standing}
 use Rattle.sv_policy.specs.declared.edit.Edit.{Edit}
 use Rattle.sv_policy.specs.declared.edit_fault.EditFault.{EditFault}

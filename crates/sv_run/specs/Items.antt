@@ -10,12 +10,12 @@ use Rattle.sv_run.specs.Messages.{Destination, Itself, Within, destination, plai
 use Rattle.sv_run.specs.State.{World}
 use Rattle.sv_message.specs.Content.{ends_connection}
 use Rattle.sv_wire.specs.ResponseText.{IsDateAt, response_text}
-use Rattle.sv_wire_fault.specs.WireFault.{fault_status}
+use Rattle.sv_wire.specs.WireFault.{fault_status}
 use Rattle.sv_wire.specs.declared.item.Item.{Item}
 use Rattle.sv_wire.specs.declared.item.Item.TheVariants.{Continue, Message, Refuse}
 use Rattle.sv_message.specs.declared.message.Message.{Message as MessageRecord}
 use Rattle.sv_message.specs.declared.response.Response.{Response}
-use Rattle.sv_wire_fault.specs.declared.wire_fault.WireFault.{WireFault}
+use Rattle.sv_wire.specs.declared.wire_fault.WireFault.{WireFault}
 
 unfoldable pub continue_text : List ℕ
 continue_text = codes "HTTP/1.1 100 Continue\r\n\r\n"

@@ -1,13 +1,13 @@
 -- The requirements of the laws of runs on contexts.
 use Rattle.std.specs.Prelude.{◌≡◌, ◌⊎◌, ℕ, Bool, true, false, List, [], ◌∷◌, filter, Option, Some, Result}
 use Rattle.std.specs.List.{AllByRecursion}
-use Rattle.sv_context_path.specs.Within.{path_within}
+use Rattle.sv_mapping.specs.Within.{path_within}
 use Rattle.sv_journal.specs.declared.entry.Entry.{Entry}
 use Rattle.sv_journal.specs.declared.entry.Entry.TheVariants.{Entered, SentToLogin, Refused, Hidden, Told, Called}
-use Rattle.sv_outcome.specs.Outcome.{outcome}
-use Rattle.sv_outcome.specs.OutcomeEntry.{outcome_entry}
-use Rattle.sv_outcome.specs.declared.outcome.Outcome.{Outcome}
-use Rattle.sv_outcome.specs.declared.outcome.Outcome.TheVariants as outcomes
+use Rattle.sv_login.specs.Outcome.{outcome}
+use Rattle.sv_login.specs.OutcomeEntry.{outcome_entry}
+use Rattle.sv_login.specs.declared.outcome.Outcome.{Outcome}
+use Rattle.sv_login.specs.declared.outcome.Outcome.TheVariants as outcomes
 use Rattle.sv_policy.specs.Edits.{GivesOutcome, edit_outcome}
 use Rattle.sv_policy.specs.declared.edit.Edit.{Edit}
 use Rattle.sv_policy.specs.declared.edit_fault.EditFault.{EditFault}

@@ -3,10 +3,10 @@ use Rattle.std.specs.Prelude.{◌≡◌, ◌≢◌, ◌↔◌, ℕ, true, false,
 use Rattle.std.specs.List.{AllByRecursion}
 use Rattle.sv_constraints.specs.declared.owned_decision.OwnedDecision.TheVariants as decisions
 use Rattle.sv_constraints.specs.declared.owned_decision.OwnedWhy.{OwnedWhy}
-use Rattle.sv_context_path.specs.Within.{path_within}
+use Rattle.sv_mapping.specs.Within.{path_within}
 use Rattle.sv_journal.specs.declared.entry.Entry.{Entry}
 use Rattle.sv_journal.specs.declared.entry.Entry.TheVariants as entries
-use Rattle.sv_outcome.specs.Laws.{IsOrdinary}
+use Rattle.sv_login.specs.OutcomeLaws.{IsOrdinary}
 use Rattle.sv_policy.specs.Compiled.{Standing}
 use Rattle.sv_policy.specs.Edits.{edited_all}
 use Rattle.sv_policy.specs.declared.edit.Edit.{Edit}

@@ -1,3 +1,6 @@
+pub mod HostConnections
+pub mod Host
+pub mod Output
 pub mod Breaking
 pub mod Connections
 pub mod Contexts

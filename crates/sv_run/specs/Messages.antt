@@ -4,7 +4,7 @@ use Rattle.http_header.specs.FieldValue.{plain_value}
 use Rattle.sv_journal.specs.declared.entry.Entry.{Entry}
 use Rattle.sv_journal.specs.declared.entry.Entry.TheVariants.{Refused, Hidden}
 use Rattle.sv_journal.specs.declared.refusal_cause.RefusalCause.TheVariants as causes
-use Rattle.sv_context_path.specs.Chosen.{is_chosen}
+use Rattle.sv_mapping.specs.Chosen.{is_chosen}
 use Rattle.sv_run.specs.Contexts.{Theory}
 use Rattle.sv_uri.specs.Canonical.{canonical}
 use Rattle.sv_uri.specs.declared.fault.PathFault.{PathFault}

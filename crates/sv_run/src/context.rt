@@ -10,8 +10,8 @@ ghost use Rattle.sv_run.specs.Effect.{noting};
 ghost use Rattle.sv_run.specs.Lawful.{EditsAlone, IsMotion, KeepsPath};
 
 use std::alloc::Global;
-use sv_context_path::HasContextPath;
 use sv_journal::Journal;
+use sv_mapping::HasContextPath;
 use sv_message::{Message, Response};
 use sv_policy::{Edit, EditFault};
 use sv_text::NoMemory;

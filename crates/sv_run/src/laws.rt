@@ -8,7 +8,7 @@ ghost use Rattle.sv_run.specs.Orders.{OrdersAreTakenAlike, PiecesAreTakenInParts
 
 use crate::context::{Context, Words};
 use crate::limits::{LAST_MOMENT, MAX_CONNECTIONS};
-use sv_outcome::a_message_enters_exactly_by_an_open_verdict;
+use sv_login::a_message_enters_exactly_by_an_open_verdict;
 
 /// States the limits as numbers. Definitions and code cite only the constants, so a change to a constant would change
 /// both.

@@ -2,20 +2,36 @@
 //! of every list of events. The crate also has the sources of random words that a container uses.
 #![tactic(auto)]
 
+mod answering;
+mod connections;
 mod context;
 mod counted_words;
+mod editing;
+mod expiring;
+mod faults;
 mod handler;
 mod happening;
+mod host;
+mod indexed;
+mod items;
 mod laws;
 mod limits;
+mod messages;
+mod output;
 mod reaction;
 mod seeded_words;
+mod serving;
+mod spare;
 mod step_fault;
 
+pub use connections::Connections;
 pub use context::{Context, Words};
 pub use counted_words::CountedWords;
+pub use expiring::expire_all;
+pub use faults::{fault_of, moment_after};
 pub use handler::{EventHandler, reactions_are_a_run};
 pub use happening::Happening;
+pub use host::Host;
 pub use laws::{
     callers_logged_in, constraints_change_by_edits_alone, ended_readings_stay, feedings_may_be_cut,
     limits_are_as_stated, orders_are_alike, orders_are_taken_alike, others_stay,
@@ -24,6 +40,7 @@ pub use laws::{
     want_of_memory_stops,
 };
 pub use limits::{LAST_MOMENT, MAX_CONNECTIONS};
+pub use output::Output;
 pub use reaction::Reaction;
 pub use seeded_words::SeededWords;
 pub use step_fault::StepFault;

@@ -1,18 +1,18 @@
 //! The run of an application.
 
-ghost use Rattle.sv_author_deployments.specs.Deployments as spec;
+ghost use Rattle.sv_web.specs.Deployments as spec;
 
 use crate::options::Options;
 use std::io;
 use std::net::Net;
 use std::random::RandomSource;
 use std::time::Clock;
-use sv_author_deployments::deployments_of;
 use sv_component::{Filter, Listener, Servlet};
 use sv_container::{let_go, start};
 use sv_lifecycle::Deployment;
 use sv_listening::{Seeding, listen_and_run, seed_for};
 use sv_program::CommandFault;
+use sv_web::deployments_of;
 
 /// Runs an application. Starts its contexts on one port, with session ids from the system's random source, and writes
 /// the line `listening ADDRESS:PORT`. Serves any number of connections at once, until the process is ended from outside

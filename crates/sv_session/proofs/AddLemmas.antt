@@ -2,8 +2,8 @@
 use Rattle.std.proofs.Common.{◌≡◌, ℕ, ◌+◌, ◌<◌, ◌≤◌, true, cond, inl, inr, List, [], ◌∷◌, ◌++◌, length, None, Some, sym, ◌∙◌, ap, subst, leb, arith}
 use Rattle.std.specs.Str.{bytes_eq}
 use Rattle.std.proofs.lemmas.Bool.{cases_Bool, leb-false}
-use Rattle.sv_expiry_queue.specs.declared.due.Due.{Due}
-use Rattle.sv_expiry_queue.specs.Order.{Waiting}
+use Rattle.sv_session.specs.declared.due.Due.{Due}
+use Rattle.sv_session.specs.Order.{Waiting}
 use Rattle.sv_session.specs.declared.ids.Ids.{Ids}
 use Rattle.sv_session.specs.declared.slot.Slot.{Slot}
 use Rattle.sv_session.specs.declared.limits.TheConstants.{GREATEST_SERIAL}

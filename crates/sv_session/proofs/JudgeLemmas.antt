@@ -5,8 +5,8 @@ use Rattle.std.specs.Option.{option_map}
 use Rattle.std.proofs.lemmas.Bool.{cases_Bool}
 use Rattle.std.proofs.lemmas.Bool.Decides.{nat_tests}
 use Rattle.std.proofs.lemmas.Option.{none-some, same_Some}
-use Rattle.sv_expiry_queue.specs.declared.due.Due.{Due}
-use Rattle.sv_expiry_queue.specs.Order.{IsFirst, NoneWaits, Waiting, Waits, has_waited, is_before}
+use Rattle.sv_session.specs.declared.due.Due.{Due}
+use Rattle.sv_session.specs.Order.{IsFirst, NoneWaits, Waiting, Waits, has_waited, is_before}
 use Rattle.sv_session.specs.declared.slot.Slot.{Slot}
 use Rattle.sv_session.specs.Expiry.{earlier, ends_before, has_expired}
 use Rattle.sv_session.specs.declared.ids.Ids.{Ids}

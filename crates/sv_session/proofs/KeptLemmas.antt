@@ -6,8 +6,8 @@ use Rattle.std.specs.Str.{bytes_eq}
 use Rattle.std.proofs.lemmas.Bool.{cases_Bool, cond-false, cond-true, eqb-true}
 use Rattle.std.proofs.lemmas.Option.{none-some, same_Some}
 use Rattle.std.proofs.lemmas.Slice.Eq.{bytes_eq-Decides}
-use Rattle.sv_expiry_queue.specs.declared.due.Due.{Due}
-use Rattle.sv_expiry_queue.specs.Order.{Waiting}
+use Rattle.sv_session.specs.declared.due.Due.{Due}
+use Rattle.sv_session.specs.Order.{Waiting}
 use Rattle.sv_session.specs.declared.ids.Ids.{Ids}
 use Rattle.sv_session.specs.declared.slot.Slot.{Slot}
 use Rattle.sv_session.specs.declared.limits.TheConstants.{GREATEST_SERIAL}

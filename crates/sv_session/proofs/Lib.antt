@@ -1,3 +1,5 @@
+mod ExpiryOrderLemmas
+mod TreeLemmas
 mod AddLemmas
 mod AttributeLemmas
 mod CallerLemmas

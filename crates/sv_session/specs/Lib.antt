@@ -1,3 +1,6 @@
+pub mod Event
+pub mod Order
+pub mod Tree
 pub mod Attributes
 pub mod Calls
 pub mod Expiry

@@ -1,8 +1,8 @@
 -- The sessions as stored: in slots, in the order of their numbers. The slot of an ended session is empty.
 use Rattle.std.specs.Prelude.{◌≡◌, ℕ, ◌<◌, ◌≤◌, true, List, [], ◌∷◌, length, map, find, Option, None, Some, slice_index_or, if◌then◌else◌}
 use Rattle.std.specs.Option.{option_map}
-use Rattle.sv_expiry_queue.specs.declared.due.Due.{Due}
-use Rattle.sv_expiry_queue.specs.Order.{Waiting}
+use Rattle.sv_session.specs.declared.due.Due.{Due}
+use Rattle.sv_session.specs.Order.{Waiting}
 use Rattle.sv_session.specs.declared.ids.Ids.{Ids}
 use Rattle.sv_session.specs.declared.slot.Slot.{Slot}
 use Rattle.sv_session.specs.declared.limits.TheConstants.{GREATEST_SERIAL}

@@ -5,6 +5,7 @@ ghost use Rattle.std.specs.Option.{option_copied};
 ghost use Rattle.sv_session.specs.Attributes.{is_named, names_one, value_named, with_named, without_named};
 ghost use Rattle.sv_session.specs.Calls.{ended, is_too_large, session_opened};
 
+use crate::Due;
 use crate::attribute::Attribute;
 use crate::ended_session::EndedSession;
 use crate::id::id_of;
@@ -12,7 +13,6 @@ use crate::limits::{MAX_ATTRIBUTES, MAX_NAME_BYTES, MAX_VALUE_BYTES};
 use std::alloc::Global;
 use std::marker::Model;
 use std::mem;
-use sv_expiry_queue::Due;
 use sv_text::{Listed, NoMemory, Text};
 
 /// A session as stored.

@@ -3,22 +3,28 @@
 
 mod attribute;
 mod counted;
+mod due;
 mod ended_session;
 mod ended_sessions;
+mod event;
 mod id;
 mod ids;
 mod index;
 mod kept;
 mod laws;
 mod limits;
+mod node;
+mod queue;
 mod session_fault;
 mod sessions;
 mod slot;
 
 pub use attribute::Attribute;
 pub use counted::Counted;
+pub use due::Due;
 pub use ended_session::EndedSession;
 pub use ended_sessions::EndedSessions;
+pub use event::Event;
 pub use laws::{
     an_accessed_session_has_not_expired, an_id_names_its_session, callers_are_entered,
     components_keep_the_sessions, expiry_ends_exactly_the_expired_sessions,
@@ -26,5 +32,6 @@ pub use laws::{
     no_id_is_given_twice, no_serial_follows_the_greatest, sessions_stay_in_order,
 };
 pub use limits::{GREATEST_SERIAL, MAX_ATTRIBUTES, MAX_NAME_BYTES, MAX_VALUE_BYTES};
+pub use queue::Queue;
 pub use session_fault::SessionFault;
 pub use sessions::Sessions;

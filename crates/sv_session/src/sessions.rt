@@ -13,10 +13,10 @@ use crate::kept::Kept;
 use crate::limits::{GREATEST_SERIAL, MAX_ATTRIBUTES, MAX_NAME_BYTES, MAX_VALUE_BYTES};
 use crate::session_fault::SessionFault;
 use crate::slot::{Slot, first_living, gathered, place_of, push};
+use crate::{Due, Queue};
 use std::alloc::Global;
 use std::marker::Model;
 use std::mem;
-use sv_expiry_queue::{Due, Queue};
 use sv_text::{NoMemory, Text};
 
 /// The sessions of a context (Jakarta Servlet 6.0, chapter 7). A session is identified by its number, which is the

@@ -8,8 +8,8 @@ ghost use Rattle.sv_session.specs.Store.{is_numbered};
 
 use crate::ended_session::EndedSession;
 use crate::kept::Kept;
+use crate::{Due, Queue};
 use std::alloc::Global;
-use sv_expiry_queue::{Due, Queue};
 use sv_text::NoMemory;
 
 /// A live session, or one that has ended, whose number keeps its place in the order.

@@ -4,7 +4,7 @@ use Rattle.sv_component.specs.Runs.{OfListener, Record}
 use Rattle.sv_component.specs.declared.answers.Gate.{Gate}
 use Rattle.sv_component.specs.declared.answers.Gate.TheVariants as gates
 use Rattle.sv_component.specs.declared.answers.Step.{Step}
-use Rattle.sv_event.specs.declared.event.Event.{Event}
+use Rattle.sv_session.specs.declared.event.Event.{Event}
 use Rattle.sv_mapping.specs.declared.kind.Kind.{Kind}
 use Rattle.sv_mapping.specs.declared.kind.Kind.TheVariants as kinds
 use Rattle.sv_tree.specs.Asking.{asks}

@@ -6,7 +6,7 @@ use Rattle.std.proofs.lemmas.List.Elements.{filter-append}
 use Rattle.sv_component.specs.Runs.{Record}
 use Rattle.sv_exchange.specs.Changing.{Change, SetStatus, SetHeader, AddHeader, Write, SetAttribute, Flush, SessionOpen, SessionSet, SessionRemove, SessionEnd, Logout, answer, left_by}
 use Rattle.sv_exchange.specs.declared.exchange_fault.ExchangeFault.{ExchangeFault}
-use Rattle.sv_event.specs.declared.event.Event.{Event}
+use Rattle.sv_session.specs.declared.event.Event.{Event}
 use Rattle.sv_mapping.specs.declared.kind.Kind.{Kind}
 use Rattle.sv_mapping.specs.declared.kind.Kind.TheVariants as kinds
 use Rattle.sv_tree.specs.Filters.{after_of, before_of}

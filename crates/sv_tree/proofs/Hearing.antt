@@ -2,7 +2,7 @@
 use Rattle.std.proofs.Common.{ℕ, List, [], ◌∷◌, ◌++◌, sym, subst, append_assoc, append-nil}
 use Rattle.std.specs.Prelude.{map}
 use Rattle.sv_component.specs.Runs.{OfListener, Record}
-use Rattle.sv_event.specs.declared.event.Event.{Event}
+use Rattle.sv_session.specs.declared.event.Event.{Event}
 use Rattle.sv_component.specs.Telling.{hearing_order, told}
 use Rattle.sv_tree.specs.Telling.{all_told}
 

@@ -1,3 +1,6 @@
+mod Beside
+mod Declared
+mod Filing
 pub mod Answering
 pub mod Bounding
 pub mod Changing

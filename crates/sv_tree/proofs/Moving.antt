@@ -5,7 +5,7 @@ use Rattle.sv_exchange.specs.Changing.{Change, Reaches, answer, left_by}
 use Rattle.sv_exchange.specs.Dispatches.{Leaves}
 use Rattle.sv_exchange.specs.Keeping.{broken_off}
 use Rattle.sv_exchange.specs.Laws.{ChangesAreCalls, ChangesMoveTheSessions}
-use Rattle.sv_event.specs.declared.event.Event.{Event}
+use Rattle.sv_session.specs.declared.event.Event.{Event}
 use Rattle.sv_mapping.specs.declared.kind.Kind.{Kind}
 use Rattle.sv_mapping.specs.declared.kind.Kind.TheVariants as kinds
 use Rattle.sv_session.specs.Calls.{caller_of}

@@ -7,7 +7,7 @@ use Rattle.sv_component.specs.declared.answers.Step.{Step}
 use Rattle.sv_exchange.specs.Changing.{Reaches}
 use Rattle.sv_exchange.specs.Dispatches.{Leaves, client_in, entered, error_in}
 use Rattle.sv_exchange.specs.Keeping as counting
-use Rattle.sv_event.specs.declared.event.Event.{Event}
+use Rattle.sv_session.specs.declared.event.Event.{Event}
 use Rattle.sv_mapping.specs.declared.kind.Kind.{Kind}
 use Rattle.sv_mapping.specs.declared.kind.Kind.TheVariants as kinds
 use Rattle.sv_tree.specs.Laws.{AreWithin, DispatchesEnd, DispatchesNest, KeepsRequest}

@@ -1,3 +1,7 @@
+pub mod FileServlet
+pub mod Seen
+pub mod ServletMappings
+pub mod SiteOfDescriptor
 pub mod Asking
 pub mod Does
 pub mod Endings

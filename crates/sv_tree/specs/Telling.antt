@@ -2,7 +2,7 @@
 use Rattle.std.specs.Prelude.{ℕ, ◌≡◌, ◌⊎◌, List, Some, None}
 use Rattle.std.specs.List.{flat_map}
 use Rattle.sv_component.specs.Runs.{Record}
-use Rattle.sv_event.specs.declared.event.Event.{Event}
+use Rattle.sv_session.specs.declared.event.Event.{Event}
 use Rattle.sv_component.specs.Telling.{told}
 use Rattle.sv_tree.specs.Does.{Does}
 

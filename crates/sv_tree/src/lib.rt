@@ -1,13 +1,21 @@
 //! The definition of a dispatch, with its laws. The code that makes dispatches is verified against it.
 #![tactic(auto)]
 
+mod chosen;
 mod dispatch_fault;
+mod file_found;
 mod finished;
 mod laws;
 mod limits;
+mod patterns;
+mod redirect;
 mod resource;
+mod servlet_patterns;
+mod site;
 
+pub use chosen::Chosen;
 pub use dispatch_fault::DispatchFault;
+pub use file_found::FileFound;
 pub use finished::Finished;
 pub use laws::{
     answers_have_one_page, answers_move_the_sessions, calls_are_counted, calls_decide,
@@ -19,4 +27,7 @@ pub use limits::{
     FOUND, INTERNAL_SERVER_ERROR, LAST_MOMENT, LEAST_ERROR, MAX_CALLS, MAX_ERROR, MAX_NESTING,
     METHOD_NOT_ALLOWED, NOT_FOUND, SERVICE_UNAVAILABLE,
 };
+pub use redirect::sent_to;
 pub use resource::Resource;
+pub use servlet_patterns::ServletPatterns;
+pub use site::Site;

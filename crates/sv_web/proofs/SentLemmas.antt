@@ -6,9 +6,9 @@ use Rattle.std.specs.Prelude.{codes}
 use Rattle.std.proofs.lemmas.Bool.{cases_Bool}
 use Rattle.std.proofs.lemmas.Grind.{common_steps}
 use Rattle.std.proofs.lemmas.List.Splits.{slice_split-cons_no, slice_split_first}
-use Rattle.sv_head.specs.Fields.{is_named}
-use Rattle.sv_head.specs.declared.field.Field.{Field}
-use Rattle.sv_cookies.specs.Cookies.{cookie_values, values_in}
+use Rattle.sv_message.specs.Fields.{is_named}
+use Rattle.sv_message.specs.declared.field.Field.{Field}
+use Rattle.sv_login.specs.Cookies.{cookie_values, values_in}
 use Rattle.sv_web.specs.SentCookies.{first, first_cookie}
 
 first_both : {A : Type 0} (xs ys : List A) → first (xs ++ ys) ≡ option_or (first xs) (first ys)

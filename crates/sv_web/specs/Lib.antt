@@ -1,3 +1,4 @@
+pub mod Deployments
 pub mod Answering
 pub mod Cookies
 pub mod Deploying

@@ -2,8 +2,8 @@
 use Rattle.std.specs.Prelude.{ℕ, List, [], ◌∷◌, ◌==◌, drop, length, Option, None, Some}
 use Rattle.std.specs.List.{slice_split}
 use Rattle.std.specs.Str.{byte}
-use Rattle.sv_cookies.specs.Cookies.{cookie_values}
-use Rattle.sv_head.specs.declared.field.Field.{Field}
+use Rattle.sv_login.specs.Cookies.{cookie_values}
+use Rattle.sv_message.specs.declared.field.Field.{Field}
 
 -- the first item of a list
 abbrev pub first : {A : Type 0} → List A → Option A

@@ -5,6 +5,7 @@
 mod content;
 mod cookies;
 mod deployment;
+mod deployments;
 mod elements;
 mod escaping;
 mod fault;
@@ -17,6 +18,7 @@ mod sent_cookies;
 pub use content::Content;
 pub use cookies::{NewCookie, SameSite, set_cookie};
 pub use deployment::Deployment;
+pub use deployments::deployments_of;
 pub use escaping::escape_html;
 pub use fault::{Fault, gate_of, step_of};
 pub use linking::link_to;
@@ -28,8 +30,8 @@ pub use sv_component::{
     Config, Event, Exchange, ExchangeFault, Filter, Gate, Init, Listener, Named, Param, Servlet,
     Step,
 };
-pub use sv_head::Field;
 pub use sv_mapping::Kind;
+pub use sv_message::Field;
 pub use sv_realm::Caller;
 pub use sv_session::Attribute;
 pub use sv_text::{NoMemory, Text};

@@ -4,11 +4,11 @@ ghost use Rattle.std.specs.Prelude.{◌≡◌, ◌==◌, ◌<◌, [], ◌∷◌,
 ghost use Rattle.std.specs.List.{slice_split};
 ghost use Rattle.std.specs.Option.{option_copied};
 ghost use Rattle.std.specs.Str.{byte};
-ghost use Rattle.sv_cookies.specs.Cookies.{behind_name, value_of, values_in};
+ghost use Rattle.sv_login.specs.Cookies.{behind_name, value_of, values_in};
 ghost use Rattle.sv_web.specs.SentCookies.{first, first_cookie, pieces_left};
 
 use sv_component::Exchange;
-use sv_head::{Field, trim_blanks};
+use sv_message::{Field, trim_blanks};
 
 /// Returns the value of the first cookie of this name that the client sent, or `None` if there is none (RFC 6265,
 /// sections 4.2 and 5.4).

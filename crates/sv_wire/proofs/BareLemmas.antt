@@ -3,16 +3,16 @@ use Rattle.std.proofs.Common.{◌≡◌, ℕ, Bool, true, false, not, ◌&&◌, 
 use Rattle.std.specs.Prelude.{if◌then◌else◌, is_none}
 use Rattle.std.specs.List.{filter, flat_map, list_any}
 use Rattle.httparse.specs.Grammar.{trim_ows}
-use Rattle.sv_body.specs.declared.framing.Framing.TheVariants.{Length, Chunked}
-use Rattle.sv_body.specs.declared.limits.TheConstants.{MAX_BODY_LEN}
-use Rattle.sv_head.specs.declared.field.Field.{Field}
-use Rattle.sv_head.specs.Codings.{coding_kind}
-use Rattle.sv_head.specs.Expectation.{asks_to_continue, is_continue}
-use Rattle.sv_head.specs.Fields.{is_named, parts_of}
-use Rattle.sv_head.specs.Length.{content_length, the_length}
+use Rattle.sv_wire.specs.declared.framing.Framing.TheVariants.{Length, Chunked}
+use Rattle.sv_wire.specs.declared.limits.TheConstants.{MAX_BODY_LEN}
+use Rattle.sv_message.specs.declared.field.Field.{Field}
+use Rattle.sv_message.specs.Codings.{coding_kind}
+use Rattle.sv_message.specs.Expectation.{asks_to_continue, is_continue}
+use Rattle.sv_message.specs.Fields.{is_named, parts_of}
+use Rattle.sv_message.specs.Length.{content_length, the_length}
 use Rattle.std.specs.List.{list_all}
 use Rattle.sv_text.specs.Faults.{when}
-use Rattle.sv_wire_fault.specs.declared.wire_fault.WireFault.TheVariants.{BadFraming, BodyTooLarge}
+use Rattle.sv_wire.specs.declared.wire_fault.WireFault.TheVariants.{BadFraming, BodyTooLarge}
 use Rattle.sv_wire.specs.Head.{tells_of_body, tell_of_body, has_codings, has_length, faults_by_kind, number_or_0, framing_faults, framing_of, is_unknown_expectation, awaits_continue, has_body}
 
 either_none : (a b : Bool) → (a || b) ≡ false → (a ≡ false) × (b ≡ false)

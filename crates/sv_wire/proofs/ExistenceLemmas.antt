@@ -4,15 +4,15 @@ use Rattle.std.specs.Bool.{MatchBool}
 use Rattle.std.proofs.lemmas.List.{length-drop}
 use Rattle.sv_text.specs.declared.front.Cut.{Cut}
 use Rattle.sv_text.specs.declared.front.Cut.TheVariants.{Whole, Endless, Unended}
-use Rattle.sv_body.specs.Chunks.{Body, unfinished, complete, broken}
-use Rattle.sv_body.proofs.BoolLemmas.{MatchBool-from_true, MatchBool-from_false}
-use Rattle.sv_body.proofs.ExistenceLemmas.{NotNone, some_body, ReadsBody_leaves}
-use Rattle.sv_body.proofs.LimitLemmas.{LeavesRest}
+use Rattle.sv_wire.specs.Chunks.{Body, unfinished, complete, broken}
+use Rattle.sv_wire.proofs.BoolLemmas.{MatchBool-from_true, MatchBool-from_false}
+use Rattle.sv_wire.proofs.BodyExistenceLemmas.{NotNone, some_body, ReadsBody_leaves}
+use Rattle.sv_wire.proofs.BodyLimitLemmas.{LeavesRest}
 use Rattle.sv_wire.specs.declared.item.Item.{Item}
 use Rattle.sv_wire.specs.declared.owed_head.OwedHead.{OwedHead}
 use Rattle.sv_wire.specs.declared.owed_head.Judgement.{Judgement}
 use Rattle.sv_wire.specs.declared.owed_head.Judgement.TheVariants.{Refused, Expecting, Accepted}
-use Rattle.sv_wire_fault.specs.declared.wire_fault.WireFault.TheVariants.{BadHead, HeadTooLarge}
+use Rattle.sv_wire.specs.declared.wire_fault.WireFault.TheVariants.{BadHead, HeadTooLarge}
 use Rattle.sv_wire.specs.Head.{judge}
 use Rattle.sv_wire.specs.Items.{is_last}
 use Rattle.sv_wire.specs.Laws.{ReadingsExist}

@@ -18,16 +18,16 @@ use Rattle.httparse.specs.declared.Error.{Error}
 use Rattle.httparse.specs.declared.Status.{Status}
 use Rattle.httparse.specs.declared.Status.TheVariants.{Complete, Partial}
 use Rattle.httparse.proofs.TrimLemmas.{AllPass-trim_ows}
-use Rattle.sv_head.specs.declared.field.Field.{Field as OwnField}
+use Rattle.sv_message.specs.declared.field.Field.{Field as OwnField}
 use Rattle.sv_text.specs.Gives.{GivesAnswer}
 use Rattle.sv_text.specs.declared.NoMemory.{NoMemory}
 use Rattle.sv_wire.specs.declared.owed_head.Judgement.{Judgement}
 use Rattle.sv_wire.specs.declared.owed_head.Judgement.TheVariants.{Refused}
-use Rattle.sv_wire_fault.specs.declared.wire_fault.WireFault.TheVariants.{BadHead}
+use Rattle.sv_wire.specs.declared.wire_fault.WireFault.TheVariants.{BadHead}
 use Rattle.sv_wire.specs.Head.{begins_at_once, judge}
 use Rattle.sv_wire.specs.Reads.{IsNoHead, has_too_many_lines, ReadsHead}
 use Rattle.sv_wire.specs.Spans.{IsFieldAt, AreHeadSpans, ShowHead}
-use Rattle.sv_body.proofs.BoolLemmas.{MatchBool-from_false}
+use Rattle.sv_wire.proofs.BoolLemmas.{MatchBool-from_false}
 
 -- ---- lines
 

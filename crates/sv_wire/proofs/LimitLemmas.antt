@@ -8,23 +8,23 @@ use Rattle.std.proofs.lemmas.List.Elements.{All-nil, All-cons}
 use Rattle.sv_text.specs.declared.front.Cut.{Cut}
 use Rattle.sv_text.specs.declared.front.Cut.TheVariants.{Whole, Endless, Unended}
 use Rattle.sv_text.specs.Faults.{when, first_or}
-use Rattle.sv_body.specs.declared.framing.Framing.TheVariants.{Length, Chunked}
-use Rattle.sv_body.specs.declared.limits.TheConstants.{MAX_BODY_LEN}
-use Rattle.sv_body.specs.Body.{FitsLimit}
-use Rattle.sv_body.specs.Chunks.{Body, unfinished, complete, broken}
-use Rattle.sv_body.proofs.LimitLemmas.{IsWithin, LeavesRest, ReadsBody_keeps}
-use Rattle.sv_head.specs.declared.field.Field.{Field}
-use Rattle.sv_head.specs.declared.target.TargetForm.{TargetForm}
-use Rattle.sv_head.specs.Fields.{fields_of, values_of}
-use Rattle.sv_head.specs.Host.{accepts_hosts}
-use Rattle.sv_head.specs.TargetForm.{target_form}
+use Rattle.sv_wire.specs.declared.framing.Framing.TheVariants.{Length, Chunked}
+use Rattle.sv_wire.specs.declared.limits.TheConstants.{MAX_BODY_LEN}
+use Rattle.sv_wire.specs.Body.{FitsLimit}
+use Rattle.sv_wire.specs.Chunks.{Body, unfinished, complete, broken}
+use Rattle.sv_wire.proofs.BodyLimitLemmas.{IsWithin, LeavesRest, ReadsBody_keeps}
+use Rattle.sv_message.specs.declared.field.Field.{Field}
+use Rattle.sv_message.specs.declared.target.TargetForm.{TargetForm}
+use Rattle.sv_message.specs.Fields.{fields_of, values_of}
+use Rattle.sv_message.specs.Host.{accepts_hosts}
+use Rattle.sv_message.specs.TargetForm.{target_form}
 use Rattle.httparse.specs.Grammar.{RequestHead}
 use Rattle.sv_wire.specs.declared.limits.TheConstants.{MAX_HEAD_LEN}
 use Rattle.sv_wire.specs.declared.owed_head.OwedHead.{OwedHead}
 use Rattle.sv_wire.specs.declared.owed_head.Judgement.{Judgement}
 use Rattle.sv_wire.specs.declared.owed_head.Judgement.TheVariants.{Refused, Expecting, Accepted}
-use Rattle.sv_wire_fault.specs.declared.wire_fault.WireFault.{WireFault}
-use Rattle.sv_wire_fault.specs.declared.wire_fault.WireFault.TheVariants.{BadHost, BadFraming, BodyTooLarge, BadExpect, BadTarget, HeadTooLarge}
+use Rattle.sv_wire.specs.declared.wire_fault.WireFault.{WireFault}
+use Rattle.sv_wire.specs.declared.wire_fault.WireFault.TheVariants.{BadHost, BadFraming, BodyTooLarge, BadExpect, BadTarget, HeadTooLarge}
 use Rattle.sv_wire.specs.Head.{accept, body_len, faults_of, framing_faults, framing_of, has_codings, is_unknown, is_unknown_expectation, judge, owed_head, judgement_of}
 use Rattle.sv_wire.specs.Items.{is_last}
 use Rattle.sv_wire.specs.Laws.{IsWithinLimit, OwesWithinLimit, BodiesAreWithinTheLimit}

@@ -4,16 +4,16 @@ use Rattle.std.specs.Bool.{MatchBool}
 use Rattle.std.specs.Result.{IfOk}
 use Rattle.std.proofs.lemmas.Bool.{le-ltb, ltb-false}
 use Rattle.std.proofs.lemmas.List.{append_assoc, append-nil, take-append-le, drop-append-le, length-take, length-drop, take_all, drop_all, drop-drop, take-append-drop, take-take}
-use Rattle.sv_body.specs.declared.framing.Framing.{Framing}
-use Rattle.sv_body.specs.declared.framing.Framing.TheVariants.{Length, Chunked}
-use Rattle.sv_body.specs.declared.body_reader.BodyEnd.{BodyEnd}
-use Rattle.sv_body.specs.declared.body_reader.BodyEnd.TheVariants.{Complete, Broken}
-use Rattle.sv_body.specs.declared.body_reader.Progress.TheVariants.{Awaits, Ended}
+use Rattle.sv_wire.specs.declared.framing.Framing.{Framing}
+use Rattle.sv_wire.specs.declared.framing.Framing.TheVariants.{Length, Chunked}
+use Rattle.sv_wire.specs.declared.body_reader.BodyEnd.{BodyEnd}
+use Rattle.sv_wire.specs.declared.body_reader.BodyEnd.TheVariants.{Complete, Broken}
+use Rattle.sv_wire.specs.declared.body_reader.Progress.TheVariants.{Awaits, Ended}
 use Rattle.sv_text.specs.declared.front.Cut.TheVariants.{Whole, Endless, Unended}
-use Rattle.sv_body.specs.Body.{Awaited, ReadsBody}
-use Rattle.sv_body.specs.Chunks.{Body, unfinished, complete}
+use Rattle.sv_wire.specs.Body.{Awaited, ReadsBody}
+use Rattle.sv_wire.specs.Chunks.{Body, unfinished, complete}
 use Rattle.sv_text.specs.Front.{cut_at}
-use Rattle.sv_body.specs.Progress.{ended, ReadsOn}
+use Rattle.sv_wire.specs.Progress.{ended, ReadsOn}
 use Rattle.sv_text.proofs.FrontLemmas.{cut-whole, shortest_front_some}
 use Rattle.sv_wire.specs.declared.item.Item.{Item}
 use Rattle.sv_wire.specs.declared.item.Item.TheVariants.{Continue, Refuse}
@@ -24,8 +24,8 @@ use Rattle.sv_wire.specs.declared.owed_head.Judgement.TheVariants.{Refused, Expe
 use Rattle.sv_wire.specs.declared.pending.Pending.{Pending}
 use Rattle.sv_wire.specs.declared.reading.Next.{Next}
 use Rattle.sv_wire.specs.declared.reading.Next.TheVariants.{Found, AwaitsHead, AwaitsBody}
-use Rattle.sv_wire_fault.specs.declared.wire_fault.WireFault.{WireFault}
-use Rattle.sv_wire_fault.specs.declared.wire_fault.WireFault.TheVariants.{HeadTooLarge}
+use Rattle.sv_wire.specs.declared.wire_fault.WireFault.{WireFault}
+use Rattle.sv_wire.specs.declared.wire_fault.WireFault.TheVariants.{HeadTooLarge}
 use Rattle.sv_wire.specs.EmptyLines.{drop_empty_lines}
 use Rattle.sv_wire.specs.Inbox.{awaited_after, awaited_within}
 use Rattle.sv_wire.specs.declared.inbox.Awaited.TheVariants as awaited

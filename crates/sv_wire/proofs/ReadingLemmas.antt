@@ -4,7 +4,7 @@ use Rattle.std.proofs.lemmas.Bool.{or_from}
 use Rattle.std.proofs.lemmas.List.{append_assoc, append-nil, take-append-le}
 use Rattle.std.proofs.lemmas.List.Folds.{list_any-append}
 use Rattle.sv_text.specs.declared.front.Cut.TheVariants.{Unended}
-use Rattle.sv_body.proofs.BoolLemmas.{MatchBool-from_true, MatchBool-from_false}
+use Rattle.sv_wire.proofs.BoolLemmas.{MatchBool-from_true, MatchBool-from_false}
 use Rattle.sv_text.proofs.FrontLemmas.{cut_unended-fronts}
 use Rattle.sv_wire.specs.declared.inbox.State.{State}
 use Rattle.sv_wire.specs.declared.inbox.State.TheVariants as state

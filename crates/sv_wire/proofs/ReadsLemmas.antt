@@ -6,10 +6,10 @@ use Rattle.std.proofs.lemmas.List.{take-append-le, drop-append-le, length-take}
 use Rattle.httparse.proofs.GrammarLemmas.{request_unique}
 use Rattle.sv_text.specs.declared.front.Cut.{Cut}
 use Rattle.sv_text.specs.declared.front.Cut.TheVariants.{Whole, Endless, Unended}
-use Rattle.sv_body.specs.Body.{ReadsBody}
-use Rattle.sv_body.specs.Chunks.{Body, unfinished, complete, broken}
-use Rattle.sv_body.proofs.BodyLemmas.{and_more, ReadsBody-unique, ReadsBody_more, ReadsBody_front}
-use Rattle.sv_body.proofs.BoolLemmas.{MatchBool-from_true, MatchBool-from_false}
+use Rattle.sv_wire.specs.Body.{ReadsBody}
+use Rattle.sv_wire.specs.Chunks.{Body, unfinished, complete, broken}
+use Rattle.sv_wire.proofs.BodyLemmas.{and_more, ReadsBody-unique, ReadsBody_more, ReadsBody_front}
+use Rattle.sv_wire.proofs.BoolLemmas.{MatchBool-from_true, MatchBool-from_false}
 use Rattle.sv_text.proofs.FrontLemmas.{Endless-inverse, cut-whole, cut-append}
 use Rattle.sv_wire.specs.declared.item.Item.{Item}
 use Rattle.sv_wire.specs.declared.item.Item.TheVariants.{Continue, Refuse}
@@ -17,7 +17,7 @@ use Rattle.sv_wire.specs.declared.limits.TheConstants.{MAX_HEAD_LEN}
 use Rattle.sv_wire.specs.declared.owed_head.OwedHead.{OwedHead}
 use Rattle.sv_wire.specs.declared.owed_head.Judgement.{Judgement}
 use Rattle.sv_wire.specs.declared.owed_head.Judgement.TheVariants.{Refused, Expecting, Accepted}
-use Rattle.sv_wire_fault.specs.declared.wire_fault.WireFault.TheVariants.{HeadTooLarge}
+use Rattle.sv_wire.specs.declared.wire_fault.WireFault.TheVariants.{HeadTooLarge}
 use Rattle.sv_wire.specs.EmptyLines.{drop_empty_lines}
 use Rattle.sv_wire.specs.Head.{ends_head, judge}
 use Rattle.sv_wire.specs.Items.{is_last, are_ended}

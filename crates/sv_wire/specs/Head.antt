@@ -3,21 +3,21 @@ use Rattle.std.specs.Prelude.{ℕ, Bool, true, false, ◌&&◌, ◌||◌, not, L
 use Rattle.std.specs.List.{ends_with, list_any}
 use Rattle.httparse.specs.Ascii.{line_feed, carriage_return}
 use Rattle.httparse.specs.Grammar.{RequestHead}
-use Rattle.sv_body.specs.declared.framing.Framing.{Framing}
-use Rattle.sv_body.specs.declared.framing.Framing.TheVariants.{Length, Chunked}
-use Rattle.sv_body.specs.declared.limits.TheConstants.{MAX_BODY_LEN}
-use Rattle.sv_head.specs.declared.codings.Codings.{Codings}
-use Rattle.sv_head.specs.declared.codings.Codings.TheVariants as codings
-use Rattle.sv_head.specs.declared.field.Field.{Field}
-use Rattle.sv_head.specs.declared.target.TargetForm.{TargetForm}
-use Rattle.sv_head.specs.declared.target.TargetForm.TheVariants.{Origin, Absolute, Star, Unknown}
-use Rattle.sv_head.specs.Codings.{coding_kind}
-use Rattle.sv_head.specs.Expectation.{asks_to_continue}
-use Rattle.sv_head.specs.Fields.{fields_of, has_field, is_named, values_of}
-use Rattle.sv_head.specs.Host.{accepts_hosts, with_hosts}
-use Rattle.sv_head.specs.Length.{content_length}
-use Rattle.sv_head.specs.Persistence.{keeps}
-use Rattle.sv_head.specs.TargetForm.{authority_of, path_of, target_form}
+use Rattle.sv_wire.specs.declared.framing.Framing.{Framing}
+use Rattle.sv_wire.specs.declared.framing.Framing.TheVariants.{Length, Chunked}
+use Rattle.sv_wire.specs.declared.limits.TheConstants.{MAX_BODY_LEN}
+use Rattle.sv_message.specs.declared.codings.Codings.{Codings}
+use Rattle.sv_message.specs.declared.codings.Codings.TheVariants as codings
+use Rattle.sv_message.specs.declared.field.Field.{Field}
+use Rattle.sv_message.specs.declared.target.TargetForm.{TargetForm}
+use Rattle.sv_message.specs.declared.target.TargetForm.TheVariants.{Origin, Absolute, Star, Unknown}
+use Rattle.sv_message.specs.Codings.{coding_kind}
+use Rattle.sv_message.specs.Expectation.{asks_to_continue}
+use Rattle.sv_message.specs.Fields.{fields_of, has_field, is_named, values_of}
+use Rattle.sv_message.specs.Host.{accepts_hosts, with_hosts}
+use Rattle.sv_message.specs.Length.{content_length}
+use Rattle.sv_message.specs.Persistence.{keeps}
+use Rattle.sv_message.specs.TargetForm.{authority_of, path_of, target_form}
 use Rattle.sv_text.specs.Faults.{when, first_or}
 use Rattle.sv_message.specs.declared.message.Target.{Target}
 use Rattle.sv_message.specs.declared.message.Target.TheVariants.{Path}
@@ -25,8 +25,8 @@ use Rattle.sv_message.specs.declared.message.Target.TheVariants as targets
 use Rattle.sv_wire.specs.declared.owed_head.OwedHead.{OwedHead}
 use Rattle.sv_wire.specs.declared.owed_head.Judgement.{Judgement}
 use Rattle.sv_wire.specs.declared.owed_head.Judgement.TheVariants.{Refused, Expecting, Accepted}
-use Rattle.sv_wire_fault.specs.declared.wire_fault.WireFault.{WireFault}
-use Rattle.sv_wire_fault.specs.declared.wire_fault.WireFault.TheVariants.{BadHost, BadFraming, UnknownCoding, BodyTooLarge, BadExpect, BadTarget}
+use Rattle.sv_wire.specs.declared.wire_fault.WireFault.{WireFault}
+use Rattle.sv_wire.specs.declared.wire_fault.WireFault.TheVariants.{BadHost, BadFraming, UnknownCoding, BodyTooLarge, BadExpect, BadTarget}
 
 -- Whether a text ends as a head does: with an empty line, CRLF or LF, after the LF of a line.
 abbrev pub ends_head : List ℕ → Bool

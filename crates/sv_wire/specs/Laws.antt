@@ -2,8 +2,8 @@
 -- Bodies and held heads are within their limits.
 use Rattle.std.specs.Prelude.{◌≡◌, ℕ, ◌<◌, ◌≤◌, true, false, ◌⊎◌, List, ◌++◌, length, All, Option, None, Some, ⊤}
 use Rattle.sv_text.specs.declared.front.Cut.TheVariants.{Unended}
-use Rattle.sv_body.specs.declared.limits.TheConstants.{MAX_BODY_LEN}
-use Rattle.sv_body.specs.Body.{FitsLimit}
+use Rattle.sv_wire.specs.declared.limits.TheConstants.{MAX_BODY_LEN}
+use Rattle.sv_wire.specs.Body.{FitsLimit}
 use Rattle.sv_wire.specs.declared.item.Item.{Item}
 use Rattle.sv_wire.specs.declared.item.Item.TheVariants.{Continue, Message, Refuse}
 use Rattle.sv_wire.specs.declared.limits.TheConstants.{MAX_HEAD_LEN}

@@ -1,3 +1,13 @@
+pub mod ChunkedBody
+pub mod FramingFields
+pub mod RoundTrip
+pub mod WireFault
+pub mod Body
+pub mod BodyFault
+pub mod Chunks
+pub mod Machine
+pub mod Progress
+pub mod Storage
 pub mod EmptyLines
 pub mod Head
 pub mod Inbox

@@ -1,10 +1,10 @@
 -- A body that is being read, and what contracts see of it (RFC 9112, section 6).
 use Rattle.std.specs.Prelude.{◌≡◌, ℕ, Bool, List, [], ◌++◌, length, if◌then◌else◌, Option, None, Some}
 use Rattle.std.specs.Bool.{MatchBool}
-use Rattle.sv_body.specs.declared.body_reader.Progress.{Progress}
+use Rattle.sv_wire.specs.declared.body_reader.Progress.{Progress}
 use Rattle.sv_text.specs.declared.front.Cut.TheVariants.{Whole}
-use Rattle.sv_body.specs.Body.{nothing_came}
-use Rattle.sv_body.specs.Progress.{ReadsOn}
+use Rattle.sv_wire.specs.Body.{nothing_came}
+use Rattle.sv_wire.specs.Progress.{ReadsOn}
 use Rattle.sv_wire.specs.declared.owed_head.OwedHead.{OwedHead}
 use Rattle.sv_wire.specs.declared.owed_head.Judgement.TheVariants.{Accepted}
 use Rattle.sv_wire.specs.declared.pending.Pending.{Pending}

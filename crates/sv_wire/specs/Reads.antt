@@ -3,12 +3,12 @@ use Rattle.std.specs.Prelude.{◌≡◌, ℕ, ◌+◌, Bool, ◌⊎◌, List, []
 use Rattle.std.specs.Bool.{MatchBool}
 use Rattle.httparse.specs.Ascii.{line_feed}
 use Rattle.httparse.specs.Grammar.{RequestHead, ReadsRequest}
-use Rattle.sv_body.specs.declared.body_reader.BodyEnd.{BodyEnd}
-use Rattle.sv_body.specs.declared.body_reader.BodyEnd.TheVariants.{Complete, Broken}
+use Rattle.sv_wire.specs.declared.body_reader.BodyEnd.{BodyEnd}
+use Rattle.sv_wire.specs.declared.body_reader.BodyEnd.TheVariants.{Complete, Broken}
 use Rattle.sv_text.specs.declared.front.Cut.{Cut}
 use Rattle.sv_text.specs.declared.front.Cut.TheVariants.{Whole, Endless, Unended}
-use Rattle.sv_body.specs.Body.{ReadsBody}
-use Rattle.sv_body.specs.Chunks.{Body, unfinished, complete, broken}
+use Rattle.sv_wire.specs.Body.{ReadsBody}
+use Rattle.sv_wire.specs.Chunks.{Body, unfinished, complete, broken}
 use Rattle.sv_text.specs.Front.{cut}
 use Rattle.sv_wire.specs.declared.item.Item.{Item}
 use Rattle.sv_wire.specs.declared.item.Item.TheVariants.{Continue, Message, Refuse}
@@ -16,12 +16,12 @@ use Rattle.sv_wire.specs.declared.limits.TheConstants.{MAX_HEAD_LEN, MAX_FIELD_L
 use Rattle.sv_wire.specs.declared.owed_head.OwedHead.{OwedHead}
 use Rattle.sv_wire.specs.declared.owed_head.Judgement.{Judgement}
 use Rattle.sv_wire.specs.declared.owed_head.Judgement.TheVariants.{Refused, Expecting, Accepted}
-use Rattle.sv_wire_fault.specs.declared.wire_fault.WireFault.TheVariants.{BadHead, HeadTooLarge}
+use Rattle.sv_wire.specs.declared.wire_fault.WireFault.TheVariants.{BadHead, HeadTooLarge}
 use Rattle.sv_wire.specs.EmptyLines.{drop_empty_lines}
 use Rattle.sv_wire.specs.Head.{ends_head, judge}
 use Rattle.sv_wire.specs.Items.{is_last}
 use Rattle.sv_message.specs.Messages.{with_body}
-use Rattle.sv_wire_fault.specs.WireFault.{fault_of}
+use Rattle.sv_wire.specs.WireFault.{fault_of}
 
 -- The start of a text.
 pub data Start : Type 0 where

@@ -5,7 +5,7 @@ use Rattle.std.specs.List.{flat_map}
 use Rattle.http.specs.StatusCode.{code_digits}
 use Rattle.httpdate.specs.Date.{date_text, unix_secs}
 use Rattle.httpdate.specs.declared.date.HttpDate.{HttpDate}
-use Rattle.sv_head.specs.declared.field.Field.{Field}
+use Rattle.sv_message.specs.declared.field.Field.{Field}
 use Rattle.sv_message.specs.Content.{content, has_own_end}
 use Rattle.sv_message.specs.Cookies.{cookie_text}
 use Rattle.sv_message.specs.Phrases.{phrase_of}

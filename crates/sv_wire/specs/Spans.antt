@@ -7,8 +7,8 @@ use Rattle.httparse.specs.Grammar.{RequestHead}
 use Rattle.httparse.specs.Spans.{IsWithin, IsHeaderWithin, span_bytes}
 use Rattle.httparse.specs.declared.spans.HeaderSpan.{HeaderSpan}
 use Rattle.httparse.specs.declared.spans.RequestSpans.{RequestSpans}
-use Rattle.sv_head.specs.declared.field.Field.{Field}
-use Rattle.sv_head.specs.Fields.{fields_of}
+use Rattle.sv_message.specs.declared.field.Field.{Field}
+use Rattle.sv_message.specs.Fields.{fields_of}
 
 -- The field at a span.
 abbrev pub field_at : List ℕ → HeaderSpan → Field

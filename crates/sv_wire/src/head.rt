@@ -4,7 +4,7 @@ ghost use Rattle.std.specs.Prelude.{◌≡◌, ◌+◌, ◌≤◌, false, length
 ghost use Rattle.http_header.specs.Token.{IsToken};
 ghost use Rattle.httparse.specs.Grammar.{RequestHead};
 ghost use Rattle.httparse.specs.Spans.{IsWithin, span_bytes};
-ghost use Rattle.sv_head.specs.TargetForm.{FitsForm, with_slash};
+ghost use Rattle.sv_message.specs.TargetForm.{FitsForm, with_slash};
 ghost use Rattle.sv_text.specs.Faults.{first_or};
 ghost use Rattle.sv_text.specs.Gives.{GivesAnswer};
 ghost use Rattle.sv_wire.specs.Head.{accept, awaits_continue, begins_at_once, faults_by_kind, fields_beside, framing_faults, framing_of, has_codings, has_length, is_unknown, is_unknown_expectation, judge, target_in, tell_of_body, tells_of_body};
@@ -14,20 +14,18 @@ ghost use Rattle.sv_wire.specs.Spans.{field_at, IsFieldAt, AreHeadSpans, ShowHea
 
 use crate::limits::{FEW_FIELD_LINES, MAX_FIELD_LINES, MAX_HEAD_LEN};
 use crate::owed_head::{Judgement, OwedHead, has_body};
+use crate::{Framing, MAX_BODY_LEN, WireFault};
 use http::Method;
 use http::method::MethodError;
 use httparse::Status;
 use httparse::spans::{EMPTY_HEADER_SPAN, HeaderSpan, RequestSpans, Span, parse_request};
 use std::alloc::Global;
 use std::mem;
-use sv_body::{Framing, MAX_BODY_LEN};
-use sv_head::{
-    Codings, Field, SCHEME_LEN, TargetForm, accepts_hosts, asks_to_continue, coding_kind,
-    content_length, has_field, keeps, replace_hosts, target_form,
+use sv_message::{
+    Codings, Field, Message, SCHEME_LEN, Target, TargetForm, accepts_hosts, asks_to_continue,
+    coding_kind, content_length, has_field, keeps, replace_hosts, target_form,
 };
-use sv_message::{Message, Target};
 use sv_text::{Bytes, Listed, NoMemory};
-use sv_wire_fault::WireFault;
 
 /// Reads the whole text of a head, which is no longer than the limit. Its fields use the memory of `room`. Most heads
 /// have few fields and begin at once. Their lines need no count, since a head has two lines more than fields.

@@ -11,11 +11,11 @@ ghost use Rattle.sv_text.specs.declared.front.Cut.TheVariants.{Unended};
 use crate::item::Item;
 use crate::pending::PendingBox;
 use crate::reading::{Rest, read_items};
+use crate::{BodyEnd, Progress};
 use std::alloc::Global;
 use std::marker::Model;
 use std::mem;
-use sv_body::{BodyEnd, Progress};
-use sv_head::Field;
+use sv_message::Field;
 use sv_text::NoMemory;
 
 /// How a stream ended.

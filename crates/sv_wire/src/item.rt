@@ -2,8 +2,8 @@
 
 ghost use Rattle.std.specs.Prelude.{◌≡◌};
 
+use crate::WireFault;
 use sv_message::Message;
-use sv_wire_fault::WireFault;
 
 /// An item of a stream.
 #[derive(Drop)]

@@ -1,9 +1,12 @@
 //! Theorems about reading a stream, each the contract of a function with an empty body.
 
 ghost use Rattle.std.specs.Prelude.{◌≡◌};
-ghost use Rattle.sv_wire.specs.Laws.{BodiesAreWithinTheLimit, ReadingsJoin, ReadingsAreUnique, ReadingsExist, ReadingsSplitAtACut, OpenHeadsAreShort};
+ghost use Rattle.sv_wire.specs.Laws.{BodiesAreWithinTheLimit, OpenHeadsAreShort, ReadingsAreUnique, ReadingsExist, ReadingsJoin, ReadingsSplitAtACut};
+ghost use Rattle.sv_wire.specs.Storage.{OpenTextsAreShort};
 
-use crate::limits::{MAX_FIELD_LINES, MAX_HEAD_LEN};
+use crate::limits::{
+    MAX_BODY_LEN, MAX_FIELD_LINES, MAX_HEAD_LEN, MAX_SIZE_LINE_LEN, MAX_TRAILER_LEN,
+};
 
 /// Pins the limits to numbers. Definitions and code cite the constants, so a changed constant would change both.
 pub fn limits_are_as_stated()
@@ -42,4 +45,17 @@ pub fn open_heads_are_short()
 /// length.
 pub fn bodies_are_within_the_limit()
     ensures { BodiesAreWithinTheLimit }
+{}
+
+/// Pins the limits to numbers. Definitions and code cite the constants, so a changed constant would change both.
+pub fn limits_of_bodies_are_as_stated()
+    ensures body { MAX_BODY_LEN ≡ 1048576 }
+    ensures size_line { MAX_SIZE_LINE_LEN ≡ 256 }
+    ensures trailer { MAX_TRAILER_LEN ≡ 8192 }
+{}
+
+/// Besides the bytes of the body, a reader holds fewer bytes than a trailer section may have, for every input. Its
+/// invariant says that its machine is fit.
+pub fn open_texts_are_short()
+    ensures { OpenTextsAreShort }
 {}

@@ -4,11 +4,10 @@ ghost use Rattle.std.specs.Prelude.{◌≡◌, []};
 ghost use Rattle.sv_wire.specs.Head.{has_body};
 
 use crate::item::Item;
+use crate::{Framing, WireFault};
 use std::alloc::Global;
-use sv_body::Framing;
 use sv_message::Message;
 use sv_text::Bytes;
-use sv_wire_fault::WireFault;
 
 /// A head whose body is awaited: the message without its body, and how the end of the body is found (RFC 9112, section
 /// 6).
@@ -20,7 +19,7 @@ pub struct OwedHead {
 
 impl OwedHead {
     ghost use Rattle.sv_wire.specs.Reads.{item_of};
-    ghost use Rattle.sv_body.specs.declared.body_reader.BodyEnd.TheVariants.{Complete};
+    ghost use Rattle.sv_wire.specs.declared.body_reader.BodyEnd.TheVariants.{Complete};
 
     /// Returns the message of the head with an empty body.
     pub(crate) fn alone(self, alloc: Global) -> Item

@@ -5,11 +5,10 @@ ghost use Rattle.sv_wire.specs.Reads.{item_of};
 
 use crate::item::Item;
 use crate::owed_head::OwedHead;
+use crate::{BodyEnd, BodyReader, History, Piece, Progress, WireFault};
 use std::alloc::Global;
 use std::marker::Model;
-use sv_body::{BodyEnd, BodyReader, History, Piece, Progress};
 use sv_text::NoMemory;
-use sv_wire_fault::WireFault;
 
 /// A head whose body is being read.
 #[derive(Drop)]

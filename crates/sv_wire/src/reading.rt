@@ -15,11 +15,10 @@ use crate::item::Item;
 use crate::limits::MAX_HEAD_LEN;
 use crate::owed_head::{Judgement, OwedHead, has_body};
 use crate::pending::PendingBox;
+use crate::{Progress, WireFault};
 use std::alloc::Global;
-use sv_body::Progress;
-use sv_head::Field;
+use sv_message::Field;
 use sv_text::{Cut, NoMemory};
-use sv_wire_fault::WireFault;
 
 /// The result of reading one item of a stream.
 #[derive(Drop)]

@@ -14,8 +14,7 @@ use crate::date_text::DateText;
 use http::StatusCode;
 use itoa::Buffer;
 use std::alloc::AllocError;
-use sv_head::Field;
-use sv_message::{Body, Cookie, Response, flushed_content};
+use sv_message::{Body, Cookie, Field, Response, flushed_content};
 use sv_text::NoMemory;
 
 /// The status of a response that has no content (RFC 9110, section 15.3.5).

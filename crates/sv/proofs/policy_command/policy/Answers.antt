@@ -2,7 +2,7 @@ use Rattle.std.proofs.Common.{ℕ, List, Ok, ap, subst, ◌∙◌}
 use Rattle.std.specs.Option.{option_copied}
 use Rattle.sv_container.specs.Explaining.{policies_of_contexts}
 use Rattle.sv_container.specs.SeededStart.{AreWordsOf}
-use Rattle.sv_explain.specs.Explanation as explained
+use Rattle.sv_policy.specs.Explanation as explained
 use Rattle.sv_program.specs.CommandFault.{UnlessNoMemory}
 use Rattle.sv.specs.Policy.{Ends, line_of}
 use Rattle.sv.proofs.policy_command.policy.Goals as goal

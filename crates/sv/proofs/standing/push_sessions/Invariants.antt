@@ -1,6 +1,6 @@
 use Rattle.std.proofs.Common.{◌≡◌, ◌++◌, flat_map, take}
 use Rattle.std.specs.String.{string_bytes}
-use Rattle.sv.specs.Asked.{sessions_text}
+use Rattle.sv.specs.Replies.{sessions_text}
 use Rattle.sv.proofs.standing.push_sessions.Given as goal
 
 abbrev pub invariant-loop-context : goal.invariant-loop-context

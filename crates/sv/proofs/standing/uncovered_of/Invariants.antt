@@ -1,6 +1,6 @@
 use Rattle.std.proofs.Common.{◌≡◌, take}
 use Rattle.std.specs.String.{string_bytes}
-use Rattle.sv.specs.Asked.{gaps_text}
+use Rattle.sv.specs.Replies.{gaps_text}
 use Rattle.sv.proofs.standing.uncovered_of.Given as goal
 
 abbrev pub invariant-loop-context : goal.invariant-loop-context

@@ -4,10 +4,10 @@ use Rattle.sv_admission.specs.Judged.{post_in}
 use Rattle.sv_admission.proofs.Verdicts.{decided_so}
 use Rattle.sv_constraints.specs.Verdict.{verdict}
 use Rattle.sv_constraints.specs.declared.owned_decision.OwnedDecision.{OwnedDecision}
-use Rattle.sv_context_path.specs.Protected.{is_protected}
+use Rattle.sv_mapping.specs.Protected.{is_protected}
 use Rattle.sv_descriptor.specs.declared.login.FormLogin.{FormLogin}
 use Rattle.sv_login.specs.Login.{login}
-use Rattle.sv_outcome.specs.Outcome.{verdict_outcome}
+use Rattle.sv_login.specs.Outcome.{verdict_outcome}
 use Rattle.sv_realm.specs.declared.caller.Caller.{Caller}
 use Rattle.sv_admission.specs.Held.{caller_held}
 use Rattle.std.specs.Prelude.{is_some}

@@ -1,6 +1,6 @@
 use Rattle.std.proofs.Common.{ap}
 use Rattle.sv_admission.specs.Admission.{outcome_in}
-use Rattle.sv_outcome.specs.OutcomeEntry.{outcome_entry}
+use Rattle.sv_login.specs.OutcomeEntry.{outcome_entry}
 use Rattle.sv_admission.specs.Laws.{found_of}
 use Rattle.sv_admission.proofs.Entering.{entered_by}
 use Rattle.sv_admission.proofs.laws.an_entry_says_entered_exactly_by_an_open_verdict.Goals as goal

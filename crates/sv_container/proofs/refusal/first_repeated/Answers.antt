@@ -3,7 +3,7 @@ use Rattle.sv_container.proofs.Repeating.{repeated_at}
 use Rattle.sv_container.specs.Paths.{IsRepeatedFirst}
 use Rattle.sv_context.specs.Several.{paths_of}
 use Rattle.sv_lifecycle.specs.declared.deployment.Deployment.{Deployment}
-use Rattle.sv_schema.proofs.Differing.{distinct-more}
+use Rattle.sv_descriptor.proofs.Differing.{distinct-more}
 use Rattle.sv_container.proofs.refusal.first_repeated.Goals as goal
 
 not-back : (a b c : Bool) → a ≡ c → a ≡ not b → b ≡ not c

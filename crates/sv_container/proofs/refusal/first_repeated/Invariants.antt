@@ -1,4 +1,4 @@
-use Rattle.sv_schema.proofs.Differing.{Distinct}
+use Rattle.sv_descriptor.proofs.Differing.{Distinct}
 use Rattle.sv_container.proofs.refusal.first_repeated.Given as goal
 
 abbrev pub invariant-loop-deployment : goal.invariant-loop-deployment

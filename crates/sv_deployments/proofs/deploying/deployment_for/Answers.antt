@@ -1,5 +1,5 @@
 use Rattle.std.proofs.Common.{refl}
-use Rattle.sv_application.proofs.Ending.{ends}
+use Rattle.sv_deployments.proofs.Ending.{ends}
 use Rattle.sv_deployments.proofs.InTurn.{as_read, fault_beside, given_beside}
 use Rattle.sv_deployments.proofs.deploying.deployment_for.Goals as goal
 use Rattle.sv_deployments.specs.Deployments.{components_in, deployment, deployment_for, read_of}

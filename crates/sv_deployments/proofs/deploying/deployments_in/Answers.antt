@@ -1,7 +1,7 @@
 use Rattle.std.specs.Vec.Iter.{into_iter_items}
 use Rattle.sv_program.specs.Configuration.{each}
 use Rattle.sv_deployments.specs.Deployments.{deployment, deployment_of, deployments}
-use Rattle.sv_application.proofs.DeployingSteps.{one_more, seen_more}
+use Rattle.sv_deployments.proofs.DeployingSteps.{one_more, seen_more}
 use Rattle.sv_deployments.proofs.deploying.deployments_in.Goals as goal
 
 pub loop-context-preserved : goal.loop-context-preserved

@@ -1,5 +1,5 @@
-use Rattle.sv_application.proofs.Ending.{both_given}
-use Rattle.sv_application.specs.Results.{both}
+use Rattle.sv_deployments.proofs.Ending.{both_given}
+use Rattle.sv_deployments.specs.Results.{both}
 use Rattle.sv_deployments.proofs.deploying.read.Goals as goal
 use Rattle.sv_deployments.specs.Files.{files_in}
 use Rattle.sv_program.specs.Configuration.{descriptor_in, users_in}

@@ -1,4 +1,4 @@
-use Rattle.sv_schema.proofs.Yields.{IfOk-Gives, document-Ok}
+use Rattle.sv_descriptor.proofs.Yields.{IfOk-Gives, document-Ok}
 use Rattle.sv_descriptor.specs.Descriptor.{descriptor, descriptor_of}
 use Rattle.sv_descriptor.specs.WellFormed.{IsWellFormed}
 use Rattle.sv_descriptor.proofs.Agreeing.{IsWellFormed-descriptor}

@@ -1,5 +1,5 @@
 use Rattle.std.proofs.Common.{None, Some, ap, ◌∙◌}
-use Rattle.sv_site.specs.Seen.{chosen_seen}
+use Rattle.sv_tree.specs.Seen.{chosen_seen}
 use Rattle.sv_tree.specs.Does.{tries}
 use Rattle.sv_tree.specs.State.{on_exchange}
 use Rattle.sv_tree.specs.Site.{begun_by, chosen}

@@ -1,6 +1,6 @@
 use Rattle.std.proofs.Common.{sym, ap, ◌∙◌}
 use Rattle.sv_dispatch.specs.Did.{seen}
-use Rattle.sv_site.specs.Seen.{found_seen}
+use Rattle.sv_tree.specs.Seen.{found_seen}
 use Rattle.sv_tree.specs.Files.{Filed}
 use Rattle.sv_tree.specs.Site.{Redirect}
 use Rattle.sv_dispatch.proofs.Deeds.{did_by}

@@ -1,7 +1,7 @@
 use Rattle.std.proofs.Common.{[], ◌-◌, refl}
 use Rattle.sv_component.specs.Runs.{IsRun}
 use Rattle.sv_dispatch.specs.Running.{state_of}
-use Rattle.sv_site.specs.Site.{site_of}
+use Rattle.sv_tree.specs.SiteOfDescriptor.{site_of}
 use Rattle.sv_tree.specs.declared.limits.TheConstants.{MAX_NESTING}
 use Rattle.sv_dispatch.proofs.LiveDeeds.{not_begun}
 use Rattle.sv_dispatch.proofs.live_dispatch.dispatch.Goals as goal

@@ -2,7 +2,7 @@ use Rattle.std.proofs.Common.{ap, sym, subst}
 use Rattle.std.specs.Option.{option_copied}
 use Rattle.sv_dispatch.specs.Did.{seen}
 use Rattle.sv_dispatch.specs.ServedBy.{Alone, ServedBy}
-use Rattle.sv_site.specs.Site.{site_of}
+use Rattle.sv_tree.specs.SiteOfDescriptor.{site_of}
 use Rattle.sv_tree.specs.Served.{Pages, Plain}
 use Rattle.sv_dispatch.proofs.ContextDeeds.{by_alone, on_ok}
 use Rattle.sv_dispatch.proofs.pages.show.Goals as goal

@@ -1,7 +1,7 @@
 use Rattle.std.proofs.Common.{◌∙◌, ap}
 use Rattle.std.specs.Option.{option_copied}
 use Rattle.sv_dispatch.specs.Did.{seen}
-use Rattle.sv_site.specs.Site.{site_of}
+use Rattle.sv_tree.specs.SiteOfDescriptor.{site_of}
 use Rattle.sv_tree.specs.Served.{kept_field}
 use Rattle.sv_dispatch.proofs.ContextDeeds.{kept_broken, kept_lacks, kept_so}
 use Rattle.sv_dispatch.proofs.pages.show_kept.Goals as goal

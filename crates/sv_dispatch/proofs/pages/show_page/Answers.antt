@@ -2,7 +2,7 @@ use Rattle.std.proofs.Common.{None, Some, subst}
 use Rattle.sv_dispatch.specs.ServedBy.{Alone}
 use Rattle.sv_tree.specs.Served.{Resets}
 use Rattle.sv_dispatch.specs.Did.{seen}
-use Rattle.sv_site.specs.Site.{site_of}
+use Rattle.sv_tree.specs.SiteOfDescriptor.{site_of}
 use Rattle.sv_dispatch.proofs.ContextDeeds.{on_ok, page_ends, page_not, page_so}
 use Rattle.sv_dispatch.proofs.pages.show_page.Goals as goal
 use Rattle.sv_component.specs.Steps.{steps_of}

@@ -1,7 +1,7 @@
 use Rattle.std.proofs.Common.{subst}
 use Rattle.sv_dispatch.specs.Did.{seen}
 use Rattle.sv_dispatch.specs.ServedBy.{ServedBy}
-use Rattle.sv_site.specs.Site.{site_of}
+use Rattle.sv_tree.specs.SiteOfDescriptor.{site_of}
 use Rattle.sv_tree.specs.Served.{Settled}
 use Rattle.sv_dispatch.proofs.ContextDeeds.{not_refused, refused_too, serve_not, serve_so}
 use Rattle.sv_dispatch.proofs.serving.serve.Goals as goal

@@ -1,6 +1,6 @@
 use Rattle.std.proofs.Common.{◌≡◌, ◌++◌}
 use Rattle.form_urlencoded.specs.Parse.{raw_pairs_left}
-use Rattle.sv_parameters.specs.Parameters.{parameters_of, texts_of}
+use Rattle.sv_message.specs.Parameters.{parameters_of, texts_of}
 use Rattle.sv_exchange.proofs.listing.push_query.Given as goal
 
 abbrev pub invariant-loop-key : goal.invariant-loop-key

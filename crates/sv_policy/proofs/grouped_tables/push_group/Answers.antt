@@ -1,6 +1,6 @@
 use Rattle.std.proofs.Common.{ap, filter, map, not, refl, sym, ◌∙◌}
 use Rattle.sv_constraints.specs.Covering.{all_patterns, lists}
-use Rattle.sv_merged.specs.Table.{IsTable}
+use Rattle.sv_policy.specs.Table.{IsTable}
 use Rattle.sv_policy.proofs.Grouped.{no_members}
 use Rattle.sv_policy.proofs.Listed.{listed_members}
 use Rattle.sv_policy.proofs.Made.{all_made}

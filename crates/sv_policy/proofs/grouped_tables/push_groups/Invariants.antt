@@ -2,7 +2,7 @@ use Rattle.std.proofs.Common.{◌≡◌, ◌++◌, List, map, take}
 use Rattle.std.specs.Prelude.{All, filter}
 use Rattle.sv_constraints.specs.Covering.{all_patterns, lists}
 use Rattle.sv_constraints.specs.declared.constraint.Constraint.{Constraint}
-use Rattle.sv_merged.specs.Table.{IsTable}
+use Rattle.sv_policy.specs.Table.{IsTable}
 use Rattle.sv_policy.specs.Groups.{IsGrouped}
 use Rattle.sv_policy.proofs.grouped_tables.push_groups.Given as goal
 

@@ -1,7 +1,7 @@
 use Rattle.std.proofs.Common.{◌≡◌, ◌++◌, map, take}
 use Rattle.std.specs.Prelude.{All, filter}
 use Rattle.sv_constraints.specs.Covering.{all_patterns, lists}
-use Rattle.sv_merged.specs.Table.{IsTable}
+use Rattle.sv_policy.specs.Table.{IsTable}
 use Rattle.sv_policy.proofs.listed_tables.push_tables.Given as goal
 
 abbrev pub invariant-loop-pattern : goal.invariant-loop-pattern

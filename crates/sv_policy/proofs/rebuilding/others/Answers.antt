@@ -1,5 +1,5 @@
 use Rattle.std.proofs.Common.{ap, map, not, ◌∙◌}
-use Rattle.sv_merged.specs.declared.table.Table.{Table}
+use Rattle.sv_policy.specs.declared.table.Table.{Table}
 use Rattle.sv_policy.proofs.Elsewhere.{among_texts, is_other, others_kept, others_left}
 use Rattle.sv_policy.proofs.rebuilding.others.Goals as goal
 use Rattle.sv_policy.proofs.rebuilding.others.Goals.{then-not-is_among+in_ok-clone+in_ok-push, else-not-is_among}

@@ -1,7 +1,7 @@
 use Rattle.std.proofs.Common.{◌≡◌, ap, map, filter, sym, ◌∙◌, ◌++◌}
 use Rattle.std.proofs.lemmas.List.Elements.{All-map}
 use Rattle.sv_constraints.specs.Covering.{all_patterns, lists}
-use Rattle.sv_merged.specs.Table.{IsTable}
+use Rattle.sv_policy.specs.Table.{IsTable}
 use Rattle.sv_policy.proofs.Made.{all_at_each}
 use Rattle.sv_policy.proofs.Elsewhere.{all_whole, count_is, is_other, kept_whole, same_once}
 use Rattle.sv_policy.specs.Patterns.{different, listed_in}

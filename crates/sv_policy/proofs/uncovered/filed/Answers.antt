@@ -1,5 +1,5 @@
 use Rattle.std.proofs.Common.{ap, ◌∙◌}
-use Rattle.sv_merged.specs.declared.table.Table.{Table}
+use Rattle.sv_policy.specs.declared.table.Table.{Table}
 use Rattle.sv_policy.proofs.Filing.{filed_next}
 use Rattle.sv_policy.proofs.uncovered.filed.Goals as goal
 

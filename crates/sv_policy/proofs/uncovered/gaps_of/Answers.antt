@@ -1,7 +1,7 @@
 use Rattle.std.proofs.Common.{map}
 use Rattle.sv_constraints.specs.Covering.{all_patterns}
-use Rattle.sv_merged.specs.Table.{IsTable}
-use Rattle.sv_merged.specs.Uncovered.{has_methods}
+use Rattle.sv_policy.specs.Table.{IsTable}
+use Rattle.sv_policy.specs.Uncovered.{has_methods}
 use Rattle.sv_policy.proofs.Gapped.{among_at, gaps_all, gaps_more, whole_among}
 use Rattle.sv_policy.specs.Gaps.{gap_at}
 use Rattle.sv_policy.proofs.uncovered.gaps_of.Goals as goal

@@ -1,7 +1,7 @@
 use Rattle.std.proofs.Common.{◌≡◌, map, take, filter, List}
 use Rattle.sv_constraints.specs.declared.constraint.Constraint.{Constraint}
 use Rattle.sv_constraints.specs.declared.rules.Rules.{Rules}
-use Rattle.sv_merged.specs.Uncovered.{has_methods}
+use Rattle.sv_policy.specs.Uncovered.{has_methods}
 use Rattle.sv_policy.specs.Compiled.{AreCompiled}
 use Rattle.sv_policy.specs.Gaps.{gap_at}
 use Rattle.sv_policy.proofs.uncovered.gaps_of.Given as goal

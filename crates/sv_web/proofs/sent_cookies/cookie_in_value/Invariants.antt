@@ -2,7 +2,7 @@ use Rattle.std.proofs.Common.{◌≡◌, length}
 use Rattle.std.specs.List.{filter_map}
 use Rattle.std.specs.Option.{option_copied}
 use Rattle.httparse.specs.Grammar.{trim_ows}
-use Rattle.sv_cookies.specs.Cookies.{value_of, values_in}
+use Rattle.sv_login.specs.Cookies.{value_of, values_in}
 use Rattle.sv_web.specs.SentCookies.{first, pieces_left}
 use Rattle.sv_web.proofs.sent_cookies.cookie_in_value.Given as goal
 

@@ -1,7 +1,7 @@
 use Rattle.std.proofs.Common.{◌≡◌, Bool, true, false, not, List, [], ◌∷◌, ◌++◌, Ok, Err, refl, sym, ◌∙◌}
 use Rattle.sv_text.specs.Faults.{when, first_or}
-use Rattle.sv_wire_fault.specs.declared.wire_fault.WireFault.{WireFault}
-use Rattle.sv_wire_fault.specs.declared.wire_fault.WireFault.TheVariants.{BadHost, BadTarget, BadExpect}
+use Rattle.sv_wire.specs.declared.wire_fault.WireFault.{WireFault}
+use Rattle.sv_wire.specs.declared.wire_fault.WireFault.TheVariants.{BadHost, BadTarget, BadExpect}
 use Rattle.sv_wire.specs.Head.{framing_faults}
 use Rattle.sv_wire.proofs.BareLemmas.{bare_faults, bare_expectation}
 use Rattle.sv_wire.proofs.head.accept.Goals as goal

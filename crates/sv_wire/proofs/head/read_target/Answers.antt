@@ -1,8 +1,8 @@
 use Rattle.std.proofs.Common.{◌≡◌, ◌+◌, ℕ, List, drop, sym, ap, ◌∙◌, subst}
 use Rattle.std.proofs.lemmas.List.{drop-drop}
-use Rattle.sv_head.specs.declared.target.TargetForm.{TargetForm}
-use Rattle.sv_head.specs.declared.target.TargetForm.TheVariants.{Absolute}
-use Rattle.sv_head.specs.TargetForm.{FitsForm, with_slash}
+use Rattle.sv_message.specs.declared.target.TargetForm.{TargetForm}
+use Rattle.sv_message.specs.declared.target.TargetForm.TheVariants.{Absolute}
+use Rattle.sv_message.specs.TargetForm.{FitsForm, with_slash}
 use Rattle.sv_text.specs.Gives.{GivesAnswer}
 use Rattle.sv_message.specs.declared.message.Target.TheVariants.{Path}
 use Rattle.sv_wire.specs.Head.{target_in}

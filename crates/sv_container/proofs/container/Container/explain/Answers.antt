@@ -1,7 +1,7 @@
 use Rattle.std.proofs.Common.{subst}
 use Rattle.std.specs.Option.{option_copied}
 use Rattle.sv_container.specs.Explaining.{explanation_of}
-use Rattle.sv_explain.specs.Fault.{explain_fault}
+use Rattle.sv_policy.specs.Fault.{explain_fault}
 use Rattle.sv_text.specs.Gives.{Gives}
 use Rattle.sv_container.proofs.container.Container.explain.Goals as goal
 

@@ -1,7 +1,7 @@
 use Rattle.std.proofs.Common.{◌≡◌, length, ap, subst, sym, ◌∙◌}
 use Rattle.sv_container.proofs.Counting.{stops_all}
 use Rattle.sv_context.specs.Room.{HasRoomToStop}
-use Rattle.sv_host.specs.Host.{state_of}
+use Rattle.sv_run.specs.Host.{state_of}
 use Rattle.sv_container.proofs.container.Container.shutdown.Goals as goal
 
 pub undeploy_all-requires : goal.undeploy_all-requires

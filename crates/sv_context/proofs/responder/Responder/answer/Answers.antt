@@ -1,6 +1,6 @@
 use Rattle.sv_admission.specs.Asked.{asked_in}
 use Rattle.sv_dispatch.specs.Did.{seen}
-use Rattle.sv_site.specs.Site.{site_of}
+use Rattle.sv_tree.specs.SiteOfDescriptor.{site_of}
 use Rattle.sv_context.proofs.Handlings.{begun_code, ended_code, handled_so}
 use Rattle.sv_context.proofs.responder.Responder.answer.Goals as goal
 use Rattle.sv_component.specs.Steps.{steps_of}

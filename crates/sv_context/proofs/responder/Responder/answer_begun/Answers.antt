@@ -1,6 +1,6 @@
 use Rattle.std.proofs.Common.{None, Option, Some, subst}
-use Rattle.sv_event.specs.declared.event.Event.{Event}
-use Rattle.sv_site.specs.Site.{site_of}
+use Rattle.sv_session.specs.declared.event.Event.{Event}
+use Rattle.sv_tree.specs.SiteOfDescriptor.{site_of}
 use Rattle.sv_context.specs.Responding.{RespondsNoted}
 use Rattle.sv_context.proofs.responder.Responder.answer_begun.Goals as goal
 use Rattle.sv_component.specs.Steps.{steps_of}

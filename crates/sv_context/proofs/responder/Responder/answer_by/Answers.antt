@@ -2,7 +2,7 @@ use Rattle.std.proofs.Common.{sym, subst}
 use Rattle.sv_dispatch.specs.Did.{seen}
 use Rattle.sv_dispatch.proofs.ContextDeeds.{by_alone}
 use Rattle.sv_dispatch.specs.ServedBy.{Alone, ServedBy}
-use Rattle.sv_site.specs.Site.{site_of}
+use Rattle.sv_tree.specs.SiteOfDescriptor.{site_of}
 use Rattle.sv_context.specs.Answered.{Answers, SendsTo}
 use Rattle.sv_context.proofs.responder.Responder.answer_by.Goals as goal
 use Rattle.sv_component.specs.Steps.{steps_of}

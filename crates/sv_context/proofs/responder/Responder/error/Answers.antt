@@ -1,6 +1,6 @@
 use Rattle.std.proofs.Common.{None}
 use Rattle.sv_dispatch.specs.Did.{seen}
-use Rattle.sv_site.specs.Site.{site_of}
+use Rattle.sv_tree.specs.SiteOfDescriptor.{site_of}
 use Rattle.sv_tree.specs.Served.{ShowsError}
 use Rattle.sv_context.proofs.Responses.{journal_stays, quiet_error, whole_stays}
 use Rattle.sv_context.proofs.responder.Responder.error.Goals as goal

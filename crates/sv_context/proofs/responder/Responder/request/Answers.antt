@@ -1,5 +1,5 @@
 use Rattle.sv_dispatch.specs.Did.{seen}
-use Rattle.sv_site.specs.Site.{site_of}
+use Rattle.sv_tree.specs.SiteOfDescriptor.{site_of}
 use Rattle.sv_tree.specs.Served.{Served}
 use Rattle.sv_context.proofs.Responses.{requested_cut, requested_not, requested_so}
 use Rattle.sv_context.proofs.responder.Responder.request.Goals as goal

@@ -1,6 +1,6 @@
 use Rattle.std.proofs.Common.{Some}
 use Rattle.sv_dispatch.specs.Did.{seen}
-use Rattle.sv_site.specs.Site.{site_of}
+use Rattle.sv_tree.specs.SiteOfDescriptor.{site_of}
 use Rattle.sv_tree.specs.Served.{ShowsError}
 use Rattle.sv_context.proofs.Responses.{requested_cut, requested_not, requested_so}
 use Rattle.sv_context.proofs.responder.Responder.request_page.Goals as goal

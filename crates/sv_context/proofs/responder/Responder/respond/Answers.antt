@@ -1,6 +1,6 @@
 use Rattle.std.specs.Option.{option_copied}
 use Rattle.sv_dispatch.specs.Did.{seen}
-use Rattle.sv_site.specs.Site.{site_of}
+use Rattle.sv_tree.specs.SiteOfDescriptor.{site_of}
 use Rattle.sv_context.proofs.Responses.{answered_not, answered_so}
 use Rattle.sv_context.proofs.responder.Responder.respond.Goals as goal
 use Rattle.sv_component.specs.Steps.{steps_of}

@@ -1,7 +1,7 @@
 use Rattle.std.proofs.Common.{sym, subst, ap, ◌∙◌}
 use Rattle.sv_text.specs.Gives.{GivesAnswer}
-use Rattle.sv_parameters.proofs.Joining.{first_behind, first_in_front}
-use Rattle.sv_parameters.specs.Parameters.{first_named}
+use Rattle.sv_message.proofs.Joining.{first_behind, first_in_front}
+use Rattle.sv_message.specs.Parameters.{first_named}
 use Rattle.sv_exchange.specs.Parameters.{body_parameters, query_parameters}
 use Rattle.sv_exchange.specs.State.{State}
 use Rattle.sv_exchange.proofs.exchange.Exchange.first_of_client.Goals as goal

@@ -1,8 +1,8 @@
 use Rattle.std.proofs.Common.{reverse, sym, subst, ap, ◌∙◌}
 use Rattle.std.specs.List.{flat_map}
 use Rattle.sv_text.specs.Gives.{GivesAnswer}
-use Rattle.sv_parameters.proofs.Joining.{first_behind, first_in_front}
-use Rattle.sv_parameters.specs.Parameters.{first_named}
+use Rattle.sv_message.proofs.Joining.{first_behind, first_in_front}
+use Rattle.sv_message.specs.Parameters.{first_named}
 use Rattle.sv_exchange.specs.Parameters.{client_parameters, dispatch_parameters}
 use Rattle.sv_exchange.specs.State.{State}
 use Rattle.sv_exchange.proofs.exchange.Exchange.parameter.Goals as goal

@@ -1,7 +1,7 @@
 use Rattle.std.proofs.Common.{◌≡◌, codes}
 use Rattle.form_urlencoded.specs.Parse.{pairs_left}
 use Rattle.sv_login.specs.Credentials.{value_or}
-use Rattle.sv_parameters.specs.Parameters.{first_named, parameters_of, texts_of}
+use Rattle.sv_message.specs.Parameters.{first_named, parameters_of, texts_of}
 use Rattle.sv_login.proofs.credentials.Credentials.of_form.Given as goal
 
 -- The value found before, or otherwise the first in the remaining fields, is the first in all fields.

@@ -1,5 +1,5 @@
 use Rattle.std.specs.Option.{option_copied}
-use Rattle.sv_merged.specs.Table.{IsTable}
+use Rattle.sv_policy.specs.Table.{IsTable}
 use Rattle.sv_policy.proofs.Made.{found_among}
 use Rattle.sv_policy.proofs.making.Making.marked.Goals as goal
 

@@ -1,0 +1,49 @@
+//! The options that take a word.
+
+ghost use Rattle.std.specs.Prelude.{◌≡◌, IfSome, IsSome};
+ghost use Rattle.sv.specs.Settings.{key_word};
+
+/// An option that takes a word.
+#[derive(Clone, Copy)]
+pub enum Key {
+    /// `--control SOCKET`: the name of the control socket file, for queries and for stopping the server.
+    Control,
+    /// `--journal FILE`: the name of the file to which the journal is appended.
+    Journal,
+    /// `--listen ADDRESS:PORT`: the address that the server listens on.
+    Listen,
+    /// `--connections N`: maximum number of connections that are served at once.
+    Connections,
+    /// `--idle-seconds N`: idle timeout of a connection, in seconds.
+    IdleSeconds,
+    /// `--held-mebibytes N`: maximum number of mebibytes that all connections hold together.
+    HeldMebibytes,
+}
+
+impl Key {
+    /// Returns the option of this word, or none if no option that takes a word has it.
+    pub(crate) fn named(word: &str) -> Option<Key>
+        ensures it { IfSome result (λ key. word.now ≡ key_word key) }
+        ensures found { (key : Key) → word.now ≡ key_word key → IsSome result }
+    {
+        if word == "--control" {
+            return Some(Key::Control);
+        }
+        if word == "--journal" {
+            return Some(Key::Journal);
+        }
+        if word == "--listen" {
+            return Some(Key::Listen);
+        }
+        if word == "--connections" {
+            return Some(Key::Connections);
+        }
+        if word == "--idle-seconds" {
+            return Some(Key::IdleSeconds);
+        }
+        if word == "--held-mebibytes" {
+            return Some(Key::HeldMebibytes);
+        }
+        None
+    }
+}

@@ -1,0 +1,162 @@
+//! The arguments of the command `run`.
+
+use crate::key::Key;
+use crate::taking::{address_once, count_once, name_once};
+use std::net::SocketAddr;
+
+/// Maximum value of `--connections`.
+const MAX_CONNECTIONS: u32 = 1024;
+
+/// Maximum value of `--idle-seconds`: a day.
+const MAX_IDLE_SECONDS: u32 = 86_400;
+
+/// Maximum value of `--held-mebibytes`: a tebibyte.
+const MAX_HELD_MEBIBYTES: u32 = 1_048_576;
+
+/// A server, and the options of its run.
+#[derive(Clone, Copy)]
+pub struct RunOptions<'a> {
+    /// The name of the server file.
+    pub config: &'a str,
+    /// The name of the control socket file, for queries and for stopping the server, if there is one.
+    pub control: Option<&'a str>,
+    /// The name of the file to which the journal is appended, if there is one.
+    pub journal: Option<&'a str>,
+    /// The address that the server listens on, or none for 127.0.0.1 with the server file's port.
+    pub listen: Option<SocketAddr>,
+    /// Whether random words are derived only from the server file's seed.
+    pub same_seed: bool,
+    /// Maximum number of connections that are served at once, or none for the default.
+    pub connections: Option<u32>,
+    /// Idle timeout of a connection in seconds, or none for the default.
+    pub idle_seconds: Option<u32>,
+    /// Maximum number of mebibytes that all connections hold together, or none for the default.
+    pub held_mebibytes: Option<u32>,
+}
+
+impl<'a> RunOptions<'a> {
+    ghost use Rattle.std.specs.Prelude.{◌≡◌, ◌≤◌, ◌∷◌, ◌++◌, [], ℕ, List, true, false, IfSome, IsSome, length, map, string_bytes};
+    ghost use Rattle.std.specs.List.{flat_map};
+    ghost use Rattle.sv.specs.Options.{AreSet, IsAsked, IsSet};
+    ghost use Rattle.sv.specs.Reading.{IsRead, Sets};
+    ghost use Rattle.sv.specs.Settings.{Setting, setting_words};
+    ghost use Rattle.sv.specs.Values.{Finds};
+
+    /// Parses the arguments: the name of the server file, followed by options in any order, each at most once. The
+    /// options are `--control SOCKET`, `--journal FILE`, `--listen ADDRESS:PORT`, `--same-seed`, `--connections N` (1
+    /// to 1,024), `--idle-seconds N` (1 to 86,400) and `--held-mebibytes N` (1 to 1,048,576). Returns none if the
+    /// arguments are invalid.
+    pub fn parse(arguments: &'a [String]) -> Option<RunOptions<'a>>
+        ensures { Finds (IsAsked (map string_bytes arguments.now)) result }
+    {
+        let (config, behind) = arguments.split_first()?;
+        let mut options = RunOptions::plain(config.as_str());
+        let mut rest = behind;
+        while let Some((word, after)) = rest.split_first() {
+            let (next, others) = options.read(word.as_str(), after)?;
+            options = next;
+            rest = others;
+        }
+        Some(options)
+    }
+
+    // Returns a server without options.
+    fn plain(config: &'a str) -> RunOptions<'a>
+        ensures server { result.config ≡ config.entry }
+        ensures set { AreSet [] result }
+    {
+        RunOptions {
+            config,
+            control: None,
+            journal: None,
+            listen: None,
+            same_seed: false,
+            connections: None,
+            idle_seconds: None,
+            held_mebibytes: None,
+        }
+    }
+
+    // Reads the option that begins with this word, and returns the options and the remaining arguments. Returns none if
+    // the word is not an option, the option was given before, or its value is missing or invalid.
+    fn read(self, word: &'a str, after: &'a [String]) -> Option<(RunOptions<'a>, &'a [String])>
+        ensures it { IfSome result (λ next. IsRead self.entry (word.now ∷ map string_bytes after.now) next.0 (map string_bytes next.1.now)) }
+        ensures shorter { IfSome result (λ next. length next.1.now ≤ length after.now) }
+        ensures found { (done more : List Setting) (asked : RunOptions) → AreSet done self.entry → word.now ∷ map string_bytes after.now ≡ flat_map setting_words more
+            → AreSet (done ++ more) asked → IsSome result }
+    {
+        if word == "--same-seed" {
+            let options = self.with_same_seed()?;
+            return Some((options, after));
+        }
+        let key = Key::named(word)?;
+        let (value, rest) = after.split_first()?;
+        let options = self.with(key, value.as_str())?;
+        Some((options, rest))
+    }
+
+    fn with_same_seed(self) -> Option<RunOptions<'a>>
+        ensures it { IfSome result (λ next. (self.entry.same_seed ≡ false) × (next ≡ record self.entry { same_seed = true })) }
+        ensures found { self.entry.same_seed ≡ false → IsSome result }
+    {
+        if self.same_seed {
+            None
+        } else {
+            Some(RunOptions {
+                same_seed: true,
+                ..self
+            })
+        }
+    }
+
+    // Sets an option that takes a word.
+    fn with(self, key: Key, word: &'a str) -> Option<RunOptions<'a>>
+        ensures it { IfSome result (Sets key word.now self.entry) }
+        ensures found { (words more : List (List ℕ)) (asked : RunOptions) → IsSet key words self.entry → IsSet key (words ++ word.now ∷ more) asked → IsSome result }
+    {
+        match key {
+            Key::Control => {
+                let control = name_once(self.control, word)?;
+                Some(RunOptions {
+                    control: Some(control),
+                    ..self
+                })
+            }
+            Key::Journal => {
+                let journal = name_once(self.journal, word)?;
+                Some(RunOptions {
+                    journal: Some(journal),
+                    ..self
+                })
+            }
+            Key::Listen => {
+                let listen = address_once(self.listen, word)?;
+                Some(RunOptions {
+                    listen: Some(listen),
+                    ..self
+                })
+            }
+            Key::Connections => {
+                let connections = count_once(self.connections, word, MAX_CONNECTIONS)?;
+                Some(RunOptions {
+                    connections: Some(connections),
+                    ..self
+                })
+            }
+            Key::IdleSeconds => {
+                let idle_seconds = count_once(self.idle_seconds, word, MAX_IDLE_SECONDS)?;
+                Some(RunOptions {
+                    idle_seconds: Some(idle_seconds),
+                    ..self
+                })
+            }
+            Key::HeldMebibytes => {
+                let held_mebibytes = count_once(self.held_mebibytes, word, MAX_HELD_MEBIBYTES)?;
+                Some(RunOptions {
+                    held_mebibytes: Some(held_mebibytes),
+                    ..self
+                })
+            }
+        }
+    }
+}

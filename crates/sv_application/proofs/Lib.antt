@@ -1,4 +1,0 @@
-pub mod DeployingSteps
-pub mod Ending
-mod Fitting
-mod Steps

@@ -1,9 +1,0 @@
-pub mod BodyLemmas
-pub mod BoolLemmas
-pub mod ExistenceLemmas
-pub mod LimitLemmas
-pub mod ListLemmas
-pub mod MachineLemmas
-pub mod OpenLemmas
-pub mod TextLemmas
-pub mod Walks

@@ -1,3 +1,0 @@
-mod Cuts
-mod Entered
-pub mod Choice

@@ -1,3 +1,0 @@
-pub mod Texts
-pub mod Longest
-pub mod Choice

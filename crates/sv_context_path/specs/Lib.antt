@@ -1,3 +1,0 @@
-pub mod Chosen
-pub mod Protected
-pub mod Within

@@ -1,0 +1,13 @@
+-- The classes of filters by their names.
+use Rattle.std.specs.Prelude.{ℕ, List, [], codes, if◌then◌else◌, Option, Some, None}
+use Rattle.std.specs.Str.{bytes_eq}
+use Rattle.sv_deployments.specs.declared.program_filter.ProgramFilter.{ProgramFilter}
+use Rattle.sv_deployments.specs.declared.program_filter.ProgramFilter.TheVariants.{Mark, Halt, Bad}
+
+-- a new filter of the class, without its name
+abbrev pub new_filter : List ℕ → Option ProgramFilter
+new_filter class =
+    if bytes_eq class (codes "Mark") then Some (Mark (record { name = [] }))
+    else if bytes_eq class (codes "Halt") then Some (Halt (record {}))
+    else if bytes_eq class (codes "Bad") then Some (Bad (record {}))
+    else None

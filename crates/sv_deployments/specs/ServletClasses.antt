@@ -1,0 +1,21 @@
+-- The classes of servlets by their names.
+use Rattle.std.specs.Prelude.{ℕ, List, [], codes, if◌then◌else◌, Option, Some, None}
+use Rattle.std.specs.Str.{bytes_eq}
+use Rattle.sv_deployments.specs.declared.program_servlet.ProgramServlet.{ProgramServlet}
+use Rattle.sv_deployments.specs.declared.program_servlet.ProgramServlet.TheVariants.{Who, Paths, Nest, Go, Fail, ErrorCode, Gone, Keep, Bye, Out, Stream}
+
+-- a new servlet of the class, without parameters or calls
+abbrev pub new_servlet : List ℕ → Option ProgramServlet
+new_servlet class =
+    if bytes_eq class (codes "Who") then Some (Who (record {}))
+    else if bytes_eq class (codes "Paths") then Some (Paths (record {}))
+    else if bytes_eq class (codes "Nest") then Some (Nest (record { path = []; calls = 0 }))
+    else if bytes_eq class (codes "Go") then Some (Go (record { path = [] }))
+    else if bytes_eq class (codes "Fail") then Some (Fail (record { kind = [] }))
+    else if bytes_eq class (codes "Err") then Some (ErrorCode (record { code = 0 }))
+    else if bytes_eq class (codes "Gone") then Some (Gone (record { seconds = None }))
+    else if bytes_eq class (codes "Keep") then Some (Keep (record {}))
+    else if bytes_eq class (codes "Bye") then Some (Bye (record {}))
+    else if bytes_eq class (codes "Out") then Some (Out (record {}))
+    else if bytes_eq class (codes "Stream") then Some (Stream (record { kind = [] }))
+    else None

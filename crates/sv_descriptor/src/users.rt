@@ -1,0 +1,96 @@
+//! The users file.
+
+ghost use Rattle.std.specs.Prelude.{◌≡◌, IfOk};
+ghost use Rattle.sv_text.specs.Gives.{Gives};
+ghost use Rattle.sv_descriptor.specs.Users as spec;
+ghost use Rattle.sv_descriptor.specs.Fault.{fault};
+ghost use Rattle.sv_descriptor.specs.Table.{texts};
+
+use crate::limits::{DIGEST_DIGITS, MAX_SALT_DIGITS};
+use crate::{
+    FaultCode, HexText, ListOf, MAX_LIST_ITEMS, Name, ReadFault, TableOf, TableSchema, TextOf,
+    only_keys, read_document, refuse, repeats, required,
+};
+use std::alloc::Global;
+use sv_realm::User;
+use sv_text::{Listed, NoMemory};
+use toml::Table;
+
+/// Reads a users file.
+///
+/// # Errors
+/// The first fault in the format's order, or [`ReadFault::NoMemory`].
+pub fn read_users(alloc: Global, text: &str) -> Result<Vec<User>, ReadFault>
+    ensures gives { Gives fault (spec.seen result) (spec.users_of text.now) }
+    ensures well_formed { IfOk result (λ users. spec.AreWellFormedUsers users.items) }
+{
+    let users = read_document(alloc, text, &UsersTable)?;
+    Ok(users.into_vec())
+}
+
+/// The table of users.
+#[derive(Clone, Copy)]
+struct UsersTable;
+
+impl TableSchema for UsersTable {
+    type Output = Listed<User>;
+
+    ghost reads = { λ _. spec.users };
+
+    fn read(&self, alloc: Global, table: &Table) -> Result<Listed<User>, ReadFault> {
+        only_keys(alloc, &["user"], &[], table)?;
+        let users = ListOf {
+            least: 0,
+            most: MAX_LIST_ITEMS,
+            item: TableOf(UserTable),
+        };
+        let users = required(alloc, table, "user", &users)?;
+        if repeats(alloc, user_names(alloc, users.as_slice())?.as_slice())? {
+            return refuse(alloc, FaultCode::DuplicateName, "name");
+        }
+        Ok(users)
+    }
+}
+
+fn user_names(alloc: Global, users: &[User]) -> Result<Vec<&str>, NoMemory>
+    ensures { IfOk result (λ names. texts names.items ≡ spec.user_names users.now) }
+{
+    let mut names = Vec::with_capacity(alloc, users.len())?;
+    for user in users {
+        names.push(user.name.as_str())?;
+    }
+    Ok(names)
+}
+
+/// The table of a user.
+#[derive(Clone, Copy)]
+struct UserTable;
+
+impl TableSchema for UserTable {
+    type Output = User;
+
+    ghost reads = { λ _. spec.user };
+
+    fn read(&self, alloc: Global, table: &Table) -> Result<User, ReadFault> {
+        only_keys(alloc, &["name", "salt", "digest", "roles"], &[], table)?;
+        let salt = TextOf(HexText {
+            least: 0,
+            most: MAX_SALT_DIGITS,
+        });
+        let digest = TextOf(HexText {
+            least: DIGEST_DIGITS,
+            most: DIGEST_DIGITS,
+        });
+        let roles = ListOf {
+            least: 0,
+            most: MAX_LIST_ITEMS,
+            item: TextOf(Name),
+        };
+        Ok(User {
+            name: required(alloc, table, "name", &TextOf(Name))?,
+            salt: required(alloc, table, "salt", &salt)?,
+            digest: required(alloc, table, "digest", &digest)?,
+            roles: required(alloc, table, "roles", &roles)?,
+        })
+    }
+}

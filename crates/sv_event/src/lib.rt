@@ -1,6 +1,0 @@
-//! Events for listeners.
-#![tactic(auto)]
-
-mod event;
-
-pub use event::Event;

@@ -1,2 +1,0 @@
-mod OrderLemmas
-mod TreeLemmas

@@ -1,4 +1,0 @@
-use Rattle.sv_expiry_queue.proofs.node.+settle.Given as goal
-
-abbrev pub decreases-settle : goal.decreases-settle
-decreases-settle l = l.place

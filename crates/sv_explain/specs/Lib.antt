@@ -1,4 +1,0 @@
-pub mod Context
-pub mod Text
-pub mod Fault
-pub mod Explanation

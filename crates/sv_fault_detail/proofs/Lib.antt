@@ -1,6 +1,0 @@
-pub mod Trees
-pub mod Again
-pub mod Choices
-pub mod Tellings
-pub mod Joining
-pub mod Growing

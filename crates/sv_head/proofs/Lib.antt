@@ -1,4 +1,0 @@
-pub mod FieldsLemmas
-pub mod PartsLemmas
-pub mod HostLemmas
-pub mod NamesLemmas

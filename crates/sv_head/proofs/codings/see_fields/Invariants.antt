@@ -1,9 +1,0 @@
-use Rattle.std.proofs.Common.{◌≡◌, take, codes}
-use Rattle.std.specs.List.{fold}
-use Rattle.sv_head.specs.declared.codings.Seen.TheVariants.{Nothing}
-use Rattle.sv_head.specs.Seen.{seen_with}
-use Rattle.sv_head.specs.Fields.{parts_by_name}
-use Rattle.sv_head.proofs.codings.see_fields.Given as goal
-
-abbrev pub invariant-loop-field : goal.invariant-loop-field
-invariant-loop-field l = l.seen ≡ fold seen_with Nothing (parts_by_name (codes "transfer-encoding") (take l.field-index l.fields))

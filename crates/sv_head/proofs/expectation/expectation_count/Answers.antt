@@ -1,6 +1,0 @@
-use Rattle.std.proofs.Common.{rules, codes}
-use Rattle.sv_head.proofs.FieldsLemmas.{length-values_of}
-use Rattle.sv_head.proofs.expectation.expectation_count.Goals as goal
-
-pub returns : goal.returns
-returns c = rw (length-values_of (codes "expect") c.args.fields.now) (search rules)

@@ -1,6 +1,0 @@
-use Rattle.std.proofs.Common.{◌≡◌, ◌++◌, take, drop, map}
-use Rattle.sv_head.specs.Host.{with_host}
-use Rattle.sv_head.proofs.host.replace_hosts.Given as goal
-
-abbrev pub invariant-loop-field : goal.invariant-loop-field
-invariant-loop-field l = l.field-items ≡ map (with_host l.host) (take l.field-index l.fn.fields) ++ drop l.field-index l.fn.fields

@@ -1,9 +1,0 @@
-use Rattle.std.proofs.Common.{◌≡◌, length, reverse}
-use Rattle.httparse.specs.Grammar.{skip_ows}
-use Rattle.sv_head.proofs.members.trim_end.Given as goal
-
-abbrev pub invariant-loop-bytes : goal.invariant-loop-bytes
-invariant-loop-bytes l = skip_ows (reverse l.bytes) ≡ skip_ows (reverse l.fn.bytes)
-
-abbrev pub decreases-loop-bytes : goal.decreases-loop-bytes
-decreases-loop-bytes l = length l.bytes

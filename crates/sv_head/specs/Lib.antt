@@ -1,9 +1,0 @@
-pub mod Codings
-pub mod Expectation
-pub mod Fields
-pub mod Host
-pub mod Length
-pub mod Lengths
-pub mod Persistence
-pub mod Seen
-pub mod TargetForm

@@ -1,3 +1,0 @@
-pub mod Connections
-pub mod Host
-pub mod Output

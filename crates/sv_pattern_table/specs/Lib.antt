@@ -1,4 +1,0 @@
-pub mod Index
-pub mod Places
-pub mod Segments
-pub mod Trie

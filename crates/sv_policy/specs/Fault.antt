@@ -1,0 +1,15 @@
+-- Reasons for a missing explanation.
+use Rattle.std.specs.Prelude.{ℕ, List, codes, Option, Some, None}
+use Rattle.sv_policy.specs.declared.fault.ExplainFault.{ExplainFault}
+use Rattle.sv_policy.specs.declared.fault.ExplainFault.TheVariants.{BadMethod, NoSuchUser, NoMemory}
+
+-- The fault, or none if memory ran out.
+abbrev pub explain_fault : ExplainFault → Option ExplainFault
+explain_fault BadMethod = Some BadMethod
+explain_fault NoSuchUser = Some NoSuchUser
+explain_fault NoMemory = None
+
+abbrev pub fault_name : ExplainFault → List ℕ
+fault_name BadMethod = codes "BadMethod"
+fault_name NoSuchUser = codes "NoSuchUser"
+fault_name NoMemory = codes "NoMemory"

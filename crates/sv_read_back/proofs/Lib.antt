@@ -1,9 +1,0 @@
-mod BodyLemmas
-mod CutLemmas
-mod DataLemmas
-mod Digits
-mod FramingLemmas
-mod ReaderLemmas
-mod SizeLines
-mod WholeLemmas
-mod Written

@@ -1,8 +1,0 @@
-use Rattle.sv_read_back.proofs.WholeLemmas.{cut_whole_is_awaited, whole_is_read_back}
-use Rattle.sv_read_back.proofs.laws.whole_answers_are_read_back.Goals as goal
-
-pub returns-clause-whole : goal.returns-clause-whole
-returns-clause-whole c = whole_is_read_back
-
-pub returns-clause-cut : goal.returns-clause-cut
-returns-clause-cut c = cut_whole_is_awaited

@@ -1,3 +1,0 @@
-pub mod ChunkedBody
-pub mod FramingFields
-pub mod Laws

@@ -1,0 +1,266 @@
+//! The host of a container's contexts, which handles the events of their connections.
+
+ghost use Rattle.std.specs.Prelude.{◌≡◌, ◌⊎◌, [], List, None, IfErr, IfOk, IsSome, false, map};
+ghost use Rattle.sv_run.specs.Host.{StepsSo, opening, state_of};
+ghost use Rattle.sv_run.specs.Output.{Adds, reaction_of};
+ghost use Rattle.sv_journal.specs.Journal.{new_journal};
+ghost use Rattle.sv_journal.specs.declared.entry.Entry.{Entry};
+ghost use Rattle.sv_run.specs.Breaking.{BreaksPiece, DoesNothing, Given};
+ghost use Rattle.sv_run.specs.Connections.{awaited_in};
+ghost use Rattle.sv_run.specs.Contexts.{theory_of};
+ghost use Rattle.sv_run.specs.Editing.{EditsContext};
+ghost use Rattle.sv_run.specs.Effect.{Effect, shown};
+ghost use Rattle.sv_run.specs.Events.{Accepts, AltersAll, BreaksOff, ExpiresAll, Happens, MovesAll, TakesPiece, fault_of, moment_after};
+ghost use Rattle.sv_run.specs.Seen.{happening_of};
+ghost use Rattle.sv_run.specs.State.{settled_at};
+
+use crate::connections::Connections;
+use crate::editing::told_of;
+use crate::faults::{fault_of, moment_after};
+use crate::indexed::Indexed;
+use crate::items::take_items;
+use crate::output::Output;
+use crate::spare::Spare;
+use crate::{Context, EventHandler, Happening, Reaction, StepFault, Words};
+use std::alloc::Global;
+use sv_journal::Journal;
+use sv_mapping::{ContextIndex, HasContextPath};
+use sv_policy::Edit;
+use sv_text::NoMemory;
+use sv_wire::{Awaited, DateText, Item};
+
+/// Contexts and their connections, with a source of random words.
+#[derive(Drop)]
+pub struct Host<C: HasContextPath, W> {
+    alloc: Global,
+    stopped: bool,
+    date: DateText,
+    contexts: Indexed<C>,
+    words: W,
+    connections: Connections,
+    // The items of the last piece, which are unspecified after its event. The next piece reuses their memory.
+    items: Vec<Item>,
+    spare: Spare,
+}
+
+impl<C: HasContextPath, W> Host<C, W> {
+    /// Creates a host of the contexts in order, with the index of their paths, before any event: no connection is
+    /// known, and the time is 0. It does not allocate.
+    pub fn new(alloc: Global, contexts: Vec<C>, index: ContextIndex, words: W) -> Host<C, W>
+        requires { index ≡ map C.path_of contexts.items }
+        ensures { state_of result ≡ opening contexts.items words }
+    {
+        Host {
+            alloc,
+            stopped: false,
+            date: DateText::at(0),
+            contexts: Indexed::new(contexts, index),
+            words,
+            connections: Connections::new(alloc),
+            items: Vec::new(alloc),
+            spare: Spare::new(alloc),
+        }
+    }
+
+    /// Returns whether an event ran out of memory.
+    pub fn is_stopped(&self) -> bool
+        ensures { result ≡ (state_of self.now).stopped }
+    {
+        self.stopped
+    }
+
+    /// Returns what is awaited of a connection: nothing if it has closed or is not known.
+    #[inline(always)]
+    pub fn awaits(&self, connection: u64) -> Awaited
+        ensures { result ≡ awaited_in (state_of self.now).connections connection }
+    {
+        self.connections.awaits(connection)
+    }
+
+    /// Returns the contexts in order.
+    pub fn contexts(&self) -> &[C]
+        ensures { result.now ≡ (state_of self.now).world.contexts }
+    {
+        self.contexts.as_slice()
+    }
+}
+
+impl<C: Context, W: Words> Host<C, W> {
+    /// Handles an event: raises the time, ends the sessions that have expired, and lets the event happen (RFC 9112,
+    /// section 9; Jakarta Servlet 6.0, sections 7.5 and 13.8). The time to find a connection or the context of a
+    /// request does not depend on their number.
+    ///
+    /// # Errors
+    /// The first [`StepFault`] that applies. After any fault but `NoMemory`, nothing has changed. After `NoMemory`,
+    /// each later event is refused as `Stopped`. The reaction to the event is lost, the expired sessions have ended,
+    /// and the event broke off. A context that was given no message of the event is then as it was after its expired
+    /// sessions ended.
+    pub fn step(&mut self, happening: Happening) -> Result<Reaction, StepFault>
+        ensures steps { StepsSo (theory_of C.path_of C.conduct W.draws) (state_of self.old) (happening_of happening.entry) result (state_of self.new) }
+        ensures alters { AltersAll C.conduct (state_of self.old).world.contexts (state_of self.new).world.contexts }
+    {
+        if self.stopped {
+            return Err(StepFault::Stopped);
+        }
+        if let Some(fault) = fault_of(&self.connections, happening) {
+            return Err(fault);
+        }
+        match self.accept(happening) {
+            Ok(reaction) => Ok(reaction),
+            Err(_) => {
+                self.stopped = true;
+                Err(StepFault::NoMemory)
+            }
+        }
+    }
+
+    // Handles an event that can only fail by running out of memory.
+    fn accept(&mut self, happening: Happening) -> Result<Reaction, NoMemory>
+        requires runs { (state_of self.old).stopped ≡ false }
+        requires fits { fault_of (state_of self.old).connections (happening_of happening) ≡ None }
+        ensures accepts { IfOk result (λ reaction. (effect : Effect C)
+            × Accepts (theory_of C.path_of C.conduct W.draws) (state_of self.old) (happening_of happening.entry) effect (state_of self.new)
+            × (reaction ≡ shown effect)) }
+        ensures breaks { IfErr result (λ _. (told : List Entry) × (contexts : List C) × (given : List (Given C))
+            × ExpiresAll C.conduct (state_of self.old).world.contexts (moment_after (state_of self.old).moment (happening_of happening.entry)) told contexts
+            × BreaksOff (theory_of C.path_of C.conduct W.draws)
+            (settled_at (moment_after (state_of self.old).moment (happening_of happening.entry)) contexts (state_of self.old))
+            (happening_of happening.entry) given (state_of self.new).world) }
+        ensures moves { IfErr result (λ _. MovesAll C.conduct (state_of self.old).world.contexts (state_of self.new).world.contexts) }
+        ensures alters { AltersAll C.conduct (state_of self.old).world.contexts (state_of self.new).world.contexts }
+    {
+        let mut output = self.output();
+        let moment = moment_after(self.date.moment(), happening);
+        self.date.set(moment);
+        self.contexts
+            .expire_all(self.alloc, moment, &mut output.journal);
+        if !output.journal.whole() {
+            return Err(NoMemory);
+        }
+        let Ok(()) = self.happen(happening, &mut output) else {
+            return Err(NoMemory);
+        };
+        Ok(output.into_reaction())
+    }
+
+    // Returns the empty output of an event.
+    fn output(&self) -> Output
+        ensures { reaction_of result ≡ record { sends = []; closes = false; journal = new_journal; edited = None } }
+    {
+        let room = self.spare.take_room(self.alloc);
+        Output::new(self.alloc, room, self.spare.take_journal(self.alloc))
+    }
+
+    /// Reclaims the memory of an earlier event's bytes and journal, which the caller no longer needs. Later events
+    /// reuse it. Only small buffers are kept.
+    pub fn recycle(&self, room: Vec<u8>, journal: Journal) {
+        self.spare.keep(room, journal);
+    }
+
+    // Lets the event itself happen, at its time.
+    fn happen(&mut self, happening: Happening, output: &mut Output) -> Result<(), NoMemory>
+        requires fits { fault_of (state_of self.old).connections (happening_of happening) ≡ None }
+        requires unclosed { output.old.closes ≡ false }
+        ensures happens { IfOk result (λ _. (effect : Effect C)
+            × Happens (theory_of C.path_of C.conduct W.draws) (state_of self.old) (happening_of happening.entry) effect (state_of self.new)
+            × Adds output.old effect output.new) }
+        ensures breaks { IfErr result (λ _. (given : List (Given C))
+            × BreaksOff (theory_of C.path_of C.conduct W.draws) (state_of self.old) (happening_of happening.entry) given (state_of self.new).world) }
+        ensures moves { IfErr result (λ _. MovesAll C.conduct (state_of self.old).world.contexts (state_of self.new).world.contexts) }
+        ensures alters { AltersAll C.conduct (state_of self.old).world.contexts (state_of self.new).world.contexts }
+    {
+        match happening {
+            Happening::Opened { connection } => self.connections.open(connection),
+            Happening::Piece {
+                connection,
+                bytes,
+                ..
+            } => self.take_piece(connection, bytes, output),
+            Happening::Ended { connection } => {
+                self.connections.forget(connection);
+                output.closes = true;
+                Ok(())
+            }
+            Happening::Lost { connection } => {
+                self.connections.forget(connection);
+                Ok(())
+            }
+            Happening::Tick { .. } => Ok(()),
+            Happening::Edit { context, edit } => self.edit(context, edit, output),
+        }
+    }
+
+    // Edits the constraints of the context that has the path.
+    fn edit(&mut self, path: &str, edit: &Edit, output: &mut Output) -> Result<(), NoMemory>
+        ensures edits { IfOk result (λ _. (effect : Effect C)
+            × EditsContext (theory_of C.path_of C.conduct W.draws) (state_of self.old) path.now edit.now effect (state_of self.new)
+            × Adds output.old effect output.new) }
+        ensures refused { IfErr result (λ _. (state_of self.new).world ≡ (state_of self.old).world) }
+        ensures moves { IfErr result (λ _. MovesAll C.conduct (state_of self.old).world.contexts (state_of self.new).world.contexts) }
+        ensures alters { AltersAll C.conduct (state_of self.old).world.contexts (state_of self.new).world.contexts }
+    {
+        let Ok(told) = told_of(self.contexts.edit::<W>(self.alloc, path, edit)) else {
+            return Err(NoMemory);
+        };
+        output.tell_edited::<C>(told);
+        Ok(())
+    }
+
+    // Reads a piece of a connection and handles the items that it completes. After an item that closes the connection,
+    // nothing more is read.
+    fn take_piece(&mut self, number: u64, piece: &[u8], output: &mut Output) -> Result<(), NoMemory>
+        requires known { IsSome ((state_of self.old).connections.held number) }
+        requires unclosed { output.old.closes ≡ false }
+        ensures takes { IfOk result (λ _. (effect : Effect C)
+            × TakesPiece (theory_of C.path_of C.conduct W.draws) (state_of self.old) number piece.now effect (state_of self.new)
+            × Adds output.old effect output.new) }
+        ensures breaks { IfErr result (λ _. (given : List (Given C))
+            × (DoesNothing (state_of self.old).world given (state_of self.new).world
+            ⊎ BreaksPiece (theory_of C.path_of C.conduct W.draws) (state_of self.old) number piece.now given (state_of self.new).world)) }
+        ensures moves { MovesAll C.conduct (state_of self.old).world.contexts (state_of self.new).world.contexts }
+    {
+        self.connections.feed(number, piece, &mut self.items)?;
+        take_items::<C, W>(
+            self.alloc,
+            &mut self.contexts,
+            &mut self.words,
+            &self.date,
+            &mut self.items,
+            output,
+        )?;
+        if !output.closes {
+            return Ok(());
+        }
+        self.connections.close(number);
+        Ok(())
+    }
+}
+
+impl<C: HasContextPath, W: Drop> Host<C, W> {
+    /// Returns the contexts in order. It does not allocate.
+    pub fn into_contexts(self) -> Vec<C>
+        ensures { result.items ≡ (state_of self).world.contexts }
+    {
+        let Host { contexts, .. } = self;
+        contexts.into_vec()
+    }
+}
+
+impl<C: Context, W: Words> EventHandler for Host<C, W> {
+    ghost steps = { λ before happening result after.
+        StepsSo (theory_of C.path_of C.conduct W.draws) (state_of before) happening result (state_of after) };
+
+    ghost awaited = { λ host connection. awaited_in (state_of host).connections connection };
+
+    fn step(&mut self, happening: Happening) -> Result<Reaction, StepFault> {
+        Host::<C, W>::step(self, happening)
+    }
+
+    fn awaits(&self, connection: u64) -> Awaited {
+        Host::<C, W>::awaits(self, connection)
+    }
+
+    fn recycle(&self, room: Vec<u8>, journal: Journal) {
+        Host::<C, W>::recycle(self, room, journal);
+    }
+}

@@ -1,0 +1,64 @@
+//! The output of an event so far.
+
+ghost use Rattle.std.specs.Prelude.{◌≡◌, false, [], None};
+ghost use Rattle.sv_run.specs.Output.{Adds, reaction_of};
+ghost use Rattle.sv_journal.specs.Journal.{new_journal};
+ghost use Rattle.sv_run.specs.Effect.{editing};
+
+use crate::Reaction;
+use std::alloc::Global;
+use sv_journal::Journal;
+use sv_policy::EditFault;
+use sv_text::Bytes;
+
+/// A growing reaction, and a buffer for its bytes with unspecified contents.
+#[derive(Drop)]
+pub struct Output {
+    pub(crate) room: Vec<u8>,
+    pub(crate) sends: Vec<u8>,
+    pub(crate) closes: bool,
+    pub(crate) journal: Journal,
+    pub(crate) edited: Option<Result<u64, EditFault>>,
+}
+
+impl Output {
+    /// Creates an empty output with a buffer and an empty journal. It does not allocate.
+    pub fn new(alloc: Global, room: Vec<u8>, journal: Journal) -> Output
+        requires { journal ≡ new_journal }
+        ensures { reaction_of result ≡ record { sends = []; closes = false; journal = new_journal; edited = None } }
+    {
+        Output {
+            room,
+            sends: Vec::new(alloc),
+            closes: false,
+            journal,
+            edited: None,
+        }
+    }
+
+    /// Reports the answer to an edit. If an answer is present already, that one stays.
+    pub(crate) fn tell_edited<C>(&mut self, answer: Result<u64, EditFault>)
+        ensures { Adds {Context = C} self.old (editing answer) self.new }
+    {
+        self.edited = self.edited.or(Some(answer));
+    }
+
+    /// Returns the finished reaction.
+    pub fn into_reaction(self) -> Reaction
+        ensures { result ≡ reaction_of self }
+    {
+        let Output {
+            sends,
+            closes,
+            journal,
+            edited,
+            ..
+        } = self;
+        Reaction {
+            sends: Bytes::from_vec(sends),
+            closes,
+            journal,
+            edited,
+        }
+    }
+}

@@ -1,6 +1,0 @@
-use Rattle.std.proofs.Common.{◌∙◌}
-use Rattle.sv_schema.proofs.Sets.{list_any-is_at}
-use Rattle.sv_schema.proofs.names.Names.contains.Goals as goal
-
-pub returns : goal.returns
-returns c = c.contains.ensures ∙ rw (← c.self.view_is) (list_any-is_at c.args.name.now c.self.inside.set.keys)

@@ -1,3 +1,0 @@
-pub mod ContextPath
-pub mod Server
-pub mod Users

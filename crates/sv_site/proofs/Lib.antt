@@ -1,3 +1,0 @@
-mod Beside
-mod Declared
-mod Filing

@@ -1,5 +1,0 @@
-use Rattle.std.proofs.Common.{◌≡◌, ◌++◌, map, take}
-use Rattle.sv_site.proofs.patterns.push_place_beside.Given as goal
-
-abbrev pub invariant-loop-pattern : goal.invariant-loop-pattern
-invariant-loop-pattern l = l.places.items ≡ l.initial.places.items ++ map (λ pattern. l.place) (take l._pattern-index l.patterns)

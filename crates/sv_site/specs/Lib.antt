@@ -1,4 +1,0 @@
-pub mod FileServlet
-pub mod Seen
-pub mod ServletMappings
-pub mod Site
